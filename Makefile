@@ -1,0 +1,26 @@
+# reraid: finds the geometry of a striped array from raw images of its members.
+# It needs the Rattle kit alone (rt on the PATH).
+
+PREFIX ?= /usr/local
+
+.PHONY: demo test build install clean
+
+# Builds without proving, and prints the first listing over three small image files.
+demo:
+	cd crates/reraid && rt try --data a=data/a --data b=data/b --data c=data/c -- list size=10 -- a b c < stdin
+
+# The gate: every proof, every edit that must fail, every test and program.
+test:
+	rt ci
+
+# Proves what the program stands on, and leaves the executable at crates/reraid/out/reraid.
+build:
+	cd crates/reraid && rt run -- list size=10 -- data/a data/b data/c < stdin
+
+install: build
+	install -d $(DESTDIR)$(PREFIX)/bin $(DESTDIR)$(PREFIX)/share/man/man1
+	install -m 755 crates/reraid/out/reraid $(DESTDIR)$(PREFIX)/bin/reraid
+	install -m 644 docs/reraid.1 $(DESTDIR)$(PREFIX)/share/man/man1/reraid.1
+
+clean:
+	rm -rf crates/*/out

@@ -1,0 +1,13 @@
+//! The parameters of a striped array: its level, how parity rotates over the members, in what
+//! order the Q syndrome counts the data, the chunk size, where the data begin on each member,
+//! and which image stands in which slot.
+//!
+//! The layouts are those of the Linux md driver for RAID 0, 4, 5 and 6 and the DDF layouts of
+//! RAID 6 as md has them. RAID 4 places its blocks as RAID 5 with the pattern `ParityLast`.
+#![tactic(auto)]
+
+mod limits;
+mod types;
+
+pub use limits::{LARGEST_CHUNK, MOST, MOST_CHUNKS, MOST_LESS_ONE, MOST_OFFSETS, SECTORS_END};
+pub use types::{Bounds, Cell, GeoFault, Geometry, Head, Level, Part, Pattern, Slots, Syndrome};

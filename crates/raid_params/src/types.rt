@@ -1,0 +1,139 @@
+// The types of parameters.
+use crate::limits::{MOST, MOST_CHUNKS, MOST_LESS_ONE, MOST_OFFSETS};
+use arrayvec::ArrayVec;
+
+/// A RAID level. RAID 4 is `Raid5` with the pattern `ParityLast`.
+#[derive(Clone, Copy, Default)]
+pub enum Level {
+    /// Striping without parity.
+    #[default]
+    Raid0,
+    /// One parity block P in each row.
+    Raid5,
+    /// Two parity blocks, P and Q, in each row.
+    Raid6,
+}
+
+/// How the parity of a row moves from row to row, and where the data lie beside it. The names
+/// are md's: left and right say which way P moves, symmetric that the data begin after it. Those
+/// with a 6 rotate as at level 5 over all slots but the last, which holds Q.
+#[derive(Clone, Copy, Default)]
+pub enum Pattern {
+    /// No parity: level 0.
+    #[default]
+    Plain,
+    /// Left-asymmetric.
+    La,
+    /// Right-asymmetric.
+    Ra,
+    /// Left-symmetric.
+    Ls,
+    /// Right-symmetric.
+    Rs,
+    /// Parity on the first slots.
+    ParityFirst,
+    /// Parity on the last slots.
+    ParityLast,
+    /// DDF's N restart.
+    NRestart,
+    /// DDF's N continue.
+    NContinue,
+    /// Left-asymmetric over all slots but the last.
+    La6,
+    /// Right-asymmetric over all slots but the last.
+    Ra6,
+    /// Left-symmetric over all slots but the last.
+    Ls6,
+    /// Right-symmetric over all slots but the last.
+    Rs6,
+    /// Parity on the first slot, and Q on the last.
+    ParityFirst6,
+}
+
+/// In what order the Q syndrome of a row counts its data blocks.
+#[derive(Clone, Copy, Default)]
+pub enum Syndrome {
+    /// No Q: levels 0 and 5.
+    #[default]
+    NoQ,
+    /// From the slot after Q on, round the slots: md's own order.
+    AfterQ,
+    /// By the number of the data item in the row.
+    ByData,
+    /// By the number of the slot: the order of the DDF layouts.
+    BySlot,
+}
+
+/// The parameters of an array but for its slots. `chunk` is in sectors. `offset` is the image
+/// sector at which the data of each member begin.
+#[derive(Clone, Copy)]
+pub struct Head {
+    pub level: Level,
+    pub members: u8,
+    pub pattern: Pattern,
+    pub syndrome: Syndrome,
+    pub chunk: u64,
+    pub offset: u64,
+}
+
+/// What each slot holds: an image by its number, or nothing where the member is missing.
+pub type Slots = ArrayVec<Option<u8>, MOST>;
+
+/// The parameter set of an array.
+#[derive(Drop)]
+pub struct Geometry {
+    pub head: Head,
+    pub slots: Slots,
+}
+
+/// What a block of a row is for the parity equations.
+#[derive(Clone, Copy)]
+pub enum Part {
+    /// A data block, which Q weighs by 2 to this power in the field of 256 elements.
+    Block(u8),
+    /// The parity block.
+    P,
+    /// The block of the Q syndrome.
+    Q,
+}
+
+/// A block of a row, and whether its member is missing.
+#[derive(Clone, Copy)]
+pub struct Cell {
+    pub part: Part,
+    pub missing: bool,
+}
+
+/// Which parameter sets a search goes through: every combination of these values that makes
+/// sense, with at most `missing` empty slots and at most `foreign` images in no slot.
+#[derive(Drop)]
+pub struct Bounds {
+    pub levels: ArrayVec<Level, 3>,
+    pub members: ArrayVec<u8, MOST_LESS_ONE>,
+    pub patterns: ArrayVec<Pattern, 14>,
+    pub syndromes: ArrayVec<Syndrome, 4>,
+    pub chunks: ArrayVec<u64, MOST_CHUNKS>,
+    pub offsets: ArrayVec<u64, MOST_OFFSETS>,
+    pub missing: u8,
+    pub foreign: u8,
+}
+
+/// Why a parameter set makes no sense, with the value that breaks the rule.
+pub enum GeoFault {
+    /// Too few or too many members, or not as many as there are slots.
+    Members(u8),
+    /// The pattern is none of the level's.
+    Pattern(Pattern),
+    /// An order of Q without Q, or Q without an order.
+    Syndrome(Syndrome),
+    /// The chunk is no power of two from 1 to `LARGEST_CHUNK`.
+    Chunk(u64),
+    /// A slot names an image that is not there.
+    Image(u8),
+    /// An image stands in two slots.
+    Repeat(u8),
+    /// More empty slots than the level survives.
+    Missing(u8),
+    /// No whole row lies between the offset and the end.
+    NoRow(u64),
+}

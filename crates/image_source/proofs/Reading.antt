@@ -1,0 +1,33 @@
+-- How readings join, for the crates above.
+use Rattle.std.proofs.Common.{◌≡◌, ℕ, ◌+◌, ◌≤◌, List, refl, ◌∙◌, arith}
+use Rattle.image_source.specs.Seen.{Seen, OnlyReads}
+
+-- where nothing happened, nothing was read
+pub OnlyReads-none : (s : Seen) → OnlyReads s s 0
+OnlyReads-none s = record {
+  world = refl;
+  attached = refl;
+  sectors_read = omega arith;
+  sectors_later = omega arith;
+  faults = omega arith;
+}
+
+-- one reading after the other
+pub OnlyReads-join : {m n : ℕ} (a b c : Seen) → OnlyReads a b m → OnlyReads b c n → OnlyReads a c (m + n)
+OnlyReads-join a b c ab bc = record {
+  world = bc.world ∙ ab.world;
+  attached = bc.attached ∙ ab.attached;
+  sectors_read = omega (arith, ab.sectors_read, bc.sectors_read);
+  sectors_later = omega (arith, ab.sectors_later, bc.sectors_later);
+  faults = omega (arith, ab.faults, bc.faults);
+}
+
+-- a reading of some sectors is one of at most as many or more
+pub OnlyReads-up : {m n : ℕ} (a b : Seen) → OnlyReads a b m → m ≤ n → OnlyReads a b n
+OnlyReads-up a b r h = record {
+  world = r.world;
+  attached = r.attached;
+  sectors_read = omega (arith, r.sectors_read, h);
+  sectors_later = r.sectors_later;
+  faults = r.faults;
+}

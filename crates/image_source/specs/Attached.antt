@@ -1,0 +1,24 @@
+-- Images attached one after the other, by a list of names.
+use Rattle.std.specs.Prelude.{ℕ, ◌≡◌, ◌≤◌, List, [], ◌∷◌, ◌++◌, option_and_then}
+use Rattle.std.specs.declared.option.Option.{Option}
+use Rattle.std.specs.declared.option.Option.TheVariants.{Some}
+use Rattle.std.specs.Option.{option_map}
+use Rattle.image_source.specs.Seen.{Image, World, Seen, IsImageOf}
+
+-- the bytes of all images, where they are told of each
+abbrev pub told_all : List Image → Option (List (List ℕ))
+told_all [] = Some []
+told_all (image ∷ images) = option_and_then (λ bytes. option_map (λ others. bytes ∷ others) (told_all images)) image.bytes
+
+-- the images are those of a front of the names
+abbrev pub AreImagesOf : World → List (List ℕ) → List Image → Type 0
+AreImagesOf world names [] = Unit {0}
+AreImagesOf world [] (image ∷ images) = ⊥
+AreImagesOf world (name ∷ names) (image ∷ images) = IsImageOf world name image × AreImagesOf world names images
+
+-- the images of a front of the names were attached, nothing was read, and the count of faults did not fall
+pub record AttachesSome (old new : Seen) (names : List (List ℕ)) : Type 0 where
+  pub world : new.world ≡ old.world
+  pub unread : new.sectors_read ≡ old.sectors_read
+  pub attached : (images : List Image) × AreImagesOf old.world names images × (new.attached ≡ old.attached ++ images)
+  pub faults : old.faults ≤ new.faults

@@ -1,0 +1,59 @@
+-- How values are spelled in the texts of reraid.
+use Rattle.std.specs.Prelude.{ℕ, List, [], ◌∷◌, ◌++◌, map, codes, decimal}
+use Rattle.std.specs.List.{join_with_byte}
+use Rattle.std.specs.declared.option.Option.{Option}
+use Rattle.std.specs.declared.option.Option.TheVariants.{None, Some}
+use Rattle.raid_params.specs.declared.types.Level.{Level}
+use Rattle.raid_params.specs.declared.types.Level.TheVariants.{Raid0, Raid5, Raid6}
+use Rattle.raid_params.specs.declared.types.Pattern.{Pattern}
+use Rattle.raid_params.specs.declared.types.Pattern.TheVariants.{Plain, La, Ra, Ls, Rs, ParityFirst, ParityLast, NRestart, NContinue, La6, Ra6, Ls6, Rs6, ParityFirst6}
+use Rattle.raid_params.specs.declared.types.Syndrome.{Syndrome}
+use Rattle.raid_params.specs.declared.types.Syndrome.TheVariants.{NoQ, AfterQ, ByData, BySlot}
+
+abbrev pub level_name : Level → List ℕ
+level_name Raid0 = codes "0"
+level_name Raid5 = codes "5"
+level_name Raid6 = codes "6"
+
+abbrev pub pattern_name : Pattern → List ℕ
+pattern_name Plain = codes "plain"
+pattern_name La = codes "la"
+pattern_name Ra = codes "ra"
+pattern_name Ls = codes "ls"
+pattern_name Rs = codes "rs"
+pattern_name ParityFirst = codes "parity-first"
+pattern_name ParityLast = codes "parity-last"
+pattern_name NRestart = codes "n-restart"
+pattern_name NContinue = codes "n-continue"
+pattern_name La6 = codes "la-6"
+pattern_name Ra6 = codes "ra-6"
+pattern_name Ls6 = codes "ls-6"
+pattern_name Rs6 = codes "rs-6"
+pattern_name ParityFirst6 = codes "parity-first-6"
+
+abbrev pub syndrome_name : Syndrome → List ℕ
+syndrome_name NoQ = codes "none"
+syndrome_name AfterQ = codes "after-q"
+syndrome_name ByData = codes "by-data"
+syndrome_name BySlot = codes "by-slot"
+
+-- a slot: the number of its image, or a dash
+abbrev pub slot_name : Option ℕ → List ℕ
+slot_name None = codes "-"
+slot_name (Some image) = decimal image
+
+-- pieces with a comma between them
+abbrev pub commas : List (List ℕ) → List ℕ
+commas pieces = join_with_byte 44 pieces
+
+-- pieces with a colon between them
+abbrev pub colons : List (List ℕ) → List ℕ
+colons pieces = join_with_byte 58 pieces
+
+-- a name, a space and a value
+abbrev pub named : List ℕ → List ℕ → List ℕ
+named name value = name ++ 32 ∷ value
+
+-- a line ends with one line feed
+abbrev pub line : List ℕ → List ℕ
+line text = text ++ 10 ∷ []

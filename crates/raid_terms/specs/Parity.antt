@@ -19,14 +19,25 @@ is_p P = true
 is_p Q = false
 is_p (Block k) = false
 
+abbrev pub is_q : Part → Bool
+is_q Q = true
+is_q P = false
+is_q (Block k) = false
+
 -- the row has a parity block
 abbrev pub has_p : List Cell → Bool
 has_p cells = list_any (λ c. is_p c.part) cells
 
--- the equation of a column of a row, one byte a cell: where the row has a parity block, the
--- exclusive or of its data bytes and the parity byte is 0
+-- the bytes of a column that P sums up with its own: all but Q's
+abbrev pub beside_q : List Cell → List ℕ → List ℕ
+beside_q (cell ∷ cells) (byte ∷ bytes) = if is_q cell.part then beside_q cells bytes else byte ∷ beside_q cells bytes
+beside_q [] bytes = []
+beside_q (cell ∷ cells) [] = []
+
+-- the equation of a column of a row at levels 0 and 5, one byte a cell: where the row has a parity
+-- block, the exclusive or of its data bytes and the parity byte is 0
 abbrev pub equation_holds : List Cell → List ℕ → Bool
-equation_holds cells bytes = not (has_p cells) || nat_eq (xor_all bytes) 0
+equation_holds cells bytes = not (has_p cells) || nat_eq (xor_all (beside_q cells bytes)) 0
 
 -- a column with each byte of a missing cell replaced, in every way
 unfoldable pub filled : List Cell → List ℕ → List (List ℕ)

@@ -6,8 +6,10 @@
 //! members as images.
 #![tactic(auto)]
 
+mod number;
 mod plan;
 mod set;
 
+pub use number::{after, read_number};
 pub use plan::{Limits, Plan, PlanFault, read_plan};
 pub use set::{Text, set_line};

@@ -5,4 +5,10 @@ pub mod Bound
 pub mod Ends
 pub mod Nested
 pub mod Steps
-pub mod Places
+pub mod Fronts
+pub mod Listed
+pub mod Once
+pub mod Begins
+pub mod Completions
+pub mod Positions
+pub mod Blocks

@@ -1,5 +1,5 @@
 -- Words for the functions inside this crate.
-use Rattle.std.specs.Prelude.{ℕ, zero, suc, ◌≡◌, true, ◌+◌, ◌-◌, ◌*◌, ◌<◌, Bool, nat_le, ◌&&◌, if◌then◌else◌, List, [], ◌∷◌, ◌++◌, length, filter}
+use Rattle.std.specs.Prelude.{ℕ, zero, suc, ◌≡◌, true, ◌+◌, ◌-◌, ◌*◌, ◌<◌, Bool, nat_le, nat_lt, ◌&&◌, ◌==◌, if◌then◌else◌, List, [], ◌∷◌, ◌++◌, length, filter}
 use Rattle.std.specs.declared.option.Option.{Option}
 use Rattle.std.specs.declared.option.Option.TheVariants.{None, Some}
 use Rattle.raid_terms.specs.SlotLists.{all_lists, is_kept, is_distinct, empties}
@@ -42,3 +42,13 @@ IsStart s p = AllImages s.images p × (is_distinct p ≡ true)
 -- how many lists go on from a prefix with an image that is not among its own
 abbrev pub image_ways : Space → List (Option ℕ) → ℕ
 image_ways s p = ways s.low s.high (s.images - (length p + 1 - empties p)) (s.members - (length p + 1)) (empties p)
+
+-- the images of the list are below n
+unfoldable pub are_images : ℕ → List (Option ℕ) → Bool
+are_images n [] = true
+are_images n (None ∷ l) = are_images n l
+are_images n (Some i ∷ l) = nat_lt i n && are_images n l
+
+-- the list is one of the space
+abbrev pub is_listed : Space → List (Option ℕ) → Bool
+is_listed s l = (length l == s.members) && are_images s.images l && is_distinct l && nat_le s.low (empties l) && nat_le (empties l) s.high

@@ -1,8 +1,9 @@
 // How many lists a space has, and how many of them begin with a prefix.
 ghost use Rattle.std.specs.Prelude.{◌≡◌, ◌≤◌, ◌*◌, ◌<◌, ◌^◌, ◌+◌, ℕ, length, filter};
-ghost use Rattle.slot_math.specs.Space.{lists_of};
+ghost use Rattle.slot_math.specs.Space.{lists_of, begins};
 ghost use Rattle.slot_math.specs.Ways.{ways};
 
+use crate::places::{all_different, all_images, empty_count};
 use crate::space::Space;
 use raid_params::{MOST, Slots};
 
@@ -56,5 +57,23 @@ impl Space {
         ensures { result ≡ length (lists_of self.now) }
     {
         ways_of(self.low, self.high, self.images, self.members, 0)
+    }
+
+    /// How many lists of the space begin with the prefix.
+    #[tactic(auto, using(crate::proofs::Completions::none_longer, crate::proofs::Completions::none_unknown, crate::proofs::Completions::none_twice, crate::proofs::Completions::completed))]
+    pub fn completions(&self, prefix: &Slots) -> u128
+        requires images { self.now.images ≤ MOST }
+        requires members { self.now.members ≤ MOST }
+        ensures { result ≡ length (filter (begins prefix.now.items) (lists_of self.now)) }
+    {
+        let places = prefix.as_slice();
+        let count = places.len();
+        if count > self.members as usize || !all_images(places, self.images) || !all_different(places) {
+            return 0;
+        }
+        let empty = empty_count(places);
+        let free = (self.images as usize).saturating_sub(count - empty);
+        let left = self.members as usize - count;
+        ways_of(self.low, self.high, free as u8, left as u8, empty as u8)
     }
 }

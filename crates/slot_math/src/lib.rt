@@ -5,7 +5,10 @@
 #![tactic(auto)]
 
 mod counts;
+mod laws;
+mod places;
 mod ranks;
 mod space;
 
+pub use laws::{each_list_is_shaped, each_list_once, ranks_and_lists_undo};
 pub use space::Space;

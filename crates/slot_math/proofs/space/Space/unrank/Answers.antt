@@ -1,4 +1,4 @@
-use Rattle.slot_math.proofs.Places.{nothing_yet}
+use Rattle.slot_math.proofs.Fronts.{nothing_yet}
 use Rattle.slot_math.proofs.space.Space.unrank.Goals as goal
 
 pub loop-init : goal.loop-init

@@ -1,6 +1,6 @@
 use Rattle.std.proofs.Common.{◌≡◌, ◌<◌, length}
 use Rattle.slot_math.specs.Ways.{ends, IsStart}
-use Rattle.slot_math.proofs.Places.{GoesOn}
+use Rattle.slot_math.proofs.Fronts.{GoesOn}
 use Rattle.slot_math.proofs.space.Space.unrank.Given as goal
 
 abbrev pub invariant-loop : goal.invariant-loop

@@ -1,10 +1,11 @@
 -- The list of a rank, place by place.
-use Rattle.std.proofs.Common.{ℕ, ◌≡◌, ◌<◌, ◌≤◌, ◌+◌, ◌-◌, List, [], ◌∷◌, ◌++◌, length, map, filter, refl, sym, ap, subst, ap₂, ◌∙◌, arith, zero, suc, Bool, true, false, ◌&&◌, ◌||◌, not, ◌==◌, cond, Option, Some, None, slice_get, option_map, append_assoc, append-nil, add_assoc, zero-add, add-zero, length-append, inl, inr}
+use Rattle.std.proofs.Common.{ℕ, ◌≡◌, ◌<◌, ◌≤◌, ◌+◌, ◌-◌, ◌^◌, List, [], ◌∷◌, ◌++◌, length, map, filter, refl, sym, ap, subst, ap₂, ◌∙◌, arith, zero, suc, Bool, true, false, ◌&&◌, ◌||◌, not, ◌==◌, cond, Option, Some, None, slice_get, option_map, append_assoc, append-nil, add_assoc, zero-add, add-zero, length-append, inl, inr}
 use Rattle.std.proofs.lemmas.Bool.{cases_Bool, and_parts, not-true}
 use Rattle.raid_terms.specs.SlotLists.{all_lists, is_kept, is_distinct, stands, empties}
 use Rattle.slot_math.specs.Space.{lists_of}
 use Rattle.slot_math.specs.Ways.{ends, images_before, before, IsPlace, AllImages, IsStart, ways}
 use Rattle.slot_math.specs.declared.space.Space.{Space}
+use Rattle.slot_math.proofs.Bound.{ways_fit}
 use Rattle.slot_math.proofs.Ends.{no_ends, ends_are}
 use Rattle.slot_math.proofs.Kept.{turned}
 use Rattle.slot_math.proofs.Steps.{end_at, all_ends, part_of_ends, one_more_image}
@@ -145,3 +146,13 @@ nothing_yet s p rank e h = (
   (let P : List (Option ℕ) → Type 0 = λ t. GoesOn s t rank rank in subst P (sym e) (goes_on_first s rank)),
   (let k : length (ends s p) ≡ length (lists_of s) = ap (λ (t : List (Option ℕ)). length (ends s t)) e ∙ ap length (ends_of_nothing s) in omega arith),
 )
+
+-- what goes on from a prefix is counted in 128 bits
+pub images_fit : (s : Space) (p : List (Option ℕ)) (k : ℕ) → s.images ≤ 16 → s.members ≤ 16 → IsStart s p → length p < s.members → k < s.images →
+    images_before s p k + length (ends s (p ++ Some k ∷ [])) ≤ 17 ^ 16
+images_fit s p k n m h short ok =
+    let a : images_before s p k + length (ends s (p ++ Some k ∷ [])) ≤ length (ends s p) = part_of_ends s p (Some k) short ok in
+    let b : length (ends s p) ≡ ways s.low s.high (s.images - (length p - empties p)) (s.members - length p) (empties p) = ends_are s p h.0 h.1 in
+    let c : ways s.low s.high (s.images - (length p - empties p)) (s.members - length p) (empties p) ≤ 17 ^ 16
+        = ways_fit s.low s.high (s.images - (length p - empties p)) (s.members - length p) (empties p) (omega arith) (omega arith) in
+    omega arith

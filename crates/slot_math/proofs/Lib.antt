@@ -1,0 +1,14 @@
+pub mod Sums
+pub mod Count
+pub mod Kept
+pub mod Bound
+pub mod Ends
+pub mod Nested
+pub mod Steps
+pub mod Fronts
+pub mod Listed
+pub mod Once
+pub mod Begins
+pub mod Completions
+pub mod Positions
+pub mod Blocks

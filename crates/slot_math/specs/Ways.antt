@@ -1,0 +1,54 @@
+-- Words for the functions inside this crate.
+use Rattle.std.specs.Prelude.{ℕ, zero, suc, ◌≡◌, true, ◌+◌, ◌-◌, ◌*◌, ◌<◌, Bool, nat_le, nat_lt, ◌&&◌, ◌==◌, if◌then◌else◌, List, [], ◌∷◌, ◌++◌, length, filter}
+use Rattle.std.specs.declared.option.Option.{Option}
+use Rattle.std.specs.declared.option.Option.TheVariants.{None, Some}
+use Rattle.raid_terms.specs.SlotLists.{all_lists, is_kept, is_distinct, empties}
+use Rattle.slot_math.specs.declared.space.Space.{Space}
+
+-- how many ways there are to fill m more places, with u unused images and e empty places so far
+unfoldable pub ways : ℕ → ℕ → ℕ → ℕ → ℕ → ℕ
+ways low high u zero e = if nat_le low e && nat_le e high then 1 else 0
+ways low high u (suc m) e = u * ways low high (u - 1) m e + ways low high u m (e + 1)
+
+-- the images of the list are below n
+abbrev pub AllImages : ℕ → List (Option ℕ) → Type 0
+AllImages n [] = Unit {0}
+AllImages n (None ∷ l) = AllImages n l
+AllImages n (Some i ∷ l) = (i < n) × AllImages n l
+
+-- the ends with which a prefix goes on to a list of the space
+unfoldable pub ends : Space → List (Option ℕ) → List (List (Option ℕ))
+ends s p = filter (λ l. is_kept s.low s.high (p ++ l)) (all_lists s.images (s.members - length p))
+
+-- how many lists go on from a prefix with one of the images below k
+unfoldable pub images_before : Space → List (Option ℕ) → ℕ → ℕ
+images_before s p zero = 0
+images_before s p (suc k) = images_before s p k + length (ends s (p ++ Some k ∷ []))
+
+-- how many lists go on from a prefix with what comes before this in a place
+abbrev pub before : Space → List (Option ℕ) → Option ℕ → ℕ
+before s p (Some i) = images_before s p i
+before s p None = images_before s p s.images
+
+-- an image below n, or nothing
+abbrev pub IsPlace : ℕ → Option ℕ → Type 0
+IsPlace n None = Unit {0}
+IsPlace n (Some i) = i < n
+
+-- different images of the space
+abbrev pub IsStart : Space → List (Option ℕ) → Type 0
+IsStart s p = AllImages s.images p × (is_distinct p ≡ true)
+
+-- how many lists go on from a prefix with an image that is not among its own
+abbrev pub image_ways : Space → List (Option ℕ) → ℕ
+image_ways s p = ways s.low s.high (s.images - (length p + 1 - empties p)) (s.members - (length p + 1)) (empties p)
+
+-- the images of the list are below n
+unfoldable pub are_images : ℕ → List (Option ℕ) → Bool
+are_images n [] = true
+are_images n (None ∷ l) = are_images n l
+are_images n (Some i ∷ l) = nat_lt i n && are_images n l
+
+-- the list is one of the space
+abbrev pub is_listed : Space → List (Option ℕ) → Bool
+is_listed s l = (length l == s.members) && are_images s.images l && is_distinct l && nat_le s.low (empties l) && nat_le (empties l) s.high

@@ -1,0 +1,14 @@
+//! Counting and numbering slot lists.
+//!
+//! A [`Space`] is all slot lists of so many places over so many images, with distinct images and
+//! from `low` to `high` empty places, in lexicographic order with an empty place last.
+#![tactic(auto)]
+
+mod counts;
+mod laws;
+mod places;
+mod ranks;
+mod space;
+
+pub use laws::{each_list_is_shaped, each_list_once, ranks_and_lists_undo};
+pub use space::Space;

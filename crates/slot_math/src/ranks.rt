@@ -1,0 +1,133 @@
+// The list of a rank, and the rank of a list.
+ghost use Rattle.std.specs.Prelude.{◌≡◌, ◌≤◌, ◌<◌, ◌+◌, ◌++◌, ◌∷◌, [], Some, length, slice_get};
+ghost use Rattle.raid_terms.specs.SlotLists.{stands, empties};
+ghost use Rattle.slot_math.specs.Space.{lists_of, rank_in};
+ghost use Rattle.slot_math.specs.Ways.{ends, images_before, before, image_ways, is_listed, IsPlace, IsStart};
+
+use crate::counts::ways_of;
+use crate::places::{all_images, all_different, empty_count, holds_image};
+use crate::space::Space;
+use raid_params::{MOST, Slots};
+
+impl Space {
+    // How many lists go on from these places with one unused image.
+    fn image_ways(&self, prefix: &[Option<u8>]) -> u128
+        requires images { self.now.images ≤ MOST }
+        requires members { self.now.members ≤ MOST }
+        requires short { length prefix.now < self.now.members }
+        ensures { result ≡ image_ways self.now prefix.now }
+    {
+        let empty = empty_count(prefix);
+        let used = prefix.len() + 1 - empty;
+        let free = (self.images as usize).saturating_sub(used);
+        let left = self.members as usize - (prefix.len() + 1);
+        ways_of(self.low, self.high, free as u8, left as u8, empty as u8)
+    }
+
+    // How many lists go on from these places with this image, where one with an unused image do.
+    #[tactic(auto, using(crate::proofs::Fronts::used_image, crate::proofs::Fronts::unused_image))]
+    fn ways_of_image(&self, prefix: &[Option<u8>], image: u8, ways: u128) -> u128
+        requires start { IsStart self.now prefix.now }
+        requires image { image < self.now.images }
+        requires ways { ways ≡ image_ways self.now prefix.now }
+        ensures { result ≡ length (ends self.now (prefix.now ++ Some image ∷ [])) }
+    {
+        if holds_image(prefix, image) {
+            0
+        } else {
+            ways
+        }
+    }
+
+    // What stands in the next place of the list that goes on from these places and has this rank
+    // among those that do, and its rank among those that go on from there.
+    #[tactic(auto, using(crate::proofs::Fronts::none_before, crate::proofs::Steps::one_more_image, crate::proofs::Steps::all_ends))]
+    fn place_at(&self, prefix: &[Option<u8>], rank: u128) -> (Option<u8>, u128)
+        requires images { self.now.images ≤ MOST }
+        requires members { self.now.members ≤ MOST }
+        requires short { length prefix.now < self.now.members }
+        requires start { IsStart self.now prefix.now }
+        requires rank { rank < length (ends self.now prefix.now) }
+        ensures place { IsPlace self.now.images result.0 }
+        ensures before { rank ≡ before self.now prefix.now result.0 + result.1 }
+        ensures within { result.1 < length (ends self.now (prefix.now ++ result.0 ∷ [])) }
+    {
+        let unused = self.image_ways(prefix);
+        let mut rest = rank;
+        for image in 0..self.images {
+            let ways = self.ways_of_image(prefix, image, unused);
+            if rest < ways {
+                return (Some(image), rest);
+            }
+            rest -= ways;
+        }
+        (None, rest)
+    }
+
+    #[tactic(auto, using(crate::proofs::Fronts::goes_on_first, crate::proofs::Fronts::goes_on_more, crate::proofs::Fronts::goes_on_last, crate::proofs::Fronts::start_more, crate::proofs::Fronts::ends_of_nothing))]
+    /// The list of this rank: its position in the order of the space.
+    pub fn unrank(&self, rank: u128) -> Slots
+        requires images { self.now.images ≤ MOST }
+        requires members { self.now.members ≤ MOST }
+        requires rank { rank < length (lists_of self.now) }
+        ensures { slice_get (lists_of self.now) rank ≡ Some result.items }
+    {
+        let mut slots = Slots::new();
+        let mut rest = rank;
+        for _ in 0..self.members {
+            let (place, next) = self.place_at(slots.as_slice(), rest);
+            slots.push(place);
+            rest = next;
+        }
+        slots
+    }
+
+    // How many lists go on from these places with what comes before this in the next one.
+    #[tactic(auto, using(crate::proofs::Fronts::none_before, crate::proofs::Steps::one_more_image, crate::proofs::Fronts::images_fit))]
+    fn before(&self, prefix: &[Option<u8>], place: Option<u8>) -> u128
+        requires images { self.now.images ≤ MOST }
+        requires members { self.now.members ≤ MOST }
+        requires short { length prefix.now < self.now.members }
+        requires start { IsStart self.now prefix.now }
+        requires place { IsPlace self.now.images place }
+        ensures { result ≡ before self.now prefix.now place }
+    {
+        let unused = self.image_ways(prefix);
+        let end = place.unwrap_or(self.images);
+        let mut sum = 0;
+        for image in 0..end {
+            sum += self.ways_of_image(prefix, image, unused);
+        }
+        sum
+    }
+
+    // The list is one of the space.
+    fn holds(&self, list: &[Option<u8>]) -> bool
+        ensures { result ≡ is_listed self.now list.now }
+    {
+        let empty = empty_count(list);
+        list.len() == self.members as usize
+            && all_images(list, self.images)
+            && all_different(list)
+            && self.low as usize <= empty
+            && empty <= self.high as usize
+    }
+
+    #[tactic(auto, using(crate::proofs::Positions::rank_of_other, crate::proofs::Blocks::first_block, crate::proofs::Blocks::next_front, crate::proofs::Blocks::front_start, crate::proofs::Blocks::front_place, crate::proofs::Blocks::listed_long, crate::proofs::Blocks::rank_fits, crate::proofs::Blocks::rank_found))]
+    /// The rank of this list: its position in the order of the space. None where it is not there.
+    pub fn rank(&self, slots: &Slots) -> Option<u128>
+        requires images { self.now.images ≤ MOST }
+        requires members { self.now.members ≤ MOST }
+        ensures { result ≡ rank_in self.now slots.now.items }
+    {
+        let list = slots.as_slice();
+        if !self.holds(list) {
+            return None;
+        }
+        let mut rank = 0;
+        for at in 0..list.len() {
+            rank += self.before(&list[..at], list[at]);
+        }
+        Some(rank)
+    }
+}

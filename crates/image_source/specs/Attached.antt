@@ -1,5 +1,5 @@
 -- Images attached one after the other, by a list of names.
-use Rattle.std.specs.Prelude.{ℕ, ◌≡◌, ◌≤◌, List, [], ◌∷◌, ◌++◌, option_and_then}
+use Rattle.std.specs.Prelude.{ℕ, ◌≡◌, ◌*◌, ◌≤◌, List, [], ◌∷◌, ◌++◌, length, All, IfSome, option_and_then}
 use Rattle.std.specs.declared.option.Option.{Option}
 use Rattle.std.specs.declared.option.Option.TheVariants.{Some}
 use Rattle.std.specs.Option.{option_map}
@@ -9,6 +9,14 @@ use Rattle.image_source.specs.Seen.{Image, World, Seen, IsImageOf}
 abbrev pub told_all : List Image → Option (List (List ℕ))
 told_all [] = Some []
 told_all (image ∷ images) = option_and_then (λ bytes. option_map (λ others. bytes ∷ others) (told_all images)) image.bytes
+
+-- the bytes told of an image are as many as its sectors hold
+abbrev pub IsWhole : Image → Type 0
+IsWhole image = IfSome image.bytes (λ bytes. length bytes ≡ 512 * image.sectors)
+
+-- so are those of each image
+abbrev pub AreWhole : List Image → Type 0
+AreWhole images = All IsWhole images
 
 -- the images are those of a front of the names
 abbrev pub AreImagesOf : World → List (List ℕ) → List Image → Type 0

@@ -1,0 +1,35 @@
+-- What is told of attached images, for the crates above.
+use Rattle.std.proofs.Common.{◌≡◌, ℕ, zero, suc, ◌+◌, ◌*◌, List, [], ◌∷◌, length, map, None, Some, IfSome, All, refl, sym, ap, ◌∙◌, arith, slice_get}
+use Rattle.std.proofs.lemmas.List.Elements.{All-nil, All-cons}
+use Rattle.std.specs.Prelude.{option_and_then}
+use Rattle.std.specs.Option.{option_map}
+use Rattle.std.specs.declared.option.Option.{Option}
+use Rattle.image_source.specs.Seen.{Image, World, IsImageOf}
+use Rattle.image_source.specs.Attached.{told_all, IsWhole, AreWhole, AreImagesOf}
+
+-- where all bytes are told, those of the first image are told, and those of the others
+told_first : (first : Option (List ℕ)) (others : Option (List (List ℕ))) (all : List (List ℕ)) → option_and_then (λ bytes. option_map (λ rest. bytes ∷ rest) others) first ≡ Some all → (bytes : List ℕ) × (rest : List (List ℕ)) × (first ≡ Some bytes) × (others ≡ Some rest) × (all ≡ bytes ∷ rest)
+told_first None others all e = absurd cc
+told_first (Some bytes) None all e = absurd cc
+told_first (Some bytes) (Some rest) all e = (bytes, rest, refl, refl, cc)
+
+-- where all bytes are told, there is a list of bytes for each image
+pub length-told_all : (images : List Image) (all : List (List ℕ)) → told_all images ≡ Some all → length all ≡ length images
+length-told_all [] all e = let none : all ≡ [] = cc in ap length none
+length-told_all (image ∷ images) all e =
+    let t = told_first image.bytes (told_all images) all e in
+    omega (arith, ap length t.4, length-told_all images t.1 t.3)
+
+-- where all bytes are told, those of an image are the ones of its number
+pub slice_get-told_all : (images : List Image) (all : List (List ℕ)) (i : ℕ) → told_all images ≡ Some all → option_and_then (λ image. image.bytes) (slice_get images i) ≡ slice_get all i
+slice_get-told_all [] all i e = let none : all ≡ [] = cc in rw none refl
+slice_get-told_all (image ∷ images) all zero e = let t = told_first image.bytes (told_all images) all e in t.2 ∙ sym (ap (λ xs. slice_get xs 0) t.4)
+slice_get-told_all (image ∷ images) all (suc i) e =
+    let t = told_first image.bytes (told_all images) all e in
+    slice_get-told_all images t.1 i t.3 ∙ sym (ap (λ xs. slice_get xs (suc i)) t.4)
+
+-- images of names are whole
+pub whole_images : (world : World) (names : List (List ℕ)) (images : List Image) → AreImagesOf world names images → AreWhole images
+whole_images world names [] are = All-nil IsWhole
+whole_images world [] (image ∷ images) are = absurd are
+whole_images world (name ∷ names) (image ∷ images) are = All-cons IsWhole image images are.0.sectors (whole_images world names images are.1)

@@ -38,7 +38,7 @@ criteria_of : Bounds → ℕ → Criteria
 criteria_of bounds bad_rows = record { bounds = bounds; end = 2; window = 2; bad_rows = bad_rows }
 
 passing_ranks : List (List ℕ) → Criteria → ℕ → List ℕ
-passing_ranks images criteria total = filter (rank_passes images criteria) (range_with_len 0 total)
+passing_ranks images criteria total = filter (rank_passes (product (length images) criteria.bounds) images criteria) (range_with_len 0 total)
 
 a : List ℕ
 a = sector 1 ++ sector 2

@@ -89,6 +89,6 @@ pub record Criteria : Type 0 where
 abbrev pub passes : List (List ℕ) → Criteria → Geometry → Bool
 passes images criteria geo = nat_le 1 (rows geo.head criteria.end) && passes_parity images geo criteria.end criteria.window criteria.bad_rows
 
--- the set of a rank passes
-abbrev pub rank_passes : List (List ℕ) → Criteria → ℕ → Bool
-rank_passes images criteria rank = option_map_or (passes images criteria) (slice_get (product (length images) criteria.bounds) rank) false
+-- the set of a rank passes, of these sets in their order
+abbrev pub rank_passes : List Geometry → List (List ℕ) → Criteria → ℕ → Bool
+rank_passes sets images criteria rank = option_map_or (passes images criteria) (slice_get sets rank) false

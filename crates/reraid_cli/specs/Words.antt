@@ -1,21 +1,18 @@
 -- What the words of a command line say.
-use Rattle.std.specs.Prelude.{ℕ, ◌≡◌, ◌≢◌, ◌≤◌, ◌<◌, ◌^◌, ◌+◌, List, [], ◌∷◌, ◌++◌, length, drop, map, All, codes, decimal, if◌then◌else◌, unwrap_or, option_and_then, IfSome, IsNone, Bool, is_none}
+use Rattle.std.specs.Prelude.{ℕ, ◌-◌, ◌≡◌, ◌≢◌, ◌≤◌, ◌<◌, ◌^◌, ◌+◌, List, [], ◌∷◌, ◌++◌, length, drop, map, All, codes, decimal, if◌then◌else◌, unwrap_or, option_and_then, IfSome, IsNone, Bool, is_none}
 use Rattle.std.specs.declared.option.Option.{Option}
 use Rattle.std.specs.declared.option.Option.TheVariants.{None, Some}
 use Rattle.std.specs.Str.{bytes_eq}
 use Rattle.reraid_cli.specs.declared.words.Command.{Command}
 use Rattle.reraid_cli.specs.declared.words.Command.TheVariants.{List as ListCommand}
+use Rattle.reraid_cli.specs.declared.words.Given.{Given}
+use Rattle.reraid_cli.specs.declared.words.Operand.{Operand}
+use Rattle.reraid_cli.specs.declared.words.Operand.TheVariants.{From, Size, Span}
 
 -- the words after the first `--`: the names of the images
 abbrev pub names_after : List (List ℕ) → List (List ℕ)
 names_after [] = []
 names_after (word ∷ words) = if bytes_eq word (codes "--") then words else names_after words
-
--- an operand of `list`
-pub data Operand : Type 0 where
-  From : (n : ℕ) → Operand
-  Size : (n : ℕ) → Operand
-  Span : (n : ℕ) → Operand
 
 -- how an operand is spelled
 abbrev pub operand_word : Operand → List ℕ
@@ -29,12 +26,7 @@ IsInLimits (From n) = n < 2 ^ 64
 IsInLimits (Size n) = (1 ≤ n) × (n ≤ 1000000)
 IsInLimits (Span n) = (1 ≤ n) × (n < 2 ^ 64)
 
--- the operands that were given
-pub record Given : Type 0 where
-  pub from : Option ℕ
-  pub size : Option ℕ
-  pub span : Option ℕ
-
+-- no operand was given
 abbrev pub nothing_given : Given
 nothing_given = record { from = None; size = None; span = None }
 
@@ -54,17 +46,29 @@ all_given given (operand ∷ operands) = option_and_then (λ more. all_given mor
 abbrev pub list_command : Given → ℕ → Command
 list_command given names = ListCommand (unwrap_or given.from 0) (unwrap_or given.size 100) (unwrap_or given.span (2 ^ 64 - 1)) names
 
--- the words are `list`, operands in any order, each at most once, `--` and the names of the images
-pub record IsListing (words : List (List ℕ)) (command : Command) : Type 0 where
+-- the words go on with operands in any order, none of them given before or twice, then `--` and
+-- the names of the images, and say this command. They begin at word `place`, counted from 0
+pub record GoOn (given : Given) (place : ℕ) (words : List (List ℕ)) (command : Command) : Type 0 where
   pub operands : List Operand
   pub names : List (List ℕ)
-  pub given : Given
+  pub all : Given
   pub limits : All IsInLimits operands
-  pub once : all_given nothing_given operands ≡ Some given
-  pub spelled : words ≡ codes "list" ∷ (map operand_word operands ++ codes "--" ∷ names)
-  pub says : command ≡ list_command given (length operands + 2)
+  pub once : all_given given operands ≡ Some all
+  pub spelled : words ≡ map operand_word operands ++ codes "--" ∷ names
+  pub says : command ≡ list_command all (place + length operands + 1)
+
+-- the words are `list` with its operands, `--` and the names of the images
+pub record IsListing (words : List (List ℕ)) (command : Command) : Type 0 where
+  pub rest : List (List ℕ)
+  pub first : words ≡ codes "list" ∷ rest
+  pub onward : GoOn nothing_given 1 rest command
 
 -- what the words are: a command, or none
 abbrev pub AreRead : List (List ℕ) → Option Command → Type 0
 AreRead words None = (command : Command) → IsListing words command → ⊥
 AreRead words (Some command) = IsListing words command
+
+-- a reading of words finds their command, and just one
+pub record ReadsWords (words : List (List ℕ)) (result : Option Command) : Type 0 where
+  pub sound : IfSome result (IsListing words)
+  pub whole : (command : Command) → IsListing words command → result ≡ Some command

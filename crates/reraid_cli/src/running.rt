@@ -1,0 +1,63 @@
+// A run, up to why it ends.
+ghost use Rattle.std.specs.Prelude.{◌≡◌, ◌≤◌, [], All, IsTrue, length, IfErr, OnOk, map, take, drop, min};
+ghost use Rattle.image_source.specs.Attached.{AttachesSome};
+ghost use Rattle.image_source.specs.Seen.{Image};
+ghost use Rattle.reraid_cli.specs.Answers.{IsUnread, Outcome, agree};
+ghost use Rattle.reraid_cli.specs.Words.{names_after};
+
+use crate::attaching::attach_front;
+use crate::listing::list;
+use crate::reading::read_all;
+use crate::stop::Stop;
+use crate::words::{Command, Word, read_words};
+use image_source::{Images, Sink, Source};
+use plan_text::{Plan, read_plan};
+use std::alloc::Global;
+
+/// Does the work in its order: words, images, plan, images against the plan, the job.
+pub fn run<S: Source, I: Images, K: Sink>(
+    alloc: Global,
+    words: &[Word],
+    plan: &mut S,
+    images: &mut I,
+    out: &mut K,
+) -> Result<(), Stop>
+    requires fresh { (I.seen images.old).attached ≡ [] }
+    requires named { All (λ name. IsTrue ((I.seen images.old).world.may_attach name)) (names_after words.now) }
+    ensures outcome { Outcome words.now (S.left plan.old) (I.seen images.new).attached
+        (record { images = (I.seen images.old).faults; plan = S.faults plan.old; out = K.faults out.old })
+        (record { images = (I.seen images.new).faults; plan = S.faults plan.new; out = K.faults out.new })
+        (K.gained out.old) (K.gained out.new) result }
+    ensures world { (I.seen images.new).world ≡ (I.seen images.old).world }
+    ensures unread { IsUnread (I.seen images.old) (I.seen images.new) result }
+{
+    let command = read_words(words).ok_or(Stop::NotBuilt)?;
+    let Command::List {
+        from,
+        size,
+        span,
+        names,
+    } = command;
+    attach_front(images, &words[names..]).map_err(|_| Stop::ImageFault)?;
+    let text = read_all(alloc, plan)?;
+    let plan = read_plan(alloc, &text)?;
+    if !images_agree(images, &plan) {
+        return Err(Stop::NotBuilt);
+    }
+    list(alloc, images, &plan, from, size, span, out)
+}
+
+/// Whether the attached images have the planned lengths, and there are no others.
+fn images_agree<I: Images>(images: &I, plan: &Plan) -> bool
+    ensures { result ≡ agree plan.now (I.seen images.now).attached }
+{
+    let lengths = plan.lengths.as_slice();
+    let mut image = 0;
+    for length in lengths {
+        if images.length(image) != Some(*length) {
+            return false;
+        }
+        image += 1;
+    }
+    images.length(image).is_none()
+}

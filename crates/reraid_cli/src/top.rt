@@ -1,0 +1,82 @@
+// The top call.
+ghost use Rattle.std.specs.Prelude.{◌≡◌, ◌≢◌, ◌<◌, ◌≤◌, [], All, Contains, IsTrue, IfSome, None};
+ghost use Rattle.std.specs.Io.KnownBytes.{Appends, Keeps};
+ghost use Rattle.image_source.specs.Attached.{told_all};
+ghost use Rattle.image_source.specs.Streams.{AppendsFront};
+ghost use Rattle.reraid_cli.specs.Answers.{IsNoted, Reading, Says, note_by, note_for, output, refusal, status_by, statuses};
+ghost use Rattle.reraid_cli.specs.Words.{AreRead, names_after};
+
+use crate::running::run;
+use crate::words::Word;
+use image_source::{Images, Sink, Source};
+use std::alloc::Global;
+use std::thread::Threads;
+
+/// Does all that the program does, and answers the status that it ends with.
+///
+/// Status 0: the listing is on `out`. 3: more than 4,194,304 bytes were left in the source of the
+/// plan. 6: the first rank asked for is past the total. 10, 11 and 12: the images, the plan or
+/// the output failed. 19: the words, the plan or the images are of a kind that is not built yet.
+/// 20: want of memory.
+pub fn reraid<R: Threads + Sync, S: Source, I: Images, K: Sink, N: Sink>(
+    _rt: &R,
+    alloc: Global,
+    words: &[Word],
+    plan: &mut S,
+    images: &mut I,
+    out: &mut K,
+    notes: &mut N,
+) -> u8
+    requires fresh { (I.seen images.old).attached ≡ [] }
+    requires named { All (λ name. IsTrue ((I.seen images.old).world.may_attach name)) (names_after words.now) }
+    requires images { (I.seen images.old).faults ≡ 0 }
+    requires plan { S.faults plan.old ≡ 0 }
+    requires out { K.faults out.old ≡ 0 }
+    requires notes { N.faults notes.old ≡ 0 }
+
+    // No other status comes.
+    ensures statuses { Contains statuses result }
+
+    // Unless the outside or memory is the cause, the status is that of the first refusal in the
+    // order of work, and 0 where there is none.
+    ensures exact { result ≢ 10 → result ≢ 11 → result ≢ 12 → result ≢ 20 →
+        IfSome (S.left plan.old) (λ text. (reading : Reading) → Says words.now text reading → result ≡ status_by (refusal text reading (I.seen images.new).attached)) }
+
+    // Words that say nothing are refused before anything is touched.
+    ensures words { AreRead words.now None → result ≡ 19 }
+
+    // Status 0: `out` gained the listing, and nothing else.
+    ensures printed { result ≡ 0 →
+        IfSome (S.left plan.old) (λ text. (reading : Reading) → Says words.now text reading →
+        IfSome (told_all (I.seen images.new).attached) (λ bytes. Appends (K.gained out.old) (K.gained out.new) (output reading bytes))) }
+
+    // Statuses 10, 11 and 12 come only where that object failed.
+    ensures image_fault { result ≡ 10 → 0 < (I.seen images.new).faults }
+    ensures plan_fault { result ≡ 11 → 0 < S.faults plan.new }
+    ensures out_fault { result ≡ 12 → 0 < K.faults out.new }
+
+    // At status 12 `out` gained a front of the listing, and at every other but 0 nothing.
+    ensures front { result ≡ 12 →
+        IfSome (S.left plan.old) (λ text. (reading : Reading) → Says words.now text reading →
+        IfSome (told_all (I.seen images.new).attached) (λ bytes. AppendsFront (K.gained out.old) (K.gained out.new) (output reading bytes))) }
+    ensures nothing { result ≢ 0 → result ≢ 12 → Keeps (K.gained out.old) (K.gained out.new) }
+
+    // The notes gained the line of the status, whole where they did not fail. The line of status 6
+    // holds the cursor and the total.
+    ensures note { result ≢ 6 → IsNoted (N.faults notes.new) (N.gained notes.old) (N.gained notes.new) (note_for result) }
+    ensures cursor_note { result ≡ 6 →
+        IfSome (S.left plan.old) (λ text. (reading : Reading) → Says words.now text reading →
+        IsNoted (N.faults notes.new) (N.gained notes.old) (N.gained notes.new) (note_by (refusal text reading (I.seen images.new).attached))) }
+
+    // Images are only attached and read, and a refusal reads none.
+    ensures world { (I.seen images.new).world ≡ (I.seen images.old).world }
+    ensures unread { result ≢ 0 → result ≢ 10 → result ≢ 12 → result ≢ 20 → (I.seen images.new).sectors_read ≡ (I.seen images.old).sectors_read }
+{
+    match run(alloc, words, plan, images, out) {
+        Ok(()) => 0,
+        Err(stop) => {
+            let _ = notes.put(stop.line().as_bytes());
+            stop.status()
+        }
+    }
+}

@@ -1,5 +1,5 @@
 -- How readings join, for the crates above.
-use Rattle.std.proofs.Common.{◌≡◌, ℕ, ◌+◌, ◌≤◌, List, refl, ◌∙◌, arith}
+use Rattle.std.proofs.Common.{ℕ, ◌+◌, ◌≤◌, refl, ◌∙◌, arith}
 use Rattle.image_source.specs.Seen.{Seen, OnlyReads}
 
 -- where nothing happened, nothing was read

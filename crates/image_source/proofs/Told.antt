@@ -1,10 +1,10 @@
 -- What is told of attached images, for the crates above.
-use Rattle.std.proofs.Common.{◌≡◌, ℕ, zero, suc, ◌+◌, ◌*◌, List, [], ◌∷◌, length, map, None, Some, IfSome, All, refl, sym, ap, ◌∙◌, arith, slice_get}
+use Rattle.std.proofs.Common.{◌≡◌, ℕ, zero, suc, List, [], ◌∷◌, length, None, Some, refl, sym, ap, ◌∙◌, arith, slice_get}
 use Rattle.std.proofs.lemmas.List.Elements.{All-nil, All-cons}
 use Rattle.std.specs.Prelude.{option_and_then}
 use Rattle.std.specs.Option.{option_map}
 use Rattle.std.specs.declared.option.Option.{Option}
-use Rattle.image_source.specs.Seen.{Image, World, IsImageOf}
+use Rattle.image_source.specs.Seen.{Image, World}
 use Rattle.image_source.specs.Attached.{told_all, IsWhole, AreWhole, AreImagesOf}
 
 -- where all bytes are told, those of the first image are told, and those of the others

@@ -1,4 +1,4 @@
-use Rattle.std.proofs.Common.{◌≡◌, ◌<◌, ◌++◌, ◌∷◌, [], All, length, map, ℕ, rules}
+use Rattle.std.proofs.Common.{◌≡◌, ◌<◌, ◌++◌, ◌∷◌, [], All, length, map, rules}
 use Rattle.std.proofs.lemmas.List.{length-map, map-append}
 use Rattle.image_source.specs.declared.mem_images.MemFile.{MemFile}
 use Rattle.image_source.specs.MemFile.{named_bytes}

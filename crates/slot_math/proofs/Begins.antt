@@ -1,8 +1,8 @@
 -- The lists that begin with a prefix.
-use Rattle.std.proofs.Common.{ℕ, ◌≡◌, ◌≢◌, ◌<◌, ◌≤◌, ◌+◌, ◌-◌, ◌*◌, List, [], ◌∷◌, ◌++◌, length, map, filter, refl, sym, ap, ap₂, ◌∙◌, arith, zero, suc, Bool, true, false, ◌&&◌, ◌||◌, not, ◌==◌, cond, zero-add, add-zero, inl, inr, Option, Some, None, ◌⊎◌}
-use Rattle.std.specs.List.{flat_map, range_with_len}
+use Rattle.std.proofs.Common.{ℕ, ◌≡◌, ◌<◌, ◌+◌, ◌*◌, List, [], ◌∷◌, ◌++◌, length, map, refl, sym, ap, ap₂, ◌∙◌, arith, suc, Bool, true, false, ◌&&◌, ◌==◌, cond, zero-add, add-zero, inl, inr, Option, Some, None, ◌⊎◌}
+use Rattle.std.specs.List.{range_with_len}
 use Rattle.std.proofs.Math.Nat.{mul-zero}
-use Rattle.std.proofs.lemmas.Bool.{cases_Bool, eqb-true, eq-eqb, ne_eqb, cases_eq}
+use Rattle.std.proofs.lemmas.Bool.{eq-eqb, ne_eqb, cases_eq}
 use Rattle.raid_terms.specs.SlotLists.{fillings, all_lists}
 use Rattle.slot_math.specs.Space.{same_place, begins}
 use Rattle.slot_math.specs.Ways.{AllImages}
@@ -20,9 +20,9 @@ and_false false = refl
 single : (w j n : ℕ) → j < n → total_of (λ i. cond (i == j) w 0) (range_with_len 0 n) ≡ w
 single w j n h =
     let all : total_of (λ i. cond (i == j) 0 (cond (i == j) w 0)) (range_with_len 0 n) + cond (j == j) w 0 ≡ total_of (λ i. cond (i == j) w 0) (range_with_len 0 n)
-        = drop_one (λ i. cond (i == j) w 0) j 0 n (omega arith) (omega arith) in
+    = drop_one (λ i. cond (i == j) w 0) j 0 n (omega arith) (omega arith) in
     let none : total_of (λ i. cond (i == j) 0 (cond (i == j) w 0)) (range_with_len 0 n) ≡ n * 0
-        = total_range_same (λ i. cond (i == j) 0 (cond (i == j) w 0)) (λ i. 0) 0 n (λ i lo hi. both (i == j)) ∙ total_const 0 0 n in
+    = total_range_same (λ i. cond (i == j) 0 (cond (i == j) w 0)) (λ i. 0) 0 n (λ i lo hi. both (i == j)) ∙ total_const 0 0 n in
     let here : cond (j == j) w 0 ≡ w = ap (λ (b : Bool). cond b w 0) (eq-eqb j j refl) in
     sym all ∙ ap₂ (λ (x y : ℕ). x + y) (none ∙ mul-zero n) here ∙ zero-add w
   where
@@ -51,16 +51,16 @@ one_first n f None ps ls ok =
     let g : Option ℕ → ℕ = λ q. passing (λ l. f (q ∷ l) && begins (None ∷ ps) (q ∷ l)) ls in
     total-append g (map (λ i. Some i) (range_with_len 0 n)) (None ∷ [])
     ∙ ap₂ (λ (a b : ℕ). a + b)
-        (total-map g (λ i. Some i) (range_with_len 0 n) ∙ total_range_same (λ i. g (Some i)) (λ i. 0) 0 n (λ i lo hi. first_is_not f None (Some i) ps ls refl) ∙ total_const 0 0 n ∙ mul-zero n)
-        (add-zero (g None) ∙ first_is f None None ps ls refl)
+    (total-map g (λ i. Some i) (range_with_len 0 n) ∙ total_range_same (λ i. g (Some i)) (λ i. 0) 0 n (λ i lo hi. first_is_not f None (Some i) ps ls refl) ∙ total_const 0 0 n ∙ mul-zero n)
+    (add-zero (g None) ∙ first_is f None None ps ls refl)
     ∙ zero-add (passing (λ l. f (None ∷ l) && begins ps l) ls)
 one_first n f (Some i) ps ls ok =
     let g : Option ℕ → ℕ = λ q. passing (λ l. f (q ∷ l) && begins (Some i ∷ ps) (q ∷ l)) ls in
     let w = passing (λ l. f (Some i ∷ l) && begins ps l) ls in
     total-append g (map (λ j. Some j) (range_with_len 0 n)) (None ∷ [])
     ∙ ap₂ (λ (a b : ℕ). a + b)
-        (total-map g (λ j. Some j) (range_with_len 0 n) ∙ total_range_same (λ j. g (Some j)) (λ j. cond (j == i) w 0) 0 n (λ j lo hi. at_image j (cases_eq j i)) ∙ single w i n ok.0)
-        (add-zero (g None) ∙ first_is_not f (Some i) None ps ls refl)
+    (total-map g (λ j. Some j) (range_with_len 0 n) ∙ total_range_same (λ j. g (Some j)) (λ j. cond (j == i) w 0) 0 n (λ j lo hi. at_image j (cases_eq j i)) ∙ single w i n ok.0)
+    (add-zero (g None) ∙ first_is_not f (Some i) None ps ls refl)
     ∙ add-zero w
   where
     at_image : (j : ℕ) → (j ≡ i) ⊎ (j ≡ i → ⊥) → passing (λ l. f (Some j ∷ l) && begins (Some i ∷ ps) (Some j ∷ l)) ls ≡ cond (j == i) (passing (λ l. f (Some i ∷ l) && begins ps l) ls) 0
@@ -82,6 +82,7 @@ passing_begins n m (x ∷ ps) f ok =
     head_ok : (y : Option ℕ) → AllImages n (y ∷ ps) → AllImages n (y ∷ [])
     head_ok None a = tt
     head_ok (Some i) a = (a.0, tt)
+
     tail_ok : (y : Option ℕ) → AllImages n (y ∷ ps) → AllImages n ps
     tail_ok None a = a
     tail_ok (Some i) a = a.1

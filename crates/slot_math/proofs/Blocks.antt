@@ -1,5 +1,5 @@
 -- Where the lists that begin with a prefix stand in their space.
-use Rattle.std.proofs.Common.{rules, ℕ, ◌≡◌, ◌≢◌, ◌<◌, ◌≤◌, ◌+◌, ◌-◌, ◌^◌, List, [], ◌∷◌, ◌++◌, length, filter, take, refl, sym, ap, ap₂, ◌∙◌, arith, zero, suc, Bool, true, false, ◌&&◌, ◌||◌, not, ◌==◌, nat_le, cond, Option, Some, None, slice_get, get_or, slice_index_or, inl, inr, subst, add_assoc, append-nil, zero-add, add-zero}
+use Rattle.std.proofs.Common.{rules, ℕ, ◌≡◌, ◌<◌, ◌≤◌, ◌+◌, ◌-◌, ◌^◌, List, [], ◌∷◌, ◌++◌, length, filter, take, refl, sym, ap, ap₂, ◌∙◌, arith, zero, suc, Bool, true, false, ◌&&◌, ◌||◌, not, ◌==◌, nat_le, cond, Option, Some, None, slice_get, get_or, inl, inr, subst, add_assoc, append-nil, zero-add, add-zero}
 use Rattle.std.proofs.lemmas.Bool.{cases_Bool, and_parts, eqb-true, not-true}
 use Rattle.std.proofs.lemmas.List.{take_all, take_more, length-take-le}
 use Rattle.raid_terms.specs.SlotLists.{all_lists, is_kept, is_distinct, empties, stands}
@@ -21,7 +21,8 @@ pub record StandsFrom (s : Space) (p : List (Option ℕ)) (base : ℕ) : Type 0 
 pub first_block : (s : Space) → StandsFrom s [] 0
 first_block s = record {
   at = λ r h. ap (λ (k : ℕ). slice_get (lists_of s) k) (zero-add r) ∙ goes_on_first s r;
-  within = (let e : length (ends s []) ≡ length (lists_of s) = ap length (ends_of_nothing s) in omega arith) }
+  within = (let e : length (ends s []) ≡ length (lists_of s) = ap length (ends_of_nothing s) in omega arith);
+}
 
 pub next_block : (s : Space) (p : List (Option ℕ)) (q : Option ℕ) (base : ℕ) → StandsFrom s p base → length p < s.members → IsPlace s.images q →
     StandsFrom s (p ++ q ∷ []) (base + before s p q)
@@ -31,7 +32,8 @@ next_block s p q base b short ok =
     record {
       at = λ r h. goes_on_more s p q (base + before s p q + r) (before s p q + r) r
           (ap (slice_get (lists_of s)) (add_assoc base (before s p q) r) ∙ b.at (before s p q + r) (omega arith)) short ok refl h;
-      within = omega arith }
+      within = omega arith;
+    }
 
 -- what the test of a list says
 pub record Listed (s : Space) (l : List (Option ℕ)) : Type 0 where
@@ -48,7 +50,8 @@ listed_from s l h =
     record {
       long = eqb-true (length l) s.members b.0;
       known = all_images s.images l b.1;
-      kept = ap₂ (λ (x y : Bool). x && y) c.1 (ap₂ (λ (x y : Bool). x && y) d.1 e.1) }
+      kept = ap₂ (λ (x y : Bool). x && y) c.1 (ap₂ (λ (x y : Bool). x && y) d.1 e.1);
+    }
 
 -- the front of a list has different images of the space
 stands_front : (l : List (Option ℕ)) (n i : ℕ) → stands i l ≡ false → stands i (take n l) ≡ false
@@ -57,8 +60,9 @@ stands_front l zero i h = refl
 stands_front [] (suc n) i h = refl
 stands_front (None ∷ l) (suc n) i h = stands_front l n i h
 stands_front (Some k ∷ l) (suc n) i h = elim (cases_Bool (i == k)) [
-    inl t ↦ (let e : (true || stands i l) ≡ false = ap (λ (b : Bool). b || stands i l) (sym t) ∙ h in absurd (search rules))
-  | inr f ↦ ap (λ (b : Bool). b || stands i (take n l)) f ∙ stands_front l n i (ap (λ (b : Bool). b || stands i l) (sym f) ∙ h) ]
+  | inl t ↦ (let e : (true || stands i l) ≡ false = ap (λ (b : Bool). b || stands i l) (sym t) ∙ h in absurd (search rules))
+  | inr f ↦ ap (λ (b : Bool). b || stands i (take n l)) f ∙ stands_front l n i (ap (λ (b : Bool). b || stands i l) (sym f) ∙ h)
+]
 
 distinct_front : (l : List (Option ℕ)) (n : ℕ) → is_distinct l ≡ true → is_distinct (take n l) ≡ true
 unfolding is_distinct

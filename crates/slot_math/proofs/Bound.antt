@@ -1,7 +1,7 @@
 -- The numbers of ways fit, and how a row of them gives the next.
-use Rattle.std.proofs.Common.{ℕ, ◌≡◌, ◌<◌, ◌≤◌, ◌+◌, ◌-◌, ◌*◌, ◌^◌, refl, sym, ap, ◌∙◌, arith, zero, suc, Bool, true, false, ◌&&◌, cond, nat_le}
+use Rattle.std.proofs.Common.{ℕ, ◌≡◌, ◌≤◌, ◌+◌, ◌-◌, ◌*◌, ◌^◌, refl, sym, ap, ◌∙◌, arith, zero, suc, Bool, true, false, ◌&&◌, cond, nat_le}
 use Rattle.std.proofs.lemmas.Nat.{mul-le}
-use Rattle.std.proofs.Math.Nat.{pow-suc, pow-zero, pow-le-pow_right, pow-le-pow_left, le_trans, suc-mul, one-le-pow}
+use Rattle.std.proofs.Math.Nat.{pow-suc, pow-zero, pow-le-pow_right, le_trans}
 use Rattle.std.proofs.Math.Numerals.{add-one}
 use Rattle.slot_math.specs.Ways.{ways}
 

@@ -1,12 +1,12 @@
 -- How many lists of a space begin with a prefix.
-use Rattle.std.proofs.Common.{nat_lt, ◌==◌, ℕ, ◌≡◌, ◌≢◌, ◌<◌, ◌≤◌, ◌+◌, ◌-◌, List, [], ◌∷◌, ◌++◌, length, filter, refl, sym, ap, ap₂, ◌∙◌, arith, zero, suc, Bool, true, false, ◌&&◌, not, cond, add-zero, Option, Some, None, inl, inr, rules, subst}
+use Rattle.std.proofs.Common.{nat_lt, ◌==◌, ℕ, ◌≡◌, ◌<◌, ◌≤◌, ◌+◌, ◌-◌, List, [], ◌∷◌, ◌++◌, length, filter, refl, sym, ap, ap₂, ◌∙◌, arith, Bool, true, false, ◌&&◌, cond, Option, Some, None, inl, inr, rules}
 use Rattle.std.specs.List.{AllByRecursion}
 use Rattle.std.proofs.lemmas.Bool.{and_parts, cases_Bool, eqb-true, ltb-true, lt-ltb}
 use Rattle.raid_terms.specs.SlotLists.{all_lists, is_distinct, empties, is_kept}
 use Rattle.slot_math.specs.Space.{begins, same_place, lists_of}
 use Rattle.slot_math.specs.Ways.{AllImages, are_images, ends, ways}
 use Rattle.slot_math.specs.declared.space.Space.{Space}
-use Rattle.slot_math.proofs.Sums.{passing, length-filter, passing_same, passing_none}
+use Rattle.slot_math.proofs.Sums.{passing, length-filter}
 use Rattle.slot_math.proofs.Begins.{passing_begins}
 use Rattle.slot_math.proofs.Ends.{ends_are, no_ends}
 use Rattle.slot_math.proofs.Listed.{each_list, each_more}
@@ -17,8 +17,9 @@ unfolding passing
 passing_filter f g [] = refl
 passing_filter {A} f g (x ∷ xs) =
     elim (f x) as (λ t. passing g (cond t (x ∷ filter f xs) (filter f xs)) ≡ cond (t && g x) 1 0 + passing (λ y. f y && g y) xs) [
-      true ↦ ap (λ (n : ℕ). cond (g x) 1 0 + n) (passing_filter f g xs)
-    | false ↦ passing_filter f g xs ∙ (let e : passing (λ y. f y && g y) xs ≡ 0 + passing (λ y. f y && g y) xs = omega arith in e) ]
+      | true ↦ ap (λ (n : ℕ). cond (g x) 1 0 + n) (passing_filter f g xs)
+      | false ↦ passing_filter f g xs ∙ (let e : passing (λ y. f y && g y) xs ≡ 0 + passing (λ y. f y && g y) xs = omega arith in e)
+    ]
 
 -- those that begin with p are its ends
 begun : (s : Space) (p : List (Option ℕ)) → length p ≤ s.members → AllImages s.images p → length (filter (begins p) (lists_of s)) ≡ length (ends s p)
@@ -60,8 +61,8 @@ none_begin s p h =
     length-filter (begins p) (lists_of s)
     ∙ passing_filter (is_kept s.low s.high) (begins p) (all_lists s.images s.members)
     ∙ passing_never (λ l. is_kept s.low s.high l && begins p l) (all_lists s.images s.members)
-        (each_more (λ l. (length l ≡ s.members) × AllImages s.images l) (λ l. (is_kept s.low s.high l && begins p l) ≡ false) (all_lists s.images s.members)
-            (λ l a. ap (λ (b : Bool). is_kept s.low s.high l && b) (h l a) ∙ neither (is_kept s.low s.high l)) (each_list s.images s.members))
+    (each_more (λ l. (length l ≡ s.members) × AllImages s.images l) (λ l. (is_kept s.low s.high l && begins p l) ≡ false) (all_lists s.images s.members)
+    (λ l a. ap (λ (b : Bool). is_kept s.low s.high l && b) (h l a) ∙ neither (is_kept s.low s.high l)) (each_list s.images s.members))
   where
     neither : (b : Bool) → (b && false) ≡ false
     neither true = refl
@@ -70,8 +71,9 @@ none_begin s p h =
 -- no list begins with more places than it has
 pub none_longer : (s : Space) (p : List (Option ℕ)) → s.members < length p → 0 ≡ length (filter (begins p) (lists_of s))
 none_longer s p long = sym (none_begin s p (λ l a. elim (cases_Bool (begins p l)) [
-    inl t ↦ (let le : length p ≤ length l = begins_longer p l t in let e : length l ≡ s.members = a.0 in absurd (omega arith))
-  | inr f ↦ f ]))
+  | inl t ↦ (let le : length p ≤ length l = begins_longer p l t in let e : length l ≡ s.members = a.0 in absurd (omega arith))
+  | inr f ↦ f
+]))
 
 pub all_images : (n : ℕ) (p : List (Option ℕ)) → are_images n p ≡ true → AllImages n p
 unfolding are_images
@@ -88,8 +90,9 @@ are_all_images n (Some i ∷ p) a = ap₂ (λ (x y : Bool). x && y) (lt-ltb i n 
 -- nor with an image that is not there
 pub none_unknown : (s : Space) (p : List (Option ℕ)) → are_images s.images p ≡ false → 0 ≡ length (filter (begins p) (lists_of s))
 none_unknown s p f = sym (none_begin s p (λ l a. elim (cases_Bool (begins p l)) [
-    inl t ↦ (let e : are_images s.images p ≡ true = are_all_images s.images p (begins_images s.images p l t a.1) in absurd (search rules))
-  | inr g ↦ g ]))
+  | inl t ↦ (let e : are_images s.images p ≡ true = are_all_images s.images p (begins_images s.images p l t a.1) in absurd (search rules))
+  | inr g ↦ g
+]))
 
 -- nor with an image twice
 pub none_twice : (s : Space) (p : List (Option ℕ)) → length p ≤ s.members → are_images s.images p ≡ true → is_distinct p ≡ false → 0 ≡ length (filter (begins p) (lists_of s))

@@ -1,10 +1,10 @@
 -- How many slot lists there are.
-use Rattle.std.proofs.Common.{ℕ, ◌≡◌, ◌≢◌, ◌<◌, ◌≤◌, ◌+◌, ◌-◌, ◌*◌, List, [], ◌∷◌, ◌++◌, length, map, filter, refl, sym, ap, ◌∙◌, arith, zero, suc, Bool, true, false, ◌&&◌, ◌||◌, not, ◌==◌, cond, add_assoc, zero-add, add-zero, add_comm, inl, inr, Option, Some, None, nat_le}
-use Rattle.std.specs.List.{flat_map, range_with_len}
+use Rattle.std.proofs.Common.{ℕ, ◌≡◌, ◌<◌, ◌+◌, ◌-◌, ◌*◌, List, [], ◌∷◌, length, map, refl, sym, ap, ◌∙◌, arith, zero, suc, Bool, true, false, ◌&&◌, ◌||◌, not, ◌==◌, cond, zero-add, add-zero, add_comm, inl, inr, Option, Some, None, nat_le}
+use Rattle.std.specs.List.{range_with_len}
 use Rattle.std.proofs.lemmas.Bool.{cases_Bool}
-use Rattle.std.proofs.Math.Nat.{zero-mul, suc-mul, mul_comm}
+use Rattle.std.proofs.Math.Nat.{zero-mul, suc-mul}
 use Rattle.std.proofs.Math.Numerals.{one-add}
-use Rattle.raid_terms.specs.SlotLists.{fillings, all_lists, stands, is_distinct, empties, is_kept}
+use Rattle.raid_terms.specs.SlotLists.{fillings, all_lists}
 use Rattle.slot_math.specs.Ways.{ways}
 use Rattle.slot_math.proofs.Sums.{total_of, passing, passing-flat, passing_same, passing_none, total-append, total-map, total_range_same, drop_one, total_const}
 

@@ -1,6 +1,6 @@
 -- The ends with which a prefix goes on, counted.
-use Rattle.std.proofs.Common.{ℕ, ◌≡◌, ◌<◌, ◌≤◌, ◌+◌, ◌-◌, List, [], ◌∷◌, ◌++◌, length, filter, refl, sym, ap, ap₂, ◌∙◌, arith, zero, suc, Bool, true, false, ◌&&◌, not, cond, add-zero, Option, Some, None}
-use Rattle.std.proofs.lemmas.Bool.{and_parts, not-true, cases_Bool, and_from}
+use Rattle.std.proofs.Common.{ℕ, ◌≡◌, ◌+◌, ◌-◌, List, [], ◌∷◌, ◌++◌, length, refl, sym, ap, ◌∙◌, arith, Bool, true, false, ◌&&◌, not, add-zero, Option, Some, None}
+use Rattle.std.proofs.lemmas.Bool.{and_parts, not-true}
 use Rattle.raid_terms.specs.SlotLists.{all_lists, is_distinct, stands, empties, is_kept}
 use Rattle.slot_math.specs.Ways.{ways, ends, AllImages}
 use Rattle.slot_math.specs.declared.space.Space.{Space}

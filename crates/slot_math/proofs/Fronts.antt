@@ -1,6 +1,6 @@
 -- The list of a rank, place by place.
-use Rattle.std.proofs.Common.{ℕ, ◌≡◌, ◌<◌, ◌≤◌, ◌+◌, ◌-◌, ◌^◌, List, [], ◌∷◌, ◌++◌, length, map, filter, refl, sym, ap, subst, ap₂, ◌∙◌, arith, zero, suc, Bool, true, false, ◌&&◌, ◌||◌, not, ◌==◌, cond, Option, Some, None, slice_get, option_map, append_assoc, append-nil, add_assoc, zero-add, add-zero, length-append, inl, inr}
-use Rattle.std.proofs.lemmas.Bool.{cases_Bool, and_parts, not-true}
+use Rattle.std.proofs.Common.{ℕ, ◌≡◌, ◌<◌, ◌≤◌, ◌+◌, ◌-◌, ◌^◌, List, [], ◌∷◌, ◌++◌, length, filter, refl, sym, ap, subst, ap₂, ◌∙◌, arith, zero, suc, Bool, true, false, ◌&&◌, ◌||◌, not, ◌==◌, cond, Option, Some, None, slice_get, option_map, append_assoc, append-nil, length-append, inl, inr}
+use Rattle.std.proofs.lemmas.Bool.{cases_Bool}
 use Rattle.raid_terms.specs.SlotLists.{all_lists, is_kept, is_distinct, stands, empties}
 use Rattle.slot_math.specs.Space.{lists_of}
 use Rattle.slot_math.specs.Ways.{ends, images_before, before, IsPlace, AllImages, IsStart, ways}
@@ -8,7 +8,7 @@ use Rattle.slot_math.specs.declared.space.Space.{Space}
 use Rattle.slot_math.proofs.Bound.{ways_fit}
 use Rattle.slot_math.proofs.Ends.{no_ends, ends_are}
 use Rattle.slot_math.proofs.Kept.{turned}
-use Rattle.slot_math.proofs.Steps.{end_at, all_ends, part_of_ends, one_more_image}
+use Rattle.slot_math.proofs.Steps.{end_at, part_of_ends}
 
 -- the list of this rank begins with p and goes on with its end of number rest
 abbrev pub GoesOn : Space → List (Option ℕ) → ℕ → ℕ → Type 0
@@ -154,5 +154,5 @@ images_fit s p k n m h short ok =
     let a : images_before s p k + length (ends s (p ++ Some k ∷ [])) ≤ length (ends s p) = part_of_ends s p (Some k) short ok in
     let b : length (ends s p) ≡ ways s.low s.high (s.images - (length p - empties p)) (s.members - length p) (empties p) = ends_are s p h.0 h.1 in
     let c : ways s.low s.high (s.images - (length p - empties p)) (s.members - length p) (empties p) ≤ 17 ^ 16
-        = ways_fit s.low s.high (s.images - (length p - empties p)) (s.members - length p) (empties p) (omega arith) (omega arith) in
+    = ways_fit s.low s.high (s.images - (length p - empties p)) (s.members - length p) (empties p) (omega arith) (omega arith) in
     omega arith

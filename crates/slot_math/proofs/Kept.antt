@@ -1,11 +1,11 @@
 -- What is kept, place by place.
-use Rattle.std.proofs.Common.{ℕ, ◌≡◌, ◌<◌, ◌≤◌, ◌+◌, ◌-◌, List, [], ◌∷◌, length, filter, refl, sym, ap, ◌∙◌, arith, zero, suc, Bool, true, false, ◌&&◌, ◌||◌, not, ◌==◌, cond, add-zero, Option, Some, None, nat_le, inl, inr}
-use Rattle.std.proofs.lemmas.Bool.{cases_cond, eq-eqb, ne_eqb, cases_eq, eqb-true}
+use Rattle.std.proofs.Common.{ℕ, ◌≡◌, ◌+◌, ◌-◌, List, [], ◌∷◌, length, refl, sym, ap, ◌∙◌, arith, Bool, true, false, ◌&&◌, ◌||◌, not, ◌==◌, add-zero, Option, Some, None, nat_le, inl, inr}
+use Rattle.std.proofs.lemmas.Bool.{eq-eqb, ne_eqb, cases_eq}
 use Rattle.raid_terms.specs.SlotLists.{all_lists, stands, is_distinct, empties, is_kept}
 use Rattle.slot_math.specs.Space.{lists_of}
 use Rattle.slot_math.specs.Ways.{ways}
 use Rattle.slot_math.specs.declared.space.Space.{Space}
-use Rattle.slot_math.proofs.Sums.{passing, length-filter, passing_same}
+use Rattle.slot_math.proofs.Sums.{length-filter, passing_same}
 use Rattle.slot_math.proofs.Count.{seen_in, follows, count_is}
 
 -- no image of the list was seen

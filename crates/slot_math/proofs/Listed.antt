@@ -1,8 +1,8 @@
 -- What each list of a space is.
-use Rattle.std.proofs.Common.{rules, ℕ, ◌≡◌, ◌≢◌, ◌<◌, ◌≤◌, ◌+◌, ◌-◌, List, [], ◌∷◌, ◌++◌, length, map, filter, refl, sym, ap, ap₂, ◌∙◌, arith, zero, suc, Bool, true, false, ◌&&◌, cond, Option, Some, None, slice_get, inl, inr, subst}
+use Rattle.std.proofs.Common.{rules, ℕ, ◌≡◌, ◌<◌, ◌≤◌, ◌+◌, List, [], ◌∷◌, ◌++◌, length, map, filter, refl, sym, ap, arith, zero, suc, Bool, true, cond, Option, Some, None, slice_get, inl, inr, subst}
 use Rattle.std.specs.List.{flat_map, range_with_len, AllByRecursion}
-use Rattle.std.proofs.lemmas.Bool.{cases_Bool, and_parts}
-use Rattle.raid_terms.specs.SlotLists.{fillings, all_lists, is_distinct, empties, is_kept, slot_lists}
+use Rattle.std.proofs.lemmas.Bool.{cases_Bool}
+use Rattle.raid_terms.specs.SlotLists.{fillings, all_lists, is_kept, slot_lists}
 use Rattle.slot_math.specs.Ways.{AllImages, IsPlace}
 
 pub each_append : {A : Type 0} (P : A → Type 0) (xs ys : List A) → AllByRecursion P xs → AllByRecursion P ys → AllByRecursion P (xs ++ ys)
@@ -43,9 +43,9 @@ unfolding all_lists
 each_list n zero = ((refl, tt), tt)
 each_list n (suc m) =
     each_flat (IsShaped n (suc m)) (IsPlace n) (λ p. map (λ l. p ∷ l) (all_lists n m)) (fillings n)
-        (λ p h. each_map (IsShaped n (suc m)) (λ l. p ∷ l) (all_lists n m)
-            (each_more (IsShaped n m) (λ l. IsShaped n (suc m) (p ∷ l)) (all_lists n m) (λ l s. (ap suc s.0, images_first n p l h s.1)) (each_list n m)))
-        (each_filling n)
+    (λ p h. each_map (IsShaped n (suc m)) (λ l. p ∷ l) (all_lists n m)
+    (each_more (IsShaped n m) (λ l. IsShaped n (suc m) (p ∷ l)) (all_lists n m) (λ l s. (ap suc s.0, images_first n p l h s.1)) (each_list n m)))
+    (each_filling n)
 
 pub each_get : {A : Type 0} (P : A → Type 0) (xs : List A) (r : ℕ) (x : A) → AllByRecursion P xs → slice_get xs r ≡ Some x → P x
 each_get P [] r x a e = absurd (search rules)
@@ -56,15 +56,16 @@ each_get P (y ∷ xs) (suc r) x a e = each_get P xs r x a.1 e
 pub each_kept : {A : Type 0} (P : A → Type 0) (f : A → Bool) (xs : List A) → AllByRecursion P xs → AllByRecursion (λ x. P x × (f x ≡ true)) (filter f xs)
 each_kept P f [] a = tt
 each_kept {A} P f (x ∷ xs) a = elim (cases_Bool (f x)) [
-    inl t ↦ (let Q : List A → Type 0 = λ t. AllByRecursion (λ x. P x × (f x ≡ true)) t in
-        subst Q (sym (ap (λ (b : Bool). cond b (x ∷ filter f xs) (filter f xs)) t)) ((a.0, t), each_kept P f xs a.1))
+  | inl t ↦ (let Q : List A → Type 0 = λ t. AllByRecursion (λ x. P x × (f x ≡ true)) t in
+      subst Q (sym (ap (λ (b : Bool). cond b (x ∷ filter f xs) (filter f xs)) t)) ((a.0, t), each_kept P f xs a.1))
   | inr g ↦ (let Q : List A → Type 0 = λ t. AllByRecursion (λ x. P x × (f x ≡ true)) t in
-        subst Q (sym (ap (λ (b : Bool). cond b (x ∷ filter f xs) (filter f xs)) g)) (each_kept P f xs a.1)) ]
+      subst Q (sym (ap (λ (b : Bool). cond b (x ∷ filter f xs) (filter f xs)) g)) (each_kept P f xs a.1))
+]
 
 -- each list of a space has its number of places, images that are there, and is kept
 pub listed : (images members low high r : ℕ) (l : List (Option ℕ)) → slice_get (slot_lists images members low high) r ≡ Some l →
     (length l ≡ members) × AllImages images l × (is_kept low high l ≡ true)
 listed images members low high r l e =
     let h = each_get (λ l. IsShaped images members l × (is_kept low high l ≡ true)) (slot_lists images members low high) r l
-        (each_kept (IsShaped images members) (is_kept low high) (all_lists images members) (each_list images members)) e in
+    (each_kept (IsShaped images members) (is_kept low high) (all_lists images members) (each_list images members)) e in
     (h.0.0, h.0.1, h.1)

@@ -1,7 +1,6 @@
 -- No list stands twice in a space.
-use Rattle.std.proofs.Common.{rules, ℕ, ◌≡◌, ◌≢◌, ◌<◌, ◌≤◌, ◌+◌, ◌-◌, List, [], ◌∷◌, ◌++◌, length, map, filter, refl, sym, ap, ◌∙◌, arith, zero, suc, Bool, true, false, cond, Option, Some, None, slice_get, get_or, drop, inl, inr, subst}
+use Rattle.std.proofs.Common.{rules, ℕ, ◌≡◌, ◌≢◌, ◌<◌, ◌+◌, List, [], ◌∷◌, ◌++◌, map, filter, refl, ap, arith, zero, suc, Bool, true, false, cond, Option, Some, None, slice_get, get_or, drop}
 use Rattle.std.specs.List.{flat_map, range_with_len, AllByRecursion}
-use Rattle.std.proofs.lemmas.Bool.{cases_Bool}
 use Rattle.raid_terms.specs.SlotLists.{fillings, all_lists, is_kept, slot_lists}
 use Rattle.slot_math.proofs.Listed.{each_append, each_map, each_flat, each_more, each_kept, each_get}
 
@@ -28,8 +27,9 @@ once_filter : {A : Type 0} (f : A → Bool) (xs : List A) → Once xs → Once (
 unfolding Once
 once_filter f [] a = tt
 once_filter {A} f (x ∷ xs) a = elim (f x) as (λ t. Once (cond t (x ∷ filter f xs) (filter f xs))) [
-    true ↦ (each_more (λ y. (x ≢ y) × (f y ≡ true)) (λ y. x ≢ y) (filter f xs) (λ y h. h.0) (each_kept (λ y. x ≢ y) f xs a.0), once_filter f xs a.1)
-  | false ↦ once_filter f xs a.1 ]
+  | true ↦ (each_more (λ y. (x ≢ y) × (f y ≡ true)) (λ y. x ≢ y) (filter f xs) (λ y h. h.0) (each_kept (λ y. x ≢ y) f xs a.0), once_filter f xs a.1)
+  | false ↦ once_filter f xs a.1
+]
 
 range_apart : (j a m : ℕ) → j < a → Apart j (range_with_len a m)
 range_apart j a zero h = tt
@@ -47,11 +47,12 @@ fillings_once : (n : ℕ) → Once (fillings n)
 unfolding Once
 fillings_once n =
     once_append (map (λ i. Some i) (range_with_len 0 n)) (None ∷ [])
-        (once_map (λ i. Some i) some_inside (range_with_len 0 n) (range_once 0 n)) (tt, tt)
-        (each_map (λ q. Apart q (None ∷ [])) (λ i. Some i) (range_with_len 0 n) (each_number (range_with_len 0 n)))
+    (once_map (λ i. Some i) some_inside (range_with_len 0 n) (range_once 0 n)) (tt, tt)
+    (each_map (λ q. Apart q (None ∷ [])) (λ i. Some i) (range_with_len 0 n) (each_number (range_with_len 0 n)))
   where
     not_none : (i : ℕ) → (let l : Option ℕ = Some i in l ≢ None)
     not_none i e = search rules
+
     each_number : (xs : List ℕ) → AllByRecursion (λ i. Apart (Some i) (None ∷ [])) xs
     each_number [] = tt
     each_number (x ∷ xs) = ((not_none x, tt), each_number xs)
@@ -60,7 +61,7 @@ fillings_once n =
 begin_apart : {A : Type 0} (p : A) (l : List A) (ls : List (List A)) (ps : List A) → Apart p ps → Apart (p ∷ l) (flat_map (λ q. map (λ l. q ∷ l) ls) ps)
 begin_apart {A} p l ls ps a =
     each_flat (λ m. p ∷ l ≢ m) (λ q. p ≢ q) (λ q. map (λ l. q ∷ l) ls) ps
-        (λ q ne. each_map (λ m. p ∷ l ≢ m) (λ m. q ∷ m) ls (each_any (λ m. p ∷ l ≢ q ∷ m) (λ m e. ne (ap (λ (x : List A). get_or x 0 p) e)) ls)) a
+    (λ q ne. each_map (λ m. p ∷ l ≢ m) (λ m. q ∷ m) ls (each_any (λ m. p ∷ l ≢ q ∷ m) (λ m e. ne (ap (λ (x : List A). get_or x 0 p) e)) ls)) a
   where
     each_any : {B : Type 0} (P : B → Type 0) → ((x : B) → P x) → (xs : List B) → AllByRecursion P xs
     each_any P h [] = tt
@@ -71,9 +72,9 @@ unfolding Once
 flat_once ls [] a b = tt
 flat_once {A} ls (p ∷ ps) a b =
     once_append (map (λ l. p ∷ l) ls) (flat_map (λ q. map (λ l. q ∷ l) ls) ps)
-        (once_map (λ l. p ∷ l) (λ x y e. ap (λ (t : List A). drop 1 t) e) ls a)
-        (flat_once ls ps a b.1)
-        (each_map (λ m. Apart m (flat_map (λ q. map (λ l. q ∷ l) ls) ps)) (λ l. p ∷ l) ls (each_any (λ l. Apart (p ∷ l) (flat_map (λ q. map (λ l. q ∷ l) ls) ps)) (λ l. begin_apart p l ls ps b.0) ls))
+    (once_map (λ l. p ∷ l) (λ x y e. ap (λ (t : List A). drop 1 t) e) ls a)
+    (flat_once ls ps a b.1)
+    (each_map (λ m. Apart m (flat_map (λ q. map (λ l. q ∷ l) ls) ps)) (λ l. p ∷ l) ls (each_any (λ l. Apart (p ∷ l) (flat_map (λ q. map (λ l. q ∷ l) ls) ps)) (λ l. begin_apart p l ls ps b.0) ls))
   where
     each_any : {B : Type 0} (P : B → Type 0) → ((x : B) → P x) → (xs : List B) → AllByRecursion P xs
     each_any P h [] = tt

@@ -1,13 +1,11 @@
 -- The ends of a prefix, by what stands in the next place.
-use Rattle.std.proofs.Common.{ℕ, ◌≡◌, ◌<◌, ◌≤◌, ◌+◌, ◌-◌, List, [], ◌∷◌, ◌++◌, length, map, filter, refl, sym, ap, ap₂, ◌∙◌, arith, zero, suc, Bool, true, false, cond, Option, Some, None, slice_get, option_map, append_assoc, add_assoc, zero-add, add-zero, length-append}
+use Rattle.std.proofs.Common.{ℕ, ◌≡◌, ◌<◌, ◌≤◌, ◌+◌, ◌-◌, List, [], ◌∷◌, ◌++◌, length, map, filter, refl, sym, ap, ap₂, ◌∙◌, arith, zero, suc, Bool, cond, Option, Some, None, slice_get, option_map, append_assoc, add_assoc, zero-add, add-zero, length-append}
 use Rattle.std.specs.List.{flat_map, range_with_len}
-use Rattle.std.proofs.lemmas.List.Elements.{filter-append}
 use Rattle.raid_terms.specs.SlotLists.{fillings, all_lists, is_kept}
-use Rattle.slot_math.specs.Space.{lists_of}
 use Rattle.slot_math.specs.Ways.{ends, images_before, before, IsPlace}
 use Rattle.slot_math.specs.declared.space.Space.{Space}
-use Rattle.slot_math.proofs.Sums.{passing, passing_same, passing-flat, length-filter, total_of, total-append, total-map}
-use Rattle.slot_math.proofs.Nested.{begins_here, begins_later, length-map}
+use Rattle.slot_math.proofs.Sums.{passing, passing-flat, length-filter, total_of, total-append}
+use Rattle.slot_math.proofs.Nested.{begins_here, begins_later}
 
 -- two tests that agree keep the same
 pub filter_same : {A : Type 0} (f g : A → Bool) (xs : List A) → ((x : A) → f x ≡ g x) → filter f xs ≡ filter g xs

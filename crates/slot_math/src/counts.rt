@@ -20,8 +20,8 @@ fn last_way(low: u8, high: u8, empty: usize) -> u128
 #[tactic(auto, using(crate::proofs::Bound::small_product))]
 fn more_ways(unused: usize, image: u128, empty: u128) -> u128
     requires unused { unused ≤ MOST }
-    requires image { image ≤ 17 ^ 16 }
-    requires empty { empty ≤ 17 ^ 16 }
+    requires image { image ≤ (MOST + 1) ^ MOST }
+    requires empty { empty ≤ (MOST + 1) ^ MOST }
     ensures { result ≡ unused * image + empty }
 {
     unused as u128 * image + empty
@@ -59,7 +59,8 @@ impl Space {
         ways_of(self.low, self.high, self.images, self.members, 0)
     }
 
-    /// How many lists of the space begin with the prefix.
+    /// How many lists of the space begin with the prefix. None do where it has more places than
+    /// `members`, an image twice, or an image that is not there.
     #[tactic(auto, using(crate::proofs::Completions::none_longer, crate::proofs::Completions::none_unknown, crate::proofs::Completions::none_twice, crate::proofs::Completions::completed))]
     pub fn completions(&self, prefix: &Slots) -> u128
         requires images { self.now.images ≤ MOST }
@@ -68,7 +69,10 @@ impl Space {
     {
         let places = prefix.as_slice();
         let count = places.len();
-        if count > self.members as usize || !all_images(places, self.images) || !all_different(places) {
+        if count > self.members as usize
+            || !all_images(places, self.images)
+            || !all_different(places)
+        {
             return 0;
         }
         let empty = empty_count(places);

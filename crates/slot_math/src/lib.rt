@@ -1,7 +1,9 @@
 //! Counting and numbering slot lists.
 //!
 //! A [`Space`] is all slot lists of so many places over so many images, with distinct images and
-//! from `low` to `high` empty places, in lexicographic order with an empty place last.
+//! from `low` to `high` empty places, in lexicographic order with an empty place last. It has a
+//! length, each prefix has a number of lists that begin with it, each list has a rank, and each
+//! rank a list. Nothing is kept in memory: the numbers come from counts.
 #![tactic(auto)]
 
 mod counts;
@@ -12,3 +14,6 @@ mod space;
 
 pub use laws::{each_list_is_shaped, each_list_once, ranks_and_lists_undo};
 pub use space::Space;
+
+#[cfg(test)]
+mod tests;

@@ -5,7 +5,7 @@ ghost use Rattle.slot_math.specs.Space.{lists_of, rank_in};
 ghost use Rattle.slot_math.specs.Ways.{ends, images_before, before, image_ways, is_listed, IsPlace, IsStart};
 
 use crate::counts::ways_of;
-use crate::places::{all_images, all_different, empty_count, holds_image};
+use crate::places::{all_different, all_images, empty_count, holds_image};
 use crate::space::Space;
 use raid_params::{MOST, Slots};
 
@@ -32,11 +32,7 @@ impl Space {
         requires ways { ways ≡ image_ways self.now prefix.now }
         ensures { result ≡ length (ends self.now (prefix.now ++ Some image ∷ [])) }
     {
-        if holds_image(prefix, image) {
-            0
-        } else {
-            ways
-        }
+        if holds_image(prefix, image) { 0 } else { ways }
     }
 
     // What stands in the next place of the list that goes on from these places and has this rank
@@ -64,8 +60,9 @@ impl Space {
         (None, rest)
     }
 
+    /// The list at this position in the order of the space, counted from 0. The rank is below
+    /// `total`.
     #[tactic(auto, using(crate::proofs::Fronts::goes_on_first, crate::proofs::Fronts::goes_on_more, crate::proofs::Fronts::goes_on_last, crate::proofs::Fronts::start_more, crate::proofs::Fronts::ends_of_nothing))]
-    /// The list of this rank: its position in the order of the space.
     pub fn unrank(&self, rank: u128) -> Slots
         requires images { self.now.images ≤ MOST }
         requires members { self.now.members ≤ MOST }
@@ -113,8 +110,9 @@ impl Space {
             && empty <= self.high as usize
     }
 
+    /// The position of this list in the order of the space, counted from 0. None exactly where the
+    /// list is not one of the space.
     #[tactic(auto, using(crate::proofs::Positions::rank_of_other, crate::proofs::Blocks::first_block, crate::proofs::Blocks::next_front, crate::proofs::Blocks::front_start, crate::proofs::Blocks::front_place, crate::proofs::Blocks::listed_long, crate::proofs::Blocks::rank_fits, crate::proofs::Blocks::rank_found))]
-    /// The rank of this list: its position in the order of the space. None where it is not there.
     pub fn rank(&self, slots: &Slots) -> Option<u128>
         requires images { self.now.images ≤ MOST }
         requires members { self.now.members ≤ MOST }

@@ -1,6 +1,5 @@
-use Rattle.std.proofs.Common.{ℕ, ◌≡◌, ◌≢◌, ◌<◌, ◌≤◌, ◌+◌, ◌-◌, ◌*◌, length, arith, sym, ap, ◌∙◌, get_or, get_or-set_other, get_or-set_same, below_more}
+use Rattle.std.proofs.Common.{ℕ, ◌≢◌, ◌<◌, ◌+◌, ◌-◌, ◌*◌, length, arith, ap, ◌∙◌, get_or, get_or-set_other, get_or-set_same, below_more}
 use Rattle.std.proofs.Math.ListN.{length-set}
-use Rattle.slot_math.specs.Ways.{ways}
 use Rattle.slot_math.proofs.Bound.{ways_next}
 use Rattle.slot_math.proofs.counts.ways_of.Goals as goal
 

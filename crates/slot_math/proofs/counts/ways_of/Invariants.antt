@@ -1,4 +1,4 @@
-use Rattle.std.proofs.Common.{◌≡◌, ◌≤◌, ◌*◌, ◌<◌, ◌^◌, length, ℕ, ◌+◌, ◌-◌, get_or}
+use Rattle.std.proofs.Common.{◌≡◌, ◌≤◌, ◌<◌, length, ℕ, ◌+◌, ◌-◌, get_or}
 use Rattle.slot_math.specs.Ways.{ways}
 use Rattle.slot_math.proofs.counts.ways_of.Given as goal
 

@@ -1,5 +1,5 @@
 -- Images attached one by one.
-use Rattle.std.proofs.Common.{◌≡◌, ℕ, zero, suc, ◌+◌, ◌<◌, ◌≤◌, List, [], ◌∷◌, ◌++◌, length, get_or, Result, Ok, Err, refl, sym, ap, ◌∙◌, arith, append_assoc, append-nil, length-append}
+use Rattle.std.proofs.Common.{◌≡◌, ℕ, zero, suc, ◌+◌, ◌<◌, ◌≤◌, List, [], ◌∷◌, ◌++◌, length, get_or, take, Result, Ok, Err, refl, sym, ap, ◌∙◌, arith, append_assoc, append-nil, length-append}
 use Rattle.image_source.specs.declared.Failed.{Failed}
 use Rattle.image_source.specs.Seen.{Image, World, Seen, IsImageOf, Attaches}
 use Rattle.image_source.specs.Attached.{AreImagesOf, AttachesSome}
@@ -18,11 +18,12 @@ one_more world (name ∷ names) (x ∷ images) image d are lt is = (are.0, one_m
 
 -- none yet
 pub none_attached : (old : Seen) (names : List (List ℕ)) → AttachesSome old old names
-none_attached old names = record { world = refl; unread = refl; attached = ([], tt, sym (append-nil old.attached)) }
+none_attached old names = record { world = refl; unread = refl; attached = ([], tt, sym (append-nil old.attached)); faults = omega arith }
 
 -- one more is attached
-pub attached_more : (old mid new : Seen) (names : List (List ℕ)) (i n : ℕ) (d : List ℕ) → AttachesSome old mid names → length mid.attached ≡ length old.attached + i → i < length names → Attaches {E = Failed} mid new (get_or names i d) (Ok n) → AttachesSome old new names
-attached_more old mid new names i n d some count lt step = record {
+pub attached_more : (old mid new : Seen) (names : List (List ℕ)) (i n : ℕ) (d : List ℕ) → AttachesSome old mid names → length mid.attached ≡ length old.attached + i → i < length names → Attaches {E = Failed} mid new (get_or names i d) (Ok n) → mid.faults ≤ new.faults → AttachesSome old new names
+attached_more old mid new names i n d some count lt step later = record {
+    faults = let before = some.faults in omega arith;
     world = step.world ∙ some.world;
     unread = step.unread ∙ some.unread;
     attached =
@@ -35,8 +36,9 @@ attached_more old mid new names i n d some count lt step = record {
   }
 
 -- the next fails
-pub attached_no_more : (old mid new : Seen) (names : List (List ℕ)) (name : List ℕ) (e : Failed) → AttachesSome old mid names → Attaches {E = Failed} mid new name (Err e) → AttachesSome old new names
-attached_no_more old mid new names name e some step = record {
+pub attached_no_more : (old mid new : Seen) (names : List (List ℕ)) (name : List ℕ) (e : Failed) → AttachesSome old mid names → Attaches {E = Failed} mid new name (Err e) → mid.faults ≤ new.faults → AttachesSome old new names
+attached_no_more old mid new names name e some step later = record {
+    faults = let before = some.faults in omega arith;
     world = step.world ∙ some.world;
     unread = step.unread ∙ some.unread;
     attached = (some.attached.0, some.attached.1, step.attached ∙ some.attached.2);
@@ -45,10 +47,26 @@ attached_no_more old mid new names name e some step = record {
 -- one turn
 pub so_far_more : (old mid new : Seen) (names : List (List ℕ)) (i n : ℕ) (name d : List ℕ) → AttachedSoFar old mid names i → i < length names → name ≡ get_or names i d → Attaches {E = Failed} mid new name (Ok n) → mid.faults ≤ new.faults → AttachedSoFar old new names (i + 1)
 so_far_more old mid new names i n name d far lt at step later = record {
-    some = attached_more old mid new names i n d far.some far.count lt (rw at at step);
+    some = attached_more old mid new names i n d far.some far.count lt (rw at at step) later;
     count =
       let before = far.count in
       let grown = ap length step.attached.3 in
       omega (arith, length-append mid.attached (step.attached.0 ∷ []));
     later = let before = far.later in omega arith;
+  }
+
+-- images of the first names are images of a front of them
+front_of : (world : World) (names : List (List ℕ)) (n : ℕ) (images : List Image) → AreImagesOf world (take n names) images → AreImagesOf world names images
+front_of world names n [] are = tt
+front_of world [] zero (image ∷ images) are = are
+front_of world [] (suc n) (image ∷ images) are = are
+front_of world (name ∷ names) zero (image ∷ images) are = absurd are
+front_of world (name ∷ names) (suc n) (image ∷ images) are = (are.0, front_of world names n images are.1)
+
+pub attached_front : (old new : Seen) (names : List (List ℕ)) (n : ℕ) → AttachesSome old new (take n names) → AttachesSome old new names
+attached_front old new names n some = record {
+    world = some.world;
+    unread = some.unread;
+    attached = (some.attached.0, front_of old.world names n some.attached.0 some.attached.1, some.attached.2);
+    faults = some.faults;
   }

@@ -22,6 +22,7 @@ fn attach_all<I: Images>(images: &mut I, names: &[Word]) -> Result<(), Failed>
 }
 
 /// Attaches the images of the first of these names, of as many as may be attached.
+#[tactic(auto, using(crate::proofs::OneByOne::attached_front))]
 pub fn attach_front<I: Images>(images: &mut I, names: &[Word]) -> Result<(), Failed>
     requires fresh { (I.seen images.old).attached ≡ [] }
     requires named { All (λ name. IsTrue ((I.seen images.old).world.may_attach name)) names.now }

@@ -10,7 +10,7 @@ use std::alloc::Global;
 const MOST_BYTES: usize = 4_194_304;
 
 /// How many bytes are taken at once.
-const PIECE: usize = 65_536;
+const PIECE: usize = 4096;
 
 /// All that a source has left, unless that is more than a plan may have. At most one call of `take`
 /// more than `MOST_BYTES` is made, since each but the last gives at least one byte.
@@ -22,7 +22,7 @@ pub fn read_all<S: Source>(alloc: Global, source: &mut S) -> Result<Vec<u8>, Sto
     ensures later { S.faults source.old ≤ S.faults source.new }
 {
     let mut text = Vec::new(alloc);
-    let mut piece = Vec::new(alloc);
+    let mut piece = [0u8; PIECE];
     for _ in 0..MOST_BYTES + 1 {
         let room = (MOST_BYTES + 1 - text.len()).min(PIECE);
         let count = source

@@ -2,3 +2,4 @@ pub mod Words
 pub mod Source
 pub mod Listing
 pub mod Answers
+pub mod Sets

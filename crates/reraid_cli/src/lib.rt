@@ -11,6 +11,7 @@ mod listing;
 mod paging;
 mod reading;
 mod running;
+mod sets;
 mod stop;
 mod top;
 mod words;

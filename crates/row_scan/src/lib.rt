@@ -1,0 +1,9 @@
+//! The parity test of a parameter set over the images: sector rows are read in blocks, and at
+//! most so many of the tested ones may be unsound.
+#![tactic(auto)]
+
+mod blocks;
+mod scan;
+
+pub use blocks::Blocks;
+pub use scan::{ScanFault, parity_holds};

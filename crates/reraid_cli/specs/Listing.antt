@@ -1,5 +1,5 @@
 -- What `list` prints over a plan and the bytes of its images.
-use Rattle.std.specs.Prelude.{ℕ, ◌≡◌, ◌≤◌, ◌<◌, Bool, List, [], ◌∷◌, ◌++◌, length, map, codes, decimal, slice_get}
+use Rattle.std.specs.Prelude.{ℕ, ◌≡◌, ◌≤◌, ◌<◌, ◌⊎◌, true, false, IfSome, Bool, List, [], ◌∷◌, ◌++◌, length, map, codes, decimal, slice_get}
 use Rattle.std.specs.List.{flat_map}
 use Rattle.std.specs.Option.{option_map_or}
 use Rattle.std.specs.declared.option.Option.{Option}
@@ -63,6 +63,18 @@ abbrev pub EndsPage : Plan → ℕ → Seen → Seen → PageFault → Type 0
 EndsPage plan from old new (Cursor fault) = (total_of plan < from) × (fault ≡ record { from = from; total = total_of plan }) × (new ≡ old)
 EndsPage plan from old new ReadFault = Rose old.faults new.faults
 EndsPage plan from old new Memory = Unit {0}
+
+-- the set of the rank was appended where it passes, over the bytes of the images where they are told
+abbrev pub AddsIfPasses : Option (List (List ℕ)) → Plan → ℕ → List Line → List Line → Type 0
+AddsIfPasses told plan rank old new =
+    ((new ≡ old) × IfSome told (λ bytes. passes_at bytes plan rank ≡ false))
+    ⊎ ((held : Line) × (held.rank ≡ rank) × HoldsSet plan held × (new ≡ old ++ held ∷ []) × IfSome told (λ bytes. passes_at bytes plan rank ≡ true))
+
+-- why a test of a set has no answer: the images failed, or memory is wanting
+abbrev pub EndsTest : Seen → Seen → PageFault → Type 0
+EndsTest old new (Cursor fault) = ⊥
+EndsTest old new ReadFault = Rose old.faults new.faults
+EndsTest old new Memory = Unit {0}
 
 -- images were at most read
 pub record LeavesImages (old new : Seen) : Type 0 where

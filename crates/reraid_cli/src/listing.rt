@@ -38,7 +38,10 @@ pub fn list<I: Images, K: Sink>(
 {
     let page = page(alloc, images, plan, from, size, span)?;
     let text = page_text(alloc, &page)?;
-    out.put(text.as_slice()).map_err(|_| Stop::OutFault)
+    match out.put(text.as_slice()) {
+        Ok(()) => Ok(()),
+        Err(_) => Err(Stop::OutFault),
+    }
 }
 
 /// The bytes of a page: its lines, then where the next one begins.

@@ -1,15 +1,18 @@
 // A page of the sets that pass.
-ghost use Rattle.std.specs.Prelude.{◌≡◌, ◌<◌, ◌≤◌, ℕ, All, IfErr, IfOk, IfSome, IsErrOf};
+ghost use Rattle.std.specs.Prelude.{◌≡◌, ◌<◌, ◌≤◌, All, IfErr, IfOk, IfSome, IsErrOf, OnOk, Some, length, slice_get};
 ghost use Rattle.image_source.specs.Attached.{told_all};
 
 
 ghost use Rattle.plan_text.specs.PlanText.{IsThinPlan};
-ghost use Rattle.reraid_cli.specs.Listing.{AgreeWith, EndsPage, HoldsSet, IsPageOf, LeavesImages, total_of};
+ghost use Rattle.reraid_cli.specs.Listing.{AddsIfPasses, AgreeWith, EndsPage, EndsTest, HoldsSet, IsPageOf, LeavesImages, passes_at, sets_of, total_of};
+ghost use Rattle.reraid_cli.specs.Sets.{AreSetsOf};
 ghost use Rattle.reraid_cli.specs.declared.paging.PageFault.TheVariants.{Cursor};
 
+use crate::sets::ThinSets;
 use image_source::{Images, ListOf};
 use plan_text::Plan;
 use raid_params::Geometry;
+use row_scan::{Blocks, ScanFault, parity_holds};
 use std::alloc::Global;
 
 /// A parameter set that passes, with its rank.
@@ -68,5 +71,106 @@ pub fn page<I: Images>(
     ensures ends { IfErr result (EndsPage plan.now from (I.seen images.old) (I.seen images.new)) }
     ensures leaves { LeavesImages (I.seen images.old) (I.seen images.new) }
 {
-    Err(PageFault::Memory)
+    let sets = ThinSets::of(plan);
+    let total = sets.total(plan);
+    if from > total {
+        return Err(PageFault::Cursor(CursorFault { from, total }));
+    }
+    walk(alloc, images, plan, &sets, from, size, span)
+}
+
+/// The page, rank by rank.
+#[tactic(auto, using(crate::proofs::RankByRank::walked_none, crate::proofs::RankByRank::short_page))]
+fn walk<I: Images>(
+    alloc: Global,
+    images: &mut I,
+    plan: &Plan,
+    sets: &ThinSets,
+    from: u64,
+    size: u64,
+    span: u64,
+) -> Result<ListPage, PageFault>
+    requires thin { IsThinPlan plan.now }
+    requires lengths { AgreeWith plan.now (I.seen images.old).attached }
+    requires sets { AreSetsOf plan.now sets.now }
+    requires from { from ≤ total_of plan.now }
+    requires size { 1 ≤ size }
+    ensures page { IfOk result (λ p. IfSome (told_all (I.seen images.old).attached) (λ bytes. IsPageOf bytes plan.now from size span p)) }
+    ensures sets { IfOk result (λ p. All (HoldsSet plan.now) p.lines) }
+    ensures total { IfOk result (λ p. p.total ≡ total_of plan.now) }
+    ensures ends { IfErr result (EndsTest (I.seen images.old) (I.seen images.new)) }
+    ensures leaves { LeavesImages (I.seen images.old) (I.seen images.new) }
+{
+    let total = sets.total(plan);
+    let stop = total.min(from.saturating_add(span));
+    let mut lines = Lines::new(alloc);
+    let mut blocks = Blocks::new(alloc, plan.lengths.len()).map_err(|_| PageFault::Memory)?;
+    for rank in from..stop {
+        add_if_passes(images, &mut blocks, plan, sets, rank, &mut lines)?;
+        if lines.as_slice().len() as u64 == size {
+            return Ok(ListPage {
+                lines,
+                next: rank + 1,
+                total,
+            });
+        }
+    }
+    Ok(ListPage {
+        lines,
+        next: stop,
+        total,
+    })
+}
+
+/// Appends the set of a rank to the lines where it passes.
+fn add_if_passes<I: Images>(
+    images: &mut I,
+    blocks: &mut Blocks,
+    plan: &Plan,
+    sets: &ThinSets,
+    rank: u64,
+    lines: &mut Lines,
+) -> Result<(), PageFault>
+    requires thin { IsThinPlan plan.now }
+    requires lengths { AgreeWith plan.now (I.seen images.old).attached }
+    requires sets { AreSetsOf plan.now sets.now }
+    requires rank { rank < total_of plan.now }
+    requires blocks { length plan.now.lengths.items ≤ blocks.old }
+    ensures added { OnOk result (AddsIfPasses (told_all (I.seen images.old).attached) plan.now rank lines.old lines.new) }
+    ensures ends { IfErr result (EndsTest (I.seen images.old) (I.seen images.new)) }
+    ensures leaves { LeavesImages (I.seen images.old) (I.seen images.new) }
+    ensures blocks { blocks.new ≡ blocks.old }
+{
+    let geo = sets.at(plan, rank);
+    if !set_passes(images, blocks, plan, rank, &geo)? {
+        return Ok(());
+    }
+    lines.push(Line { rank, geo }).map_err(|_| PageFault::Memory)
+}
+
+/// Whether the set of a rank passes: it has a whole row, and meets the parity test.
+fn set_passes<I: Images>(
+    images: &mut I,
+    blocks: &mut Blocks,
+    plan: &Plan,
+    rank: u64,
+    geo: &Geometry,
+) -> Result<bool, PageFault>
+    requires thin { IsThinPlan plan.now }
+    requires lengths { AgreeWith plan.now (I.seen images.old).attached }
+    requires set { slice_get (sets_of plan.now) rank ≡ Some geo.now }
+    requires blocks { length plan.now.lengths.items ≤ blocks.old }
+    ensures told { IfOk result (λ passes. IfSome (told_all (I.seen images.old).attached) (λ bytes. passes ≡ passes_at bytes plan.now rank)) }
+    ensures ends { IfErr result (EndsTest (I.seen images.old) (I.seen images.new)) }
+    ensures leaves { LeavesImages (I.seen images.old) (I.seen images.new) }
+    ensures blocks { blocks.new ≡ blocks.old }
+{
+    if plan.end.saturating_sub(geo.head.offset) / geo.head.chunk == 0 {
+        return Ok(false);
+    }
+    match parity_holds(images, blocks, geo, plan.end, &plan.limits) {
+        Ok(holds) => Ok(holds),
+        Err(ScanFault::ReadFault) => Err(PageFault::ReadFault),
+        Err(ScanFault::Memory) => Err(PageFault::Memory),
+    }
 }

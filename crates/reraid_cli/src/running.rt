@@ -1,7 +1,6 @@
 // A run, up to why it ends.
-ghost use Rattle.std.specs.Prelude.{◌≡◌, ◌≤◌, [], All, IsTrue, length, IfErr, OnOk, map, take, drop, min};
-ghost use Rattle.image_source.specs.Attached.{AttachesSome};
-ghost use Rattle.image_source.specs.Seen.{Image};
+ghost use Rattle.std.specs.Prelude.{◌≡◌, ◌≤◌, [], All, IsTrue, length, IfErr, OnOk, Some, slice_get, ◌↔◌};
+ghost use Rattle.std.specs.Option.{option_map};
 ghost use Rattle.reraid_cli.specs.Answers.{IsUnread, Outcome, agree};
 ghost use Rattle.reraid_cli.specs.Words.{names_after};
 
@@ -52,12 +51,20 @@ fn images_agree<I: Images>(images: &I, plan: &Plan) -> bool
     ensures { result ≡ agree plan.now (I.seen images.now).attached }
 {
     let lengths = plan.lengths.as_slice();
-    let mut image = 0;
-    for length in lengths {
-        if images.length(image) != Some(*length) {
+    for (image, length) in lengths.iter().enumerate() {
+        if !has_length(images, image as u32, *length) {
             return false;
         }
-        image += 1;
     }
-    images.length(image).is_none()
+    images.length(lengths.len() as u32).is_none()
+}
+
+/// Whether an image is attached under this number and has so many sectors.
+fn has_length<I: Images>(images: &I, image: u32, length: u64) -> bool
+    ensures { IsTrue result ↔ (option_map (λ a. a.sectors) (slice_get (I.seen images.now).attached image) ≡ Some length) }
+{
+    match images.length(image) {
+        Some(sectors) => sectors == length,
+        None => false,
+    }
 }

@@ -5,3 +5,4 @@ pub mod RankByRank
 pub mod ThinSetTests
 pub mod Printing
 pub mod Agreeing
+pub mod Statuses

@@ -151,9 +151,9 @@ pub record Outcome {T : Type 0} (words : List (List ℕ)) (left : Option (List �
   pub plan_later : before.plan ≤ after.plan
   pub out_later : before.out ≤ after.out
 
--- a refusal by words, plan or cursor reads no sector
+-- sectors are read only by the job itself, which may end by a fault of the images or the output, or for want of memory
 abbrev pub IsUnread : {T : Type 0} → Seen → Seen → Result T Stop → Type 0
-IsUnread old new result = IfErr result (λ stop. (IsExcused stop → ⊥) → new.sectors_read ≡ old.sectors_read)
+IsUnread old new result = IfErr result (λ stop. stop ≢ ImageFault → stop ≢ OutFault → stop ≢ OutOfMemory → new.sectors_read ≡ old.sectors_read)
 
 -- the stop of a fault of the plan, and of a page
 abbrev pub stop_of_plan : FaultOfPlan → Stop

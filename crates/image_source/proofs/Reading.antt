@@ -3,8 +3,8 @@ use Rattle.std.proofs.Common.{ℕ, ◌+◌, ◌≤◌, refl, ◌∙◌, arith}
 use Rattle.image_source.specs.Seen.{Seen, OnlyReads}
 
 -- where nothing happened, nothing was read
-pub OnlyReads-none : (s : Seen) → OnlyReads s s 0
-OnlyReads-none s = record {
+pub reads_none : (s : Seen) → OnlyReads s s 0
+reads_none s = record {
   world = refl;
   attached = refl;
   sectors_read = omega arith;
@@ -13,8 +13,8 @@ OnlyReads-none s = record {
 }
 
 -- one reading after the other
-pub OnlyReads-join : {m n : ℕ} (a b c : Seen) → OnlyReads a b m → OnlyReads b c n → OnlyReads a c (m + n)
-OnlyReads-join a b c ab bc = record {
+pub reads_join : {m n : ℕ} (a b c : Seen) → OnlyReads a b m → OnlyReads b c n → OnlyReads a c (m + n)
+reads_join a b c ab bc = record {
   world = bc.world ∙ ab.world;
   attached = bc.attached ∙ ab.attached;
   sectors_read = omega (arith, ab.sectors_read, bc.sectors_read);
@@ -23,8 +23,8 @@ OnlyReads-join a b c ab bc = record {
 }
 
 -- a reading of some sectors is one of at most as many or more
-pub OnlyReads-up : {m n : ℕ} (a b : Seen) → OnlyReads a b m → m ≤ n → OnlyReads a b n
-OnlyReads-up a b r h = record {
+pub reads_up : {m n : ℕ} (a b : Seen) → OnlyReads a b m → m ≤ n → OnlyReads a b n
+reads_up a b r h = record {
   world = r.world;
   attached = r.attached;
   sectors_read = omega (arith, r.sectors_read, h);

@@ -14,19 +14,19 @@ told_first (Some bytes) None all e = absurd cc
 told_first (Some bytes) (Some rest) all e = (bytes, rest, refl, refl, cc)
 
 -- where all bytes are told, there is a list of bytes for each image
-pub length-told_all : (images : List Image) (all : List (List ℕ)) → told_all images ≡ Some all → length all ≡ length images
-length-told_all [] all e = let none : all ≡ [] = cc in ap length none
-length-told_all (image ∷ images) all e =
+pub told_all_length : (images : List Image) (all : List (List ℕ)) → told_all images ≡ Some all → length all ≡ length images
+told_all_length [] all e = let none : all ≡ [] = cc in ap length none
+told_all_length (image ∷ images) all e =
     let t = told_first image.bytes (told_all images) all e in
-    omega (arith, ap length t.4, length-told_all images t.1 t.3)
+    omega (arith, ap length t.4, told_all_length images t.1 t.3)
 
 -- where all bytes are told, those of an image are the ones of its number
-pub slice_get-told_all : (images : List Image) (all : List (List ℕ)) (i : ℕ) → told_all images ≡ Some all → option_and_then (λ image. image.bytes) (slice_get images i) ≡ slice_get all i
-slice_get-told_all [] all i e = let none : all ≡ [] = cc in rw none refl
-slice_get-told_all (image ∷ images) all zero e = let t = told_first image.bytes (told_all images) all e in t.2 ∙ sym (ap (λ xs. slice_get xs 0) t.4)
-slice_get-told_all (image ∷ images) all (suc i) e =
+pub told_all_at : (images : List Image) (all : List (List ℕ)) (i : ℕ) → told_all images ≡ Some all → option_and_then (λ image. image.bytes) (slice_get images i) ≡ slice_get all i
+told_all_at [] all i e = let none : all ≡ [] = cc in rw none refl
+told_all_at (image ∷ images) all zero e = let t = told_first image.bytes (told_all images) all e in t.2 ∙ sym (ap (λ xs. slice_get xs 0) t.4)
+told_all_at (image ∷ images) all (suc i) e =
     let t = told_first image.bytes (told_all images) all e in
-    slice_get-told_all images t.1 i t.3 ∙ sym (ap (λ xs. slice_get xs (suc i)) t.4)
+    told_all_at images t.1 i t.3 ∙ sym (ap (λ xs. slice_get xs (suc i)) t.4)
 
 -- images of names are whole
 pub whole_images : (world : World) (names : List (List ℕ)) (images : List Image) → AreImagesOf world names images → AreWhole images

@@ -6,3 +6,4 @@ pub mod ThinSetTests
 pub mod Printing
 pub mod Agreeing
 pub mod Statuses
+pub mod Preparing

@@ -155,6 +155,21 @@ pub record Outcome {T : Type 0} (words : List (List ℕ)) (left : Option (List �
 abbrev pub IsUnread : {T : Type 0} → Seen → Seen → Result T Stop → Type 0
 IsUnread old new result = IfErr result (λ stop. stop ≢ ImageFault → stop ≢ OutFault → stop ≢ OutOfMemory → new.sectors_read ≡ old.sectors_read)
 
+-- the plan is what the source had left says, and the attached images agree with it
+pub record IsPrepared (left : Option (List ℕ)) (attached : List Image) (plan : Plan) : Type 0 where
+  pub thin : IsThinPlan plan
+  pub agrees : agree plan attached ≡ true
+  pub text : IfSome left (λ text. (length text ≤ 4194304) × ((read : Option Plan) → IsTextOf text read → read ≡ Some plan))
+
+-- why there is no plan with which the images agree
+abbrev pub EndsPreparing : Option (List ℕ) → Seen → Seen → ℕ → ℕ → Stop → Type 0
+EndsPreparing left old new before now PlanIsLong = IfSome left (λ text. 4194304 < length text)
+EndsPreparing left old new before now ImageFault = Rose old.faults new.faults
+EndsPreparing left old new before now PlanFault = Rose before now
+EndsPreparing left old new before now NotBuilt = IfSome left (λ text. (length text ≤ 4194304) × ((read : Option Plan) → IsTextOf text read → IfSome read (λ plan. agree plan new.attached ≡ false)))
+EndsPreparing left old new before now OutOfMemory = Unit {0}
+EndsPreparing left old new before now _ = ⊥
+
 -- the stop of a fault of the plan, and of a page
 abbrev pub stop_of_plan : FaultOfPlan → Stop
 stop_of_plan PlanNotBuilt = NotBuilt

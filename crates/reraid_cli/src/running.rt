@@ -1,7 +1,8 @@
 // A run, up to why it ends.
-ghost use Rattle.std.specs.Prelude.{◌≡◌, ◌≤◌, [], All, IsTrue, length, IfErr, OnOk, Some, slice_get, ◌↔◌};
+ghost use Rattle.std.specs.Prelude.{◌≡◌, ◌≤◌, [], All, IsTrue, length, IfErr, IfOk, OnOk, Some, slice_get, ◌↔◌};
 ghost use Rattle.std.specs.Option.{option_map};
-ghost use Rattle.reraid_cli.specs.Answers.{IsUnread, Outcome, agree};
+ghost use Rattle.image_source.specs.Attached.{AreImagesOf, AttachesSome};
+ghost use Rattle.reraid_cli.specs.Answers.{EndsPreparing, IsPrepared, IsUnread, Outcome, agree};
 ghost use Rattle.reraid_cli.specs.Words.{names_after};
 
 use crate::attaching::attach_front;
@@ -27,23 +28,47 @@ pub fn run<S: Source, I: Images, K: Sink>(
         (record { images = (I.seen images.old).faults; plan = S.faults plan.old; out = K.faults out.old })
         (record { images = (I.seen images.new).faults; plan = S.faults plan.new; out = K.faults out.new })
         (K.gained out.old) (K.gained out.new) result }
+    ensures attached { AreImagesOf (I.seen images.old).world (names_after words.now) (I.seen images.new).attached }
     ensures world { (I.seen images.new).world ≡ (I.seen images.old).world }
     ensures unread { IsUnread (I.seen images.old) (I.seen images.new) result }
 {
-    let command = read_words(words).ok_or(Stop::NotBuilt)?;
-    let Command::List {
-        from,
-        size,
-        span,
-        names,
-    } = command;
-    attach_front(images, &words[names..]).map_err(|_| Stop::ImageFault)?;
-    let text = read_all(alloc, plan)?;
-    let plan = read_plan(alloc, &text)?;
-    if !images_agree(images, &plan) {
-        return Err(Stop::NotBuilt);
+    match read_words(words) {
+        None => Err(Stop::NotBuilt),
+        Some(Command::List {
+            from,
+            size,
+            span,
+            names,
+        }) => {
+            let plan = prepare(alloc, &words[names..], plan, images)?;
+            list(alloc, images, &plan, from, size, span, out)
+        }
     }
-    list(alloc, images, &plan, from, size, span, out)
+}
+
+/// Attaches the images of these names, reads the plan to its end, and compares the two.
+#[tactic(auto, using(crate::proofs::Preparing::is_prepared, crate::proofs::Preparing::not_a_plan, crate::proofs::Preparing::disagrees))]
+fn prepare<S: Source, I: Images>(
+    alloc: Global,
+    names: &[Word],
+    source: &mut S,
+    images: &mut I,
+) -> Result<Plan, Stop>
+    requires fresh { (I.seen images.old).attached ≡ [] }
+    requires named { All (λ name. IsTrue ((I.seen images.old).world.may_attach name)) names.now }
+    ensures plan { IfOk result (IsPrepared (S.left source.old) (I.seen images.new).attached) }
+    ensures ends { IfErr result (EndsPreparing (S.left source.old) (I.seen images.old) (I.seen images.new) (S.faults source.old) (S.faults source.new)) }
+    ensures some { AttachesSome (I.seen images.old) (I.seen images.new) names.now }
+    ensures later { S.faults source.old ≤ S.faults source.new }
+{
+    attach_front(images, names).map_err(|_| Stop::ImageFault)?;
+    let text = read_all(alloc, source)?;
+    let plan = read_plan(alloc, &text)?;
+    if images_agree(images, &plan) {
+        Ok(plan)
+    } else {
+        Err(Stop::NotBuilt)
+    }
 }
 
 /// Whether the attached images have the planned lengths, and there are no others.

@@ -7,3 +7,4 @@ pub mod Printing
 pub mod Agreeing
 pub mod Statuses
 pub mod Preparing
+pub mod Listings

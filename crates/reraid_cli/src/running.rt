@@ -34,15 +34,26 @@ pub fn run<S: Source, I: Images, K: Sink>(
 {
     match read_words(words) {
         None => Err(Stop::NotBuilt),
-        Some(Command::List {
+        Some(command) => {
+            let (from, size, span, names) = list_operands(command);
+            let plan = prepare(alloc, &words[names..], plan, images)?;
+            list(alloc, images, &plan, from, size, span, out)
+        }
+    }
+}
+
+/// The operands of a listing: the first rank, the most lines, the span of ranks, and the number
+/// of words up to the names of the images.
+fn list_operands(command: Command) -> (u64, u64, u64, usize)
+    ensures { command ≡ Command.List result.0 result.1 result.2 result.3 }
+{
+    match command {
+        Command::List {
             from,
             size,
             span,
             names,
-        }) => {
-            let plan = prepare(alloc, &words[names..], plan, images)?;
-            list(alloc, images, &plan, from, size, span, out)
-        }
+        } => (from, size, span, names),
     }
 }
 

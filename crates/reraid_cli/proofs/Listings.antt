@@ -1,0 +1,47 @@
+-- What the words of a listing say.
+use Rattle.std.proofs.Common.{◌≡◌, ◌≢◌, ℕ, zero, suc, ◌+◌, ◌-◌, ◌<◌, ◌≤◌, ◌^◌, Bool, true, false, cond, List, [], ◌∷◌, ◌++◌, length, map, take, drop, None, Some, Option, refl, sym, ap, ◌∙◌, subst, arith, All, IfSome, codes, decimal, unwrap_or, length-append}
+use Rattle.std.specs.Str.{bytes_eq}
+use Rattle.std.specs.Prelude.{option_and_then, is_none}
+use Rattle.std.proofs.lemmas.List.{take_all, length-map}
+use Rattle.std.proofs.lemmas.List.Elements.{All-head, All-tail}
+use Rattle.reraid_cli.specs.declared.words.Command.{Command}
+use Rattle.reraid_cli.specs.declared.words.Command.TheVariants.{List as ListCommand}
+use Rattle.reraid_cli.specs.declared.words.Given.{Given}
+use Rattle.reraid_cli.specs.declared.words.Operand.{Operand}
+use Rattle.reraid_cli.specs.declared.words.Operand.TheVariants.{From, Size, Span}
+use Rattle.reraid_cli.specs.Words.{GoOn, IsInLimits, IsListing, all_given, list_command, names_after, nothing_given, operand_word, with_operand}
+
+-- an operand is no `--`
+not_dashes : (operand : Operand) → bytes_eq (operand_word operand) (codes "--") ≡ false
+not_dashes (From n) = refl
+not_dashes (Size n) = refl
+not_dashes (Span n) = refl
+
+-- the names are what follows the operands and `--`
+names_past : (operands : List Operand) (names : List (List ℕ)) → names_after (map operand_word operands ++ codes "--" ∷ names) ≡ names
+names_past [] names = refl
+names_past (operand ∷ operands) names =
+    ap (λ (b : Bool). cond b (map operand_word operands ++ codes "--" ∷ names) (names_after (map operand_word operands ++ codes "--" ∷ names))) (not_dashes operand)
+    ∙ names_past operands names
+
+past : (operands : List Operand) (names : List (List ℕ)) → drop (length operands + 1) (map operand_word operands ++ codes "--" ∷ names) ≡ names
+past [] names = refl
+past (operand ∷ operands) names =
+    let e : length (operand ∷ operands) + 1 ≡ suc (length operands + 1) = omega arith in
+    ap (λ (k : ℕ). drop k (map operand_word (operand ∷ operands) ++ codes "--" ∷ names)) e ∙ past operands names
+
+-- the numbers of the operands are within limits
+size_within : (given all : Given) (operands : List Operand) → All IsInLimits operands → all_given given operands ≡ Some all → 1 ≤ unwrap_or given.size 100 → 1 ≤ unwrap_or all.size 100
+size_within given all [] limits once some = let same : given ≡ all = cc in let P : Given → Type 0 = λ g. 1 ≤ unwrap_or g.size 100 in subst P same some
+size_within given all (operand ∷ operands) limits once some = ?
+
+pub some_size : (words : List (List ℕ)) (from size span names : ℕ) → IsListing words (ListCommand from size span names) → 1 ≤ size
+some_size words from size span names is =
+    let onward = is.onward in
+    let same : size ≡ unwrap_or onward.all.size 100 = let e : ListCommand from size span names ≡ list_command onward.all (1 + length onward.operands + 1) = onward.says in cc in
+    let within = size_within nothing_given onward.all onward.operands onward.limits onward.once (omega arith) in
+    omega arith
+
+-- the names stand from that word on
+pub names_are : (words : List (List ℕ)) (from size span names : ℕ) → IsListing words (ListCommand from size span names) → (drop names words ≡ names_after words) × (names ≤ length words)
+names_are words from size span names is = ?

@@ -27,8 +27,10 @@ fn table(factor: u8, unit: u8) -> [u8; 32]
     ensures { IsTable factor unit result }
 {
     let mut products = [0u8; 32];
-    for lane in 0..32u8 {
-        products[lane as usize] = gf256::mul(factor, unit * (lane % 16));
+    for half in 0..16u8 {
+        let product = gf256::mul(factor, unit * half);
+        products[half as usize] = product;
+        products[half as usize + 16] = product;
     }
     products
 }

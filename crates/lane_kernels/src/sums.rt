@@ -45,6 +45,7 @@ fn double_block(a: &mut [u8], b: &[u8], at: usize)
     (twice ^ u8x32::from_slice(&b[at..])).copy_to_slice(&mut a[at..]);
 }
 
+#[tactic(auto, using(gf256::proofs::Doubling::by_two))]
 fn double_byte(a: u8, b: u8) -> u8
     ensures { result ≡ double_sum a b }
 {

@@ -1,13 +1,14 @@
 // The first byte that is not 0.
 
-ghost use Rattle.std.specs.Prelude.{ℕ, ◌≡◌, ◌≢◌, ◌+◌, ◌≤◌, ◌<◌, length, slice_index, All, MatchOption, IsTrue};
+ghost use Rattle.std.specs.Prelude.{ℕ, ◌≡◌, ◌≢◌, ◌+◌, ◌≤◌, ◌<◌, length, slice_index, All, MatchOption, IsTrue, false};
 
 use crate::LANES;
 use std::simd::prelude::*;
 
 fn is_zero_block(a: &[u8], at: usize) -> bool
     requires { at + 32 ≤ length a.now }
-    ensures { IsTrue result → (k : ℕ) → at ≤ k → k < at + 32 → slice_index a.now k ≡ 0 }
+    ensures zeros { IsTrue result → (k : ℕ) → at ≤ k → k < at + 32 → slice_index a.now k ≡ 0 }
+    ensures other { result ≡ false → (k : ℕ) × (at ≤ k) × (k < at + 32) × (slice_index a.now k ≢ 0) }
 {
     let lanes = u8x32::from_slice(&a[at..]);
     lanes.simd_ne(u8x32::splat(0)).to_bitmask() == 0

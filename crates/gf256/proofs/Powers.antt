@@ -1,8 +1,9 @@
 -- Powers of 2, and what the two tables hold.
-use Rattle.std.proofs.Common.{ℕ, ◌≡◌, ◌≢◌, ◌<◌, ◌+◌, ◌-◌, ◌%◌, suc, zero, refl, ◌==◌, ◌||◌, get_or, ◌^◌, arith, inl, inr, sym, ap, ◌∙◌, nat_lt}
+use Rattle.std.proofs.Common.{ℕ, ◌≡◌, ◌≢◌, ◌<◌, ◌+◌, ◌-◌, ◌%◌, suc, zero, refl, ◌==◌, ◌||◌, get_or, ◌^◌, arith, inl, inr, sym, ap, ◌∙◌, nat_lt, bit_xor}
 use Rattle.std.proofs.lemmas.Bool.{eqb-true, ltb-true, cases_lt, or_cases, cases_eq}
 use Rattle.gf256.specs.Field.{times, power_of, double, product}
 use Rattle.gf256.specs.declared.tables.TheConstants.{POWERS, LOGARITHMS}
+use Rattle.gf256.proofs.Sums.{equal_from_sum}
 use Rattle.gf256.proofs.EachByte.{at_each, double_fits}
 use Rattle.gf256.proofs.Products.{times-double, product_zero, product_zero_left}
 
@@ -107,6 +108,9 @@ logarithm_of_power k h = eqb-true (get_or LOGARITHMS (power_of k) 0) k (at_each 
 
 pub distinct : (i j : ℕ) → i < 255 → j < 255 → power_of i ≡ power_of j → i ≡ j
 distinct i j hi hj e = sym (logarithm_of_power i hi) ∙ ap (λ (x : ℕ). get_or LOGARITHMS x 0) e ∙ logarithm_of_power j hj
+
+pub sum_not_zero : (i j : ℕ) → i < 255 → j < 255 → i ≢ j → bit_xor (power_of i) (power_of j) ≢ 0
+sum_not_zero i j hi hj ne e = ne (distinct i j hi hj (equal_from_sum (power_of i) (power_of j) e))
 
 -- what is doubled is 0 only where its double is
 double_zero : (x : ℕ) → x < 256 → double x ≡ 0 → x ≡ 0

@@ -1,5 +1,5 @@
 -- The sum of bytes.
-use Rattle.std.proofs.Common.{ℕ, ◌≡◌, ◌<◌, ◌^◌, bit_xor}
+use Rattle.std.proofs.Common.{ℕ, ◌≡◌, ◌<◌, ◌^◌, bit_xor, sym, ap, ◌∙◌}
 use Rattle.std.proofs.lemmas.Nat.{xor_comm, xor_of_8}
 use lib.Bits.{xor_assoc, xor_self, xor_zero_r}
 
@@ -17,3 +17,9 @@ sum_zero = xor_zero_r
 
 pub sum_self : (a : ℕ) → bit_xor a a ≡ 0
 sum_self = xor_self
+
+pub moved : (a b c : ℕ) → bit_xor a b ≡ c → a ≡ bit_xor c b
+moved a b c e = sym (sum_zero a) ∙ ap (bit_xor a) (sym (sum_self b)) ∙ sym (sum_associates a b b) ∙ ap (λ (x : ℕ). bit_xor x b) e
+
+pub equal_from_sum : (a b : ℕ) → bit_xor a b ≡ 0 → a ≡ b
+equal_from_sum a b e = moved a b 0 e ∙ sum_commutes 0 b ∙ sum_zero b

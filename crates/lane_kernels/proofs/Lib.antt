@@ -1,0 +1,4 @@
+mod Steps
+mod Double
+mod Nibbles
+mod Masks

@@ -8,3 +8,4 @@ pub mod Agreeing
 pub mod Statuses
 pub mod Preparing
 pub mod Listings
+pub mod Outcomes

@@ -9,3 +9,5 @@ pub mod Statuses
 pub mod Preparing
 pub mod Listings
 pub mod Outcomes
+pub mod Operands
+pub mod OperandLists

@@ -12,7 +12,7 @@ use Rattle.reraid_cli.specs.declared.words.Operand.TheVariants.{From, Size, Span
 use Rattle.reraid_cli.specs.Words.{GoOn, IsInLimits, IsListing, all_given, list_command, names_after, nothing_given, operand_word, with_operand}
 
 -- an operand is no `--`
-not_dashes : (operand : Operand) → bytes_eq (operand_word operand) (codes "--") ≡ false
+pub not_dashes : (operand : Operand) → bytes_eq (operand_word operand) (codes "--") ≡ false
 not_dashes (From n) = refl
 not_dashes (Size n) = refl
 not_dashes (Span n) = refl

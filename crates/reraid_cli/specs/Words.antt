@@ -26,6 +26,10 @@ IsInLimits (From n) = n < 2 ^ 64
 IsInLimits (Size n) = (1 ≤ n) × (n ≤ 1000000)
 IsInLimits (Span n) = (1 ≤ n) × (n < 2 ^ 64)
 
+-- a word is the spelling of an operand within limits
+abbrev pub IsSpelled : List ℕ → Operand → Type 0
+IsSpelled word operand = IsInLimits operand × (word ≡ operand_word operand)
+
 -- no operand was given
 abbrev pub nothing_given : Given
 nothing_given = record { from = None; size = None; span = None }
@@ -72,3 +76,8 @@ AreRead words (Some command) = IsListing words command
 pub record ReadsWords (words : List (List ℕ)) (result : Option Command) : Type 0 where
   pub sound : IfSome result (IsListing words)
   pub whole : (command : Command) → IsListing words command → result ≡ Some command
+
+-- a reading of the words from `place` on finds what they say, and just that
+pub record ReadsOn (given : Given) (place : ℕ) (words : List (List ℕ)) (result : Option Command) : Type 0 where
+  pub sound : IfSome result (GoOn given place words)
+  pub whole : (command : Command) → GoOn given place words command → result ≡ Some command

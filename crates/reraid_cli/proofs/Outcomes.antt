@@ -1,5 +1,5 @@
 -- What a run answers, by the contracts of its parts.
-use Rattle.std.proofs.Common.{◌≡◌, ◌≢◌, ℕ, ◌<◌, ◌≤◌, ◌⊎◌, Bool, true, false, cond, nat_lt, nat_eq, List, [], ◌∷◌, ◌++◌, length, map, None, Some, Option, Result, Ok, Err, IfSome, IfErr, IfOk, OnOk, IsErrOf, refl, sym, ap, ◌∙◌, subst, arith, inl, inr}
+use Rattle.std.proofs.Common.{◌≡◌, ◌≢◌, ℕ, ◌<◌, ◌≤◌, ◌⊎◌, Bool, true, false, cond, nat_lt, nat_eq, List, [], ◌∷◌, ◌++◌, length, map, None, Some, Option, Result, Ok, Err, IfSome, IfErr, IfOk, OnOk, IsErrOf, IsErrAnd, refl, sym, ap, ◌∙◌, subst, arith, inl, inr}
 use Rattle.std.specs.Io.KnownBytes.{Appends, Keeps}
 use Rattle.std.specs.Cmp.Lexicographic.{pointwise, bytes_decides}
 use Rattle.std.proofs.lemmas.Bool.{lt-ltb, le-ltb}
@@ -150,3 +150,8 @@ images_of old new last names all none same some left =
     let P : List (List ℕ) → Type 0 = λ ns. AreImagesOf old.world ns some.attached.0 in
     let Q : List Image → Type 0 = λ images. AreImagesOf old.world all images in
     subst Q (sym (left ∙ some.attached.2 ∙ ap (λ (images : List Image). images ++ some.attached.0) none)) (subst P same some.attached.1)
+
+-- an error handed on is that error
+pub handed_on : (r : Result (Unit {0}) Stop) (e s : Stop) → IsErrAnd r (λ x. x ≡ e) → e ≡ s → IsErrOf r s
+handed_on (Ok x) e s is same = absurd is
+handed_on (Err x) e s is same = ap (λ (y : Stop). Err y) (is ∙ same)

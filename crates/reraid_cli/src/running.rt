@@ -1,16 +1,17 @@
 // A run, up to why it ends.
-ghost use Rattle.std.specs.Prelude.{◌≡◌, ◌≤◌, [], All, IsTrue, length, IfErr, IfOk, OnOk, Some, slice_get, ◌↔◌};
+ghost use Rattle.std.specs.Prelude.{◌≡◌, ◌≤◌, [], All, IsTrue, length, IfErr, IfOk, IsErrOf, OnOk, min, Some, slice_get, ◌↔◌};
 ghost use Rattle.std.specs.Option.{option_map};
 ghost use Rattle.image_source.specs.Attached.{AreImagesOf, AttachesSome};
 ghost use Rattle.reraid_cli.specs.Answers.{EndsPreparing, IsPrepared, IsUnread, Outcome, agree};
-ghost use Rattle.reraid_cli.specs.Words.{names_after};
+ghost use Rattle.reraid_cli.specs.Words.{IsListing, names_after};
+ghost use Rattle.reraid_cli.specs.declared.words.Command.{Command};
 
 use crate::attaching::attach_front;
 use crate::listing::list;
 use crate::reading::read_all;
 use crate::stop::Stop;
 use crate::words::{Command, Word, read_words};
-use image_source::{Images, Sink, Source};
+use image_source::{Images, MOST_ATTACHED, Sink, Source};
 use plan_text::{Plan, read_plan};
 use std::alloc::Global;
 
@@ -29,6 +30,7 @@ pub fn run<S: Source, I: Images, K: Sink>(
         (record { images = (I.seen images.new).faults; plan = S.faults plan.new; out = K.faults out.new })
         (K.gained out.old) (K.gained out.new) result }
     ensures attached { AreImagesOf (I.seen images.old).world (names_after words.now) (I.seen images.new).attached }
+    ensures all { (command : Command) → IsListing words.now command → (IsErrOf result Stop.ImageFault → ⊥) → length (I.seen images.new).attached ≡ min (length (names_after words.now)) MOST_ATTACHED }
     ensures world { (I.seen images.new).world ≡ (I.seen images.old).world }
     ensures unread { IsUnread (I.seen images.old) (I.seen images.new) result }
 {
@@ -70,6 +72,7 @@ fn prepare<S: Source, I: Images>(
     ensures plan { IfOk result (IsPrepared (S.left source.old) (I.seen images.new).attached) }
     ensures ends { IfErr result (EndsPreparing (S.left source.old) (I.seen images.old) (I.seen images.new) (S.faults source.old) (S.faults source.new)) }
     ensures some { AttachesSome (I.seen images.old) (I.seen images.new) names.now }
+    ensures all { (IsErrOf result Stop.ImageFault → ⊥) → length (I.seen images.new).attached ≡ min (length names.now) MOST_ATTACHED }
     ensures later { S.faults source.old ≤ S.faults source.new }
 {
     attach_front(images, names).map_err(|_| Stop::ImageFault)?;

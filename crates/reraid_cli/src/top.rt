@@ -1,14 +1,15 @@
 // The top call.
-ghost use Rattle.std.specs.Prelude.{◌≡◌, ◌≢◌, ◌<◌, ◌≤◌, [], All, Contains, IsTrue, IfSome, None};
+ghost use Rattle.std.specs.Prelude.{◌≡◌, ◌≢◌, ◌<◌, ◌≤◌, [], All, Contains, IsTrue, IfSome, None, length, min};
 ghost use Rattle.std.specs.Io.KnownBytes.{Appends, Keeps};
-ghost use Rattle.image_source.specs.Attached.{told_all};
+ghost use Rattle.image_source.specs.Attached.{AreImagesOf, told_all};
 ghost use Rattle.image_source.specs.Streams.{AppendsFront};
 ghost use Rattle.reraid_cli.specs.Answers.{IsNoted, Reading, Says, note_by, note_for, output, refusal, status_by, statuses};
-ghost use Rattle.reraid_cli.specs.Words.{AreRead, names_after};
+ghost use Rattle.reraid_cli.specs.Words.{AreRead, IsListing, names_after};
+ghost use Rattle.reraid_cli.specs.declared.words.Command.{Command};
 
 use crate::running::run;
 use crate::words::Word;
-use image_source::{Images, Sink, Source};
+use image_source::{Images, MOST_ATTACHED, Sink, Source};
 use std::alloc::Global;
 use std::thread::Threads;
 
@@ -67,6 +68,11 @@ pub fn reraid<R: Threads + Sync, S: Source, I: Images, K: Sink, N: Sink>(
     ensures cursor_note { result ≡ 6 →
         IfSome (S.left plan.old) (λ text. (reading : Reading) → Says words.now text reading →
         IsNoted (N.faults notes.new) (N.gained notes.old) (N.gained notes.new) (note_by (refusal text reading (I.seen images.new).attached))) }
+
+    // The images attached are those of the words after `--`, in their order, and all of them (of
+    // more than 65,536 the first so many) unless an attachment failed. Nothing else is attached.
+    ensures attached { AreImagesOf (I.seen images.old).world (names_after words.now) (I.seen images.new).attached }
+    ensures all { (command : Command) → IsListing words.now command → result ≢ 10 → length (I.seen images.new).attached ≡ min (length (names_after words.now)) MOST_ATTACHED }
 
     // Images are only attached and read, and a refusal reads none.
     ensures world { (I.seen images.new).world ≡ (I.seen images.old).world }

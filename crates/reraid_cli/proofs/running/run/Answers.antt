@@ -1,9 +1,11 @@
-use Rattle.std.proofs.Common.{◌≡◌, ◌-◌, List, ℕ, All, IsTrue, length, take, drop, refl, ap, ◌∙◌, sym, subst}
+use Rattle.std.proofs.Common.{◌≡◌, ◌-◌, List, ℕ, All, IsTrue, length, take, drop, refl, ap, ◌∙◌, sym, subst, min, None, Err}
+use Rattle.image_source.specs.declared.TheConstants.{MOST_ATTACHED}
 use Rattle.reraid_cli.specs.Words.{ReadsWords}
 use Rattle.reraid_cli.specs.declared.words.Command.TheVariants.{List as ListCommand}
 use Rattle.std.specs.Prelude.{Some}
 use Rattle.reraid_cli.proofs.Listings.{some_size, names_slice}
-use Rattle.reraid_cli.proofs.Outcomes.{agreeing, images_of, listed, listing_read}
+use Rattle.reraid_cli.proofs.Outcomes.{agreeing, handed_on, images_of, listed, listing_read}
+use Rattle.reraid_cli.specs.declared.stop.Stop.TheVariants.{ImageFault}
 use Rattle.reraid_cli.proofs.running.run.Goals as goal
 
 pub prepare-requires-clause-named : goal.prepare-requires-clause-named
@@ -43,3 +45,19 @@ returns-in_ok-plan-in-Some-clause-outcome g c =
         (g.K.Sink.gained c.args.out.now) (g.K.Sink.gained c.list.new.out) c.list.result
         reads c.in_ok-plan-in-Some.ensures.plan c.prepare.ensures.some.faults c.prepare.ensures.later
         c.list.ensures.printed c.list.ensures.front c.list.ensures.nothing c.list.ensures.in_range c.list.ensures.ends c.list.ensures.leaves c.list.ensures.out_later
+
+pub returns-in_err-plan-in-Some-clause-all : goal.returns-in_err-plan-in-Some-clause-all
+returns-in_err-plan-in-Some-clause-all g c command listing free =
+    let r = c.list_operands-from.result in
+    let reads = listing_read c.args.words.now c.in-Some.command r.0 r.1 r.2 r.3 c.in-Some.ensures c.list_operands-from.ensures in
+    c.prepare.ensures.all (λ is. free (handed_on c.from_residual.result c.in_err-plan-in-Some.field-0.0 ImageFault c.from_residual.ensures.1 (let was = c.in_err-plan-in-Some.was in let both : Err c.in_err-plan-in-Some.field-0.0 ≡ Err ImageFault = sym was ∙ is in cc))) ∙ ap (λ (names : List (List ℕ)). min (length names) MOST_ATTACHED) (names_slice c.args.words.now r.0 r.1 r.2 r.3 reads.sound)
+
+pub returns-in-None-clause-all : goal.returns-in-None-clause-all
+returns-in-None-clause-all g c command listing free = absurd (let e : None ≡ Some command = c.in-None.ensures.whole command listing in cc)
+
+pub returns-in_ok-plan-in-Some-clause-all : goal.returns-in_ok-plan-in-Some-clause-all
+returns-in_ok-plan-in-Some-clause-all g c command listing free =
+    let r = c.list_operands-from.result in
+    let reads = listing_read c.args.words.now c.in-Some.command r.0 r.1 r.2 r.3 c.in-Some.ensures c.list_operands-from.ensures in
+    ap length c.list.ensures.leaves.attached ∙ (c.prepare.ensures.all (λ is. absurd (let was = c.in_ok-plan-in-Some.was in cc))
+        ∙ ap (λ (names : List (List ℕ)). min (length names) MOST_ATTACHED) (names_slice c.args.words.now r.0 r.1 r.2 r.3 reads.sound))

@@ -1,5 +1,6 @@
 use Rattle.std.proofs.Common.{◌≡◌, sym, ap, ◌∙◌, subst, ℕ, List}
-use Rattle.reraid_cli.specs.Answers.{IsNoted, note_of}
+use Rattle.reraid_cli.specs.Answers.{IsNoted, note_of, status_of}
+use Rattle.reraid_cli.specs.declared.stop.Stop.TheVariants.{ImageFault}
 use Rattle.reraid_cli.proofs.Statuses.{status_known, by_refusal, noted, noted_for, noted_cursor, other_stop}
 use Rattle.reraid_cli.proofs.top.reraid.Goals as goal
 
@@ -29,3 +30,10 @@ pub returns-in-Err-clause-unread : goal.returns-in-Err-clause-unread
 returns-in-Err-clause-unread g c zero ten twelve twenty =
     let other = other_stop c.in-Err.stop c.status.result c.status.ensures ten twelve twenty in
     c.in-Err.ensures.unread other.0 other.1 other.2
+
+pub returns-in-Ok-clause-all : goal.returns-in-Ok-clause-all
+returns-in-Ok-clause-all g c command listing other = c.in-Ok.ensures.all command listing (λ is. absurd (cc))
+
+pub returns-in-Err-clause-all : goal.returns-in-Err-clause-all
+returns-in-Err-clause-all g c command listing other =
+    c.in-Err.ensures.all command listing (λ is. other (let stop : c.in-Err.stop ≡ ImageFault = cc in c.status.ensures ∙ ap status_of stop))

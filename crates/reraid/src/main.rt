@@ -1,0 +1,66 @@
+//! The program: it makes the real files, streams and words, and calls the top call.
+#![tactic(auto)]
+
+use image_source::{FileImages, Sink, StdSink, StdSource};
+use reraid_cli::{Word, reraid};
+use std::alloc::Global;
+use std::env;
+use std::io::ErrorKind;
+use std::process::ExitCode;
+use std::rt::Env;
+
+/// Why the top call is not made.
+enum Start {
+    /// A word of the command line is not text.
+    NotText,
+    /// Want of memory.
+    OutOfMemory,
+}
+
+fn main(rt: HostRuntime) -> ExitCode {
+    let alloc = rt.alloc();
+    let mut notes = StdSink::new(rt.stderr());
+    let words = match command_line(&rt, alloc) {
+        Ok(words) => words,
+        Err(start) => return refuse(start, &mut notes),
+    };
+    let Ok(mut images) = FileImages::new(&rt, alloc) else {
+        return refuse(Start::OutOfMemory, &mut notes);
+    };
+    let mut plan = StdSource::new(rt.stdin());
+    let mut out = StdSink::new(rt.stdout());
+    ExitCode::from(reraid(
+        &rt,
+        alloc,
+        &words,
+        &mut plan,
+        &mut images,
+        &mut out,
+        &mut notes,
+    ))
+}
+
+/// The words after the program's name.
+fn command_line<R: Env + AllocGlobal>(rt: &R, alloc: Global) -> Result<Vec<Word>, Start> {
+    let mut words = Vec::new(alloc);
+    let arguments = match env::args(rt) {
+        Ok(arguments) => arguments,
+        Err(e) if e.kind() == ErrorKind::InvalidData => return Err(Start::NotText),
+        Err(_) => return Err(Start::OutOfMemory),
+    };
+    for text in arguments.skip(1) {
+        let word = Word::new(alloc, text.as_str()).map_err(|_| Start::OutOfMemory)?;
+        words.push(word).map_err(|_| Start::OutOfMemory)?;
+    }
+    Ok(words)
+}
+
+/// Writes why the top call is not made, and gives the status.
+fn refuse<N: Sink>(start: Start, notes: &mut N) -> ExitCode {
+    let (line, status) = match start {
+        Start::NotText => ("reraid: word 1 is not understood\n", 1),
+        Start::OutOfMemory => ("reraid: out of memory\n", 20),
+    };
+    let _ = notes.put(line.as_bytes());
+    ExitCode::from(status)
+}

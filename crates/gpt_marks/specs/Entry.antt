@@ -9,8 +9,8 @@ unfoldable pub is_used_entry : List ℕ → ℕ → ℕ → Bool
 is_used_entry s alternate at =
     not (has_bytes s at (replicate 16 0))  -- PartitionTypeGUID: 16 bytes at 0, all zero where unused
     && nat_le (u64_le s (at + 32)) (u64_le s (at + 40))  -- StartingLBA: u64 at 32, EndingLBA: u64 at 40
-    && nat_le (u64_le s (at + 40)) alternate  -- which is within the disk
-    && nat_lt (u64_le s (at + 32)) DISTANCE_LIMIT  -- and the first within the limit
+    && nat_le (u64_le s (at + 40)) alternate  -- and not past AlternateLBA
+    && nat_lt (u64_le s (at + 32)) DISTANCE_LIMIT  -- and the first below 2^55
 
 -- the first block of the entry at a byte
 unfoldable pub first_lba : List ℕ → ℕ → ℕ → Option ℕ

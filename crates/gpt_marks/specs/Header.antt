@@ -21,7 +21,7 @@ is_gpt_header s =
     && nat_le 92 (u32_le s 12)  -- HeaderSize: u32 at 12, 92 or more
     && nat_le (u32_le s 12) 512  --   and no more than the block
     && (crc_32 (covered_bytes s) == u32_le s 16)  -- HeaderCRC32: u32 at 16
-    && nat_lt (u64_le s 24) DISTANCE_LIMIT  -- MyLBA: u64 at 24, within the limit
+    && nat_lt (u64_le s 24) DISTANCE_LIMIT  -- MyLBA: u64 at 24, below 2^55
 
 -- its fields
 unfoldable pub gpt_header_of : List ℕ → GptHeader

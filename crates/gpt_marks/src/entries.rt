@@ -1,6 +1,6 @@
 //! The entries of a partition table.
 
-ghost use Rattle.std.specs.Prelude.{◌≡◌, ◌+◌, ◌≤◌};
+ghost use Rattle.std.specs.Prelude.{◌≡◌, ◌+◌, ◌≤◌, ◌<◌, All, IfSome};
 ghost use Rattle.gpt_marks.specs.Entry.{first_lba, first_lbas, is_used_entry};
 
 use sector_fields::{DISTANCE_LIMIT, has_bytes, u64_le};
@@ -10,7 +10,8 @@ use sector_fields::{DISTANCE_LIMIT, has_bytes, u64_le};
 /// `alternate`, or that begins at 2^55 or later.
 #[tactic(auto, unfolding(crate::specs::Entry::first_lbas))]
 pub fn read_entries(sector: &[u8; 512], alternate: u64) -> [Option<u64>; 4]
-    ensures { result ≡ first_lbas sector.now alternate }
+    ensures firsts { result ≡ first_lbas sector.now alternate }
+    ensures within { All (λ o. IfSome o (λ first. first < DISTANCE_LIMIT)) result }
 {
     [
         read_entry(sector, alternate, 0),
@@ -20,10 +21,11 @@ pub fn read_entries(sector: &[u8; 512], alternate: u64) -> [Option<u64>; 4]
     ]
 }
 
-#[tactic(auto, unfolding(crate::specs::Entry::first_lba))]
+#[tactic(auto, unfolding(crate::specs::Entry::first_lba), using(crate::proofs::Limits::first_within))]
 fn read_entry(sector: &[u8; 512], alternate: u64, at: usize) -> Option<u64>
     requires { at + 128 ≤ 512 }
-    ensures { result ≡ first_lba sector.now alternate at }
+    ensures first { result ≡ first_lba sector.now alternate at }
+    ensures within { IfSome result (λ first. first < DISTANCE_LIMIT) }
 {
     if is_used(sector, alternate, at) {
         Some(u64_le(sector, at + 32))

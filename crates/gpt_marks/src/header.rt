@@ -1,6 +1,6 @@
 //! The header of a partition table.
 
-ghost use Rattle.std.specs.Prelude.{◌≡◌, ◌≤◌, ◌<◌};
+ghost use Rattle.std.specs.Prelude.{◌≡◌, ◌≤◌, ◌<◌, IfSome};
 ghost use Rattle.sector_fields.specs.Fields.{u32_le};
 ghost use Rattle.gpt_marks.specs.Crc.{crc_32};
 ghost use Rattle.gpt_marks.specs.Header.{covered_bytes, gpt_header, gpt_header_of, is_gpt_header, is_own_table, with_zero_checksum};
@@ -28,9 +28,10 @@ pub struct GptHeader {
 
 /// The header in a sector. None where the sector is no header: another signature, a header size that
 /// is not 92 to 512, a checksum that does not agree, or a MyLBA of 2^55 or more.
-#[tactic(auto, unfolding(crate::specs::Header::gpt_header))]
+#[tactic(auto, unfolding(crate::specs::Header::gpt_header), using(crate::proofs::Limits::my_lba_within))]
 pub fn read_header(sector: &[u8; 512]) -> Option<GptHeader>
-    ensures { result ≡ gpt_header sector.now }
+    ensures header { result ≡ gpt_header sector.now }
+    ensures within { IfSome result (λ h. h.my_lba < DISTANCE_LIMIT) }
 {
     if is_header(sector) {
         Some(fields_of(sector))

@@ -12,11 +12,6 @@ unfoldable pub record_bytes : List ℕ → ℕ
 record_bytes s =
     coded_bytes (cast_signed w8 (slice_index s 64)) (slice_index s 13)  -- clusters per file record: i8 at 64
 
--- the sector of a file record of that number, counted from the boot sector: records of so many bytes
--- stand in one run from a cluster on, and clusters have so many sectors
-unfoldable pub record_sector : ℕ → ℕ → ℕ → ℕ → ℕ
-record_sector first_cluster cluster bytes number = first_cluster * cluster + number * (bytes / 512)
-
 -- the facts of a boot sector that no number of the volume plays a part in
 unfoldable pub has_boot_form : List ℕ → Bool
 has_boot_form s =
@@ -25,19 +20,7 @@ has_boot_form s =
     && (u16_le s 11 == 512)  -- bytes per sector: u16 at 11
     && is_power_of_two (slice_index s 13) && nat_le (slice_index s 13) 128  -- sectors per cluster: u8 at 13
 
--- the volume's sectors, and the sector of record 15 of both tables, are below the limit, where a record
--- has so many bytes
-unfoldable pub is_within_limit : List ℕ → ℕ → Bool
-is_within_limit s bytes =
-    nat_le 1 (u64_le s 40) && nat_lt (u64_le s 40) DISTANCE_LIMIT  -- total sectors: u64 at 40
-    && nat_lt (record_sector (u64_le s 48) (slice_index s 13) bytes 15) DISTANCE_LIMIT  -- $MFT cluster: u64 at 48
-    && nat_lt (record_sector (u64_le s 56) (slice_index s 13) bytes 15) DISTANCE_LIMIT  -- $MFTMirr cluster: u64 at 56
-
--- the facts that make a sector a boot sector
-unfoldable pub is_ntfs_boot : List ℕ → Bool
-is_ntfs_boot s = has_boot_form s && is_record_size (record_bytes s) && is_within_limit s (record_bytes s)
-
--- its fields
+-- the fields of a boot sector
 unfoldable pub ntfs_boot_of : List ℕ → NtfsBoot
 ntfs_boot_of s = record {
   cluster = slice_index s 13;  -- sectors per cluster: u8 at 13
@@ -47,6 +30,23 @@ ntfs_boot_of s = record {
   record_bytes = record_bytes s;
   serial = u64_le s 72;  -- volume serial number: u64 at 72
 }
+
+-- the sector of a file record of that number, counted from the boot sector: records stand in one run from
+-- a cluster on
+unfoldable pub record_sector : NtfsBoot → ℕ → ℕ → ℕ
+record_sector boot first_cluster number = first_cluster * boot.cluster + number * (boot.record_bytes / 512)
+
+-- there are sectors, and their number and the sector of record 15, of $MFT and of $MFTMirr, are below
+-- 2^55
+unfoldable pub is_within_limit : NtfsBoot → Bool
+is_within_limit boot =
+    nat_le 1 boot.total && nat_lt boot.total DISTANCE_LIMIT
+    && nat_lt (record_sector boot boot.mft 15) DISTANCE_LIMIT
+    && nat_lt (record_sector boot boot.mirror 15) DISTANCE_LIMIT
+
+-- the facts that make a sector a boot sector
+unfoldable pub is_ntfs_boot : List ℕ → Bool
+is_ntfs_boot s = has_boot_form s && is_record_size (record_bytes s) && is_within_limit (ntfs_boot_of s)
 
 -- the boot sector's fields, if it is one
 unfoldable pub ntfs_boot : List ℕ → Option NtfsBoot

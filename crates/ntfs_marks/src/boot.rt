@@ -1,7 +1,7 @@
 //! The boot sector.
 
-ghost use Rattle.std.specs.Prelude.{◌≡◌, IsTrue};
-ghost use Rattle.ntfs_marks.specs.Boot.{has_boot_form, is_ntfs_boot, is_within_limit, ntfs_boot, ntfs_boot_of, record_bytes, record_sector};
+ghost use Rattle.std.specs.Prelude.{◌≡◌, IfSome, IsTrue};
+ghost use Rattle.ntfs_marks.specs.Boot.{has_boot_form, is_within_limit, ntfs_boot, ntfs_boot_of, record_bytes, record_sector};
 ghost use Rattle.ntfs_marks.specs.RecordSize.{allowed_size, is_record_size};
 
 use crate::record_size::record_size;
@@ -29,9 +29,10 @@ pub struct NtfsBoot {
 /// records that are not 512 to 65,536 bytes in whole sectors, no sectors at all or 2^55 and more, or a
 /// record 15, of the table or of its copy, at sector 2^55 or later, records 0 to 15 taken to stand in
 /// one run.
-#[tactic(auto, using(crate::proofs::Sizes::no_boot, crate::proofs::Sizes::size_is, crate::proofs::Sizes::size_allowed))]
+#[tactic(auto, using(crate::proofs::Sizes::no_boot, crate::proofs::Sizes::size_is, crate::proofs::Sizes::size_allowed, crate::proofs::Limits::boot_within))]
 pub fn read_boot(sector: &[u8; 512]) -> Option<NtfsBoot>
-    ensures { result ≡ ntfs_boot sector.now }
+    ensures boot { result ≡ ntfs_boot sector.now }
+    ensures within { IfSome result (λ b. IsTrue (is_within_limit b)) }
 {
     match record_bytes(sector) {
         Some(bytes) => boot_by_size(sector, bytes),
@@ -39,26 +40,18 @@ pub fn read_boot(sector: &[u8; 512]) -> Option<NtfsBoot>
     }
 }
 
-#[tactic(auto, unfolding(crate::specs::Boot::ntfs_boot))]
+#[tactic(auto, unfolding(crate::specs::Boot::ntfs_boot, crate::specs::Boot::is_ntfs_boot))]
 fn boot_by_size(sector: &[u8; 512], bytes: u32) -> Option<NtfsBoot>
     requires size { bytes ≡ record_bytes sector.now }
     requires allowed { IsTrue (is_record_size (record_bytes sector.now)) }
     ensures { result ≡ ntfs_boot sector.now }
 {
-    if is_boot(sector, bytes) {
-        Some(fields_of(sector, bytes))
+    let boot = fields_of(sector, bytes);
+    if has_boot_form(sector) && is_within_limit(&boot) {
+        Some(boot)
     } else {
         None
     }
-}
-
-#[tactic(auto, unfolding(crate::specs::Boot::is_ntfs_boot))]
-fn is_boot(sector: &[u8; 512], bytes: u32) -> bool
-    requires size { bytes ≡ record_bytes sector.now }
-    requires allowed { IsTrue (is_record_size (record_bytes sector.now)) }
-    ensures { result ≡ is_ntfs_boot sector.now }
-{
-    has_boot_form(sector) && is_within_limit(sector, bytes)
 }
 
 #[tactic(auto, unfolding(crate::specs::Boot::record_bytes))]
@@ -81,23 +74,22 @@ fn has_boot_form(sector: &[u8; 512]) -> bool
 }
 
 #[tactic(auto, unfolding(crate::specs::Boot::is_within_limit))]
-fn is_within_limit(sector: &[u8; 512], bytes: u32) -> bool
-    ensures { result ≡ is_within_limit sector.now bytes }
+fn is_within_limit(boot: &NtfsBoot) -> bool
+    ensures { result ≡ is_within_limit boot.now }
 {
-    let total = u64_le(sector, 40);
     let limit = DISTANCE_LIMIT as u128;
-    1 <= total
-        && total < DISTANCE_LIMIT
-        && last_record_sector(u64_le(sector, 48), sector[13], bytes) < limit
-        && last_record_sector(u64_le(sector, 56), sector[13], bytes) < limit
+    1 <= boot.total
+        && boot.total < DISTANCE_LIMIT
+        && last_record_sector(boot, boot.mft) < limit
+        && last_record_sector(boot, boot.mirror) < limit
 }
 
 // The sector of file record 15, which may pass 64 bits.
 #[tactic(auto, unfolding(crate::specs::Boot::record_sector))]
-fn last_record_sector(first_cluster: u64, cluster: u8, bytes: u32) -> u128
-    ensures { result ≡ record_sector first_cluster cluster bytes 15 }
+fn last_record_sector(boot: &NtfsBoot, first_cluster: u64) -> u128
+    ensures { result ≡ record_sector boot.now first_cluster 15 }
 {
-    first_cluster as u128 * cluster as u128 + 15 * (bytes / 512) as u128
+    first_cluster as u128 * boot.cluster as u128 + 15 * (boot.record_bytes / 512) as u128
 }
 
 #[tactic(auto, unfolding(crate::specs::Boot::ntfs_boot_of))]

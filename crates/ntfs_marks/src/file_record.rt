@@ -1,6 +1,6 @@
 //! The file records.
 
-ghost use Rattle.std.specs.Prelude.{◌≡◌};
+ghost use Rattle.std.specs.Prelude.{◌≡◌, ◌<◌, IfSome};
 ghost use Rattle.ntfs_marks.specs.FileRecord.{is_ntfs_record, ntfs_record, ntfs_record_of};
 
 use sector_fields::{has_bytes, u16_le, u32_le};
@@ -16,9 +16,10 @@ pub struct NtfsRecord {
 
 /// The fields of a file record that begins in the sector. None where none does: another signature, an
 /// update sequence that does not begin at byte 48, or a number of 16 or more.
-#[tactic(auto, unfolding(crate::specs::FileRecord::ntfs_record, crate::specs::FileRecord::is_ntfs_record, crate::specs::FileRecord::ntfs_record_of))]
+#[tactic(auto, unfolding(crate::specs::FileRecord::ntfs_record, crate::specs::FileRecord::is_ntfs_record, crate::specs::FileRecord::ntfs_record_of), using(crate::proofs::Limits::number_below))]
 pub fn read_record(sector: &[u8; 512]) -> Option<NtfsRecord>
-    ensures { result ≡ ntfs_record sector.now }
+    ensures record_fields { result ≡ ntfs_record sector.now }
+    ensures within { IfSome result (λ r. r.number < 16) }
 {
     let number = u32_le(sector, 44);
     if has_bytes(sector, 0, b"FILE") && u16_le(sector, 4) == 48 && number < 16 {

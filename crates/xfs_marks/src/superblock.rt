@@ -1,7 +1,7 @@
 //! The superblock.
 
-ghost use Rattle.std.specs.Prelude.{◌≡◌};
-ghost use Rattle.xfs_marks.specs.Superblock.{end_sector, is_xfs_super, xfs_super, xfs_super_of};
+ghost use Rattle.std.specs.Prelude.{◌≡◌, IfSome, IsTrue};
+ghost use Rattle.xfs_marks.specs.Superblock.{end_sector, is_sound, xfs_super, xfs_super_of};
 
 use sector_fields::{DISTANCE_LIMIT, has_bytes, u16_be, u32_be, uuid_at};
 use uuid::Uuid;
@@ -23,47 +23,44 @@ pub struct XfsSuper {
 
 /// The fields of a superblock that begins in the sector. None where none does: another magic number, a
 /// block size that is no power of two from 512 to 65,536, no blocks or no groups, a sector size that is
-/// no power of two from 512 to 32,768 or above the block size, or groups whose last head would lie at
-/// sector 2^55 or later.
-#[tactic(auto, unfolding(crate::specs::Superblock::xfs_super))]
+/// no power of two from 512 to 32,768 or above the block size, or an end at sector 2^55 or
+/// later, the end being where the AGI of one more group would lie.
+#[tactic(auto, unfolding(crate::specs::Superblock::xfs_super, crate::specs::Superblock::is_xfs_super), using(crate::proofs::Limits::super_sound))]
 pub fn read_super(sector: &[u8; 512]) -> Option<XfsSuper>
-    ensures { result ≡ xfs_super sector.now }
+    ensures superblock { result ≡ xfs_super sector.now }
+    ensures within { IfSome result (λ x. IsTrue (is_sound x)) }
 {
-    if is_super(sector) {
-        Some(fields_of(sector))
+    let found = fields_of(sector);
+    if has_bytes(sector, 0, b"XFSB") && is_sound(&found) {
+        Some(found)
     } else {
         None
     }
 }
 
-#[tactic(auto, unfolding(crate::specs::Superblock::is_xfs_super))]
-fn is_super(sector: &[u8; 512]) -> bool
-    ensures { result ≡ is_xfs_super sector.now }
+#[tactic(auto, unfolding(crate::specs::Superblock::is_sound))]
+fn is_sound(found: &XfsSuper) -> bool
+    ensures { result ≡ is_sound found.now }
 {
-    let block = u32_be(sector, 4);
-    let blocks = u32_be(sector, 84);
-    let groups = u32_be(sector, 88);
-    let size = u16_be(sector, 102);
-    has_bytes(sector, 0, b"XFSB")
-        && block.is_power_of_two()
-        && 512 <= block
-        && block <= 65536
-        && 1 <= blocks
-        && 1 <= groups
-        && size.is_power_of_two()
-        && 512 <= size
-        && size <= 32768
-        && size as u32 <= block
-        && end_sector(blocks, block, groups, size) < DISTANCE_LIMIT as u128
+    found.block.is_power_of_two()
+        && 512 <= found.block
+        && found.block <= 65536
+        && 1 <= found.ag_blocks
+        && 1 <= found.ag_count
+        && found.sector.is_power_of_two()
+        && 512 <= found.sector
+        && found.sector <= 32768
+        && found.sector <= found.block
+        && end_sector(found) < DISTANCE_LIMIT as u128
 }
 
 // The sector of the AGI that would follow the last group, which may pass 64 bits.
 #[tactic(auto, unfolding(crate::specs::Superblock::end_sector, crate::specs::Superblock::group_sectors))]
-fn end_sector(blocks: u32, block: u32, groups: u32, size: u16) -> u128
-    ensures { result ≡ end_sector blocks block groups size }
+fn end_sector(found: &XfsSuper) -> u128
+    ensures { result ≡ end_sector found.now }
 {
-    let group = blocks as u128 * block as u128 / 512;
-    group * groups as u128 + 2 * (size / 512) as u128
+    let group = found.ag_blocks as u128 * found.block as u128 / 512;
+    group * found.ag_count as u128 + 2 * (found.sector / 512) as u128
 }
 
 #[tactic(auto, unfolding(crate::specs::Superblock::xfs_super_of))]

@@ -1,0 +1,45 @@
+//! The entries of a partition table.
+
+ghost use Rattle.std.specs.Prelude.{◌≡◌, ◌+◌, ◌≤◌, ◌<◌, All, IfSome};
+ghost use Rattle.gpt_marks.specs.Entry.{first_lba, first_lbas, is_used_entry};
+
+use sector_fields::{DISTANCE_LIMIT, has_bytes, u64_le};
+
+/// The first block of each of the four entries of a sector of a table whose other header lies in
+/// block `alternate`. None for an entry that is unused, that ends before it begins or past
+/// `alternate`, or that begins at 2^55 or later.
+#[tactic(auto, unfolding(crate::specs::Entry::first_lbas))]
+pub fn read_entries(sector: &[u8; 512], alternate: u64) -> [Option<u64>; 4]
+    ensures firsts { result ≡ first_lbas sector.now alternate }
+    ensures within { All (λ o. IfSome o (λ first. first < DISTANCE_LIMIT)) result }
+{
+    [
+        read_entry(sector, alternate, 0),
+        read_entry(sector, alternate, 128),
+        read_entry(sector, alternate, 256),
+        read_entry(sector, alternate, 384),
+    ]
+}
+
+#[tactic(auto, unfolding(crate::specs::Entry::first_lba), using(crate::proofs::Limits::first_within))]
+fn read_entry(sector: &[u8; 512], alternate: u64, at: usize) -> Option<u64>
+    requires { at + 128 ≤ 512 }
+    ensures first { result ≡ first_lba sector.now alternate at }
+    ensures within { IfSome result (λ first. first < DISTANCE_LIMIT) }
+{
+    if is_used(sector, alternate, at) {
+        Some(u64_le(sector, at + 32))
+    } else {
+        None
+    }
+}
+
+#[tactic(auto, unfolding(crate::specs::Entry::is_used_entry))]
+fn is_used(sector: &[u8; 512], alternate: u64, at: usize) -> bool
+    requires { at + 128 ≤ 512 }
+    ensures { result ≡ is_used_entry sector.now alternate at }
+{
+    let first = u64_le(sector, at + 32);
+    let last = u64_le(sector, at + 40);
+    !has_bytes(sector, at, &[0; 16]) && first <= last && last <= alternate && first < DISTANCE_LIMIT
+}

@@ -1,0 +1,11 @@
+//! That a sector is of one kind at most: the law over the definitions of the readers.
+#![tactic(auto)]
+
+ghost use Rattle.mark_kinds.specs.Kinds.{KindsExcludeEachOther};
+
+/// No sector is of two of these kinds: GPT header, NTFS boot sector, NTFS file record, XFS superblock,
+/// AGF, AGI. It runs nothing: its contract is the law.
+#[tactic(auto, using(crate::proofs::FourthByte::at_most_one))]
+pub fn no_sector_is_of_two_kinds()
+    ensures { KindsExcludeEachOther }
+{}

@@ -1,0 +1,142 @@
+//! Sectors that `mkntfs` wrote, and the bounds of a boot sector and of a file record on both sides.
+
+ghost use Rattle.std.specs.Prelude.{◌+◌, ◌≤◌, length};
+
+use crate::{NtfsBoot, NtfsRecord, read_boot, read_record};
+
+// truncate -s 2M a.img; mkntfs -F -Q -s 512 -c 1024 -p 63 -H 16 -S 63 -L x a.img
+// `ntfsinfo -m` prints clusters of 1024 bytes, 2047 of them, records of 1024 bytes, the table at
+// cluster 16 and its copy at 1023. The first 80 bytes of sector 0; 510 and 511 are 55 aa.
+const BOOT: [u8; 80] = [
+    0xeb, 0x52, 0x90, 0x4e, 0x54, 0x46, 0x53, 0x20, 0x20, 0x20, 0x20, 0x00, 0x02, 0x02, 0x00, 0x00,
+    0x00, 0x00, 0x00, 0x00, 0x00, 0xf8, 0x00, 0x00, 0x3f, 0x00, 0x10, 0x00, 0x3f, 0x00, 0x00, 0x00,
+    0x00, 0x00, 0x00, 0x00, 0x80, 0x00, 0x80, 0x00, 0xff, 0x0f, 0x00, 0x00, 0x00, 0x00, 0x00, 0x00,
+    0x10, 0x00, 0x00, 0x00, 0x00, 0x00, 0x00, 0x00, 0xff, 0x03, 0x00, 0x00, 0x00, 0x00, 0x00, 0x00,
+    0x01, 0x00, 0x00, 0x00, 0x04, 0x00, 0x00, 0x00, 0xb1, 0xe0, 0xae, 0x3d, 0x37, 0x45, 0xde, 0x49,
+];
+
+// truncate -s 8M b.img; mkntfs -F -Q -s 512 -c 4096 -p 0 -H 16 -S 63 -L y b.img
+// `ntfsinfo -m` prints clusters of 4096 bytes, 2047 of them, records of 1024 bytes, the table at
+// cluster 4 and its copy at 1023. The same bytes.
+const LARGE_BOOT: [u8; 80] = [
+    0xeb, 0x52, 0x90, 0x4e, 0x54, 0x46, 0x53, 0x20, 0x20, 0x20, 0x20, 0x00, 0x02, 0x08, 0x00, 0x00,
+    0x00, 0x00, 0x00, 0x00, 0x00, 0xf8, 0x00, 0x00, 0x3f, 0x00, 0x10, 0x00, 0x00, 0x00, 0x00, 0x00,
+    0x00, 0x00, 0x00, 0x00, 0x80, 0x00, 0x80, 0x00, 0xff, 0x3f, 0x00, 0x00, 0x00, 0x00, 0x00, 0x00,
+    0x04, 0x00, 0x00, 0x00, 0x00, 0x00, 0x00, 0x00, 0xff, 0x03, 0x00, 0x00, 0x00, 0x00, 0x00, 0x00,
+    0xf6, 0x00, 0x00, 0x00, 0x01, 0x00, 0x00, 0x00, 0x3b, 0x63, 0x7f, 0x5f, 0x4d, 0xe0, 0xce, 0x50,
+];
+
+// The first 48 bytes of sector 42 of a.img. `ntfsinfo -i 5 -v` prints the update sequence at 48 and
+// 1024 bytes allocated.
+const RECORD: [u8; 48] = [
+    0x46, 0x49, 0x4c, 0x45, 0x30, 0x00, 0x03, 0x00, 0x00, 0x00, 0x00, 0x00, 0x00, 0x00, 0x00, 0x00,
+    0x05, 0x00, 0x01, 0x00, 0x38, 0x00, 0x03, 0x00, 0x00, 0x02, 0x00, 0x00, 0x00, 0x04, 0x00, 0x00,
+    0x00, 0x00, 0x00, 0x00, 0x00, 0x00, 0x00, 0x00, 0x06, 0x00, 0x00, 0x00, 0x05, 0x00, 0x00, 0x00,
+];
+
+// A sector with these bytes from `at` on.
+fn with(mut sector: [u8; 512], at: usize, bytes: &[u8]) -> [u8; 512]
+    requires { at + length bytes.now ≤ 512 }
+{
+    sector[at..at + bytes.len()].copy_from_slice(bytes);
+    sector
+}
+
+fn boot_sector(front: &[u8; 80]) -> [u8; 512] {
+    with(with([0; 512], 0, front), 510, &[0x55, 0xaa])
+}
+
+// The first boot sector, changed there, is one.
+fn is_boot(at: usize, bytes: &[u8]) -> bool
+    requires { at + length bytes.now ≤ 512 }
+{
+    read_boot(&with(boot_sector(&BOOT), at, bytes)).is_some()
+}
+
+// The record size of the first boot sector with this code and clusters of so many sectors.
+fn size_by(code: i8, cluster: u8) -> Option<u32> {
+    let clusters = with(boot_sector(&BOOT), 13, &[cluster]);
+    match read_boot(&with(clusters, 64, &[code.cast_unsigned()])) {
+        Some(boot) => Some(boot.record_bytes),
+        None => None,
+    }
+}
+
+#[test]
+fn boot_sectors_of_mkntfs(rt: HostRuntime) {
+    let boot = NtfsBoot {
+        cluster: 2,
+        total: 4095,
+        mft: 16,
+        mirror: 1023,
+        record_bytes: 1024,
+        serial: 0x49de_4537_3dae_e0b1,
+    };
+    assert!(rt; read_boot(&boot_sector(&BOOT)) == Some(boot));
+    let large = NtfsBoot {
+        cluster: 8,
+        total: 16383,
+        mft: 4,
+        mirror: 1023,
+        record_bytes: 1024,
+        serial: 0x50ce_e04d_5f7f_633b,
+    };
+    assert!(rt; read_boot(&boot_sector(&LARGE_BOOT)) == Some(large));
+    assert!(rt; is_boot(0, b"\x00") && !is_boot(10, b"\x00") && !is_boot(3, b"n"));
+    assert!(rt; !is_boot(510, b"\x56") && !is_boot(511, b"\xab"));
+    // Bytes per sector: 512, 513, 4096.
+    assert!(rt; is_boot(11, b"\x00\x02") && !is_boot(11, b"\x01\x02") && !is_boot(11, b"\x00\x10"));
+}
+
+#[test]
+fn bounds_of_a_boot_sector(rt: HostRuntime) {
+    let codes = [
+        (0, 2),
+        (-8, 2),
+        (-17, 2),
+        (-128, 2),
+        (127, 128),
+        (2, 128),
+        (1, 0),
+        (1, 3),
+        (1, 255),
+    ];
+    for (code, cluster) in codes {
+        assert_eq!(rt; size_by(code, cluster), None, "{code} {cluster}");
+    }
+    assert_eq!(rt; size_by(-9, 2), Some(512));
+    assert_eq!(rt; size_by(-16, 2), Some(65536));
+    assert_eq!(rt; size_by(1, 1), Some(512));
+    assert_eq!(rt; size_by(1, 128), Some(65536));
+    // All sectors, from 1 to 2^55 - 1.
+    assert!(rt; !is_boot(40, &0u64.to_le_bytes()) && is_boot(40, &1u64.to_le_bytes()));
+    assert!(rt; is_boot(40, &((1u64 << 55) - 1).to_le_bytes()));
+    assert!(rt; !is_boot(40, &(1u64 << 55).to_le_bytes()));
+    // Clusters have 2 sectors here, and record 15 begins 30 sectors after record 0.
+    for at in [48, 56] {
+        assert!(rt; is_boot(at, &((1u64 << 54) - 16).to_le_bytes()));
+        assert!(rt; !is_boot(at, &((1u64 << 54) - 15).to_le_bytes()));
+        assert!(rt; !is_boot(at, &u64::MAX.to_le_bytes()));
+        // Twice this is 2 to 64.
+        assert!(rt; !is_boot(at, &(1u64 << 63).to_le_bytes()));
+    }
+}
+
+#[test]
+fn file_records_of_mkntfs(rt: HostRuntime) {
+    let record = with([0; 512], 0, &RECORD);
+    assert!(rt;
+        read_record(&record)
+            == Some(NtfsRecord {
+                number: 5,
+                bytes: 1024
+            })
+    );
+    assert!(rt; read_record(&with(record, 44, &[15])).is_some());
+    assert!(rt; read_record(&with(record, 44, &[16])).is_none());
+    assert!(rt; read_record(&with(record, 47, &[1])).is_none());
+    // The records of NTFS before 3.1 have the update sequence at 42.
+    assert!(rt; read_record(&with(record, 4, &[42])).is_none());
+    assert!(rt; read_record(&with(record, 5, &[1])).is_none());
+    assert!(rt; read_record(&with(record, 0, b"BAAD")).is_none());
+}

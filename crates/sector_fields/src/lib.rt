@@ -1,0 +1,97 @@
+//! The fields of a 512-byte sector: one call for each width and byte order.
+#![tactic(auto)]
+
+ghost use Rattle.std.specs.Prelude.{◌≡◌, ◌+◌, ◌≤◌, length};
+ghost use Rattle.sector_fields.specs.Fields.{u16_le, u32_le, u64_le, u16_be, u32_be, uuid_at, has_bytes};
+
+use byteorder::{BigEndian, ByteOrder, LittleEndian};
+use uuid::Uuid;
+
+/// Sector distances that a landmark tells stay below this, so that sums of a few of them fit a
+/// `u64`. A landmark that tells a longer one is none.
+pub const DISTANCE_LIMIT: u64 = 1 << 55;
+
+/// The number in the two bytes from `at` on, the lowest first.
+#[tactic(auto, unfolding(crate::specs::Fields::u16_le))]
+pub fn u16_le(sector: &[u8; 512], at: usize) -> u16
+    requires { at + 2 ≤ 512 }
+    ensures { result ≡ u16_le sector.now at }
+{
+    LittleEndian::read_u16(&sector[at..])
+}
+
+/// The number in the four bytes from `at` on, the lowest first.
+#[tactic(auto, unfolding(crate::specs::Fields::u32_le))]
+pub fn u32_le(sector: &[u8; 512], at: usize) -> u32
+    requires { at + 4 ≤ 512 }
+    ensures { result ≡ u32_le sector.now at }
+{
+    LittleEndian::read_u32(&sector[at..])
+}
+
+/// The number in the eight bytes from `at` on, the lowest first.
+#[tactic(auto, unfolding(crate::specs::Fields::u64_le))]
+pub fn u64_le(sector: &[u8; 512], at: usize) -> u64
+    requires { at + 8 ≤ 512 }
+    ensures { result ≡ u64_le sector.now at }
+{
+    LittleEndian::read_u64(&sector[at..])
+}
+
+/// The number in the two bytes from `at` on, the highest first.
+#[tactic(auto, unfolding(crate::specs::Fields::u16_be))]
+pub fn u16_be(sector: &[u8; 512], at: usize) -> u16
+    requires { at + 2 ≤ 512 }
+    ensures { result ≡ u16_be sector.now at }
+{
+    BigEndian::read_u16(&sector[at..])
+}
+
+/// The number in the four bytes from `at` on, the highest first.
+#[tactic(auto, unfolding(crate::specs::Fields::u32_be))]
+pub fn u32_be(sector: &[u8; 512], at: usize) -> u32
+    requires { at + 4 ≤ 512 }
+    ensures { result ≡ u32_be sector.now at }
+{
+    BigEndian::read_u32(&sector[at..])
+}
+
+/// The sixteen bytes from `at` on, in the order in which they stand.
+#[tactic(auto, unfolding(crate::specs::Fields::uuid_at))]
+pub fn uuid_at(sector: &[u8; 512], at: usize) -> Uuid
+    requires { at + 16 ≤ 512 }
+    ensures { result ≡ uuid_at sector.now at }
+{
+    let mut bytes = [0u8; 16];
+    bytes.copy_from_slice(&sector[at..at + 16]);
+    Uuid::from_bytes(bytes)
+}
+
+/// Whether `bytes` stand from byte `at` on.
+#[tactic(auto, unfolding(crate::specs::Fields::has_bytes))]
+pub fn has_bytes(sector: &[u8; 512], at: usize, bytes: &[u8]) -> bool
+    requires { at ≤ 512 }
+    ensures { result ≡ has_bytes sector.now at bytes.now }
+{
+    sector[at..].starts_with(bytes)
+}
+
+#[cfg(test)]
+mod tests {
+    use super::*;
+
+    #[test]
+    fn fields_by_hand(rt: HostRuntime) {
+        let mut sector = [0u8; 512];
+        for i in 0..512 {
+            sector[i] = (i % 256) as u8;
+        }
+        assert_eq!(rt; u16_le(&sector, 1), 0x0201);
+        assert_eq!(rt; u32_le(&sector, 1), 0x0403_0201);
+        assert_eq!(rt; u64_le(&sector, 504), 0xfffe_fdfc_fbfa_f9f8);
+        assert_eq!(rt; u16_be(&sector, 1), 0x0102);
+        assert_eq!(rt; u32_be(&sector, 508), 0xfcfd_feff);
+        assert_eq!(rt; uuid_at(&sector, 2).as_bytes()[15], 17);
+        assert!(rt; has_bytes(&sector, 510, &[254, 255]) && !has_bytes(&sector, 511, &[255, 0]));
+    }
+}

@@ -22,7 +22,7 @@ passing_filter {A} f g (x ∷ xs) =
     ]
 
 -- those that begin with p are its ends
-begun : (s : Space) (p : List (Option ℕ)) → length p ≤ s.members → AllImages s.images p → length (filter (begins p) (lists_of s)) ≡ length (ends s p)
+pub begun : (s : Space) (p : List (Option ℕ)) → length p ≤ s.members → AllImages s.images p → length (filter (begins p) (lists_of s)) ≡ length (ends s p)
 unfolding ends
 begun s p short ok =
     length-filter (begins p) (lists_of s)

@@ -1,4 +1,4 @@
--- Words for the functions inside this crate.
+-- How a prefix goes on to lists of a space, and how many.
 use Rattle.std.specs.Prelude.{ℕ, zero, suc, ◌≡◌, true, ◌+◌, ◌-◌, ◌*◌, ◌<◌, Bool, nat_le, nat_lt, ◌&&◌, ◌==◌, if◌then◌else◌, List, [], ◌∷◌, ◌++◌, length, filter}
 use Rattle.std.specs.declared.option.Option.{Option}
 use Rattle.std.specs.declared.option.Option.TheVariants.{None, Some}

@@ -1,5 +1,5 @@
 // The list of a rank, and the rank of a list.
-ghost use Rattle.std.specs.Prelude.{◌≡◌, ◌≤◌, ◌<◌, ◌+◌, ◌++◌, ◌∷◌, [], Some, length, slice_get};
+ghost use Rattle.std.specs.Prelude.{◌≡◌, ◌≤◌, ◌<◌, ◌+◌, ◌++◌, ◌∷◌, [], None, Some, length, slice_get};
 ghost use Rattle.raid_terms.specs.SlotLists.{stands, empties};
 ghost use Rattle.slot_math.specs.Space.{lists_of, rank_in};
 ghost use Rattle.slot_math.specs.Ways.{ends, images_before, before, image_ways, is_listed, IsPlace, IsStart};
@@ -10,8 +10,9 @@ use crate::space::Space;
 use raid_params::{MOST, Slots};
 
 impl Space {
-    // How many lists go on from these places with one unused image.
-    fn image_ways(&self, prefix: &[Option<u8>]) -> u128
+    /// How many lists of the space begin with the prefix and then hold one image that is not in
+    /// it: as many for each such image.
+    pub fn image_ways(&self, prefix: &[Option<u8>]) -> u128
         requires images { self.now.images ≤ MOST }
         requires members { self.now.members ≤ MOST }
         requires short { length prefix.now < self.now.members }
@@ -24,15 +25,37 @@ impl Space {
         ways_of(self.low, self.high, free as u8, left as u8, empty as u8)
     }
 
-    // How many lists go on from these places with this image, where one with an unused image do.
+    /// How many lists of the space begin with the prefix and then hold this image: none where it
+    /// is in the prefix, and else `ways`, which `image_ways` gives.
     #[tactic(auto, using(crate::proofs::Fronts::used_image, crate::proofs::Fronts::unused_image))]
-    fn ways_of_image(&self, prefix: &[Option<u8>], image: u8, ways: u128) -> u128
+    pub fn ways_of_image(&self, prefix: &[Option<u8>], image: u8, ways: u128) -> u128
         requires start { IsStart self.now prefix.now }
         requires image { image < self.now.images }
         requires ways { ways ≡ image_ways self.now prefix.now }
         ensures { result ≡ length (ends self.now (prefix.now ++ Some image ∷ [])) }
     {
         if holds_image(prefix, image) { 0 } else { ways }
+    }
+
+    /// How many lists of the space begin with the prefix and then with an empty place.
+    #[tactic(auto, using(crate::proofs::Fronts::empty_place))]
+    pub fn empty_ways(&self, prefix: &[Option<u8>]) -> u128
+        requires images { self.now.images ≤ MOST }
+        requires members { self.now.members ≤ MOST }
+        requires short { length prefix.now < self.now.members }
+        requires start { IsStart self.now prefix.now }
+        ensures { result ≡ length (ends self.now (prefix.now ++ None ∷ [])) }
+    {
+        let empty = empty_count(prefix);
+        let free = (self.images as usize).saturating_sub(prefix.len() - empty);
+        let left = self.members as usize - (prefix.len() + 1);
+        ways_of(
+            self.low,
+            self.high,
+            free as u8,
+            left as u8,
+            (empty + 1) as u8,
+        )
     }
 
     // What stands in the next place of the list that goes on from these places and has this rank

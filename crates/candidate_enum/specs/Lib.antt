@@ -1,0 +1,3 @@
+pub mod Survivors
+pub mod Tests
+pub mod Left

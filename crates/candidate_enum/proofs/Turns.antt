@@ -104,22 +104,30 @@ pub turn_to : (old : Left) (leaf : Option Leaf) (mid new : Left) → IsTurn old 
 turn_to old leaf mid new t e = let P : Left → Type 0 = λ x. IsTurn old leaf x in subst P e t
 
 -- where a walk begins
-pub first_leaves : (q : Question) → (left_at q [] 0).leaves ≡ survivors q
+pub first_leaves : (q : Question) (p : List (Option ℕ)) → p ≡ [] → (left_at q p 0).leaves ≡ survivors q
 unfolding left_at
-first_leaves q = leaves_start q
+first_leaves q p e = leaves_start q
 
-pub first_allowance : (q : Question) → (left_at q [] 0).allowance ≡ tests q q.space.members []
+pub first_allowance : (q : Question) (p : List (Option ℕ)) → p ≡ [] → (left_at q p 0).allowance ≤ tests q q.space.members []
 unfolding left_at after_back
-first_allowance q = ap (λ (k : ℕ). tests q k [] + 0) (let e : q.space.members - 0 ≡ q.space.members = omega arith in e) ∙ add-zero (tests q q.space.members [])
+first_allowance q p e =
+    let same : (left_at q p 0).allowance ≡ tests q q.space.members [] = ap (λ (t : List (Option ℕ)). tests q (q.space.members - length t) t + after_back q (reverse t)) e
+        ∙ ap (λ (k : ℕ). tests q k [] + 0) (let f : q.space.members - 0 ≡ q.space.members = omega arith in f) ∙ add-zero (tests q q.space.members []) in
+    omega arith
 
-pub first_stands : (q : Question) (total : ℕ) → total ≡ length (lists_of q.space) → overlaps q.from q.stop 0 total ≡ true → StandsAt q [] 0
+pub first_stands : (q : Question) (p : List (Option ℕ)) (total : ℕ) → p ≡ [] → total ≡ length (lists_of q.space) → overlaps q.from q.stop 0 total ≡ true → StandsAt q p 0
 unfolding base_back is_distinct
-first_stands q total e o = record {
-    short = omega arith;
-    start = (tt, refl);
-    at = refl;
-    fathers = λ k lt. absurd (omega arith);
-    meeting = ap (overlaps q.from q.stop 0) (ap length (ends_of_nothing q.space) ∙ sym e) ∙ o }
+first_stands q p total none e o =
+    let P : List (Option ℕ) → Type 0 = λ t. StandsAt q t 0 in
+    subst P (sym none) (record {
+      short = omega arith;
+      start = (tt, refl);
+      at = refl;
+      fathers = λ k lt. absurd (omega arith);
+      meeting = ap (overlaps q.from q.stop 0) (ap length (ends_of_nothing q.space) ∙ sym e) ∙ o })
+
+pub total_sum : (s : Space) (total : ℕ) → s.images ≤ 16 → s.members ≤ 16 → total ≡ length (lists_of s) → 0 + total ≤ 17 ^ 16
+total_sum s total n m e = let f : length (lists_of s) ≤ 17 ^ 16 = total_fits s n m in omega arith
 
 pub first_nothing : (q : Question) (total : ℕ) → IsSearch q.space q.from q.stop → total ≡ length (lists_of q.space) → overlaps q.from q.stop 0 total ≡ false → [] ≡ survivors q
 first_nothing q total w e o =

@@ -14,3 +14,4 @@ mod survivors;
 pub use family::Family;
 pub use leaf::Leaf;
 
+pub use survivors::Survivors;

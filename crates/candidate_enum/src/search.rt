@@ -1,7 +1,8 @@
 // How a walk goes from one prefix to the next.
 ghost use Rattle.std.specs.Prelude.{◌≡◌, ◌≤◌, ◌<◌, ◌+◌, ◌^◌, ◌++◌, ◌∷◌, [], ℕ, length, nat_lt, min, max};
 ghost use Rattle.slot_math.specs.Ways.{ends, IsStart, IsPlace};
-ghost use Rattle.candidate_enum.specs.Survivors.{question};
+ghost use Rattle.candidate_enum.specs.Survivors.{question, survivors};
+ghost use Rattle.candidate_enum.specs.Tests.{tests};
 ghost use Rattle.candidate_enum.specs.Left.{overlaps, left_at, left_after, left_sons, left_from, index_of, IsSearch, IsFather, IsDone, StandsAt, MayStand, IsTurn, IsSon};
 
 use crate::family::Family;
@@ -20,7 +21,7 @@ pub struct Search<'a, F: Family> {
 }
 
 // Some rank of the range is among `count` ranks from `rank` on.
-pub(crate) fn meets_range(from: u64, stop: u64, rank: u128, count: u128) -> bool
+fn meets_range(from: u64, stop: u64, rank: u128, count: u128) -> bool
     requires { rank + count ≤ 17 ^ 16 }
     ensures { result ≡ overlaps from stop rank count }
 {
@@ -114,6 +115,20 @@ impl<'a, F: Family> Search<'a, F> {
             }
             Son::Nowhere(rank) => self.climb(slots, rank),
         }
+    }
+
+    // Where a walk begins: at the empty prefix, if there is a rank in the range.
+    #[tactic(auto, using(crate::proofs::Turns::total_sum, crate::proofs::Turns::first_stands, crate::proofs::Turns::first_leaves, crate::proofs::Turns::first_allowance, crate::proofs::Turns::first_nothing))]
+    pub(crate) fn first_place(&self) -> Option<Place>
+        requires search { IsSearch self.now.space self.now.from self.now.stop }
+        ensures leaves { (left_from (question self.now.space (F.admits self.now.family.now) self.now.from self.now.stop) result).leaves ≡ survivors (question self.now.space (F.admits self.now.family.now) self.now.from self.now.stop) }
+        ensures allowance { (left_from (question self.now.space (F.admits self.now.family.now) self.now.from self.now.stop) result).allowance ≤ tests (question self.now.space (F.admits self.now.family.now) self.now.from self.now.stop) self.now.space.members [] }
+        ensures stands { MayStand (question self.now.space (F.admits self.now.family.now) self.now.from self.now.stop) result }
+    {
+        if meets_range(self.from, self.stop, 0, self.space.total()) {
+            return Some(Place { slots: Slots::new(), rank: 0 });
+        }
+        None
     }
 
     // Tests the prefix at which the walk stands.

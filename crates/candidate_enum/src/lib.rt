@@ -15,3 +15,6 @@ pub use family::Family;
 pub use leaf::Leaf;
 
 pub use survivors::Survivors;
+
+#[cfg(test)]
+mod tests;

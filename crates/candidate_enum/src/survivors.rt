@@ -67,7 +67,7 @@ impl<'a, F: Family> Survivors<'a, F> {
     /// prefix, and lowers the allowance by at least as much.
     pub fn advance<L: Ledger>(&mut self, steps: &mut Steps<L>) -> Option<Leaf>
         ensures leaf { MatchOption result ((self.old.leaves ≡ []) × (self.new.leaves ≡ [])) (λ r. self.old.leaves ≡ r ∷ self.new.leaves) }
-        ensures cost { (steps.new - steps.old) + self.new.allowance ≤ self.old.allowance }
+        ensures cost { (steps.new - steps.old) + self.new.allowance ≡ self.old.allowance }
         ensures counts { steps.old ≤ steps.new }
     {
         while let Some(leaf) = self.go_on() {

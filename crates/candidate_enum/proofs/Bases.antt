@@ -1,19 +1,15 @@
 -- Where the lists that begin with a prefix stand.
-use Rattle.std.proofs.Common.{rules, ℕ, ◌≡◌, ◌≢◌, ◌<◌, ◌≤◌, ◌+◌, ◌-◌, ◌^◌, min, max, List, [], ◌∷◌, ◌++◌, length, filter, take, drop, reverse, map, refl, sym, ap, ap₂, ◌∙◌, arith, zero, suc, Bool, true, false, ◌&&◌, cond, Option, Some, None, option_map, slice_get, get_or, subst, inl, inr, zero-add, add-zero, length-append}
-use Rattle.std.specs.List.{range_with_len, sum_by, slice_range, list_any}
-use Rattle.std.proofs.lemmas.Bool.{cases_lt, cases_Bool, and_parts, eqb-true, eq-eqb, lt-ltb, le-ltb, ltb-true, ltb-false}
-use Rattle.std.proofs.lemmas.List.{reverse-append, take_more, length-take-le, take-append-le, take_at}
-use Rattle.std.proofs.lemmas.List.Sums.{sum_by-append, sum_by-cons}
-use Rattle.std.proofs.lemmas.List.FromFn.{get_or-map-range_with_len, length-map-range_with_len}
+use Rattle.std.proofs.Common.{rules, ℕ, ◌≡◌, ◌<◌, ◌≤◌, ◌+◌, ◌-◌, List, [], ◌∷◌, ◌++◌, length, reverse, refl, sym, ap, ap₂, ◌∙◌, arith, zero, suc, Bool, true, ◌&&◌, Option, Some, None, option_map, slice_get, get_or, subst, inl, inr, length-append}
+use Rattle.std.proofs.lemmas.Bool.{cases_lt, and_parts, eqb-true, eq-eqb}
+use Rattle.std.proofs.lemmas.List.{reverse-append}
 use Rattle.std.proofs.lemmas.Option.{slice_get-get_or, slice_get_within}
-use Rattle.raid_terms.specs.SlotLists.{fillings, is_distinct}
 use Rattle.slot_math.specs.Space.{lists_of, begins, same_place}
-use Rattle.slot_math.specs.Ways.{ends, before, images_before, AllImages, IsPlace, IsStart}
+use Rattle.slot_math.specs.Ways.{ends, before, images_before, AllImages, IsPlace}
 use Rattle.slot_math.specs.declared.space.Space.{Space}
-use Rattle.slot_math.proofs.Blocks.{StandsFrom, first_block, next_block, distinct_front, images_front}
-use Rattle.slot_math.proofs.Fronts.{GoesOn, ends_of_nothing}
-use Rattle.slot_math.proofs.Steps.{all_ends, one_more_image, part_of_ends, end_at}
-use Rattle.candidate_enum.specs.Left.{base_back, base_of, index_of, sons_before}
+use Rattle.slot_math.proofs.Blocks.{StandsFrom, first_block, next_block}
+use Rattle.slot_math.proofs.Fronts.{ends_of_nothing}
+use Rattle.slot_math.proofs.Steps.{all_ends}
+use Rattle.candidate_enum.specs.Left.{base_back, base_of}
 
 -- lists turned round
 turned_cons : {A : Type 0} (x : A) (xs : List A) → reverse (x ∷ xs) ≡ reverse xs ++ x ∷ []
@@ -65,18 +61,20 @@ image_of : (s : Space) (p : List (Option ℕ)) (j k : ℕ) → j < images_before
 unfolding images_before
 image_of s p j zero h = absurd (omega arith)
 image_of s p j (suc k) h = elim (cases_lt j (images_before s p k)) [
-    inl below ↦ (let r = image_of s p j k below in (r.0, (let lt : r.0 < k = r.1 in omega arith), r.2, r.3))
-  | inr above ↦ (k, (omega arith), above, h) ]
+  | inl below ↦ (let r = image_of s p j k below in (r.0, (let lt : r.0 < k = r.1 in omega arith), r.2, r.3))
+  | inr above ↦ (k, (omega arith), above, h)
+]
 
 son_of : (s : Space) (p : List (Option ℕ)) (j : ℕ) → length p < s.members → j < length (ends s p) →
     (y : Option ℕ) × (r : ℕ) × IsPlace s.images y × (j ≡ before s p y + r) × (r < length (ends s (p ++ y ∷ [])))
 son_of s p j short h = elim (cases_lt j (images_before s p s.images)) [
-    inl below ↦ (let r = image_of s p j s.images below in
-        let low : images_before s p r.0 ≤ j = r.2 in
-        let high : j < images_before s p r.0 + length (ends s (p ++ Some r.0 ∷ [])) = r.3 in
-        (Some r.0, j - images_before s p r.0, r.1, (omega arith), (omega arith)))
+  | inl below ↦ (let r = image_of s p j s.images below in
+      let low : images_before s p r.0 ≤ j = r.2 in
+      let high : j < images_before s p r.0 + length (ends s (p ++ Some r.0 ∷ [])) = r.3 in
+      (Some r.0, j - images_before s p r.0, r.1, (omega arith), (omega arith)))
   | inr above ↦ (let all : length (ends s p) ≡ images_before s p s.images + length (ends s (p ++ None ∷ [])) = all_ends s p short in
-        (None, j - images_before s p s.images, tt, (omega arith), (omega arith))) ]
+      (None, j - images_before s p s.images, tt, (omega arith), (omega arith)))
+]
 
 begins_front : (p l : List (Option ℕ)) (x : Option ℕ) → begins (p ++ x ∷ []) l ≡ true → begins p l ≡ true
 unfolding begins
@@ -124,9 +122,10 @@ in_back : (s : Space) (back : List (Option ℕ)) (r : ℕ) (l : List (Option ℕ
     slice_get (lists_of s) r ≡ Some l → begins (reverse back) l ≡ true → Within (base_back s back) (length (ends s (reverse back))) r
 unfolding base_back
 in_back s [] r l a h e b = record {
-    low = omega arith;
-    high = (let lt : r < length (lists_of s) = slice_get_within (lists_of s) r l e in
-            let f : length (ends s []) ≡ length (lists_of s) = ap length (ends_of_nothing s) in omega arith) }
+  low = omega arith;
+  high = (let lt : r < length (lists_of s) = slice_get_within (lists_of s) r l e in
+      let f : length (ends s []) ≡ length (lists_of s) = ap length (ends_of_nothing s) in omega arith);
+}
 in_back s (x ∷ back) r l a h e b =
     let p = reverse back in
     let P : List (Option ℕ) → Type 0 = λ t. AllImages s.images t in
@@ -147,10 +146,10 @@ in_back s (x ∷ back) r l a h e b =
         let block = next_block s (reverse back) y (base_back s back) (block_back s back known (omega arith)) (omega arith) ok in
         let f : slice_get (ends s (reverse back ++ y ∷ [])) k ≡ Some (get_or (ends s (reverse back ++ y ∷ [])) k []) = slice_get-get_or (ends s (reverse back ++ y ∷ [])) k [] lt in
         let list : l ≡ (reverse back ++ y ∷ []) ++ get_or (ends s (reverse back ++ y ∷ [])) k []
-            = some_inside _ _ (sym e ∙ ap (slice_get (lists_of s)) at ∙ block.at k lt ∙ ap (option_map (λ t. (reverse back ++ y ∷ []) ++ t)) f) in
+        = some_inside _ _ (sym e ∙ ap (slice_get (lists_of s)) at ∙ block.at k lt ∙ ap (option_map (λ t. (reverse back ++ y ∷ []) ++ t)) f) in
         let same : x ≡ y = begins_last (reverse back) (get_or (ends s (reverse back ++ y ∷ [])) k []) x y (ap (begins (reverse back ++ x ∷ [])) (sym list) ∙ bb) in
         let c : length (ends s (reverse (x ∷ back))) ≡ length (ends s (reverse back ++ y ∷ []))
-            = ap (λ (t : List (Option ℕ)). length (ends s t)) (turned_cons x back) ∙ ap (λ (t : Option ℕ). length (ends s (reverse back ++ t ∷ []))) same in
+        = ap (λ (t : List (Option ℕ)). length (ends s t)) (turned_cons x back) ∙ ap (λ (t : Option ℕ). length (ends s (reverse back ++ t ∷ []))) same in
         let d : before s (reverse back) x ≡ before s (reverse back) y = ap (before s (reverse back)) same in
         record { low = omega arith; high = omega arith }
 

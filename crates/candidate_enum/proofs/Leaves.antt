@@ -1,14 +1,14 @@
 -- The admitted leaves from a rank on.
-use Rattle.std.proofs.Common.{rules, ℕ, ◌≡◌, ◌≢◌, ◌<◌, ◌≤◌, ◌+◌, ◌-◌, min, max, List, [], ◌∷◌, ◌++◌, length, take, drop, filter, refl, sym, ap, ap₂, ◌∙◌, arith, zero, suc, Bool, true, false, ◌&&◌, not, cond, Option, Some, None, option_map, slice_get, slice_index_or, get_or, subst, inl, inr, length-drop, drop-cons, length-append}
+use Rattle.std.proofs.Common.{ℕ, ◌≡◌, ◌<◌, ◌≤◌, ◌+◌, ◌-◌, min, max, List, [], ◌∷◌, ◌++◌, length, take, drop, filter, refl, sym, ap, ap₂, ◌∙◌, arith, zero, suc, Bool, true, false, ◌&&◌, cond, Option, Some, option_map, slice_get, inl, inr, drop-cons, length-append}
 use Rattle.std.specs.List.{slice_range, list_all, range_with_len}
-use Rattle.std.proofs.lemmas.Bool.{cases_lt, cases_Bool, lt-ltb, le-ltb, ltb-true, ltb-false}
-use Rattle.std.proofs.lemmas.Option.{slice_get-get_or, get_or_from_slice_get, slice_get_within}
+use Rattle.std.proofs.lemmas.Bool.{cases_lt, ltb-true, ltb-false}
+use Rattle.std.proofs.lemmas.Option.{get_or_from_slice_get, slice_get_within}
 use Rattle.std.proofs.lemmas.List.{take_at}
 use Rattle.slot_math.specs.Space.{lists_of}
 use Rattle.slot_math.specs.Ways.{ends, AllImages}
 use Rattle.slot_math.specs.declared.space.Space.{Space}
 use Rattle.candidate_enum.specs.Survivors.{Question, numbered, leaf_of, all_admitted, admitted_leaves}
-use Rattle.candidate_enum.specs.Left.{base_of, overlaps, leaves_from, IsSearch, Admitted}
+use Rattle.candidate_enum.specs.Left.{base_of, overlaps, leaves_from, Admitted}
 use Rattle.candidate_enum.specs.declared.leaf.Leaf.{Leaf}
 use Rattle.candidate_enum.proofs.Bases.{list_at}
 
@@ -42,13 +42,13 @@ range_empty xs a b h = ap (λ (k : ℕ). take k (drop a xs)) (let e : b - a ≡ 
 abbrev admitted : Question → Leaf → Bool
 admitted q leaf = all_admitted q.admits leaf.slots.items
 
-pass_one : (q : Question) (a b : ℕ) (l : List (Option ℕ)) → a < b → slice_get (lists_of q.space) a ≡ Some l → all_admitted q.admits l ≡ false →
+pub pass_one : (q : Question) (a b : ℕ) (l : List (Option ℕ)) → a < b → slice_get (lists_of q.space) a ≡ Some l → all_admitted q.admits l ≡ false →
     admitted_leaves q a b ≡ admitted_leaves q (a + 1) b
 pass_one q a b l h e refusal =
     ap (filter (admitted q)) (range_first (numbered 0 (lists_of q.space)) a b (leaf_of a l) h (leaf_at q.space a l e))
     ∙ ap (λ (t : Bool). cond t (leaf_of a l ∷ admitted_leaves q (a + 1) b) (admitted_leaves q (a + 1) b)) refusal
 
-keep_one : (q : Question) (a b : ℕ) (l : List (Option ℕ)) → a < b → slice_get (lists_of q.space) a ≡ Some l → all_admitted q.admits l ≡ true →
+pub keep_one : (q : Question) (a b : ℕ) (l : List (Option ℕ)) → a < b → slice_get (lists_of q.space) a ≡ Some l → all_admitted q.admits l ≡ true →
     admitted_leaves q a b ≡ leaf_of a l ∷ admitted_leaves q (a + 1) b
 keep_one q a b l h e grant =
     ap (filter (admitted q)) (range_first (numbered 0 (lists_of q.space)) a b (leaf_of a l) h (leaf_at q.space a l e))
@@ -62,11 +62,12 @@ pass_all : (q : Question) (a b n : ℕ) → ((r : ℕ) → a ≤ r → r < a + n
     admitted_leaves q a b ≡ admitted_leaves q (a + n) b
 pass_all q a b zero h = ap (λ (k : ℕ). admitted_leaves q k b) (let e : a ≡ a + 0 = omega arith in e)
 pass_all q a b (suc n) h = elim (cases_lt a b) [
-    inl lt ↦ (let x = h a (omega arith) (omega arith) lt in
-        pass_one q a b x.0 lt x.1 x.2
-        ∙ pass_all q (a + 1) b n (λ r lo hi top. h r (omega arith) (omega arith) top)
-        ∙ ap (λ (k : ℕ). admitted_leaves q k b) (let e : a + 1 + n ≡ a + suc n = omega arith in e))
-  | inr ge ↦ none_left q a b ge ∙ sym (none_left q (a + suc n) b (omega arith)) ]
+  | inl lt ↦ (let x = h a (omega arith) (omega arith) lt in
+      pass_one q a b x.0 lt x.1 x.2
+      ∙ pass_all q (a + 1) b n (λ r lo hi top. h r (omega arith) (omega arith) top)
+      ∙ ap (λ (k : ℕ). admitted_leaves q k b) (let e : a + 1 + n ≡ a + suc n = omega arith in e))
+  | inr ge ↦ none_left q a b ge ∙ sym (none_left q (a + suc n) b (omega arith))
+]
 
 -- a test over the first numbers
 all_numbers : (p : ℕ → Bool) (a n : ℕ) → ((k : ℕ) → a ≤ k → k < a + n → p k ≡ true) → list_all p (range_with_len a n) ≡ true
@@ -76,8 +77,9 @@ all_numbers p a (suc n) h = ap₂ (λ (x y : Bool). x && y) (h a (omega arith) (
 not_all_numbers : (p : ℕ → Bool) (a n k : ℕ) → a ≤ k → k < a + n → p k ≡ false → list_all p (range_with_len a n) ≡ false
 not_all_numbers p a zero k lo hi h = absurd (omega arith)
 not_all_numbers p a (suc n) k lo hi h = elim (cases_lt a k) [
-    inl lt ↦ ap (λ (t : Bool). p a && t) (not_all_numbers p (a + 1) n k (omega arith) (omega arith) h) ∙ neither (p a)
-  | inr ge ↦ ap (λ (t : Bool). t && list_all p (range_with_len (a + 1) n)) (ap p (let e : a ≡ k = omega arith in e) ∙ h) ]
+  | inl lt ↦ ap (λ (t : Bool). p a && t) (not_all_numbers p (a + 1) n k (omega arith) (omega arith) h) ∙ neither (p a)
+  | inr ge ↦ ap (λ (t : Bool). t && list_all p (range_with_len (a + 1) n)) (ap p (let e : a ≡ k = omega arith in e) ∙ h)
+]
   where
     neither : (b : Bool) → (b && false) ≡ false
     neither true = refl
@@ -103,8 +105,8 @@ leaves_refused q p a short refusal =
     let b = base_of q.space p in
     let m : max q.from (base_of q.space p + length (ends q.space p)) ≡ max q.from (base_of q.space p) + (max q.from (base_of q.space p + length (ends q.space p)) - max q.from (base_of q.space p)) = omega arith in
     pass_all q (max q.from b) q.stop (max q.from (b + length (ends q.space p)) - max q.from b) (λ r lo hi top.
-        let at = list_at q.space p (r - base_of q.space p) a short (omega arith) in
-        (p ++ at.0, ap (slice_get (lists_of q.space)) (let e : r ≡ base_of q.space p + (r - base_of q.space p) = omega arith in e) ∙ at.2, part_refused q p at.0 refusal))
+    let at = list_at q.space p (r - base_of q.space p) a short (omega arith) in
+    (p ++ at.0, ap (slice_get (lists_of q.space)) (let e : r ≡ base_of q.space p + (r - base_of q.space p) = omega arith in e) ∙ at.2, part_refused q p at.0 refusal))
     ∙ ap (λ (k : ℕ). admitted_leaves q k q.stop) (sym m)
 
 -- ranks outside of the range
@@ -113,8 +115,9 @@ unfolding leaves_from
 leaves_outside q rank count h =
     let out : min q.stop (rank + count) ≤ max q.from rank = ltb-false (max q.from rank) (min q.stop (rank + count)) h in
     elim (cases_lt (max q.from rank) q.stop) [
-      inl lt ↦ ap (λ (k : ℕ). admitted_leaves q k q.stop) (let e : max q.from rank ≡ max q.from (rank + count) = omega arith in e)
-    | inr ge ↦ none_left q (max q.from rank) q.stop ge ∙ sym (none_left q (max q.from (rank + count)) q.stop (omega arith)) ]
+      | inl lt ↦ ap (λ (k : ℕ). admitted_leaves q k q.stop) (let e : max q.from rank ≡ max q.from (rank + count) = omega arith in e)
+      | inr ge ↦ none_left q (max q.from rank) q.stop ge ∙ sym (none_left q (max q.from (rank + count)) q.stop (omega arith))
+    ]
 
 -- one leaf that is met
 pub leaf_met : (q : Question) (p : List (Option ℕ)) (rank : ℕ) → slice_get (lists_of q.space) rank ≡ Some p → overlaps q.from q.stop rank 1 ≡ true → Admitted q p (length p + 1) →

@@ -5,3 +5,4 @@ pub mod Sons
 pub mod Moves
 pub mod Turns
 pub mod Looks
+pub mod Ranks

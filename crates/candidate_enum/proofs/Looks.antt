@@ -1,7 +1,6 @@
 -- A look at one of the prefixes of one place more, by how many lists begin with it.
-use Rattle.std.proofs.Common.{ℕ, ◌≡◌, ◌<◌, ◌≤◌, ◌+◌, ◌-◌, ◌^◌, List, [], ◌∷◌, ◌++◌, length, refl, sym, ap, ap₂, ◌∙◌, arith, zero, suc, Bool, true, false, Option, Some, None, subst}
+use Rattle.std.proofs.Common.{ℕ, ◌≡◌, ◌≤◌, ◌+◌, ◌^◌, List, [], ◌∷◌, ◌++◌, length, sym, ap, ◌∙◌, arith, true, false, Option, subst}
 use Rattle.slot_math.specs.Ways.{ends, IsPlace}
-use Rattle.slot_math.specs.declared.space.Space.{Space}
 use Rattle.candidate_enum.specs.Survivors.{Question}
 use Rattle.candidate_enum.specs.Left.{Left, overlaps, left_at, left_after, left_sons, index_of, IsSearch, IsDone, IsFather, StandsAt}
 use Rattle.candidate_enum.proofs.Moves.{found, passed, all_passed}

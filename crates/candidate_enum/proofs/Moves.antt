@@ -1,22 +1,22 @@
 -- How a walk moves on.
-use Rattle.std.proofs.Common.{rules, ℕ, ◌≡◌, ◌≢◌, ◌<◌, ◌≤◌, ◌+◌, ◌-◌, ◌^◌, min, max, List, [], ◌∷◌, ◌++◌, length, take, drop, reverse, map, refl, sym, ap, ap₂, ◌∙◌, arith, zero, suc, Bool, true, false, ◌&&◌, cond, Option, Some, None, get_or, subst, inl, inr, length-append, add-zero, zero-add, add_comm, add_assoc, nat_lt}
+use Rattle.std.proofs.Common.{ℕ, ◌≡◌, ◌<◌, ◌≤◌, ◌+◌, ◌-◌, min, max, List, [], ◌∷◌, ◌++◌, length, reverse, refl, sym, ap, ap₂, ◌∙◌, arith, zero, suc, Bool, true, false, cond, Option, None, get_or, subst, inl, inr, length-append, zero-add, add_assoc}
 use Rattle.std.specs.List.{sum_by}
-use Rattle.std.proofs.lemmas.Bool.{cases_lt, cases_Bool, and_parts, lt-ltb, le-ltb, ltb-true, ltb-false}
+use Rattle.std.proofs.lemmas.Bool.{cases_lt, ltb-true}
 use Rattle.std.proofs.lemmas.List.{take-append-le, take_at, take_all}
 use Rattle.raid_terms.specs.SlotLists.{fillings, is_distinct}
-use Rattle.slot_math.specs.Space.{lists_of, begins}
-use Rattle.slot_math.specs.Ways.{ends, before, AllImages, IsPlace, IsStart}
+use Rattle.slot_math.specs.Space.{lists_of}
+use Rattle.slot_math.specs.Ways.{ends, IsPlace}
 use Rattle.slot_math.specs.declared.space.Space.{Space}
-use Rattle.slot_math.proofs.Blocks.{StandsFrom, distinct_front, images_front, total_fits}
-use Rattle.slot_math.proofs.Fronts.{start_more, all_images_more, goes_on_last, ends_of_nothing}
-use Rattle.candidate_enum.specs.Survivors.{Question, leaf_of}
+use Rattle.slot_math.proofs.Blocks.{distinct_front}
+use Rattle.slot_math.proofs.Fronts.{start_more, all_images_more, ends_of_nothing}
+use Rattle.candidate_enum.specs.Survivors.{Question}
 use Rattle.candidate_enum.specs.Tests.{meets, tests}
 use Rattle.candidate_enum.specs.declared.leaf.Leaf.{Leaf}
-use Rattle.candidate_enum.specs.Left.{Left, nothing_left, base_of, base_back, index_of, overlaps, sons_before, sons_tests, after_back, leaves_from, left_at, left_after, left_sons, left_from, IsSearch, Admitted, IsDone, IsFather, StandsAt, IsTurn, leaf_list}
-use Rattle.candidate_enum.proofs.Bases.{base_more, block_of, all_but_last, turned_more, turned_twice}
+use Rattle.candidate_enum.specs.Left.{Left, nothing_left, base_of, base_back, index_of, overlaps, sons_before, sons_tests, after_back, leaves_from, left_at, left_after, left_sons, IsSearch, Admitted, IsDone, IsFather, StandsAt}
+use Rattle.candidate_enum.proofs.Bases.{base_more, all_but_last, turned_more, turned_twice}
 use Rattle.candidate_enum.proofs.Meets.{meets_is}
-use Rattle.candidate_enum.proofs.Leaves.{leaves_refused, leaves_outside, leaf_met, leaves_end, leaves_start}
-use Rattle.candidate_enum.proofs.Sons.{before_step, before_is, before_all, none_before_first, tests_step, tests_done, tests_all, index_within, filling_of}
+use Rattle.candidate_enum.proofs.Leaves.{leaves_outside, leaves_end}
+use Rattle.candidate_enum.proofs.Sons.{before_step, before_is, before_all, tests_step, tests_done, index_within, filling_of}
 
 -- what is counted stands below the total
 pub some_overlap : (from stop rank count : ℕ) → overlaps from stop rank count ≡ true → max from rank < min stop (rank + count)
@@ -59,8 +59,9 @@ admitted_less q p y h = λ k lt.
 
 pub admitted_self : (q : Question) (p : List (Option ℕ)) → Admitted q p (length p) → q.admits p ≡ true → Admitted q p (length p + 1)
 admitted_self q p h a = λ k lt. elim (cases_lt k (length p)) [
-    inl below ↦ h k below
-  | inr above ↦ ap q.admits (take_all k p above) ∙ a ]
+  | inl below ↦ h k below
+  | inr above ↦ ap q.admits (take_all k p above) ∙ a
+]
 
 -- the tests after a prefix with one place more
 after_more : (q : Question) (p : List (Option ℕ)) (y : Option ℕ) → after_back q (reverse (p ++ y ∷ [])) ≡ sons_tests q p (index_of q.space.images y + 1) + after_back q (reverse p)
@@ -84,17 +85,19 @@ found q p j rank y f ok e o =
     let some : max q.from rank < min q.stop (rank + length (ends q.space (p ++ y ∷ []))) = some_overlap q.from q.stop rank (length (ends q.space (p ++ y ∷ []))) o in
     let filling : get_or (fillings q.space.images) j None ≡ y = ap (λ (k : ℕ). get_or (fillings q.space.images) k None) e ∙ filling_of q.space.images y ok in
     let t : sons_tests q p j + after_back q (reverse p) ≡ tests q (q.space.members - length (p ++ y ∷ [])) (p ++ y ∷ []) + after_back q (reverse (p ++ y ∷ []))
-        = ap (λ (k : ℕ). k + after_back q (reverse p)) (tests_step q p j y (omega arith) filling)
-          ∙ add_assoc (tests q (q.space.members - suc (length p)) (p ++ y ∷ [])) (sons_tests q p (j + 1)) (after_back q (reverse p))
-          ∙ ap₂ (λ (a b : ℕ). tests q a (p ++ y ∷ []) + b) (let g : q.space.members - suc (length p) ≡ q.space.members - length (p ++ y ∷ []) = omega arith in g)
-              (ap (λ (k : ℕ). sons_tests q p (k + 1) + after_back q (reverse p)) e ∙ sym (after_more q p y)) in
-    (ap (λ (k : ℕ). (let l : Left = record { leaves = leaves_from q rank; allowance = k } in l)) t,
-     record {
-       short = omega arith;
-       start = start_more q.space p y f.start ok (omega arith);
-       at = sym (son_base q.space p j rank y f.at e ok);
-       fathers = admitted_more q p y f.fathers;
-       meeting = o })
+    = ap (λ (k : ℕ). k + after_back q (reverse p)) (tests_step q p j y (omega arith) filling)
+    ∙ add_assoc (tests q (q.space.members - suc (length p)) (p ++ y ∷ [])) (sons_tests q p (j + 1)) (after_back q (reverse p))
+    ∙ ap₂ (λ (a b : ℕ). tests q a (p ++ y ∷ []) + b) (let g : q.space.members - suc (length p) ≡ q.space.members - length (p ++ y ∷ []) = omega arith in g)
+    (ap (λ (k : ℕ). sons_tests q p (k + 1) + after_back q (reverse p)) e ∙ sym (after_more q p y)) in (
+      ap (λ (k : ℕ). (let l : Left = record { leaves = leaves_from q rank; allowance = k } in l)) t,
+      record {
+        short = omega arith;
+        start = start_more q.space p y f.start ok (omega arith);
+        at = sym (son_base q.space p j rank y f.at e ok);
+        fathers = admitted_more q p y f.fathers;
+        meeting = o;
+      },
+    )
 
 -- a son with which no list of the range begins
 pub passed : (q : Question) (p : List (Option ℕ)) (j rank : ℕ) (y : Option ℕ) → IsSearch q.space q.from q.stop → IsFather q p j rank → IsPlace q.space.images y → j ≡ index_of q.space.images y →
@@ -108,16 +111,17 @@ passed q p j rank y w f ok e o =
     let filling : get_or (fillings q.space.images) j None ≡ y = ap (λ (k : ℕ). get_or (fillings q.space.images) k None) e ∙ filling_of q.space.images y ok in
     let base : base_of q.space (p ++ y ∷ []) ≡ rank = son_base q.space p j rank y f.at e ok in
     let miss : meets q (p ++ y ∷ []) ≡ false
-        = meets_is q (p ++ y ∷ []) w (all_images_more q.space.images p y f.start.0 ok) (omega arith)
-          ∙ ap (λ (b : ℕ). overlaps q.from q.stop b (length (ends q.space (p ++ y ∷ [])))) base ∙ o in
+    = meets_is q (p ++ y ∷ []) w (all_images_more q.space.images p y f.start.0 ok) (omega arith)
+    ∙ ap (λ (b : ℕ). overlaps q.from q.stop b (length (ends q.space (p ++ y ∷ [])))) base ∙ o in
     let t : sons_tests q p j ≡ sons_tests q p (j + 1)
-        = tests_step q p j y (omega arith) filling
-          ∙ ap (λ (k : ℕ). k + sons_tests q p (j + 1)) (tests_outside q (q.space.members - suc (length p)) (p ++ y ∷ []) miss)
-          ∙ zero-add (sons_tests q p (j + 1)) in
+    = tests_step q p j y (omega arith) filling
+    ∙ ap (λ (k : ℕ). k + sons_tests q p (j + 1)) (tests_outside q (q.space.members - suc (length p)) (p ++ y ∷ []) miss)
+    ∙ zero-add (sons_tests q p (j + 1)) in
     let at : rank ≡ base_of q.space p + sons_before q.space p j = f.at in
-    let more : sons_before q.space p (j + 1) ≡ sons_before q.space p j + length (ends q.space (p ++ y ∷ [])) = before_step q.space p j y (omega arith) filling in
-    (ap₂ (λ (l : List Leaf) (k : ℕ). (let x : Left = record { leaves = l; allowance = k + after_back q (reverse p) } in x)) (leaves_outside q rank (length (ends q.space (p ++ y ∷ []))) o) t,
-     record { short = f.short; start = f.start; filling = omega arith; at = omega arith; fathers = f.fathers })
+    let more : sons_before q.space p (j + 1) ≡ sons_before q.space p j + length (ends q.space (p ++ y ∷ [])) = before_step q.space p j y (omega arith) filling in (
+      ap₂ (λ (l : List Leaf) (k : ℕ). (let x : Left = record { leaves = l; allowance = k + after_back q (reverse p) } in x)) (leaves_outside q rank (length (ends q.space (p ++ y ∷ []))) o) t,
+      record { short = f.short; start = f.start; filling = omega arith; at = omega arith; fathers = f.fathers },
+    )
 
 -- no son is left
 pub all_passed : (q : Question) (p : List (Option ℕ)) (j rank : ℕ) → IsFather q p j rank → j ≡ q.space.images + 1 →
@@ -126,10 +130,11 @@ unfolding left_sons left_after
 all_passed q p j rank f e =
     let short : length p < q.space.members = f.short in
     let at : rank ≡ base_of q.space p + sons_before q.space p j = f.at in
-    let all : sons_before q.space p j ≡ length (ends q.space p) = ap (sons_before q.space p) e ∙ before_all q.space p f.short in
-    (ap (λ (k : ℕ). (let x : Left = record { leaves = leaves_from q rank; allowance = k } in x))
-        (ap (λ (k : ℕ). sons_tests q p k + after_back q (reverse p)) e ∙ ap (λ (k : ℕ). k + after_back q (reverse p)) (tests_done q p) ∙ zero-add (after_back q (reverse p))),
-     record { short = omega arith; start = f.start; next = omega arith; fathers = λ k lt. f.fathers k (omega arith) })
+    let all : sons_before q.space p j ≡ length (ends q.space p) = ap (sons_before q.space p) e ∙ before_all q.space p f.short in (
+      ap (λ (k : ℕ). (let x : Left = record { leaves = leaves_from q rank; allowance = k } in x))
+          (ap (λ (k : ℕ). sons_tests q p k + after_back q (reverse p)) e ∙ ap (λ (k : ℕ). k + after_back q (reverse p)) (tests_done q p) ∙ zero-add (after_back q (reverse p))),
+      record { short = omega arith; start = f.start; next = omega arith; fathers = λ k lt. f.fathers k (omega arith) },
+    )
 
 -- up to the father
 pub popped : (q : Question) (old p : List (Option ℕ)) (rank : ℕ) (y : Option ℕ) → IsDone q old rank → old ≡ p ++ y ∷ [] →
@@ -145,12 +150,13 @@ popped q old p rank y d e =
     let distinct : is_distinct p ≡ true = ap is_distinct (sym (take_at p (y ∷ []) (length p) refl)) ∙ distinct_front (p ++ y ∷ []) (length p) g.start.1 in
     let next : rank ≡ base_of q.space (p ++ y ∷ []) + length (ends q.space (p ++ y ∷ [])) = g.next in
     let base : base_of q.space (p ++ y ∷ []) ≡ base_of q.space p + sons_before q.space p (index_of q.space.images y)
-        = base_more q.space p y ∙ ap (λ (k : ℕ). base_of q.space p + k) (before_is q.space p y parts.1) in
+    = base_more q.space p y ∙ ap (λ (k : ℕ). base_of q.space p + k) (before_is q.space p y parts.1) in
     let more : sons_before q.space p (index_of q.space.images y + 1) ≡ sons_before q.space p (index_of q.space.images y) + length (ends q.space (p ++ y ∷ []))
-        = before_step q.space p (index_of q.space.images y) y within (filling_of q.space.images y parts.1) in
-    (ap (λ (k : ℕ). (let x : Left = record { leaves = leaves_from q rank; allowance = k } in x)) (ap (λ (t : List (Option ℕ)). after_back q (reverse t)) e ∙ after_more q p y),
-     record { short = omega arith; start = (parts.0, distinct); filling = omega arith; at = omega arith; fathers = admitted_less q p y g.fathers },
-     parts.1)
+    = before_step q.space p (index_of q.space.images y) y within (filling_of q.space.images y parts.1) in (
+      ap (λ (k : ℕ). (let x : Left = record { leaves = leaves_from q rank; allowance = k } in x)) (ap (λ (t : List (Option ℕ)). after_back q (reverse t)) e ∙ after_more q p y),
+      record { short = omega arith; start = (parts.0, distinct); filling = omega arith; at = omega arith; fathers = admitted_less q p y g.fathers },
+      parts.1,
+    )
 
 -- the end of the walk
 pub at_end : (q : Question) (p : List (Option ℕ)) (rank : ℕ) → IsSearch q.space q.from q.stop → IsDone q p rank → p ≡ [] → left_after q p rank ≡ nothing_left

@@ -1,14 +1,13 @@
 -- The prefixes of one place more, in their order.
-use Rattle.std.proofs.Common.{rules, ℕ, ◌≡◌, ◌≢◌, ◌<◌, ◌≤◌, ◌+◌, ◌-◌, min, max, List, [], ◌∷◌, ◌++◌, length, take, drop, reverse, map, refl, sym, ap, ap₂, ◌∙◌, arith, zero, suc, Bool, true, false, cond, Option, Some, None, get_or, subst, inl, inr, length-append, add-zero, zero-add, drop-cons}
+use Rattle.std.proofs.Common.{ℕ, ◌≡◌, ◌<◌, ◌≤◌, ◌+◌, ◌-◌, List, [], ◌∷◌, ◌++◌, length, take, drop, map, refl, sym, ap, ap₂, ◌∙◌, arith, zero, suc, Option, Some, None, get_or, length-append, zero-add, drop-cons}
 use Rattle.std.specs.List.{range_with_len, sum_by}
-use Rattle.std.proofs.lemmas.Bool.{cases_lt}
-use Rattle.std.proofs.lemmas.List.{take_more, take_all, get_or_append_left, get_or-append-add}
+use Rattle.std.proofs.lemmas.List.{take_more, get_or_append_left, get_or-append-add}
 use Rattle.std.proofs.lemmas.List.Sums.{sum_by-append, sum_by-cons}
 use Rattle.std.proofs.lemmas.List.FromFn.{get_or-map-range_with_len, length-map-range_with_len}
 use Rattle.raid_terms.specs.SlotLists.{fillings}
 use Rattle.slot_math.specs.Ways.{ends, before, images_before, IsPlace}
 use Rattle.slot_math.specs.declared.space.Space.{Space}
-use Rattle.slot_math.proofs.Steps.{all_ends, one_more_image}
+use Rattle.slot_math.proofs.Steps.{all_ends}
 use Rattle.candidate_enum.specs.Survivors.{Question}
 use Rattle.candidate_enum.specs.Tests.{tests}
 use Rattle.candidate_enum.specs.Left.{index_of, sons_before, sons_tests}

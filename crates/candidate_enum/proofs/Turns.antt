@@ -1,21 +1,20 @@
 -- What a turn of a walk does, and where a walk begins.
-use Rattle.std.proofs.Common.{rules, ℕ, ◌≡◌, ◌≢◌, ◌<◌, ◌≤◌, ◌+◌, ◌-◌, ◌*◌, ◌^◌, min, max, List, [], ◌∷◌, ◌++◌, length, take, drop, reverse, filter, refl, sym, ap, ap₂, ◌∙◌, arith, zero, suc, Bool, true, false, ◌&&◌, cond, Option, Some, None, get_or, slice_get, subst, inl, inr, length-append, add-zero, zero-add, add_comm, add_assoc, nat_lt}
-use Rattle.std.specs.List.{sum_by}
-use Rattle.std.proofs.lemmas.Bool.{cases_lt, lt-ltb, le-ltb, ltb-true, ltb-false}
-use Rattle.raid_terms.specs.SlotLists.{fillings, is_distinct, is_kept, all_lists}
+use Rattle.std.proofs.Common.{ℕ, ◌≡◌, ◌<◌, ◌≤◌, ◌+◌, ◌-◌, ◌^◌, min, max, List, [], ◌∷◌, ◌++◌, length, reverse, filter, refl, sym, ap, ap₂, ◌∙◌, arith, suc, Bool, true, false, cond, Option, Some, None, slice_get, subst, add-zero, add_comm}
+use Rattle.std.proofs.lemmas.Bool.{ltb-false}
+use Rattle.raid_terms.specs.SlotLists.{is_distinct, is_kept, all_lists}
 use Rattle.slot_math.specs.Space.{lists_of, begins}
-use Rattle.slot_math.specs.Ways.{ends, before, IsStart, IsPlace}
+use Rattle.slot_math.specs.Ways.{ends, before, IsPlace}
 use Rattle.slot_math.specs.declared.space.Space.{Space}
-use Rattle.slot_math.proofs.Blocks.{StandsFrom, total_fits}
+use Rattle.slot_math.proofs.Blocks.{total_fits}
 use Rattle.slot_math.proofs.Completions.{begun}
 use Rattle.slot_math.proofs.Fronts.{goes_on_last, ends_of_nothing}
-use Rattle.candidate_enum.specs.Survivors.{Question, leaf_of, admitted_leaves, survivors}
+use Rattle.candidate_enum.specs.Survivors.{Question, leaf_of, survivors}
 use Rattle.candidate_enum.specs.Tests.{meets, tests}
-use Rattle.candidate_enum.specs.Left.{Left, nothing_left, base_of, base_back, index_of, overlaps, sons_before, sons_tests, after_back, leaves_from, left_at, left_after, left_sons, left_from, IsSearch, Admitted, IsDone, IsFather, StandsAt, IsTurn, leaf_list}
+use Rattle.candidate_enum.specs.Left.{Left, base_of, base_back, index_of, overlaps, sons_before, sons_tests, after_back, leaves_from, left_at, left_after, left_sons, IsSearch, IsDone, IsFather, StandsAt, IsTurn}
 use Rattle.candidate_enum.specs.declared.leaf.Leaf.{Leaf}
 use Rattle.candidate_enum.proofs.Bases.{block_of}
 use Rattle.candidate_enum.proofs.Meets.{meets_is}
-use Rattle.candidate_enum.proofs.Leaves.{leaves_refused, leaf_met, leaves_end, leaves_start, none_left}
+use Rattle.candidate_enum.proofs.Leaves.{leaves_refused, leaf_met, leaves_start, none_left}
 use Rattle.candidate_enum.proofs.Moves.{tests_refused, tests_leaf, tests_deeper, admitted_self, some_overlap}
 use Rattle.candidate_enum.proofs.Sons.{none_before_first, tests_all, before_is}
 use Rattle.slot_math.proofs.Steps.{part_of_ends}
@@ -39,13 +38,15 @@ pub refused : (q : Question) (p : List (Option ℕ)) (rank count : ℕ) → IsSe
 unfolding left_at left_after
 refused q p rank count w s refusal c =
     let same : count ≡ length (ends q.space p) = c ∙ begun q.space p s.short s.start.0 in
-    let at : rank ≡ base_of q.space p = s.at in
-    (record {
-       leaves = ap (leaves_from q) s.at ∙ leaves_refused q p s.start.0 s.short refusal
-         ∙ ap₂ (λ (a b : ℕ). leaves_from q (a + b)) (sym s.at) (sym same);
-       cost = ap (λ (k : ℕ). k + after_back q (reverse p)) (tests_refused q (q.space.members - length p) p (standing_meets q p rank w s) refusal)
-         ∙ add_comm 1 (after_back q (reverse p)) },
-     record { short = s.short; start = s.start; next = omega arith; fathers = s.fathers })
+    let at : rank ≡ base_of q.space p = s.at in (
+      record {
+        leaves = ap (leaves_from q) s.at ∙ leaves_refused q p s.start.0 s.short refusal
+            ∙ ap₂ (λ (a b : ℕ). leaves_from q (a + b)) (sym s.at) (sym same);
+        cost = ap (λ (k : ℕ). k + after_back q (reverse p)) (tests_refused q (q.space.members - length p) p (standing_meets q p rank w s) refusal)
+            ∙ add_comm 1 (after_back q (reverse p));
+      },
+      record { short = s.short; start = s.start; next = omega arith; fathers = s.fathers },
+    )
 
 -- one list begins with all places of a list
 one_or_none : (s : Space) (p : List (Option ℕ)) → length p ≡ s.members → length (ends s p) ≤ 1
@@ -53,7 +54,7 @@ unfolding ends all_lists
 one_or_none s p long =
     let left : s.members - length p ≡ 0 = omega arith in
     let e : length (filter (λ l. is_kept s.low s.high (p ++ l)) (all_lists s.images (s.members - length p))) ≡ length (cond (is_kept s.low s.high (p ++ [])) ([] ∷ []) (let t : List (List (Option ℕ)) = [] in t))
-        = ap (λ (n : ℕ). length (filter (λ l. is_kept s.low s.high (p ++ l)) (all_lists s.images n))) left in
+    = ap (λ (n : ℕ). length (filter (λ l. is_kept s.low s.high (p ++ l)) (all_lists s.images n))) left in
     let h : length (cond (is_kept s.low s.high (p ++ [])) ([] ∷ []) (let t : List (List (Option ℕ)) = [] in t)) ≤ 1 = at_most (is_kept s.low s.high (p ++ [])) in
     omega arith
   where
@@ -71,14 +72,16 @@ met q p rank w s grant long =
     let one : length (ends q.space p) ≡ 1 = omega arith in
     let at : rank ≡ base_of q.space p = s.at in
     let here : slice_get (lists_of q.space) rank ≡ Some p
-        = goes_on_last q.space p rank 0 (ap (slice_get (lists_of q.space)) (let e : rank ≡ base_of q.space p + 0 = omega arith in e) ∙ (block_of q.space p s.start.0 s.short).at 0 (omega arith)) long (omega arith) in
-    let none : q.space.members - length p ≡ 0 = omega arith in
-    (record {
-       leaves = leaf_met q p rank here (ap (overlaps q.from q.stop rank) (sym one) ∙ s.meeting) (admitted_self q p s.fathers grant);
-       cost = ap (λ (k : ℕ). tests q k p + after_back q (reverse p)) none
-         ∙ ap (λ (k : ℕ). k + after_back q (reverse p)) (tests_leaf q p (standing_meets q p rank w s))
-         ∙ add_comm 1 (after_back q (reverse p)) },
-     record { short = s.short; start = s.start; next = omega arith; fathers = s.fathers })
+    = goes_on_last q.space p rank 0 (ap (slice_get (lists_of q.space)) (let e : rank ≡ base_of q.space p + 0 = omega arith in e) ∙ (block_of q.space p s.start.0 s.short).at 0 (omega arith)) long (omega arith) in
+    let none : q.space.members - length p ≡ 0 = omega arith in (
+      record {
+        leaves = leaf_met q p rank here (ap (overlaps q.from q.stop rank) (sym one) ∙ s.meeting) (admitted_self q p s.fathers grant);
+        cost = ap (λ (k : ℕ). tests q k p + after_back q (reverse p)) none
+            ∙ ap (λ (k : ℕ). k + after_back q (reverse p)) (tests_leaf q p (standing_meets q p rank w s))
+            ∙ add_comm 1 (after_back q (reverse p));
+      },
+      record { short = s.short; start = s.start; next = omega arith; fathers = s.fathers },
+    )
 
 -- an admitted prefix: its sons come next
 pub deeper : (q : Question) (p : List (Option ℕ)) (rank : ℕ) → IsSearch q.space q.from q.stop → StandsAt q p rank → q.admits p ≡ true → length p < q.space.members →
@@ -87,14 +90,16 @@ unfolding left_at left_sons
 deeper q p rank w s grant short =
     let more : q.space.members - length p ≡ suc (q.space.members - suc (length p)) = omega arith in
     let at : rank ≡ base_of q.space p = s.at in
-    let none : sons_before q.space p 0 ≡ 0 = none_before_first q.space p in
-    (record {
-       leaves = refl;
-       cost = ap (λ (k : ℕ). tests q k p + after_back q (reverse p)) more
-         ∙ ap (λ (k : ℕ). k + after_back q (reverse p)) (tests_deeper q (q.space.members - suc (length p)) p (standing_meets q p rank w s) grant)
-         ∙ ap (λ (k : ℕ). 1 + k + after_back q (reverse p)) (sym (tests_all q p))
-         ∙ regroup (sons_tests q p 0) (after_back q (reverse p)) },
-     record { short = short; start = s.start; filling = omega arith; at = omega arith; fathers = admitted_self q p s.fathers grant })
+    let none : sons_before q.space p 0 ≡ 0 = none_before_first q.space p in (
+      record {
+        leaves = refl;
+        cost = ap (λ (k : ℕ). tests q k p + after_back q (reverse p)) more
+            ∙ ap (λ (k : ℕ). k + after_back q (reverse p)) (tests_deeper q (q.space.members - suc (length p)) p (standing_meets q p rank w s) grant)
+            ∙ ap (λ (k : ℕ). 1 + k + after_back q (reverse p)) (sym (tests_all q p))
+            ∙ regroup (sons_tests q p 0) (after_back q (reverse p));
+      },
+      record { short = short; start = s.start; filling = omega arith; at = omega arith; fathers = admitted_self q p s.fathers grant },
+    )
   where
     regroup : (a b : ℕ) → 1 + a + b ≡ (a + b) + 1
     regroup a b = omega arith
@@ -112,7 +117,7 @@ pub first_allowance : (q : Question) (p : List (Option ℕ)) → p ≡ [] → (l
 unfolding left_at after_back
 first_allowance q p e =
     let same : (left_at q p 0).allowance ≡ tests q q.space.members [] = ap (λ (t : List (Option ℕ)). tests q (q.space.members - length t) t + after_back q (reverse t)) e
-        ∙ ap (λ (k : ℕ). tests q k [] + 0) (let f : q.space.members - 0 ≡ q.space.members = omega arith in f) ∙ add-zero (tests q q.space.members []) in
+    ∙ ap (λ (k : ℕ). tests q k [] + 0) (let f : q.space.members - 0 ≡ q.space.members = omega arith in f) ∙ add-zero (tests q q.space.members []) in
     omega arith
 
 pub first_stands : (q : Question) (p : List (Option ℕ)) (total : ℕ) → p ≡ [] → total ≡ length (lists_of q.space) → overlaps q.from q.stop 0 total ≡ true → StandsAt q p 0
@@ -124,7 +129,8 @@ first_stands q p total none e o =
       start = (tt, refl);
       at = refl;
       fathers = λ k lt. absurd (omega arith);
-      meeting = ap (overlaps q.from q.stop 0) (ap length (ends_of_nothing q.space) ∙ sym e) ∙ o })
+      meeting = ap (overlaps q.from q.stop 0) (ap length (ends_of_nothing q.space) ∙ sym e) ∙ o;
+    })
 
 pub total_sum : (s : Space) (total : ℕ) → s.images ≤ 16 → s.members ≤ 16 → total ≡ length (lists_of s) → 0 + total ≤ 17 ^ 16
 total_sum s total n m e = let f : length (lists_of s) ≤ 17 ^ 16 = total_fits s n m in omega arith

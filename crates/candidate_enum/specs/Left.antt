@@ -1,11 +1,11 @@
 -- What a walk has before it, and where it stands.
-use Rattle.std.specs.Prelude.{ℕ, zero, suc, ◌≡◌, ◌+◌, ◌-◌, ◌<◌, ◌≤◌, min, max, Bool, true, nat_lt, List, [], ◌∷◌, ◌++◌, length, take, drop, reverse, sum_by, Option, Some, None}
+use Rattle.std.specs.Prelude.{ℕ, suc, ◌≡◌, ◌+◌, ◌-◌, ◌<◌, ◌≤◌, min, max, Bool, true, nat_lt, List, [], ◌∷◌, ◌++◌, length, take, drop, reverse, sum_by, Option, Some, None}
 use Rattle.raid_params.specs.declared.limits.TheConstants.{MOST}
 use Rattle.raid_terms.specs.SlotLists.{fillings}
 use Rattle.slot_math.specs.Space.{lists_of}
 use Rattle.slot_math.specs.Ways.{ends, before, IsStart}
 use Rattle.slot_math.specs.declared.space.Space.{Space}
-use Rattle.candidate_enum.specs.Survivors.{Question, admitted_leaves, leaf_of}
+use Rattle.candidate_enum.specs.Survivors.{Question, admitted_leaves}
 use Rattle.candidate_enum.specs.Tests.{tests}
 use Rattle.candidate_enum.specs.declared.leaf.Leaf.{Leaf}
 use Rattle.candidate_enum.specs.declared.place.Place.{Place}

@@ -9,17 +9,17 @@ use slot_math::Space;
 /// A space of slot lists, and which prefixes it admits. Both are functions of the value.
 pub trait Family {
     /// The space.
-    ghost lists: { Self → SpaceOf };
+    ghost space_of: { Self → SpaceOf };
 
     /// Whether the prefix is admitted.
     ghost admits: { Self → List (Option ℕ) → Bool };
 
     /// The space.
     fn space(&self) -> Space
-        ensures { result ≡ lists self.now };
+        ensures { result ≡ space_of self.now };
 
     /// Whether the prefix is admitted. It begins some list of the space.
     fn may_pass(&self, prefix: &Slots) -> bool
-        requires { 0 < length (filter (begins prefix.now.items) (lists_of (lists self.now))) }
+        requires { 0 < length (filter (begins prefix.now.items) (lists_of (space_of self.now))) }
         ensures { result ≡ admits self.now prefix.now.items };
 }

@@ -6,14 +6,15 @@
 #![tactic(auto)]
 
 mod family;
+mod laws;
 mod leaf;
 mod place;
 mod search;
 mod survivors;
 
 pub use family::Family;
+pub use laws::{survivors_are_lists, survivors_by_rank};
 pub use leaf::Leaf;
-
 pub use survivors::Survivors;
 
 #[cfg(test)]

@@ -126,7 +126,10 @@ impl<'a, F: Family> Search<'a, F> {
         ensures stands { MayStand (question self.now.space (F.admits self.now.family.now) self.now.from self.now.stop) result }
     {
         if meets_range(self.from, self.stop, 0, self.space.total()) {
-            return Some(Place { slots: Slots::new(), rank: 0 });
+            return Some(Place {
+                slots: Slots::new(),
+                rank: 0,
+            });
         }
         None
     }
@@ -134,7 +137,7 @@ impl<'a, F: Family> Search<'a, F> {
     // Tests the prefix at which the walk stands.
     #[tactic(auto, using(crate::proofs::Turns::refused, crate::proofs::Turns::met, crate::proofs::Turns::deeper, crate::proofs::Turns::turn_to, crate::proofs::Turns::begins_some, crate::proofs::Turns::done_fits, crate::proofs::Turns::rank_below))]
     pub(crate) fn take_turn(&self, place: Place) -> Turn
-        requires family { self.now.space ≡ F.lists self.now.family.now }
+        requires family { self.now.space ≡ F.space_of self.now.family.now }
         requires search { IsSearch self.now.space self.now.from self.now.stop }
         requires stands { StandsAt (question self.now.space (F.admits self.now.family.now) self.now.from self.now.stop) place.slots.items place.rank }
         ensures turn { IsTurn (left_at (question self.now.space (F.admits self.now.family.now) self.now.from self.now.stop) place.slots.items place.rank) result.leaf (left_from (question self.now.space (F.admits self.now.family.now) self.now.from self.now.stop) result.place) }
@@ -143,12 +146,24 @@ impl<'a, F: Family> Search<'a, F> {
         let Place { slots, rank } = place;
         if !self.family.may_pass(&slots) {
             let next = rank + self.space.completions(&slots);
-            return Turn { leaf: None, place: self.climb(slots, next) };
+            return Turn {
+                leaf: None,
+                place: self.climb(slots, next),
+            };
         }
         if slots.len() < self.space.members as usize {
-            return Turn { leaf: None, place: self.descend(slots, rank) };
+            return Turn {
+                leaf: None,
+                place: self.descend(slots, rank),
+            };
         }
-        let leaf = Leaf { rank: rank as u64, slots: copied(&slots) };
-        Turn { leaf: Some(leaf), place: self.climb(slots, rank + 1) }
+        let leaf = Leaf {
+            rank: rank as u64,
+            slots: copied(&slots),
+        };
+        Turn {
+            leaf: Some(leaf),
+            place: self.climb(slots, rank + 1),
+        }
     }
 }

@@ -29,22 +29,27 @@ impl<'a, F: Family> Model for Survivors<'a, F> {
 
     ghost view = { λ s. left_from (question s.search.space (F.admits s.search.family.now) s.search.from s.search.stop) s.place };
 
-    ghost invariant = { λ s. (s.search.space ≡ F.lists s.search.family.now) × IsSearch s.search.space s.search.from s.search.stop × MayStand (question s.search.space (F.admits s.search.family.now) s.search.from s.search.stop) s.place };
+    ghost invariant = { λ s. (s.search.space ≡ F.space_of s.search.family.now) × IsSearch s.search.space s.search.from s.search.stop × MayStand (question s.search.space (F.admits s.search.family.now) s.search.from s.search.stop) s.place };
 }
 
 impl<'a, F: Family> Survivors<'a, F> {
     /// The walk of the ranks from `from` up to and not including `stop`. Its allowance is at most
     /// the tests of the empty prefix.
     pub fn start(family: &'a F, from: u64, stop: u64) -> Survivors<'a, F>
-        requires images { (F.lists family.now).images ≤ MOST }
-        requires members { (F.lists family.now).members ≤ MOST }
+        requires images { (F.space_of family.now).images ≤ MOST }
+        requires members { (F.space_of family.now).members ≤ MOST }
         requires ordered { from ≤ stop }
-        requires ranks { stop ≤ length (lists_of (F.lists family.now)) }
-        ensures leaves { result.leaves ≡ survivors (question (F.lists family.now) (F.admits family.now) from stop) }
-        ensures allowance { result.allowance ≤ tests (question (F.lists family.now) (F.admits family.now) from stop) (F.lists family.now).members [] }
+        requires ranks { stop ≤ length (lists_of (F.space_of family.now)) }
+        ensures leaves { result.leaves ≡ survivors (question (F.space_of family.now) (F.admits family.now) from stop) }
+        ensures allowance { result.allowance ≤ tests (question (F.space_of family.now) (F.admits family.now) from stop) (F.space_of family.now).members [] }
     {
         let space = family.space();
-        let search = Search { family, space, from, stop };
+        let search = Search {
+            family,
+            space,
+            from,
+            stop,
+        };
         let place = search.first_place();
         Survivors { search, place }
     }

@@ -21,17 +21,23 @@ struct NotOne {
 impl NotOne {
     fn note(&self, digit: u8) {
         let before = self.asked.get();
-        self.asked.set(before.wrapping_mul(10).wrapping_add(digit as u128));
+        self.asked
+            .set(before.wrapping_mul(10).wrapping_add(digit as u128));
     }
 }
 
 impl Family for NotOne {
-    ghost lists = { λ _. record { images = 3; members = 3; low = 0; high = 0 } };
+    ghost space_of = { λ _. record { images = 3; members = 3; low = 0; high = 0 } };
 
     ghost admits = { λ _ p. not (starts_with ⟦<Option<u8> as PartialEq>⟧.eq p (Some 1 ∷ [])) };
 
     fn space(&self) -> Space {
-        Space { images: 3, members: 3, low: 0, high: 0 }
+        Space {
+            images: 3,
+            members: 3,
+            low: 0,
+            high: 0,
+        }
     }
 
     fn may_pass(&self, prefix: &Slots) -> bool {
@@ -72,14 +78,18 @@ fn two_leaves<R: Abort, L: Ledger>(rt: &R, family: &NotOne, blank: Blank)
 
 #[test]
 fn advanced(rt: HostRuntime) {
-    let family = NotOne { asked: Cell::new(0) };
+    let family = NotOne {
+        asked: Cell::new(0),
+    };
     two_leaves::<HostRuntime, Brand>(&rt, &family, Blank::new(1));
     assert_eq!(rt; family.asked.get(), ASKED);
 }
 
 #[test]
 fn iterated(rt: HostRuntime) {
-    let family = NotOne { asked: Cell::new(0) };
+    let family = NotOne {
+        asked: Cell::new(0),
+    };
     assert!(rt; family.space().total() == 6);
     let mut walk = Survivors::start(&family, 1, 5);
     assert!(rt; is_leaf(&walk.next(), 1, &[Some(0), Some(2), Some(1)]));
@@ -95,12 +105,17 @@ struct OneList {
 }
 
 impl Family for OneList {
-    ghost lists = { λ _. record { images = 16; members = 16; low = 0; high = 0 } };
+    ghost space_of = { λ _. record { images = 16; members = 16; low = 0; high = 0 } };
 
     ghost admits = { λ s p. starts_with ⟦<Option<u8> as PartialEq>⟧.eq s.wanted.items p };
 
     fn space(&self) -> Space {
-        Space { images: 16, members: 16, low: 0, high: 0 }
+        Space {
+            images: 16,
+            members: 16,
+            low: 0,
+            high: 0,
+        }
     }
 
     fn may_pass(&self, prefix: &Slots) -> bool {
@@ -110,9 +125,16 @@ impl Family for OneList {
 
 #[test]
 fn one_of_many(rt: HostRuntime) {
-    let space = Space { images: 16, members: 16, low: 0, high: 0 };
+    let space = Space {
+        images: 16,
+        members: 16,
+        low: 0,
+        high: 0,
+    };
     assert!(rt; space.total() == 20_922_789_888_000);
-    let family = OneList { wanted: space.unrank(12_345_678_901_234) };
+    let family = OneList {
+        wanted: space.unrank(12_345_678_901_234),
+    };
     let mut walk = Survivors::start(&family, 0, 20_922_789_888_000);
     assert!(rt; is_leaf(&walk.next(), 12_345_678_901_234, family.wanted.as_slice()));
     assert!(rt; walk.next().is_none());

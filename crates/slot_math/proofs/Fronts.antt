@@ -3,7 +3,7 @@ use Rattle.std.proofs.Common.{ℕ, ◌≡◌, ◌<◌, ◌≤◌, ◌+◌, ◌-�
 use Rattle.std.proofs.lemmas.Bool.{cases_Bool}
 use Rattle.raid_terms.specs.SlotLists.{all_lists, is_kept, is_distinct, stands, empties}
 use Rattle.slot_math.specs.Space.{lists_of}
-use Rattle.slot_math.specs.Ways.{ends, images_before, before, IsPlace, AllImages, IsStart, ways}
+use Rattle.slot_math.specs.Ways.{ends, images_before, before, IsPlace, AllImages, IsStart, IsImageWays, ways}
 use Rattle.slot_math.specs.declared.space.Space.{Space}
 use Rattle.slot_math.proofs.Bound.{ways_fit}
 use Rattle.slot_math.proofs.Ends.{no_ends, ends_are}
@@ -173,3 +173,7 @@ empty_place s p h =
     sym (ends_are s (p ++ None ∷ []) (all_images_more s.images p None h.0 tt) (distinct_more_empty p ∙ h.1)
     ∙ ap (λ (k : ℕ). ways s.low s.high (s.images - k) (s.members - length (p ++ None ∷ [])) (empties (p ++ None ∷ []))) used
     ∙ ap₂ (λ (k e : ℕ). ways s.low s.high (s.images - (length p - empties p)) (s.members - k) e) long more)
+
+pub image_ways_are : (s : Space) (p : List (Option ℕ)) (n : ℕ) → IsStart s p →
+    n ≡ ways s.low s.high (s.images - (length p + 1 - empties p)) (s.members - (length p + 1)) (empties p) → IsImageWays s p n
+image_ways_are s p n h e = λ i ok new. e ∙ unused_image s p i h ok new

@@ -2,7 +2,7 @@
 ghost use Rattle.std.specs.Prelude.{◌≡◌, ◌≤◌, ◌<◌, ◌+◌, ◌++◌, ◌∷◌, [], None, Some, length, slice_get};
 ghost use Rattle.raid_terms.specs.SlotLists.{stands, empties};
 ghost use Rattle.slot_math.specs.Space.{lists_of, rank_in};
-ghost use Rattle.slot_math.specs.Ways.{ends, images_before, before, image_ways, is_listed, IsPlace, IsStart};
+ghost use Rattle.slot_math.specs.Ways.{ends, images_before, before, is_listed, IsImageWays, IsPlace, IsStart};
 
 use crate::counts::ways_of;
 use crate::places::{all_different, all_images, empty_count, holds_image};
@@ -12,11 +12,13 @@ use raid_params::{MOST, Slots};
 impl Space {
     /// How many lists of the space begin with the prefix and then hold one image that is not in
     /// it: as many for each such image.
+    #[tactic(auto, using(crate::proofs::Fronts::image_ways_are))]
     pub fn image_ways(&self, prefix: &[Option<u8>]) -> u128
         requires images { self.now.images ≤ MOST }
         requires members { self.now.members ≤ MOST }
         requires short { length prefix.now < self.now.members }
-        ensures { result ≡ image_ways self.now prefix.now }
+        requires start { IsStart self.now prefix.now }
+        ensures { IsImageWays self.now prefix.now result }
     {
         let empty = empty_count(prefix);
         let used = prefix.len() + 1 - empty;
@@ -27,11 +29,11 @@ impl Space {
 
     /// How many lists of the space begin with the prefix and then hold this image: none where it
     /// is in the prefix, and else `ways`, which `image_ways` gives.
-    #[tactic(auto, using(crate::proofs::Fronts::used_image, crate::proofs::Fronts::unused_image))]
+    #[tactic(auto, using(crate::proofs::Fronts::used_image))]
     pub fn ways_of_image(&self, prefix: &[Option<u8>], image: u8, ways: u128) -> u128
         requires start { IsStart self.now prefix.now }
         requires image { image < self.now.images }
-        requires ways { ways ≡ image_ways self.now prefix.now }
+        requires ways { IsImageWays self.now prefix.now ways }
         ensures { result ≡ length (ends self.now (prefix.now ++ Some image ∷ [])) }
     {
         if holds_image(prefix, image) { 0 } else { ways }

@@ -1,4 +1,4 @@
-use Rattle.std.proofs.Common.{ap, sym, ◌∙◌, subst, ℕ}
+use Rattle.std.proofs.Common.{sym, subst, ℕ}
 use Rattle.candidate_enum.specs.Survivors.{question}
 use Rattle.candidate_enum.specs.Left.{IsFather}
 use Rattle.candidate_enum.proofs.Moves.{popped}
@@ -14,4 +14,4 @@ next_son-requires-clause-father g c =
     let q = question c.args.self.now.space (g.F.Family.admits c.args.self.now.family.now) c.args.self.now.from c.args.self.now.stop in
     let P : ℕ → Type 0 = λ j. IsFather q c.pop.new.self.items j c.loop-last.at in
     subst P (sym c.next_filling-next.ensures)
-        (popped q c.loop-last.slots.items c.pop.new.self.items c.loop-last.at c.in-Some.last c.loop-last.invariant.done c.in-Some.ensures.items).1
+    (popped q c.loop-last.slots.items c.pop.new.self.items c.loop-last.at c.in-Some.last c.loop-last.invariant.done c.in-Some.ensures.items).1

@@ -8,7 +8,8 @@ invariant-loop-last g l =
     let q = question l.self.space (g.F.Family.admits l.self.family.now) l.self.from l.self.stop in
     record {
       same : left_after q l.fn.slots.items l.fn.rank ≡ left_after q l.slots.items l.at;
-      done : IsDone q l.slots.items l.at }
+      done : IsDone q l.slots.items l.at;
+    }
 
 abbrev pub decreases-loop-last : goal.decreases-loop-last
 decreases-loop-last g l = length l.slots.items

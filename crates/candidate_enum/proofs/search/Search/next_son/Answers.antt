@@ -1,8 +1,7 @@
-use Rattle.std.proofs.Common.{rules, ◌≡◌, ◌≤◌, ◌<◌, ◌+◌, ◌^◌, ◌++◌, ◌∷◌, [], ℕ, length, sym, ap, ◌∙◌, refl, arith, Some, None, true, false}
-use Rattle.slot_math.specs.Ways.{ends}
+use Rattle.std.proofs.Common.{◌≡◌, ◌≤◌, ◌<◌, ◌+◌, ◌^◌, sym, ◌∙◌, refl, arith, Some, None}
 use Rattle.candidate_enum.specs.Survivors.{question}
-use Rattle.candidate_enum.specs.Left.{overlaps, left_sons, IsSon}
-use Rattle.candidate_enum.proofs.Looks.{Looked, Counted, counted, look_fits, look_found, look_passed, look_done}
+use Rattle.candidate_enum.specs.Left.{left_sons}
+use Rattle.candidate_enum.proofs.Looks.{counted, look_fits, look_found, look_passed, look_done}
 use Rattle.candidate_enum.proofs.search.Search.next_son.Goals as goal
 
 pub meets_range-requires : goal.meets_range-requires
@@ -66,8 +65,8 @@ returns g c =
     let last : c.loop-image.image ≡ c.args.self.now.space.images = (let end = c.loop-image.auto.image-end c.if-first-self.false in omega arith) in
     let n = counted q p c.as_slice-2.result.now c.loop-image.image None c.empty_ways-count.result tt last c.empty_ways-count.ensures c.as_slice-2.ensures.value in
     look_done q p (left_sons q p c.args.first c.args.rank) (c.loop-image.image + 1) (c.loop-image.at + c.empty_ways-count.result)
-        (look_passed q p (left_sons q p c.args.first c.args.rank) c.loop-image.image c.loop-image.at c.empty_ways-count.result None c.requires.search c.loop-image.invariant n (sym c.meets_range-2.ensures ∙ c.if-meets_range-2.false))
-        (omega arith)
+    (look_passed q p (left_sons q p c.args.first c.args.rank) c.loop-image.image c.loop-image.at c.empty_ways-count.result None c.requires.search c.loop-image.invariant n (sym c.meets_range-2.ensures ∙ c.if-meets_range-2.false))
+    (omega arith)
 
 pub returns-then-first-self : goal.returns-then-first-self
 returns-then-first-self g c =

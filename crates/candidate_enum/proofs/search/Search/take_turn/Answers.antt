@@ -1,9 +1,8 @@
-use Rattle.std.proofs.Common.{ap, sym, ◌∙◌, subst, ℕ, ◌≤◌, ◌<◌, ◌+◌, ◌^◌, ◌≡◌, length, arith, true}
+use Rattle.std.proofs.Common.{sym, ◌∙◌, subst, ◌≤◌, ◌<◌, ◌+◌, ◌^◌, ◌≡◌, length, arith}
 use Rattle.std.specs.List.{filter}
 use Rattle.slot_math.specs.Space.{begins, lists_of}
 use Rattle.slot_math.specs.declared.space.Space.{Space}
 use Rattle.candidate_enum.specs.Survivors.{question}
-use Rattle.candidate_enum.specs.Left.{IsFather}
 use Rattle.candidate_enum.proofs.Turns.{refused, met, deeper, begins_some, done_fits}
 use Rattle.candidate_enum.proofs.search.Search.take_turn.Goals as goal
 

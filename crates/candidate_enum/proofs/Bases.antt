@@ -65,9 +65,9 @@ image_of s p j (suc k) h = elim (cases_lt j (images_before s p k)) [
   | inr above ↦ (k, (omega arith), above, h)
 ]
 
-son_of : (s : Space) (p : List (Option ℕ)) (j : ℕ) → length p < s.members → j < length (ends s p) →
+child_of : (s : Space) (p : List (Option ℕ)) (j : ℕ) → length p < s.members → j < length (ends s p) →
     (y : Option ℕ) × (r : ℕ) × IsPlace s.images y × (j ≡ before s p y + r) × (r < length (ends s (p ++ y ∷ [])))
-son_of s p j short h = elim (cases_lt j (images_before s p s.images)) [
+child_of s p j short h = elim (cases_lt j (images_before s p s.images)) [
   | inl below ↦ (let r = image_of s p j s.images below in
       let low : images_before s p r.0 ≤ j = r.2 in
       let high : j < images_before s p r.0 + length (ends s (p ++ Some r.0 ∷ [])) = r.3 in
@@ -132,11 +132,11 @@ in_back s (x ∷ back) r l a h e b =
     let parts = all_but_last s.images (reverse back) x (subst P (turned_cons x back) a) in
     let long : length (reverse back) ≡ length back = turned_length back in
     let bb : begins (reverse back ++ x ∷ []) l ≡ true = ap (λ (t : List (Option ℕ)). begins t l) (sym (turned_cons x back)) ∙ b in
-    let father = in_back s back r l parts.0 (omega arith) e (begins_front p l x bb) in
-    let low : base_back s back ≤ r = father.low in
-    let high : r < base_back s back + length (ends s (reverse back)) = father.high in
-    let son = son_of s (reverse back) (r - base_back s back) (omega arith) (omega arith) in
-    here parts.0 parts.1 bb son.0 son.1 son.2 (let q : r - base_back s back ≡ before s (reverse back) son.0 + son.1 = son.3 in omega arith) son.4
+    let parent = in_back s back r l parts.0 (omega arith) e (begins_front p l x bb) in
+    let low : base_back s back ≤ r = parent.low in
+    let high : r < base_back s back + length (ends s (reverse back)) = parent.high in
+    let child = child_of s (reverse back) (r - base_back s back) (omega arith) (omega arith) in
+    here parts.0 parts.1 bb child.0 child.1 child.2 (let q : r - base_back s back ≡ before s (reverse back) child.0 + child.1 = child.3 in omega arith) child.4
   where
     here : AllImages s.images (reverse back) → IsPlace s.images x → begins (reverse back ++ x ∷ []) l ≡ true → (y : Option ℕ) (k : ℕ) → IsPlace s.images y →
         r ≡ base_back s back + before s (reverse back) y + k → k < length (ends s (reverse back ++ y ∷ [])) →

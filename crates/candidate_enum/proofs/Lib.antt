@@ -1,7 +1,7 @@
 pub mod Bases
 pub mod Meets
 pub mod Leaves
-pub mod Sons
+pub mod Children
 pub mod Moves
 pub mod Turns
 pub mod Looks

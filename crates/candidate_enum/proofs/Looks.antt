@@ -2,14 +2,14 @@
 use Rattle.std.proofs.Common.{ℕ, ◌≡◌, ◌≤◌, ◌+◌, ◌^◌, List, [], ◌∷◌, ◌++◌, length, sym, ap, ◌∙◌, arith, true, false, Option, subst}
 use Rattle.slot_math.specs.Ways.{ends, IsPlace}
 use Rattle.candidate_enum.specs.Survivors.{Question}
-use Rattle.candidate_enum.specs.Left.{Left, overlaps, left_at, left_after, left_sons, index_of, IsSearch, IsDone, IsFather, StandsAt}
+use Rattle.candidate_enum.specs.Left.{Left, overlaps, left_at, left_after, left_children, index_of, IsSearch, IsDone, IsParent, StandsAt}
 use Rattle.candidate_enum.proofs.Moves.{found, passed, all_passed}
-use Rattle.candidate_enum.proofs.Turns.{son_fits}
+use Rattle.candidate_enum.proofs.Turns.{child_fits}
 
 -- how far a look among them has come: what was left at first is left from filling j on
 pub record Looked (q : Question) (p : List (Option ℕ)) (old : Left) (j at : ℕ) : Type 0 where
-  pub same : old ≡ left_sons q p j at
-  pub father : IsFather q p j at
+  pub same : old ≡ left_children q p j at
+  pub parent : IsParent q p j at
 
 -- how many lists begin with the next one
 pub record Counted (q : Question) (p : List (Option ℕ)) (j : ℕ) (y : Option ℕ) (count : ℕ) : Type 0 where
@@ -23,24 +23,24 @@ counted q p list j y count ok e c same = record { place = ok; index = e; lists =
 
 pub look_fits : (q : Question) (p : List (Option ℕ)) (old : Left) (j at count : ℕ) (y : Option ℕ) → IsSearch q.space q.from q.stop → Looked q p old j at → Counted q p j y count → at + count ≤ 17 ^ 16
 look_fits q p old j at count y w l n =
-    let h : at + length (ends q.space (p ++ y ∷ [])) ≤ 17 ^ 16 = son_fits q p j at y w l.father n.place n.index in
+    let h : at + length (ends q.space (p ++ y ∷ [])) ≤ 17 ^ 16 = child_fits q p j at y w l.parent n.place n.index in
     let e : count ≡ length (ends q.space (p ++ y ∷ [])) = n.lists in
     omega arith
 
 pub look_found : (q : Question) (p : List (Option ℕ)) (old : Left) (j at count : ℕ) (y : Option ℕ) → Looked q p old j at → Counted q p j y count → overlaps q.from q.stop at count ≡ true →
     (old ≡ left_at q (p ++ y ∷ []) at) × StandsAt q (p ++ y ∷ []) at
 look_found q p old j at count y l n o =
-    let h = found q p j at y l.father n.place n.index (ap (overlaps q.from q.stop at) (sym n.lists) ∙ o) in
+    let h = found q p j at y l.parent n.place n.index (ap (overlaps q.from q.stop at) (sym n.lists) ∙ o) in
     (l.same ∙ h.0, h.1)
 
 pub look_passed : (q : Question) (p : List (Option ℕ)) (old : Left) (j at count : ℕ) (y : Option ℕ) → IsSearch q.space q.from q.stop → Looked q p old j at → Counted q p j y count → overlaps q.from q.stop at count ≡ false →
     Looked q p old (j + 1) (at + count)
 look_passed q p old j at count y w l n o =
-    let h = passed q p j at y w l.father n.place n.index (ap (overlaps q.from q.stop at) (sym n.lists) ∙ o) in
+    let h = passed q p j at y w l.parent n.place n.index (ap (overlaps q.from q.stop at) (sym n.lists) ∙ o) in
     let P : ℕ → Type 0 = λ k. Looked q p old (j + 1) (at + k) in
-    subst P (sym n.lists) (record { same = l.same ∙ h.0; father = h.1 })
+    subst P (sym n.lists) (record { same = l.same ∙ h.0; parent = h.1 })
 
 pub look_done : (q : Question) (p : List (Option ℕ)) (old : Left) (j at : ℕ) → Looked q p old j at → j ≡ q.space.images + 1 → (old ≡ left_after q p at) × IsDone q p at
 look_done q p old j at l e =
-    let h = all_passed q p j at l.father e in
+    let h = all_passed q p j at l.parent e in
     (l.same ∙ h.0, h.1)

@@ -10,13 +10,13 @@ use Rattle.slot_math.proofs.Completions.{begun}
 use Rattle.slot_math.proofs.Fronts.{goes_on_last, ends_of_nothing}
 use Rattle.candidate_enum.specs.Survivors.{Question, leaf_of, survivors}
 use Rattle.candidate_enum.specs.Tests.{meets, tests}
-use Rattle.candidate_enum.specs.Left.{Left, base_of, base_back, index_of, overlaps, sons_before, sons_tests, after_back, leaves_from, left_at, left_after, left_sons, IsSearch, IsDone, IsFather, StandsAt, IsTurn}
+use Rattle.candidate_enum.specs.Left.{Left, base_of, base_back, index_of, overlaps, children_before, children_tests, after_back, leaves_from, left_at, left_after, left_children, IsSearch, IsDone, IsParent, StandsAt, IsTurn}
 use Rattle.candidate_enum.specs.declared.leaf.Leaf.{Leaf}
 use Rattle.candidate_enum.proofs.Bases.{block_of}
 use Rattle.candidate_enum.proofs.Meets.{meets_is}
 use Rattle.candidate_enum.proofs.Leaves.{leaves_refused, leaf_met, leaves_start, none_left}
 use Rattle.candidate_enum.proofs.Moves.{tests_refused, tests_leaf, tests_deeper, admitted_self, some_overlap}
-use Rattle.candidate_enum.proofs.Sons.{none_before_first, tests_all, before_is}
+use Rattle.candidate_enum.proofs.Children.{none_before_first, tests_all, before_is}
 use Rattle.slot_math.proofs.Steps.{part_of_ends}
 
 -- a list of the range begins with the prefix at which a walk stands
@@ -45,7 +45,7 @@ refused q p rank count w s refusal c =
         cost = ap (λ (k : ℕ). k + after_back q (reverse p)) (tests_refused q (q.space.members - length p) p (standing_meets q p rank w s) refusal)
             ∙ add_comm 1 (after_back q (reverse p));
       },
-      record { short = s.short; start = s.start; next = omega arith; fathers = s.fathers },
+      record { short = s.short; start = s.start; next = omega arith; parents = s.parents },
     )
 
 -- one list begins with all places of a list
@@ -75,30 +75,30 @@ met q p rank w s grant long =
     = goes_on_last q.space p rank 0 (ap (slice_get (lists_of q.space)) (let e : rank ≡ base_of q.space p + 0 = omega arith in e) ∙ (block_of q.space p s.start.0 s.short).at 0 (omega arith)) long (omega arith) in
     let none : q.space.members - length p ≡ 0 = omega arith in (
       record {
-        leaves = leaf_met q p rank here (ap (overlaps q.from q.stop rank) (sym one) ∙ s.meeting) (admitted_self q p s.fathers grant);
+        leaves = leaf_met q p rank here (ap (overlaps q.from q.stop rank) (sym one) ∙ s.meeting) (admitted_self q p s.parents grant);
         cost = ap (λ (k : ℕ). tests q k p + after_back q (reverse p)) none
             ∙ ap (λ (k : ℕ). k + after_back q (reverse p)) (tests_leaf q p (standing_meets q p rank w s))
             ∙ add_comm 1 (after_back q (reverse p));
       },
-      record { short = s.short; start = s.start; next = omega arith; fathers = s.fathers },
+      record { short = s.short; start = s.start; next = omega arith; parents = s.parents },
     )
 
--- an admitted prefix: its sons come next
+-- an admitted prefix: its children come next
 pub deeper : (q : Question) (p : List (Option ℕ)) (rank : ℕ) → IsSearch q.space q.from q.stop → StandsAt q p rank → q.admits p ≡ true → length p < q.space.members →
-    IsTurn (left_at q p rank) None (left_sons q p 0 rank) × IsFather q p 0 rank
-unfolding left_at left_sons
+    IsTurn (left_at q p rank) None (left_children q p 0 rank) × IsParent q p 0 rank
+unfolding left_at left_children
 deeper q p rank w s grant short =
     let more : q.space.members - length p ≡ suc (q.space.members - suc (length p)) = omega arith in
     let at : rank ≡ base_of q.space p = s.at in
-    let none : sons_before q.space p 0 ≡ 0 = none_before_first q.space p in (
+    let none : children_before q.space p 0 ≡ 0 = none_before_first q.space p in (
       record {
         leaves = refl;
         cost = ap (λ (k : ℕ). tests q k p + after_back q (reverse p)) more
             ∙ ap (λ (k : ℕ). k + after_back q (reverse p)) (tests_deeper q (q.space.members - suc (length p)) p (standing_meets q p rank w s) grant)
             ∙ ap (λ (k : ℕ). 1 + k + after_back q (reverse p)) (sym (tests_all q p))
-            ∙ regroup (sons_tests q p 0) (after_back q (reverse p));
+            ∙ regroup (children_tests q p 0) (after_back q (reverse p));
       },
-      record { short = short; start = s.start; filling = omega arith; at = omega arith; fathers = admitted_self q p s.fathers grant },
+      record { short = short; start = s.start; filling = omega arith; at = omega arith; parents = admitted_self q p s.parents grant },
     )
   where
     regroup : (a b : ℕ) → 1 + a + b ≡ (a + b) + 1
@@ -128,7 +128,7 @@ first_stands q p total none e o =
       short = omega arith;
       start = (tt, refl);
       at = refl;
-      fathers = λ k lt. absurd (omega arith);
+      parents = λ k lt. absurd (omega arith);
       meeting = ap (overlaps q.from q.stop 0) (ap length (ends_of_nothing q.space) ∙ sym e) ∙ o;
     })
 
@@ -151,12 +151,12 @@ done_fits q p rank count w s c =
     let total : length (lists_of q.space) ≤ 17 ^ 16 = total_fits q.space w.images w.members in
     omega arith
 
-pub son_fits : (q : Question) (p : List (Option ℕ)) (j rank : ℕ) (y : Option ℕ) → IsSearch q.space q.from q.stop → IsFather q p j rank → IsPlace q.space.images y → j ≡ index_of q.space.images y →
+pub child_fits : (q : Question) (p : List (Option ℕ)) (j rank : ℕ) (y : Option ℕ) → IsSearch q.space q.from q.stop → IsParent q p j rank → IsPlace q.space.images y → j ≡ index_of q.space.images y →
     rank + length (ends q.space (p ++ y ∷ [])) ≤ 17 ^ 16
-son_fits q p j rank y w f ok e =
-    let at : rank ≡ base_of q.space p + sons_before q.space p j = f.at in
+child_fits q p j rank y w f ok e =
+    let at : rank ≡ base_of q.space p + children_before q.space p j = f.at in
     let part : before q.space p y + length (ends q.space (p ++ y ∷ [])) ≤ length (ends q.space p) = part_of_ends q.space p y f.short ok in
-    let same : before q.space p y ≡ sons_before q.space p j = before_is q.space p y ok ∙ ap (sons_before q.space p) (sym e) in
+    let same : before q.space p y ≡ children_before q.space p j = before_is q.space p y ok ∙ ap (children_before q.space p) (sym e) in
     let short : length p < q.space.members = f.short in
     let within : base_of q.space p + length (ends q.space p) ≤ length (lists_of q.space) = (block_of q.space p f.start.0 (omega arith)).within in
     let total : length (lists_of q.space) ≤ 17 ^ 16 = total_fits q.space w.images w.members in

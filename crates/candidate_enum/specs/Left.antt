@@ -9,8 +9,8 @@ use Rattle.candidate_enum.specs.Survivors.{Question, admitted_leaves}
 use Rattle.candidate_enum.specs.Tests.{tests}
 use Rattle.candidate_enum.specs.declared.leaf.Leaf.{Leaf}
 use Rattle.candidate_enum.specs.declared.place.Place.{Place}
-use Rattle.candidate_enum.specs.declared.place.Son.{Son}
-use Rattle.candidate_enum.specs.declared.place.Son.TheVariants.{At, Nowhere}
+use Rattle.candidate_enum.specs.declared.place.Child.{Child}
+use Rattle.candidate_enum.specs.declared.place.Child.TheVariants.{At, Nowhere}
 
 -- the leaves that a walk still gives, and how many tests it may still take
 pub record Left : Type 0 where
@@ -34,17 +34,17 @@ abbrev pub base_of : Space → List (Option ℕ) → ℕ
 base_of s p = base_back s (reverse p)
 
 -- how many lists begin with p and then hold one of the first j fillings
-unfoldable pub sons_before : Space → List (Option ℕ) → ℕ → ℕ
-sons_before s p j = sum_by (λ y. length (ends s (p ++ y ∷ []))) (take j (fillings s.images))
+unfoldable pub children_before : Space → List (Option ℕ) → ℕ → ℕ
+children_before s p j = sum_by (λ y. length (ends s (p ++ y ∷ []))) (take j (fillings s.images))
 
 -- the tests of the prefixes with one place more than p, from filling j on
-unfoldable pub sons_tests : Question → List (Option ℕ) → ℕ → ℕ
-sons_tests q p j = sum_by (λ y. tests q (q.space.members - suc (length p)) (p ++ y ∷ [])) (drop j (fillings q.space.images))
+unfoldable pub children_tests : Question → List (Option ℕ) → ℕ → ℕ
+children_tests q p j = sum_by (λ y. tests q (q.space.members - suc (length p)) (p ++ y ∷ [])) (drop j (fillings q.space.images))
 
 -- the tests of what comes after all lists that begin with the prefix, whose places stand backwards here
 unfoldable pub after_back : Question → List (Option ℕ) → ℕ
 after_back q [] = 0
-after_back q (x ∷ back) = sons_tests q (reverse back) (index_of q.space.images x + 1) + after_back q back
+after_back q (x ∷ back) = children_tests q (reverse back) (index_of q.space.images x + 1) + after_back q back
 
 -- the leaves of the range from this rank on
 unfoldable pub leaves_from : Question → ℕ → List Leaf
@@ -59,8 +59,8 @@ unfoldable pub left_after : Question → List (Option ℕ) → ℕ → Left
 left_after q p rank = record { leaves = leaves_from q rank; allowance = after_back q (reverse p) }
 
 -- a walk that goes on with the prefixes of one place more than p, from filling j on
-unfoldable pub left_sons : Question → List (Option ℕ) → ℕ → ℕ → Left
-left_sons q p j rank = record { leaves = leaves_from q rank; allowance = sons_tests q p j + after_back q (reverse p) }
+unfoldable pub left_children : Question → List (Option ℕ) → ℕ → ℕ → Left
+left_children q p j rank = record { leaves = leaves_from q rank; allowance = children_tests q p j + after_back q (reverse p) }
 
 -- a walk at a place, or at its end
 abbrev pub left_from : Question → Option Place → Left
@@ -87,22 +87,22 @@ pub record IsDone (q : Question) (p : List (Option ℕ)) (rank : ℕ) : Type 0 w
   pub short : length p ≤ q.space.members
   pub start : IsStart q.space p
   pub next : rank ≡ base_of q.space p + length (ends q.space p)
-  pub fathers : Admitted q p (length p)
+  pub parents : Admitted q p (length p)
 
 -- a walk may go on below the prefix, from filling j on
-pub record IsFather (q : Question) (p : List (Option ℕ)) (j rank : ℕ) : Type 0 where
+pub record IsParent (q : Question) (p : List (Option ℕ)) (j rank : ℕ) : Type 0 where
   pub short : length p < q.space.members
   pub start : IsStart q.space p
   pub filling : j ≤ q.space.images + 1
-  pub at : rank ≡ base_of q.space p + sons_before q.space p j
-  pub fathers : Admitted q p (length p + 1)
+  pub at : rank ≡ base_of q.space p + children_before q.space p j
+  pub parents : Admitted q p (length p + 1)
 
 -- a walk may stand at the prefix
 pub record StandsAt (q : Question) (p : List (Option ℕ)) (rank : ℕ) : Type 0 where
   pub short : length p ≤ q.space.members
   pub start : IsStart q.space p
   pub at : rank ≡ base_of q.space p
-  pub fathers : Admitted q p (length p)
+  pub parents : Admitted q p (length p)
   pub meeting : overlaps q.from q.stop rank (length (ends q.space p)) ≡ true
 
 -- a walk that has come to a place, or to its end
@@ -120,6 +120,6 @@ pub record IsTurn (old : Left) (leaf : Option Leaf) (new : Left) : Type 0 where
   pub cost : old.allowance ≡ new.allowance + 1
 
 -- what was found among the prefixes of one place more than p, from filling j on
-abbrev pub IsSon : Question → List (Option ℕ) → ℕ → ℕ → Son → Type 0
-IsSon q p j rank (At y at) = (left_sons q p j rank ≡ left_at q (p ++ y ∷ []) at) × StandsAt q (p ++ y ∷ []) at
-IsSon q p j rank (Nowhere at) = (left_sons q p j rank ≡ left_after q p at) × IsDone q p at
+abbrev pub IsChild : Question → List (Option ℕ) → ℕ → ℕ → Child → Type 0
+IsChild q p j rank (At y at) = (left_children q p j rank ≡ left_at q (p ++ y ∷ []) at) × StandsAt q (p ++ y ∷ []) at
+IsChild q p j rank (Nowhere at) = (left_children q p j rank ≡ left_after q p at) × IsDone q p at

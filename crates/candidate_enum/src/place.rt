@@ -12,7 +12,7 @@ pub struct Place {
 /// What a look among the prefixes of one place more found: one of them and its rank, or none and
 /// the rank after all of them.
 #[derive(Clone, Copy)]
-pub enum Son {
+pub enum Child {
     At(Option<u8>, u128),
     Nowhere(u128),
 }

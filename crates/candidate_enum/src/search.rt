@@ -3,11 +3,11 @@ ghost use Rattle.std.specs.Prelude.{◌≡◌, ◌≤◌, ◌<◌, ◌+◌, ◌^
 ghost use Rattle.slot_math.specs.Ways.{ends, IsStart, IsPlace};
 ghost use Rattle.candidate_enum.specs.Survivors.{question, survivors};
 ghost use Rattle.candidate_enum.specs.Tests.{tests};
-ghost use Rattle.candidate_enum.specs.Left.{overlaps, left_at, left_after, left_sons, left_from, index_of, IsSearch, IsFather, IsDone, StandsAt, MayStand, IsTurn, IsSon};
+ghost use Rattle.candidate_enum.specs.Left.{overlaps, left_at, left_after, left_children, left_from, index_of, IsSearch, IsParent, IsDone, StandsAt, MayStand, IsTurn, IsChild};
 
 use crate::family::Family;
 use crate::leaf::Leaf;
-use crate::place::{Place, Son, Turn};
+use crate::place::{Child, Place, Turn};
 use raid_params::{MOST, Slots};
 use slot_math::Space;
 
@@ -22,7 +22,7 @@ pub struct Search<'a, F: Family> {
 
 // Some rank of the range is among `count` ranks from `rank` on.
 fn meets_range(from: u64, stop: u64, rank: u128, count: u128) -> bool
-    requires { rank + count ≤ 17 ^ 16 }
+    requires { rank + count ≤ (MOST + 1) ^ MOST }
     ensures { result ≡ overlaps from stop rank count }
 {
     rank.max(from as u128) < (rank + count).min(stop as u128)
@@ -52,31 +52,31 @@ fn next_filling(images: u8, place: Option<u8>) -> u8
 }
 
 impl<'a, F: Family> Search<'a, F> {
-    // The first prefix of one place more than `father`, from filling `first` on, with which a
+    // The first prefix of one place more than `parent`, from filling `first` on, with which a
     // list of the range begins.
     #[tactic(auto, using(crate::proofs::Looks::look_done))]
-    fn next_son(&self, father: &Slots, first: u8, rank: u128) -> Son
+    fn next_child(&self, parent: &Slots, first: u8, rank: u128) -> Child
         requires search { IsSearch self.now.space self.now.from self.now.stop }
-        requires father { IsFather (question self.now.space (F.admits self.now.family.now) self.now.from self.now.stop) father.now.items first rank }
-        ensures { IsSon (question self.now.space (F.admits self.now.family.now) self.now.from self.now.stop) father.now.items first rank result }
+        requires parent { IsParent (question self.now.space (F.admits self.now.family.now) self.now.from self.now.stop) parent.now.items first rank }
+        ensures { IsChild (question self.now.space (F.admits self.now.family.now) self.now.from self.now.stop) parent.now.items first rank result }
     {
         let mut at = rank;
-        let unused = self.space.image_ways(father.as_slice());
+        let unused = self.space.image_ways(parent.as_slice());
         for image in first..self.space.images {
-            let count = self.space.ways_of_image(father.as_slice(), image, unused);
+            let count = self.space.ways_of_image(parent.as_slice(), image, unused);
             if meets_range(self.from, self.stop, at, count) {
-                return Son::At(Some(image), at);
+                return Child::At(Some(image), at);
             }
             at += count;
         }
         if first > self.space.images {
-            return Son::Nowhere(at);
+            return Child::Nowhere(at);
         }
-        let count = self.space.empty_ways(father.as_slice());
+        let count = self.space.empty_ways(parent.as_slice());
         if meets_range(self.from, self.stop, at, count) {
-            return Son::At(None, at);
+            return Child::At(None, at);
         }
-        Son::Nowhere(at + count)
+        Child::Nowhere(at + count)
     }
 
     // Where a walk stands that is done with a prefix, where the next list has this rank.
@@ -90,12 +90,12 @@ impl<'a, F: Family> Search<'a, F> {
         let mut at = rank;
         while let Some(last) = slots.pop() {
             let next = next_filling(self.space.images, last);
-            match self.next_son(&slots, next, at) {
-                Son::At(place, rank) => {
+            match self.next_child(&slots, next, at) {
+                Child::At(place, rank) => {
                     slots.push(place);
                     return Some(Place { slots, rank });
                 }
-                Son::Nowhere(rank) => at = rank,
+                Child::Nowhere(rank) => at = rank,
             }
         }
         None
@@ -104,16 +104,16 @@ impl<'a, F: Family> Search<'a, F> {
     // Where a walk stands that goes on below an admitted prefix.
     fn descend(&self, mut slots: Slots, rank: u128) -> Option<Place>
         requires search { IsSearch self.now.space self.now.from self.now.stop }
-        requires father { IsFather (question self.now.space (F.admits self.now.family.now) self.now.from self.now.stop) slots.items 0 rank }
-        ensures left { left_sons (question self.now.space (F.admits self.now.family.now) self.now.from self.now.stop) slots.items 0 rank ≡ left_from (question self.now.space (F.admits self.now.family.now) self.now.from self.now.stop) result }
+        requires parent { IsParent (question self.now.space (F.admits self.now.family.now) self.now.from self.now.stop) slots.items 0 rank }
+        ensures left { left_children (question self.now.space (F.admits self.now.family.now) self.now.from self.now.stop) slots.items 0 rank ≡ left_from (question self.now.space (F.admits self.now.family.now) self.now.from self.now.stop) result }
         ensures stands { MayStand (question self.now.space (F.admits self.now.family.now) self.now.from self.now.stop) result }
     {
-        match self.next_son(&slots, 0, rank) {
-            Son::At(place, rank) => {
+        match self.next_child(&slots, 0, rank) {
+            Child::At(place, rank) => {
                 slots.push(place);
                 Some(Place { slots, rank })
             }
-            Son::Nowhere(rank) => self.climb(slots, rank),
+            Child::Nowhere(rank) => self.climb(slots, rank),
         }
     }
 

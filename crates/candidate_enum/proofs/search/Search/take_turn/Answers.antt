@@ -23,8 +23,8 @@ climb-requires-clause-done g c =
     let q = question c.args.self.now.space (g.F.Family.admits c.args.self.now.family.now) c.args.self.now.from c.args.self.now.stop in
     (refused q c.args.place.slots.items c.args.place.rank c.completions.result c.requires.search c.requires.stands (sym c.may_pass.ensures ∙ c.if-not-may_pass.true) c.completions.ensures).1
 
-pub descend-requires-clause-father : goal.descend-requires-clause-father
-descend-requires-clause-father g c =
+pub descend-requires-clause-parent : goal.descend-requires-clause-parent
+descend-requires-clause-parent g c =
     let q = question c.args.self.now.space (g.F.Family.admits c.args.self.now.family.now) c.args.self.now.from c.args.self.now.stop in
     let short : length c.args.place.slots.items < c.args.self.now.space.members = (let n = c.len.ensures.value in let lt = c.if-len-self.true in omega arith) in
     (deeper q c.args.place.slots.items c.args.place.rank c.requires.search c.requires.stands (sym c.may_pass.ensures ∙ c.if-not-may_pass.false) short).1

@@ -106,12 +106,12 @@ some_inside : {A : Type 0} (x y : A) → (let l : Option A = Some x in l ≡ Som
 some_inside x y e = search rules
 
 -- the list of a rank within the block of p begins with p
-pub list_at : (s : Space) (p : List (Option ℕ)) (r : ℕ) → AllImages s.images p → length p ≤ s.members → r < length (ends s p) →
-    (e : List (Option ℕ)) × (slice_get (ends s p) r ≡ Some e) × (slice_get (lists_of s) (base_of s p + r) ≡ Some (p ++ e))
-list_at s p r a short h =
-    let e = get_or (ends s p) r [] in
-    let here : slice_get (ends s p) r ≡ Some (get_or (ends s p) r []) = slice_get-get_or (ends s p) r [] h in
-    (e, here, (block_of s p a short).at r h ∙ ap (option_map (λ l. p ++ l)) here)
+pub list_at : (s : Space) (p : List (Option ℕ)) (r : ℕ) → AllImages s.images p → length p ≤ s.members → base_of s p ≤ r → r < base_of s p + length (ends s p) →
+    (e : List (Option ℕ)) × (slice_get (lists_of s) r ≡ Some (p ++ e))
+list_at s p r a short lo hi = (get_or (ends s p) (r - base_of s p) [], here (r - base_of s p) (omega arith) (omega arith))
+  where
+    here : (k : ℕ) → base_of s p + k ≡ r → k < length (ends s p) → slice_get (lists_of s) r ≡ Some (p ++ get_or (ends s p) k [])
+    here k e h = ap (slice_get (lists_of s)) (sym e) ∙ (block_of s p a short).at k h ∙ ap (option_map (λ l. p ++ l)) (slice_get-get_or (ends s p) k [] h)
 
 -- a list that begins with p has a rank within its block
 pub record Within (base count r : ℕ) : Type 0 where

@@ -97,17 +97,24 @@ part_refused q p e h =
     let long : length (p ++ e) ≡ length p + length e = length-append p e in
     not_all_numbers (λ k. q.admits (take k (p ++ e))) 0 (length (p ++ e) + 1) (length p) (omega arith) (omega arith) (ap q.admits (take_at p e (length p) refl) ∙ h)
 
+-- a block of refused leaves
+skip_block : (q : Question) (b n : ℕ) → ((r : ℕ) → b ≤ r → r < b + n → (l : List (Option ℕ)) × (slice_get (lists_of q.space) r ≡ Some l) × (all_admitted q.admits l ≡ false)) →
+    leaves_from q b ≡ leaves_from q (b + n)
+unfolding leaves_from
+skip_block q b n h =
+    let m : max q.from b + (max q.from (b + n) - max q.from b) ≡ max q.from (b + n) = omega arith in
+    pass_all q (max q.from b) q.stop (max q.from (b + n) - max q.from b) (λ r lo hi top. h r (omega arith) (omega arith))
+    ∙ ap (λ (k : ℕ). admitted_leaves q k q.stop) m
+
 -- all leaves that begin with a refused prefix
 pub leaves_refused : (q : Question) (p : List (Option ℕ)) → AllImages q.space.images p → length p ≤ q.space.members → q.admits p ≡ false →
     leaves_from q (base_of q.space p) ≡ leaves_from q (base_of q.space p + length (ends q.space p))
-unfolding leaves_from
-leaves_refused q p a short refusal =
-    let b = base_of q.space p in
-    let m : max q.from (base_of q.space p + length (ends q.space p)) ≡ max q.from (base_of q.space p) + (max q.from (base_of q.space p + length (ends q.space p)) - max q.from (base_of q.space p)) = omega arith in
-    pass_all q (max q.from b) q.stop (max q.from (b + length (ends q.space p)) - max q.from b) (λ r lo hi top.
-    let at = list_at q.space p (r - base_of q.space p) a short (omega arith) in
-    (p ++ at.0, ap (slice_get (lists_of q.space)) (let e : r ≡ base_of q.space p + (r - base_of q.space p) = omega arith in e) ∙ at.2, part_refused q p at.0 refusal))
-    ∙ ap (λ (k : ℕ). admitted_leaves q k q.stop) (sym m)
+leaves_refused q p a short refusal = skip_block q (base_of q.space p) (length (ends q.space p)) (λ r lo hi. one r (omega arith) (omega arith))
+  where
+    one : (r : ℕ) → base_of q.space p ≤ r → r < base_of q.space p + length (ends q.space p) → (l : List (Option ℕ)) × (slice_get (lists_of q.space) r ≡ Some l) × (all_admitted q.admits l ≡ false)
+    one r lo hi =
+        let at = list_at q.space p r a short lo hi in
+        (p ++ at.0, at.1, part_refused q p at.0 refusal)
 
 -- ranks outside of the range
 pub leaves_outside : (q : Question) (rank count : ℕ) → overlaps q.from q.stop rank count ≡ false → leaves_from q rank ≡ leaves_from q (rank + count)

@@ -33,8 +33,8 @@ impl<'a, F: Family> Model for Survivors<'a, F> {
 }
 
 impl<'a, F: Family> Survivors<'a, F> {
-    /// The walk of the ranks from `from` up to and not including `stop`. Its allowance is at most
-    /// the tests of the empty prefix.
+    /// The walk of the ranks from `from` up to and not including `stop`, which is at most the
+    /// total of the space. Its allowance is at most the tests of the empty prefix.
     pub fn start(family: &'a F, from: u64, stop: u64) -> Survivors<'a, F>
         requires images { (F.space_of family.now).images ≤ MOST }
         requires members { (F.space_of family.now).members ≤ MOST }
@@ -69,7 +69,8 @@ impl<'a, F: Family> Survivors<'a, F> {
     }
 
     /// The next leaf, or None exactly where none is left. It counts a step for each test of a
-    /// prefix, and lowers the allowance by at least as much.
+    /// prefix, and lowers the allowance by as much: so a whole walk takes no more tests than its
+    /// allowance at the start.
     pub fn advance<L: Ledger>(&mut self, steps: &mut Steps<L>) -> Option<Leaf>
         ensures leaf { MatchOption result ((self.old.leaves ≡ []) × (self.new.leaves ≡ [])) (λ r. self.old.leaves ≡ r ∷ self.new.leaves) }
         ensures cost { (steps.new - steps.old) + self.new.allowance ≡ self.old.allowance }

@@ -61,9 +61,8 @@ impl<'a, F: Family> Search<'a, F> {
         ensures { IsChild (question self.now.space (F.admits self.now.family.now) self.now.from self.now.stop) parent.now.items first rank result }
     {
         let mut at = rank;
-        let unused = self.space.image_ways(parent.as_slice());
         for image in first..self.space.images {
-            let count = self.space.ways_of_image(parent.as_slice(), image, unused);
+            let count = self.space.completions_with(parent.as_slice(), Some(image));
             if meets_range(self.from, self.stop, at, count) {
                 return Child::At(Some(image), at);
             }
@@ -72,7 +71,7 @@ impl<'a, F: Family> Search<'a, F> {
         if first > self.space.images {
             return Child::Nowhere(at);
         }
-        let count = self.space.empty_ways(parent.as_slice());
+        let count = self.space.completions_with(parent.as_slice(), None);
         if meets_range(self.from, self.stop, at, count) {
             return Child::At(None, at);
         }

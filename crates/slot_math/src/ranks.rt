@@ -1,7 +1,7 @@
 // The list of a rank, and the rank of a list.
-ghost use Rattle.std.specs.Prelude.{◌≡◌, ◌≤◌, ◌<◌, ◌+◌, ◌++◌, ◌∷◌, [], None, Some, length, slice_get};
+ghost use Rattle.std.specs.Prelude.{◌≡◌, ◌≤◌, ◌<◌, ◌+◌, ◌++◌, ◌∷◌, [], None, Some, length, filter, slice_get};
 ghost use Rattle.raid_terms.specs.SlotLists.{stands, empties};
-ghost use Rattle.slot_math.specs.Space.{lists_of, rank_in};
+ghost use Rattle.slot_math.specs.Space.{begins, lists_of, rank_in};
 ghost use Rattle.slot_math.specs.Ways.{ends, images_before, before, is_listed, IsImageWays, IsPlace, IsStart};
 
 use crate::counts::ways_of;
@@ -10,10 +10,10 @@ use crate::space::Space;
 use raid_params::{MOST, Slots};
 
 impl Space {
-    /// How many lists of the space begin with the prefix and then hold one image that is not in
-    /// it: as many for each such image.
+    // How many lists go on from these places with one image that is not among them: as many for
+    // each such image.
     #[tactic(auto, using(crate::proofs::Fronts::image_ways_are))]
-    pub fn image_ways(&self, prefix: &[Option<u8>]) -> u128
+    fn image_ways(&self, prefix: &[Option<u8>]) -> u128
         requires images { self.now.images ≤ MOST }
         requires members { self.now.members ≤ MOST }
         requires short { length prefix.now < self.now.members }
@@ -27,10 +27,9 @@ impl Space {
         ways_of(self.low, self.high, free as u8, left as u8, empty as u8)
     }
 
-    /// How many lists of the space begin with the prefix and then hold this image: none where it
-    /// is in the prefix, and else `ways`, which `image_ways` gives.
+    // How many lists go on from these places with this image, where so many do with an unused one.
     #[tactic(auto, using(crate::proofs::Fronts::used_image))]
-    pub fn ways_of_image(&self, prefix: &[Option<u8>], image: u8, ways: u128) -> u128
+    fn ways_of_image(&self, prefix: &[Option<u8>], image: u8, ways: u128) -> u128
         requires start { IsStart self.now prefix.now }
         requires image { image < self.now.images }
         requires ways { IsImageWays self.now prefix.now ways }
@@ -39,9 +38,9 @@ impl Space {
         if holds_image(prefix, image) { 0 } else { ways }
     }
 
-    /// How many lists of the space begin with the prefix and then with an empty place.
+    // How many lists go on from these places with an empty one.
     #[tactic(auto, using(crate::proofs::Fronts::empty_place))]
-    pub fn empty_ways(&self, prefix: &[Option<u8>]) -> u128
+    fn empty_ways(&self, prefix: &[Option<u8>]) -> u128
         requires images { self.now.images ≤ MOST }
         requires members { self.now.members ≤ MOST }
         requires short { length prefix.now < self.now.members }
@@ -58,6 +57,30 @@ impl Space {
             left as u8,
             (empty + 1) as u8,
         )
+    }
+
+    /// How many lists of the space begin with the prefix and then hold this in the next place. The
+    /// prefix has fewer places than `members`, and its images are different ones of the space. It
+    /// is the number that `completions` gives for the longer prefix, with less work.
+    #[tactic(auto, using(crate::proofs::Fronts::used_image, crate::proofs::Completions::begun_with))]
+    pub fn completions_with(&self, prefix: &[Option<u8>], place: Option<u8>) -> u128
+        requires images { self.now.images ≤ MOST }
+        requires members { self.now.members ≤ MOST }
+        requires short { length prefix.now < self.now.members }
+        requires start { IsStart self.now prefix.now }
+        requires place { IsPlace self.now.images place }
+        ensures { result ≡ length (filter (begins (prefix.now ++ place ∷ [])) (lists_of self.now)) }
+    {
+        match place {
+            None => self.empty_ways(prefix),
+            Some(image) => {
+                if holds_image(prefix, image) {
+                    0
+                } else {
+                    self.image_ways(prefix)
+                }
+            }
+        }
     }
 
     // What stands in the next place of the list that goes on from these places and has this rank

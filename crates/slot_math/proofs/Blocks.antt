@@ -64,7 +64,7 @@ stands_front (Some k ∷ l) (suc n) i h = elim (cases_Bool (i == k)) [
   | inr f ↦ ap (λ (b : Bool). b || stands i (take n l)) f ∙ stands_front l n i (ap (λ (b : Bool). b || stands i l) (sym f) ∙ h)
 ]
 
-distinct_front : (l : List (Option ℕ)) (n : ℕ) → is_distinct l ≡ true → is_distinct (take n l) ≡ true
+pub distinct_front : (l : List (Option ℕ)) (n : ℕ) → is_distinct l ≡ true → is_distinct (take n l) ≡ true
 unfolding is_distinct
 distinct_front l zero h = refl
 distinct_front [] (suc n) h = refl
@@ -73,7 +73,7 @@ distinct_front (Some i ∷ l) (suc n) h =
     let parts = and_parts (not (stands i l)) (is_distinct l) h in
     ap₂ (λ (a b : Bool). not a && b) (stands_front l n i (not-true (stands i l) parts.0)) (distinct_front l n parts.1)
 
-images_front : (m : ℕ) (l : List (Option ℕ)) (n : ℕ) → AllImages m l → AllImages m (take n l)
+pub images_front : (m : ℕ) (l : List (Option ℕ)) (n : ℕ) → AllImages m l → AllImages m (take n l)
 images_front m l zero a = tt
 images_front m [] (suc n) a = tt
 images_front m (None ∷ l) (suc n) a = images_front m l n a

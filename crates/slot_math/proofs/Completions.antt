@@ -1,14 +1,15 @@
 -- How many lists of a space begin with a prefix.
-use Rattle.std.proofs.Common.{nat_lt, ◌==◌, ℕ, ◌≡◌, ◌<◌, ◌≤◌, ◌+◌, ◌-◌, List, [], ◌∷◌, ◌++◌, length, filter, refl, sym, ap, ap₂, ◌∙◌, arith, Bool, true, false, ◌&&◌, cond, Option, Some, None, inl, inr, rules}
+use Rattle.std.proofs.Common.{nat_lt, ◌==◌, ℕ, ◌≡◌, ◌<◌, ◌≤◌, ◌+◌, ◌-◌, List, [], ◌∷◌, ◌++◌, length, filter, refl, sym, ap, ap₂, ◌∙◌, arith, Bool, true, false, ◌&&◌, cond, Option, Some, None, inl, inr, rules, length-append}
 use Rattle.std.specs.List.{AllByRecursion}
 use Rattle.std.proofs.lemmas.Bool.{and_parts, cases_Bool, eqb-true, ltb-true, lt-ltb}
 use Rattle.raid_terms.specs.SlotLists.{all_lists, is_distinct, empties, is_kept}
 use Rattle.slot_math.specs.Space.{begins, same_place, lists_of}
-use Rattle.slot_math.specs.Ways.{AllImages, are_images, ends, ways}
+use Rattle.slot_math.specs.Ways.{AllImages, IsPlace, IsStart, are_images, ends, ways}
 use Rattle.slot_math.specs.declared.space.Space.{Space}
 use Rattle.slot_math.proofs.Sums.{passing, length-filter}
 use Rattle.slot_math.proofs.Begins.{passing_begins}
 use Rattle.slot_math.proofs.Ends.{ends_are, no_ends}
+use Rattle.slot_math.proofs.Fronts.{all_images_more}
 use Rattle.slot_math.proofs.Listed.{each_list, each_more}
 
 -- a filter of a filter
@@ -22,7 +23,7 @@ passing_filter {A} f g (x ∷ xs) =
     ]
 
 -- those that begin with p are its ends
-begun : (s : Space) (p : List (Option ℕ)) → length p ≤ s.members → AllImages s.images p → length (filter (begins p) (lists_of s)) ≡ length (ends s p)
+pub begun : (s : Space) (p : List (Option ℕ)) → length p ≤ s.members → AllImages s.images p → length (filter (begins p) (lists_of s)) ≡ length (ends s p)
 unfolding ends
 begun s p short ok =
     length-filter (begins p) (lists_of s)
@@ -102,3 +103,10 @@ none_twice s p short ok d = sym (begun s p short (all_images s.images p ok) ∙ 
 pub completed : (s : Space) (p : List (Option ℕ)) → length p ≤ s.members → are_images s.images p ≡ true → is_distinct p ≡ true →
     ways s.low s.high (s.images - (length p - empties p)) (s.members - length p) (empties p) ≡ length (filter (begins p) (lists_of s))
 completed s p short ok d = sym (begun s p short (all_images s.images p ok) ∙ ends_are s p (all_images s.images p ok) d)
+
+-- with one place more
+pub begun_with : (s : Space) (p : List (Option ℕ)) (q : Option ℕ) (n : ℕ) → IsStart s p → IsPlace s.images q → length p < s.members → n ≡ length (ends s (p ++ q ∷ [])) →
+    n ≡ length (filter (begins (p ++ q ∷ [])) (lists_of s))
+begun_with s p q n h ok short e =
+    let long : length (p ++ q ∷ []) ≡ length p + 1 = length-append p (q ∷ []) in
+    e ∙ sym (begun s (p ++ q ∷ []) (omega arith) (all_images_more s.images p q h.0 ok))

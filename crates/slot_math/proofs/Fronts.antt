@@ -3,7 +3,7 @@ use Rattle.std.proofs.Common.{ℕ, ◌≡◌, ◌<◌, ◌≤◌, ◌+◌, ◌-�
 use Rattle.std.proofs.lemmas.Bool.{cases_Bool}
 use Rattle.raid_terms.specs.SlotLists.{all_lists, is_kept, is_distinct, stands, empties}
 use Rattle.slot_math.specs.Space.{lists_of}
-use Rattle.slot_math.specs.Ways.{ends, images_before, before, IsPlace, AllImages, IsStart, ways}
+use Rattle.slot_math.specs.Ways.{ends, images_before, before, IsPlace, AllImages, IsStart, IsImageWays, ways}
 use Rattle.slot_math.specs.declared.space.Space.{Space}
 use Rattle.slot_math.proofs.Bound.{ways_fit}
 use Rattle.slot_math.proofs.Ends.{no_ends, ends_are}
@@ -156,3 +156,24 @@ images_fit s p k n m h short ok =
     let c : ways s.low s.high (s.images - (length p - empties p)) (s.members - length p) (empties p) ≤ 17 ^ 16
     = ways_fit s.low s.high (s.images - (length p - empties p)) (s.members - length p) (empties p) (omega arith) (omega arith) in
     omega arith
+
+empties_one_more : (p : List (Option ℕ)) → empties (p ++ None ∷ []) ≡ empties p + 1
+unfolding empties
+empties_one_more [] = refl
+empties_one_more (None ∷ p) = let h : empties (p ++ None ∷ []) ≡ empties p + 1 = empties_one_more p in omega arith
+empties_one_more (Some k ∷ p) = empties_one_more p
+
+-- the lists that go on with an empty place
+pub empty_place : (s : Space) (p : List (Option ℕ)) → IsStart s p →
+    ways s.low s.high (s.images - (length p - empties p)) (s.members - (length p + 1)) (empties p + 1) ≡ length (ends s (p ++ None ∷ []))
+empty_place s p h =
+    let long : length (p ++ None ∷ []) ≡ length p + 1 = length-append p (None ∷ []) in
+    let more : empties (p ++ None ∷ []) ≡ empties p + 1 = empties_one_more p in
+    let used : length (p ++ None ∷ []) - empties (p ++ None ∷ []) ≡ length p - empties p = omega arith in
+    sym (ends_are s (p ++ None ∷ []) (all_images_more s.images p None h.0 tt) (distinct_more_empty p ∙ h.1)
+    ∙ ap (λ (k : ℕ). ways s.low s.high (s.images - k) (s.members - length (p ++ None ∷ [])) (empties (p ++ None ∷ []))) used
+    ∙ ap₂ (λ (k e : ℕ). ways s.low s.high (s.images - (length p - empties p)) (s.members - k) e) long more)
+
+pub image_ways_are : (s : Space) (p : List (Option ℕ)) (n : ℕ) → IsStart s p →
+    n ≡ ways s.low s.high (s.images - (length p + 1 - empties p)) (s.members - (length p + 1)) (empties p) → IsImageWays s p n
+image_ways_are s p n h e = λ i ok new. e ∙ unused_image s p i h ok new

@@ -1,8 +1,8 @@
--- Words for the functions inside this crate.
-use Rattle.std.specs.Prelude.{ℕ, zero, suc, ◌≡◌, true, ◌+◌, ◌-◌, ◌*◌, ◌<◌, Bool, nat_le, nat_lt, ◌&&◌, ◌==◌, if◌then◌else◌, List, [], ◌∷◌, ◌++◌, length, filter}
+-- How a prefix goes on to lists of a space, and how many.
+use Rattle.std.specs.Prelude.{ℕ, zero, suc, ◌≡◌, true, false, ◌+◌, ◌-◌, ◌*◌, ◌<◌, Bool, nat_le, nat_lt, ◌&&◌, ◌==◌, if◌then◌else◌, List, [], ◌∷◌, ◌++◌, length, filter}
 use Rattle.std.specs.declared.option.Option.{Option}
 use Rattle.std.specs.declared.option.Option.TheVariants.{None, Some}
-use Rattle.raid_terms.specs.SlotLists.{all_lists, is_kept, is_distinct, empties}
+use Rattle.raid_terms.specs.SlotLists.{all_lists, is_kept, is_distinct, empties, stands}
 use Rattle.slot_math.specs.declared.space.Space.{Space}
 
 -- how many ways there are to fill m more places, with u unused images and e empty places so far
@@ -39,9 +39,9 @@ IsPlace n (Some i) = i < n
 abbrev pub IsStart : Space → List (Option ℕ) → Type 0
 IsStart s p = AllImages s.images p × (is_distinct p ≡ true)
 
--- how many lists go on from a prefix with an image that is not among its own
-abbrev pub image_ways : Space → List (Option ℕ) → ℕ
-image_ways s p = ways s.low s.high (s.images - (length p + 1 - empties p)) (s.members - (length p + 1)) (empties p)
+-- so many lists go on from a prefix with each image that is not in it
+abbrev pub IsImageWays : Space → List (Option ℕ) → ℕ → Type 0
+IsImageWays s p n = (i : ℕ) → i < s.images → stands i p ≡ false → n ≡ length (ends s (p ++ Some i ∷ []))
 
 -- the images of the list are below n
 unfoldable pub are_images : ℕ → List (Option ℕ) → Bool

@@ -1,8 +1,8 @@
 // The list of a rank, and the rank of a list.
-ghost use Rattle.std.specs.Prelude.{◌≡◌, ◌≤◌, ◌<◌, ◌+◌, ◌++◌, ◌∷◌, [], Some, length, slice_get};
+ghost use Rattle.std.specs.Prelude.{◌≡◌, ◌≤◌, ◌<◌, ◌+◌, ◌++◌, ◌∷◌, [], None, Some, length, filter, slice_get};
 ghost use Rattle.raid_terms.specs.SlotLists.{stands, empties};
-ghost use Rattle.slot_math.specs.Space.{lists_of, rank_in};
-ghost use Rattle.slot_math.specs.Ways.{ends, images_before, before, image_ways, is_listed, IsPlace, IsStart};
+ghost use Rattle.slot_math.specs.Space.{begins, lists_of, rank_in};
+ghost use Rattle.slot_math.specs.Ways.{ends, images_before, before, is_listed, IsImageWays, IsPlace, IsStart};
 
 use crate::counts::ways_of;
 use crate::places::{all_different, all_images, empty_count, holds_image};
@@ -10,12 +10,15 @@ use crate::space::Space;
 use raid_params::{MOST, Slots};
 
 impl Space {
-    // How many lists go on from these places with one unused image.
+    // How many lists go on from these places with one image that is not among them: as many for
+    // each such image.
+    #[tactic(auto, using(crate::proofs::Fronts::image_ways_are))]
     fn image_ways(&self, prefix: &[Option<u8>]) -> u128
         requires images { self.now.images ≤ MOST }
         requires members { self.now.members ≤ MOST }
         requires short { length prefix.now < self.now.members }
-        ensures { result ≡ image_ways self.now prefix.now }
+        requires start { IsStart self.now prefix.now }
+        ensures { IsImageWays self.now prefix.now result }
     {
         let empty = empty_count(prefix);
         let used = prefix.len() + 1 - empty;
@@ -24,15 +27,60 @@ impl Space {
         ways_of(self.low, self.high, free as u8, left as u8, empty as u8)
     }
 
-    // How many lists go on from these places with this image, where one with an unused image do.
-    #[tactic(auto, using(crate::proofs::Fronts::used_image, crate::proofs::Fronts::unused_image))]
+    // How many lists go on from these places with this image, where so many do with an unused one.
+    #[tactic(auto, using(crate::proofs::Fronts::used_image))]
     fn ways_of_image(&self, prefix: &[Option<u8>], image: u8, ways: u128) -> u128
         requires start { IsStart self.now prefix.now }
         requires image { image < self.now.images }
-        requires ways { ways ≡ image_ways self.now prefix.now }
+        requires ways { IsImageWays self.now prefix.now ways }
         ensures { result ≡ length (ends self.now (prefix.now ++ Some image ∷ [])) }
     {
         if holds_image(prefix, image) { 0 } else { ways }
+    }
+
+    // How many lists go on from these places with an empty one.
+    #[tactic(auto, using(crate::proofs::Fronts::empty_place))]
+    fn empty_ways(&self, prefix: &[Option<u8>]) -> u128
+        requires images { self.now.images ≤ MOST }
+        requires members { self.now.members ≤ MOST }
+        requires short { length prefix.now < self.now.members }
+        requires start { IsStart self.now prefix.now }
+        ensures { result ≡ length (ends self.now (prefix.now ++ None ∷ [])) }
+    {
+        let empty = empty_count(prefix);
+        let free = (self.images as usize).saturating_sub(prefix.len() - empty);
+        let left = self.members as usize - (prefix.len() + 1);
+        ways_of(
+            self.low,
+            self.high,
+            free as u8,
+            left as u8,
+            (empty + 1) as u8,
+        )
+    }
+
+    /// How many lists of the space begin with the prefix and then hold this in the next place. The
+    /// prefix has fewer places than `members`, and its images are different ones of the space. It
+    /// is the number that `completions` gives for the longer prefix, with less work.
+    #[tactic(auto, using(crate::proofs::Fronts::used_image, crate::proofs::Completions::begun_with))]
+    pub fn completions_with(&self, prefix: &[Option<u8>], place: Option<u8>) -> u128
+        requires images { self.now.images ≤ MOST }
+        requires members { self.now.members ≤ MOST }
+        requires short { length prefix.now < self.now.members }
+        requires start { IsStart self.now prefix.now }
+        requires place { IsPlace self.now.images place }
+        ensures { result ≡ length (filter (begins (prefix.now ++ place ∷ [])) (lists_of self.now)) }
+    {
+        match place {
+            None => self.empty_ways(prefix),
+            Some(image) => {
+                if holds_image(prefix, image) {
+                    0
+                } else {
+                    self.image_ways(prefix)
+                }
+            }
+        }
     }
 
     // What stands in the next place of the list that goes on from these places and has this rank

@@ -1,0 +1,4 @@
+pub mod Survivors
+pub mod Tests
+pub mod Left
+pub mod Laws

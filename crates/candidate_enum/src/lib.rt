@@ -1,0 +1,21 @@
+//! A walk over the lists of a space that leaves out what a family refuses.
+//!
+//! A [`Family`] means a space of slot lists and a test of prefixes. [`Survivors`] gives the lists
+//! of a range of ranks whose every prefix passes that test, in order of rank. It goes from one
+//! untested prefix to the next by counts, keeps no list of ranks, and takes no memory.
+#![tactic(auto)]
+
+mod family;
+mod laws;
+mod leaf;
+mod place;
+mod search;
+mod survivors;
+
+pub use family::Family;
+pub use laws::{survivors_are_lists, survivors_by_rank};
+pub use leaf::Leaf;
+pub use survivors::Survivors;
+
+#[cfg(test)]
+mod tests;

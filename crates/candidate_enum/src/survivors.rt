@@ -1,0 +1,104 @@
+// The walk.
+ghost use Rattle.std.specs.Prelude.{◌≡◌, ◌+◌, ◌-◌, ◌≤◌, [], ◌∷◌, length, MatchOption};
+ghost use Rattle.std.specs.Iterator.{YieldsFirst, item_count};
+ghost use Rattle.slot_math.specs.Space.{lists_of};
+ghost use Rattle.candidate_enum.specs.Survivors.{question, survivors};
+ghost use Rattle.candidate_enum.specs.Tests.{tests};
+ghost use Rattle.candidate_enum.specs.Left.{Left, IsTurn, IsSearch, MayStand, left_from, nothing_left};
+
+use crate::family::Family;
+use crate::leaf::Leaf;
+use crate::place::Place;
+use crate::search::Search;
+use raid_params::MOST;
+use std::marker::Model;
+use std::sync::ledger::Ledger;
+use step_count::Steps;
+
+/// A walk over the lists of a family's space of ranks from `from` up to and not including `stop`:
+/// it gives those whose every prefix, the empty and the whole one included, the family admits, in
+/// order of rank. It can be left and gone on with at any rank.
+#[derive(Drop)]
+pub struct Survivors<'a, F: Family> {
+    search: Search<'a, F>,
+    place: Option<Place>,
+}
+
+impl<'a, F: Family> Model for Survivors<'a, F> {
+    ghost Value = { Left };
+
+    ghost view = { λ s. left_from (question s.search.space (F.admits s.search.family.now) s.search.from s.search.stop) s.place };
+
+    ghost invariant = { λ s. (s.search.space ≡ F.space_of s.search.family.now) × IsSearch s.search.space s.search.from s.search.stop × MayStand (question s.search.space (F.admits s.search.family.now) s.search.from s.search.stop) s.place };
+}
+
+impl<'a, F: Family> Survivors<'a, F> {
+    /// The walk of the ranks from `from` up to and not including `stop`, which is at most the
+    /// total of the space. Its allowance is at most the tests of the empty prefix.
+    pub fn start(family: &'a F, from: u64, stop: u64) -> Survivors<'a, F>
+        requires images { (F.space_of family.now).images ≤ MOST }
+        requires members { (F.space_of family.now).members ≤ MOST }
+        requires ordered { from ≤ stop }
+        requires ranks { stop ≤ length (lists_of (F.space_of family.now)) }
+        ensures leaves { result.leaves ≡ survivors (question (F.space_of family.now) (F.admits family.now) from stop) }
+        ensures allowance { result.allowance ≤ tests (question (F.space_of family.now) (F.admits family.now) from stop) (F.space_of family.now).members [] }
+    {
+        let space = family.space();
+        let search = Search {
+            family,
+            space,
+            from,
+            stop,
+        };
+        let place = search.first_place();
+        Survivors { search, place }
+    }
+
+    // One test, or none where the walk is at its end.
+    fn go_on(&mut self) -> Option<Option<Leaf>>
+        ensures { MatchOption result ((self.old ≡ nothing_left) × (self.new ≡ nothing_left)) (λ leaf. IsTurn self.old leaf self.new) }
+    {
+        match self.place.take() {
+            None => None,
+            Some(place) => {
+                let turn = self.search.take_turn(place);
+                self.place = turn.place;
+                Some(turn.leaf)
+            }
+        }
+    }
+
+    /// The next leaf, or None exactly where none is left. It counts a step for each test of a
+    /// prefix, and lowers the allowance by as much: so a whole walk takes no more tests than its
+    /// allowance at the start.
+    pub fn advance<L: Ledger>(&mut self, steps: &mut Steps<L>) -> Option<Leaf>
+        ensures leaf { MatchOption result ((self.old.leaves ≡ []) × (self.new.leaves ≡ [])) (λ r. self.old.leaves ≡ r ∷ self.new.leaves) }
+        ensures cost { (steps.new - steps.old) + self.new.allowance ≡ self.old.allowance }
+        ensures counts { steps.old ≤ steps.new }
+    {
+        while let Some(leaf) = self.go_on() {
+            steps.tick();
+            if leaf.is_some() {
+                return leaf;
+            }
+        }
+        None
+    }
+}
+
+impl<'a, F: Family> Iterator for Survivors<'a, F> {
+    type Item = Leaf;
+
+    ghost next_gives = { YieldsFirst (λ s. s.leaves) };
+
+    ghost remaining = { item_count (λ s. s.leaves) };
+
+    fn next(&mut self) -> Option<Leaf> {
+        while let Some(leaf) = self.go_on() {
+            if leaf.is_some() {
+                return leaf;
+            }
+        }
+        None
+    }
+}

@@ -1,0 +1,1 @@
+// Faults in mid-stream.

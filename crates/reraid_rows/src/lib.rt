@@ -1,0 +1,10 @@
+//! Runs of the whole program over objects in memory: listings whose answers were worked out by
+//! hand, refusals, and faults in mid-stream.
+#![tactic(auto)]
+
+#[cfg(test)]
+mod faults;
+#[cfg(test)]
+mod listings;
+#[cfg(test)]
+mod outside;

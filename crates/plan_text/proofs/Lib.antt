@@ -1,2 +1,4 @@
 pub mod Numbers
 pub mod Commas
+pub mod OneSpelling
+pub mod ThinPlans

@@ -1,3 +1,4 @@
 pub mod Spelling
 pub mod PlanText
 pub mod SetText
+pub mod ThinText

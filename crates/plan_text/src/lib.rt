@@ -6,6 +6,7 @@
 //! members as images.
 #![tactic(auto)]
 
+mod fields;
 mod number;
 mod plan;
 mod set;

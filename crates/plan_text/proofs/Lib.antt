@@ -2,3 +2,4 @@ pub mod Numbers
 pub mod Commas
 pub mod OneSpelling
 pub mod ThinPlans
+pub mod Examples

@@ -9,6 +9,7 @@ use crate::fields::{Shape, read_images, read_limits, read_shape};
 use arrayvec::ArrayVec;
 use raid_params::{Bounds, Level, MOST, MOST_CHUNKS, Pattern, Syndrome};
 use std::alloc::Global;
+use thiserror::Error;
 
 /// How much of the members is tested, and how much of it may be unsound.
 #[derive(Clone, Copy)]
@@ -31,11 +32,13 @@ pub struct Plan {
 }
 
 /// Why a text gives no plan.
-#[derive(Clone, Copy, Debug, PartialEq, Eq)]
+#[derive(Clone, Copy, Debug, Error, PartialEq, Eq)]
 pub enum PlanFault {
     /// The text is no plan of those that are read today.
+    #[error("the text is no plan that this version reads")]
     NotBuilt,
     /// Want of memory.
+    #[error("not enough memory")]
     Memory,
 }
 

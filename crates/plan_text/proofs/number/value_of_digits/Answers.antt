@@ -1,6 +1,4 @@
-use Rattle.std.proofs.Common.{◌≡◌, ◌<◌, ◌+◌, ◌*◌, ◌≤◌, ◌^◌, length, get_or, take, arith, ◌∙◌}
-use Rattle.std.specs.Char.{digit_value}
-use Rattle.std.specs.Str.Parse.{digits_value}
+use Rattle.std.proofs.Common.{◌≡◌, ◌+◌, ◌*◌, arith, ◌∙◌}
 use Rattle.plan_text.proofs.Numbers.{spells_none, only_digits, at_least, one_more}
 use Rattle.plan_text.proofs.number.value_of_digits.Goals as goal
 

@@ -30,7 +30,7 @@ pub struct Outside {
 }
 
 /// Three images of two sectors, each of one repeated byte: 1 and 2, 3 and 4, 2 and `last`.
-pub fn outside(alloc: Global, last: u8, plan: &[u8]) -> Result<Outside, Memory>
+pub fn three_images(alloc: Global, last: u8, plan: &[u8]) -> Result<Outside, Memory>
     ensures { IfOk result (λ o. AreReady o.images o.plan o.out o.notes) }
 {
     let mut images = MemImages::new(alloc)?;

@@ -8,3 +8,5 @@ mod faults;
 mod listings;
 #[cfg(test)]
 mod outside;
+#[cfg(test)]
+mod pieces;

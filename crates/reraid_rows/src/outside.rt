@@ -3,9 +3,11 @@ ghost use Rattle.std.specs.Prelude.{◌≡◌, [], ◌∷◌, ◌++◌, codes, I
 ghost use Rattle.reraid_cli.specs.Words.{names_after};
 ghost use Rattle.reraid_rows.specs.Ready.{AreReady};
 
+use crate::pieces::Pieces;
 use image_source::{MemImages, MemSink, MemSource, Memory};
 use reraid_cli::{Word, reraid};
 use std::alloc::Global;
+use std::mem::replace;
 use std::thread::Threads;
 
 /// The plan of the first listing: three images of two sectors, RAID 5 left-symmetric, chunks of
@@ -67,6 +69,28 @@ pub fn list<R: Threads + Sync>(
         alloc,
         &words,
         &mut outside.plan,
+        &mut outside.images,
+        &mut outside.out,
+        &mut outside.notes,
+    ))
+}
+
+/// The same, with the plan in pieces of a few bytes.
+pub fn list_in_pieces<R: Threads + Sync>(
+    rt: &R,
+    alloc: Global,
+    ask: &Ask,
+    outside: &mut Outside,
+) -> Result<u8, Memory>
+    requires { AreReady outside.old.images outside.old.plan outside.old.out outside.old.notes }
+{
+    let words = words_of(alloc, ask)?;
+    let mut plan = Pieces::of(replace(&mut outside.plan, MemSource::new(alloc, b"")?));
+    Ok(reraid(
+        rt,
+        alloc,
+        &words,
+        &mut plan,
         &mut outside.images,
         &mut outside.out,
         &mut outside.notes,

@@ -15,6 +15,7 @@ use Rattle.raid_terms.specs.Parity.{is_q, is_sound, is_sound_column, column_of}
 use Rattle.pq_parity.specs.Known.{IsKnown}
 use Rattle.row_scan.specs.Block.{block_column, is_sound_in, unsound_in, IsTestable}
 use Rattle.row_scan.proofs.Counting.{all_same, map_same, count_suc, count_grows}
+use Rattle.row_scan.specs.declared.blocks.TheConstants.{BLOCK_BYTES}
 
 -- there is a cell for each slot
 cells_length : (head : Head) (row slot : ℕ) (slots : List (Option ℕ)) → length (cells_from head row slot slots) ≡ length slots
@@ -52,7 +53,7 @@ sound_same cells f g same =
 -- a row that was gathered is sound where its sectors in the blocks are
 pub gathered_sound : (geo : Geometry) (sectors row : List ℕ) (first j : ℕ) (cells : List Cell) →
     cells ≡ row_cells geo ((first + j) / geo.head.chunk) →
-    ((i x : ℕ) → i < length geo.slots.items → x < 512 → get_or row (512 * i + x) 0 ≡ get_or sectors (131072 * i + (512 * j + x)) 0) →
+    ((i x : ℕ) → i < length geo.slots.items → x < 512 → get_or row (512 * i + x) 0 ≡ get_or sectors (BLOCK_BYTES * i + (512 * j + x)) 0) →
     is_sound cells (column_of (length cells) row) ≡ is_sound_in geo sectors first j
 unfolding is_sound_in
 gathered_sound geo sectors row first j cells are gathered =
@@ -60,7 +61,7 @@ gathered_sound geo sectors row first j cells are gathered =
     ap (λ n. is_sound cells (column_of n row)) count
     ∙ ap (λ cs. is_sound cs (column_of (length geo.slots.items) row)) are
     ∙ sound_same (row_cells geo ((first + j) / geo.head.chunk)) (column_of (length geo.slots.items) row) (block_column (length geo.slots.items) sectors j)
-    (λ x inside. map_same (λ i. get_or row (512 * i + x) 0) (λ i. get_or sectors (131072 * i + (512 * j + x)) 0) 0 (length geo.slots.items) (λ i low high. gathered i x (omega arith) inside))
+    (λ x inside. map_same (λ i. get_or row (512 * i + x) 0) (λ i. get_or sectors (BLOCK_BYTES * i + (512 * j + x)) 0) 0 (length geo.slots.items) (λ i low high. gathered i x (omega arith) inside))
 
 -- no row, none unsound
 pub unsound_none : (geo : Geometry) (sectors : List ℕ) (first : ℕ) → unsound_in geo sectors first 0 ≡ 0

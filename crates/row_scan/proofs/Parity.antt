@@ -13,6 +13,7 @@ use Rattle.image_source.proofs.Reading.{reads_join, reads_up}
 use Rattle.row_scan.specs.Block.{block_column, HoldMembers, is_sound_in, unsound_in, IsLeft}
 use Rattle.row_scan.proofs.Counting.{count_suc, count_grows}
 use Rattle.row_scan.proofs.Columns.{sound_same, unsound_none, unsound_more}
+use Rattle.row_scan.specs.declared.blocks.TheConstants.{BLOCK_BYTES}
 
 -- a function of places that gives what another gives of the elements there
 map_places : (f : Option ℕ → ℕ) (g : ℕ → ℕ) (a : ℕ) (xs : List (Option ℕ)) → ((i : ℕ) → i < length xs → g (a + i) ≡ f (get_or xs i None)) → map g (range_with_len a (length xs)) ≡ map f xs
@@ -33,7 +34,7 @@ held_sound : (images : List (List ℕ)) (geo : Geometry) (first count : ℕ) (se
 unfolding is_sound_in
 held_sound images geo first count sectors j hold below =
     sound_same (row_cells geo ((first + j) / geo.head.chunk)) (block_column (length geo.slots.items) sectors j) (member_column images geo (first + j))
-    (λ x inside. map_places (member_byte images geo.head.offset (first + j) x) (λ i. get_or sectors (131072 * i + (512 * j + x)) 0) 0 geo.slots.items
+    (λ x inside. map_places (member_byte images geo.head.offset (first + j) x) (λ i. get_or sectors (BLOCK_BYTES * i + (512 * j + x)) 0) 0 geo.slots.items
     (λ i within. let at : 0 + i ≡ i = omega arith in rw at (hold i (512 * j + x) within (omega arith)) ∙ later_byte images geo.head.offset first j x (get_or geo.slots.items i None)))
 
 -- the unsound rows of the block come after those before it

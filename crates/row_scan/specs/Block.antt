@@ -8,10 +8,11 @@ use Rattle.std.specs.declared.option.Option.TheVariants.{None}
 use Rattle.raid_params.specs.declared.types.Geometry.{Geometry}
 use Rattle.raid_terms.specs.Cells.{row_cells}
 use Rattle.raid_terms.specs.Parity.{is_sound, member_byte, unsound_rows}
+use Rattle.row_scan.specs.declared.blocks.TheConstants.{BLOCK_BYTES}
 
 -- column x of the sectors number j of so many blocks
 abbrev pub block_column : ℕ → List ℕ → ℕ → ℕ → List ℕ
-block_column members sectors j x = map (λ i. slice_index sectors (131072 * i + (512 * j + x))) (range_with_len 0 members)
+block_column members sectors j x = map (λ i. slice_index sectors (BLOCK_BYTES * i + (512 * j + x))) (range_with_len 0 members)
 
 -- the sectors number j of the blocks are a sound row, where the blocks begin at member sector `first`
 unfoldable pub is_sound_in : Geometry → List ℕ → ℕ → ℕ → Bool
@@ -24,7 +25,7 @@ unsound_in geo sectors first n = count_by (λ j. not (is_sound_in geo sectors fi
 -- the blocks of the first n slots hold so many bytes of their members from sector `first` on
 abbrev pub HoldMembers : List (List ℕ) → Geometry → ℕ → ℕ → ℕ → List ℕ → Type 0
 HoldMembers images geo first bytes n sectors =
-    (i y : ℕ) → i < n → y < bytes → slice_index sectors (131072 * i + y) ≡ member_byte images geo.head.offset first y (slice_index_or geo.slots.items i None)
+    (i y : ℕ) → i < n → y < bytes → slice_index sectors (BLOCK_BYTES * i + y) ≡ member_byte images geo.head.offset first y (slice_index_or geo.slots.items i None)
 
 -- a set whose rows can be tested: its level is 0 or 5, it has as many members as slots, at least
 -- one, none of them missing, and its chunk is not empty

@@ -5,12 +5,15 @@ use image_source::{Memory, SECTOR};
 use std::alloc::Global;
 use std::marker::Model;
 
-/// The sectors of a block: 128 KiB. One read of a member then costs far less than the bytes that
-/// it brings, and the blocks of 16 members take no more than 2 MiB.
+/// The most sectors of a block, 128 KiB: a read then costs little beside the bytes that it brings,
+/// and the blocks of 16 members take 2 MiB.
 pub const BLOCK: usize = 256;
 
+/// The sectors of the first block: most sets that are wrong fail in their first rows.
+pub const FIRST_BLOCK: usize = 8;
+
 /// The bytes of a block.
-pub const BLOCK_BYTES: usize = 131_072;
+pub const BLOCK_BYTES: usize = BLOCK * SECTOR;
 
 /// Room for one block of sectors of each member. Contracts see for how many members.
 #[derive(Drop)]
@@ -24,12 +27,13 @@ pub struct Blocks {
 
 impl Model for Blocks {
     ghost use Rattle.std.specs.Prelude.{ℕ, ◌≡◌, ◌*◌, length};
+    ghost use Rattle.row_scan.specs.declared.blocks.TheConstants.{BLOCK_BYTES};
 
     ghost Value = { ℕ };
 
     ghost view = { λ b. b.members };
 
-    ghost invariant = { λ b. (length b.sectors.items ≡ 131072 * b.members) × (length b.row.items ≡ 512 * b.members) };
+    ghost invariant = { λ b. (length b.sectors.items ≡ BLOCK_BYTES * b.members) × (length b.row.items ≡ 512 * b.members) };
 }
 
 impl Blocks {

@@ -7,7 +7,7 @@ ghost use Rattle.raid_terms.specs.Parity.{member_byte};
 ghost use Rattle.row_scan.specs.Block.{HoldMembers};
 ghost use Rattle.row_scan.specs.Scan.{IsHeld};
 
-use crate::blocks::BLOCK_BYTES;
+use crate::blocks::{BLOCK, BLOCK_BYTES};
 use image_source::{Failed, Images, SECTOR};
 use raid_params::Geometry;
 
@@ -21,9 +21,9 @@ pub fn read_blocks<I: Images>(
 ) -> Result<(), Failed>
     requires held { All (IsHeld (I.seen images.old).attached (geo.now.head.offset + (first + count))) geo.now.slots.items }
     requires near { geo.now.head.offset + (first + count) < 2 ^ 55 }
-    requires sectors { 131072 * length geo.now.slots.items ≤ length sectors.old }
+    requires sectors { BLOCK_BYTES * length geo.now.slots.items ≤ length sectors.old }
     requires some { 1 ≤ count }
-    requires most { count ≤ 256 }
+    requires most { count ≤ BLOCK }
     ensures told { OnOk result (IfSome (told_all (I.seen images.old).attached) (λ bytes. HoldMembers bytes geo.now first (512 * count) (length geo.now.slots.items) sectors.new)) }
     ensures reads { OnlyReads (I.seen images.old) (I.seen images.new) (length geo.now.slots.items * count) }
     ensures cause { HasCause (I.seen images.old).faults (I.seen images.new).faults result }

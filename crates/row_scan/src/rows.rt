@@ -2,7 +2,7 @@
 ghost use Rattle.std.specs.Prelude.{ℕ, ◌≡◌, ◌+◌, ◌*◌, ◌^◌, ◌<◌, ◌≤◌, length, slice_index, MatchOption};
 ghost use Rattle.row_scan.specs.Block.{IsTestable, is_sound_in, unsound_in};
 
-use crate::blocks::BLOCK_BYTES;
+use crate::blocks::{BLOCK, BLOCK_BYTES};
 use crate::cells::cells_of;
 use image_source::SECTOR;
 use pq_parity::row_holds;
@@ -20,10 +20,10 @@ pub fn rows_left(
     left: u64,
 ) -> Option<u64>
     requires set { IsTestable geo.now }
-    requires sectors { 131072 * length geo.now.slots.items ≤ length sectors.now }
+    requires sectors { BLOCK_BYTES * length geo.now.slots.items ≤ length sectors.now }
     requires row { length row.old ≡ 512 * length geo.now.slots.items }
     requires first { first < 2 ^ 55 }
-    requires count { count ≤ 256 }
+    requires count { count ≤ BLOCK }
     ensures { MatchOption result (left < unsound_in geo.now sectors.now first count) (λ rest. unsound_in geo.now sectors.now first count + rest ≡ left) }
 {
     let mut rest = left;
@@ -38,10 +38,10 @@ pub fn rows_left(
 /// Whether the sectors number `j` of the blocks are a sound row.
 fn is_row_sound(geo: &Geometry, sectors: &[u8], row: &mut [u8], first: u64, j: usize) -> bool
     requires set { IsTestable geo.now }
-    requires sectors { 131072 * length geo.now.slots.items ≤ length sectors.now }
+    requires sectors { BLOCK_BYTES * length geo.now.slots.items ≤ length sectors.now }
     requires row { length row.old ≡ 512 * length geo.now.slots.items }
     requires first { first < 2 ^ 55 }
-    requires j { j < 256 }
+    requires j { j < BLOCK }
     ensures { result ≡ is_sound_in geo.now sectors.now first j }
 {
     let slots = geo.slots.len();
@@ -52,10 +52,10 @@ fn is_row_sound(geo: &Geometry, sectors: &[u8], row: &mut [u8], first: u64, j: u
 
 /// Copies sector `j` of each of so many blocks into `row`.
 fn gather(sectors: &[u8], row: &mut [u8], j: usize, members: usize)
-    requires sectors { 131072 * members ≤ length sectors.now }
+    requires sectors { BLOCK_BYTES * members ≤ length sectors.now }
     requires row { length row.old ≡ 512 * members }
-    requires j { j < 256 }
-    ensures { (i x : ℕ) → i < members → x < 512 → slice_index row.new (512 * i + x) ≡ slice_index sectors.now (131072 * i + (512 * j + x)) }
+    requires j { j < BLOCK }
+    ensures { (i x : ℕ) → i < members → x < 512 → slice_index row.new (512 * i + x) ≡ slice_index sectors.now (BLOCK_BYTES * i + (512 * j + x)) }
 {
     for i in 0..members {
         let at = BLOCK_BYTES * i + SECTOR * j;

@@ -7,19 +7,22 @@ ghost use Rattle.raid_terms.specs.Parity.{passes_parity, tested_rows};
 ghost use Rattle.row_scan.specs.Block.{IsLeft};
 ghost use Rattle.row_scan.specs.Scan.{EndsScan, IsScannable};
 
-use crate::blocks::{BLOCK, Blocks};
+use crate::blocks::{BLOCK, BLOCK_BYTES, Blocks, FIRST_BLOCK};
 use crate::read::read_blocks;
 use crate::rows::rows_left;
 use image_source::{Images, SECTOR};
 use plan_text::Limits;
 use raid_params::Geometry;
+use thiserror::Error;
 
 /// Why a test has no answer.
-#[derive(Clone, Copy)]
+#[derive(Clone, Copy, Debug, Drop, Error)]
 pub enum ScanFault {
     /// The images failed.
+    #[error("an image cannot be read")]
     ReadFault,
     /// Want of memory.
+    #[error("not enough memory")]
     Memory,
 }
 
@@ -40,7 +43,7 @@ pub fn parity_holds<I: Images>(
     ensures ends { IfErr result (EndsScan (I.seen images.old) (I.seen images.new)) }
     ensures blocks { blocks.new ≡ blocks.old }
 {
-    scan(
+    test_rows(
         images,
         &mut blocks.sectors,
         &mut blocks.row,
@@ -50,8 +53,9 @@ pub fn parity_holds<I: Images>(
     )
 }
 
-/// The test with room for a block of each member, and for a sector of each.
-fn scan<I: Images>(
+/// The test, with room for a block of each member and for a sector of each. The first block is
+/// small, and each later one as long as all before it, up to `BLOCK` sectors.
+fn test_rows<I: Images>(
     images: &mut I,
     sectors: &mut [u8],
     row: &mut [u8],
@@ -60,7 +64,7 @@ fn scan<I: Images>(
     limits: &Limits,
 ) -> Result<bool, ScanFault>
     requires set { IsScannable geo.now end (I.seen images.old).attached }
-    requires sectors { 131072 * length geo.now.slots.items ≤ length sectors.old }
+    requires sectors { BLOCK_BYTES * length geo.now.slots.items ≤ length sectors.old }
     requires row { 512 * length geo.now.slots.items ≤ length row.old }
     ensures told { IfOk result (λ holds. IfSome (told_all (I.seen images.old).attached) (λ bytes. holds ≡ passes_parity bytes geo.now end limits.now.window limits.now.badrows)) }
     ensures reads { OnlyReads (I.seen images.old) (I.seen images.new) (length geo.now.slots.items * tested_rows geo.now end limits.now.window) }
@@ -70,7 +74,8 @@ fn scan<I: Images>(
     let mut left = limits.badrows;
     let mut first = 0;
     while first < rows {
-        let count = (rows - first).min(BLOCK as u64);
+        let most = first.clamp(FIRST_BLOCK as u64, BLOCK as u64);
+        let count = most.min(rows - first);
         match block_left(images, sectors, row, geo, first, count, left)? {
             Some(rest) => left = rest,
             None => return Ok(false),
@@ -103,10 +108,10 @@ fn block_left<I: Images>(
     left: u64,
 ) -> Result<Option<u64>, ScanFault>
     requires set { IsScannable geo.now (geo.now.head.offset + (first + count)) (I.seen images.old).attached }
-    requires sectors { 131072 * length geo.now.slots.items ≤ length sectors.old }
+    requires sectors { BLOCK_BYTES * length geo.now.slots.items ≤ length sectors.old }
     requires row { 512 * length geo.now.slots.items ≤ length row.old }
     requires some { 1 ≤ count }
-    requires most { count ≤ 256 }
+    requires most { count ≤ BLOCK }
     ensures told { IfOk result (λ rest. IfSome (told_all (I.seen images.old).attached) (λ bytes. IsLeft bytes geo.now first count left rest)) }
     ensures reads { OnlyReads (I.seen images.old) (I.seen images.new) (length geo.now.slots.items * count) }
     ensures ends { IfErr result (EndsScan (I.seen images.old) (I.seen images.new)) }

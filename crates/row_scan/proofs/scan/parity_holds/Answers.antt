@@ -10,6 +10,6 @@ pub invariant_of-blocks : goal.invariant_of-blocks
 invariant_of-blocks g c =
     let sectors : length c.deref_mut.result.now ≡ length c.blocks-2.inside.sectors.items = ap length c.deref_mut.ensures.value in
     let row : length c.deref_mut-2.result.now ≡ length c.blocks-2.inside.row.items = ap length c.deref_mut-2.ensures.value in (
-      as_long c.blocks-2.inside.sectors.len _ c.scan.new.sectors c.blocks-2.inside.sectors.items (sym sectors ∙ c.deref_mut.ensures.len) (c.scan.auto.sectors ∙ sectors) c.blocks-2.invariant.0,
-      as_long c.blocks-2.inside.row.len _ c.scan.new.row c.blocks-2.inside.row.items (sym row ∙ c.deref_mut-2.ensures.len) (c.scan.auto.row ∙ row) c.blocks-2.invariant.1,
+      as_long c.blocks-2.inside.sectors.len _ c.test_rows.new.sectors c.blocks-2.inside.sectors.items (sym sectors ∙ c.deref_mut.ensures.len) (c.test_rows.auto.sectors ∙ sectors) c.blocks-2.invariant.0,
+      as_long c.blocks-2.inside.row.len _ c.test_rows.new.row c.blocks-2.inside.row.items (sym row ∙ c.deref_mut-2.ensures.len) (c.test_rows.auto.row ∙ row) c.blocks-2.invariant.1,
     )

@@ -3,7 +3,7 @@ use Rattle.image_source.specs.Attached.{told_all}
 use Rattle.raid_terms.specs.Parity.{tested_rows}
 use Rattle.row_scan.specs.Block.{IsLeft}
 use Rattle.row_scan.proofs.Parity.{reads_on, told_fails}
-use Rattle.row_scan.proofs.scan.scan.Goals as goal
+use Rattle.row_scan.proofs.scan.test_rows.Goals as goal
 
 pub returns-in_err-rest-clause-reads : goal.returns-in_err-rest-clause-reads
 returns-in_err-rest-clause-reads g c =

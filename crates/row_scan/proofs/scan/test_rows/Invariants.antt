@@ -2,7 +2,7 @@ use Rattle.std.proofs.Common.{◌≡◌, ◌≤◌, ◌+◌, ◌*◌, ◌-◌, l
 use Rattle.image_source.specs.Attached.{told_all}
 use Rattle.image_source.specs.Seen.{OnlyReads}
 use Rattle.raid_terms.specs.Parity.{unsound_rows}
-use Rattle.row_scan.proofs.scan.scan.Given as goal
+use Rattle.row_scan.proofs.scan.test_rows.Given as goal
 
 abbrev pub invariant-loop-first : goal.invariant-loop-first
 invariant-loop-first g l = record {

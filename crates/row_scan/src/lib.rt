@@ -3,6 +3,9 @@
 #![tactic(auto)]
 
 mod blocks;
+mod cells;
+mod read;
+mod rows;
 mod scan;
 
 pub use blocks::Blocks;

@@ -1,0 +1,90 @@
+-- The rows of a block are those of the array.
+use Rattle.std.proofs.Common.{◌≡◌, ℕ, zero, suc, ◌+◌, ◌*◌, ◌/◌, ◌<◌, ◌≤◌, Bool, false, not, cond, List, [], ◌∷◌, length, map, get_or, refl, sym, ap, ◌∙◌, arith, IfSome, Some, None}
+use Rattle.std.specs.Prelude.{nat_le, MatchOption}
+use Rattle.std.specs.List.{range_with_len}
+use Rattle.std.proofs.lemmas.Bool.Decides.{nat_tests}
+use Rattle.std.specs.declared.option.Option.{Option}
+use Rattle.raid_params.specs.declared.types.Geometry.{Geometry}
+use Rattle.raid_terms.specs.Cells.{row_cells}
+use Rattle.raid_terms.specs.Parity.{is_sound_row, member_byte, member_column, unsound_rows, tested_rows, passes_parity}
+use Rattle.std.proofs.Math.Nat.{mul-add, mul-le-mul_left}
+use Rattle.image_source.specs.Seen.{Seen, OnlyReads}
+use Rattle.image_source.proofs.Reading.{reads_join, reads_up}
+use Rattle.row_scan.specs.Block.{block_column, HoldMembers, is_sound_in, unsound_in, IsLeft}
+use Rattle.row_scan.proofs.Counting.{count_suc, count_grows}
+use Rattle.row_scan.proofs.Columns.{sound_same, unsound_none, unsound_more}
+use Rattle.row_scan.specs.declared.blocks.TheConstants.{BLOCK_BYTES}
+
+-- a function of places that gives what another gives of the elements there
+map_places : (f : Option ℕ → ℕ) (g : ℕ → ℕ) (a : ℕ) (xs : List (Option ℕ)) → ((i : ℕ) → i < length xs → g (a + i) ≡ f (get_or xs i None)) → map g (range_with_len a (length xs)) ≡ map f xs
+map_places f g a [] same = refl
+map_places f g a (x ∷ xs) same =
+    let at : a + 0 ≡ a = omega arith in
+    ap (λ (v : ℕ). v ∷ map g (range_with_len (a + 1) (length xs))) (ap g (sym at) ∙ same 0 (omega arith))
+    ∙ ap (λ (vs : List ℕ). f x ∷ vs) (map_places f g (a + 1) xs (λ i below. let on : a + 1 + i ≡ a + suc i = omega arith in ap g on ∙ same (suc i) (omega arith)))
+
+-- a byte of a later sector
+later_byte : (images : List (List ℕ)) (offset first j x : ℕ) (held : Option ℕ) → member_byte images offset first (512 * j + x) held ≡ member_byte images offset (first + j) x held
+later_byte images offset first j x None = refl
+later_byte images offset first j x (Some i) = ap (λ k. get_or (get_or images i []) k 0) (omega arith)
+
+-- a row of a block is that of the array
+held_sound : (images : List (List ℕ)) (geo : Geometry) (first count : ℕ) (sectors : List ℕ) (j : ℕ) →
+    HoldMembers images geo first (512 * count) (length geo.slots.items) sectors → j < count → is_sound_in geo sectors first j ≡ is_sound_row images geo (first + j)
+unfolding is_sound_in
+held_sound images geo first count sectors j hold below =
+    sound_same (row_cells geo ((first + j) / geo.head.chunk)) (block_column (length geo.slots.items) sectors j) (member_column images geo (first + j))
+    (λ x inside. map_places (member_byte images geo.head.offset (first + j) x) (λ i. get_or sectors (BLOCK_BYTES * i + (512 * j + x)) 0) 0 geo.slots.items
+    (λ i within. let at : 0 + i ≡ i = omega arith in rw at (hold i (512 * j + x) within (omega arith)) ∙ later_byte images geo.head.offset first j x (get_or geo.slots.items i None)))
+
+-- the unsound rows of the block come after those before it
+pub unsound_after : (images : List (List ℕ)) (geo : Geometry) (first count : ℕ) (sectors : List ℕ) (n : ℕ) →
+    HoldMembers images geo first (512 * count) (length geo.slots.items) sectors → n ≤ count → unsound_rows images geo (first + n) ≡ unsound_rows images geo first + unsound_in geo sectors first n
+unsound_after images geo first count sectors zero hold le =
+    let at : first + 0 ≡ first = omega arith in
+    rw at (omega (arith, unsound_none geo sectors first))
+unsound_after images geo first count sectors (suc n) hold le =
+    let on : first + suc n ≡ suc (first + n) = omega arith in
+    let whole = count_suc (λ t. not (is_sound_row images geo t)) 0 (first + n) (first + n) (omega arith) in
+    let block = unsound_more geo sectors first n in
+    let same = ap {B = ℕ} (λ (b : Bool). cond (not b) 1 0) (held_sound images geo first count sectors n hold (omega arith)) in
+    let before = unsound_after images geo first count sectors n hold (omega arith) in
+    let one : n + 1 ≡ suc n = omega arith in
+    let block' = rw one at block in
+    rw on (omega (arith, whole, block', same, before))
+
+-- after a block
+left_after : (images : List (List ℕ)) (geo : Geometry) (first count left : ℕ) (sectors : List ℕ) (rest : Option ℕ) →
+    HoldMembers images geo first (512 * count) (length geo.slots.items) sectors →
+    MatchOption rest (left < unsound_in geo sectors first count) (λ n. unsound_in geo sectors first count + n ≡ left) →
+    IsLeft images geo first count left rest
+left_after images geo first count left sectors None hold more = omega (arith, unsound_after images geo first count sectors count hold (omega arith))
+left_after images geo first count left sectors (Some n) hold is = omega (arith, unsound_after images geo first count sectors count hold (omega arith))
+
+-- after a block, where its bytes are told
+pub told_after : (told : Option (List (List ℕ))) (geo : Geometry) (first count left : ℕ) (sectors : List ℕ) (rest : Option ℕ) →
+    IfSome told (λ bytes. HoldMembers bytes geo first (512 * count) (length geo.slots.items) sectors) →
+    MatchOption rest (left < unsound_in geo sectors first count) (λ n. unsound_in geo sectors first count + n ≡ left) →
+    IfSome told (λ bytes. IsLeft bytes geo first count left rest)
+told_after None geo first count left sectors rest hold is = tt
+told_after (Some bytes) geo first count left sectors rest hold is = left_after bytes geo first count left sectors rest hold is
+
+-- a number above another
+above_fails : (n m : ℕ) → m < n → nat_le n m ≡ false
+above_fails n m above = grind (arith, nat_tests)
+
+-- where more rows are unsound than may be, the test fails
+pub told_fails : (told : Option (List (List ℕ))) (geo : Geometry) (first count left end window bad : ℕ) →
+    first + count ≤ tested_rows geo end window →
+    IfSome told (λ bytes. unsound_rows bytes geo first + left ≡ bad) →
+    IfSome told (λ bytes. IsLeft bytes geo first count left None) →
+    IfSome told (λ bytes. false ≡ passes_parity bytes geo end window bad)
+told_fails None geo first count left end window bad within far more = tt
+told_fails (Some bytes) geo first count left end window bad within far more =
+    let grows = count_grows (λ t. not (is_sound_row bytes geo t)) 0 (first + count) (tested_rows geo end window) within in
+    sym (above_fails (unsound_rows bytes geo (tested_rows geo end window)) bad (omega arith))
+
+-- the readings so far and of one more block
+pub reads_on : (old mid new : Seen) (n first count rows : ℕ) → OnlyReads old mid (n * first) → OnlyReads mid new (n * count) → first + count ≤ rows → OnlyReads old new (n * rows)
+reads_on old mid new n first count rows before block within =
+    reads_up old new (reads_join old mid new before block) (omega (arith, mul-add n first count, mul-le-mul_left n within))

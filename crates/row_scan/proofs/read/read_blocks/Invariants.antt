@@ -1,0 +1,11 @@
+use Rattle.std.proofs.Common.{◌*◌, IfSome}
+use Rattle.image_source.specs.Attached.{told_all}
+use Rattle.image_source.specs.Seen.{OnlyReads}
+use Rattle.row_scan.specs.Block.{HoldMembers}
+use Rattle.row_scan.proofs.read.read_blocks.Given as goal
+
+abbrev pub invariant-loop-slot : goal.invariant-loop-slot
+invariant-loop-slot g l = record {
+  reads : OnlyReads (g.I.Images.seen l.fn.images) (g.I.Images.seen l.images) (l.slot * l.count);
+  told : IfSome (told_all (g.I.Images.seen l.fn.images).attached) (λ bytes. HoldMembers bytes l.geo l.first (512 * l.count) l.slot l.sectors);
+}

@@ -1,0 +1,23 @@
+use Rattle.std.proofs.Common.{◌+◌, arith}
+use Rattle.row_scan.proofs.Columns.{unsound_none, unsound_sound, unsound_unsound, unsound_grows}
+use Rattle.row_scan.proofs.rows.rows_left.Goals as goal
+use Rattle.row_scan.proofs.rows.rows_left.Goals.{then-not-is_row_sound+in_ok-rest, else-not-is_row_sound}
+
+pub loop-j-init : goal.loop-j-init
+loop-j-init c = omega (arith, unsound_none c.args.geo.now c.args.sectors.now c.args.first)
+
+pub returns-in_err-rest : goal.returns-in_err-rest
+returns-in_err-rest c =
+    let more = unsound_unsound c.args.geo.now c.args.sectors.now c.args.first c.loop-j.j (c.loop-j.j + 1) c.is_row_sound.result (omega arith) c.is_row_sound.ensures c.if-not-is_row_sound.true in
+    let grows = unsound_grows c.args.geo.now c.args.sectors.now c.args.first (c.loop-j.j + 1) c.args.count (omega arith) in
+    rw c.from_residual.ensures (omega (arith, c.in_err-rest.ensures))
+
+pub loop-j-preserved : goal.loop-j-preserved
+loop-j-preserved c = elim c.if-not-is_row_sound.branch [
+  | then-not-is_row_sound+in_ok-rest w ↦
+      let more = unsound_unsound c.args.geo.now c.args.sectors.now c.args.first c.loop-j.j (c.loop-j.j + 1) c.is_row_sound.result (omega arith) c.is_row_sound.ensures w.if-not-is_row_sound.true in
+      omega (arith, w.in_ok-rest.ensures)
+  | else-not-is_row_sound w ↦
+      let same = unsound_sound c.args.geo.now c.args.sectors.now c.args.first c.loop-j.j (c.loop-j.j + 1) c.is_row_sound.result (omega arith) c.is_row_sound.ensures w.if-not-is_row_sound.false in
+      omega arith
+]

@@ -1,0 +1,6 @@
+use Rattle.std.proofs.Common.{◌≡◌, ◌+◌}
+use Rattle.row_scan.specs.Block.{unsound_in}
+use Rattle.row_scan.proofs.rows.rows_left.Given as goal
+
+abbrev pub invariant-loop-j : goal.invariant-loop-j
+invariant-loop-j l = unsound_in l.geo l.sectors l.first l.j + l.rest ≡ l.left

@@ -1,0 +1,8 @@
+use Rattle.std.proofs.Common.{rules}
+use Rattle.image_source.specs.Attached.{told_all}
+use Rattle.row_scan.proofs.Parity.{told_after}
+use Rattle.row_scan.proofs.scan.block_left.Goals as goal
+
+pub returns-clause-told : goal.returns-clause-told
+returns-clause-told g c =
+    told_after (told_all (g.I.Images.seen c.args.images.now).attached) c.args.geo.now c.args.first c.args.count c.args.left c.read_blocks.new.sectors c.rows_left.result (search rules) c.rows_left.ensures

@@ -1,0 +1,15 @@
+use Rattle.std.proofs.Common.{◌≡◌, ℕ, List, ◌++◌, length, take, drop, sym, ap, ◌∙◌, arith, length-append, length-drop}
+use Rattle.std.proofs.lemmas.List.{length-take}
+use Rattle.row_scan.proofs.scan.parity_holds.Goals as goal
+
+-- a list that was replaced by one as long keeps its length
+as_long : (len n : ℕ) (new old : List ℕ) → length old ≡ len → length new ≡ length old → length old ≡ n → length (take len (new ++ drop (length new) old)) ≡ n
+as_long len n new old a b e = omega (arith, length-take len (new ++ drop (length new) old), length-append new (drop (length new) old), length-drop (length new) old)
+
+pub invariant_of-blocks : goal.invariant_of-blocks
+invariant_of-blocks g c =
+    let sectors : length c.deref_mut.result.now ≡ length c.blocks-2.inside.sectors.items = ap length c.deref_mut.ensures.value in
+    let row : length c.deref_mut-2.result.now ≡ length c.blocks-2.inside.row.items = ap length c.deref_mut-2.ensures.value in (
+      as_long c.blocks-2.inside.sectors.len _ c.test_rows.new.sectors c.blocks-2.inside.sectors.items (sym sectors ∙ c.deref_mut.ensures.len) (c.test_rows.auto.sectors ∙ sectors) c.blocks-2.invariant.0,
+      as_long c.blocks-2.inside.row.len _ c.test_rows.new.row c.blocks-2.inside.row.items (sym row ∙ c.deref_mut-2.ensures.len) (c.test_rows.auto.row ∙ row) c.blocks-2.invariant.1,
+    )

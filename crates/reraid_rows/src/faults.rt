@@ -12,13 +12,16 @@ const FIRST: Ask = Ask {
     size: 10,
     span: 10,
 };
+
 const PAST: Ask = Ask {
     from: 7,
     size: 10,
     span: 10,
 };
 
-const LISTING: &str = "0 5:ls:none:1:0:0,1,2\n1 5:ls:none:1:0:0,2,1\n2 5:ls:none:1:0:1,0,2\n3 5:ls:none:1:0:1,2,0\n4 5:ls:none:1:0:2,0,1\n5 5:ls:none:1:0:2,1,0\nnext 6 of 6\n";
+const LISTING: &str =
+    "0 5:ls:none:1:0:0,1,2\n1 5:ls:none:1:0:0,2,1\n2 5:ls:none:1:0:1,0,2\n3 5:ls:none:1:0:1,2,0\n4 5:ls:none:1:0:2,0,1\n5 5:ls:none:1:0:2,1,0\nnext 6 of 6\n";
+
 const CURSOR: &str = "reraid: cursor 7 is past 6\n";
 
 /// More calls than a run makes of one object.
@@ -34,7 +37,14 @@ enum Object {
 }
 
 /// A run, whole or with its plan in pieces.
-fn run<R: Threads + Sync>(rt: &R, alloc: Global, ask: &Ask, pieces: bool, object: Object, call: u64) -> Result<(u8, Outside), Memory> {
+fn run<R: Threads + Sync>(
+    rt: &R,
+    alloc: Global,
+    ask: &Ask,
+    pieces: bool,
+    object: Object,
+    call: u64,
+) -> Result<(u8, Outside), Memory> {
     let mut met = three_images(alloc, 6, PLAN.as_bytes())?;
     match object {
         Object::Images => met.images.fail_call(call)?,
@@ -53,7 +63,13 @@ fn run<R: Threads + Sync>(rt: &R, alloc: Global, ask: &Ask, pieces: bool, object
 /// Fails each call of an object in turn, until the run ends as without a fault, and gives how
 /// many runs met one. Each ends with the object's status and line, and leaves on the output
 /// nothing, or of a put that takes five bytes those.
-fn each_call<R: Threads + Sync + Abort>(rt: &R, alloc: Global, ask: &Ask, pieces: bool, object: Object) -> Result<u64, Fail> {
+fn each_call<R: Threads + Sync + Abort>(
+    rt: &R,
+    alloc: Global,
+    ask: &Ask,
+    pieces: bool,
+    object: Object,
+) -> Result<u64, Fail> {
     let (status, line, left) = match object {
         Object::Images => (10, "reraid: image read fault\n", ""),
         Object::Plan => (11, "reraid: plan read fault\n", ""),
@@ -82,14 +98,14 @@ fn each_fault_has_its_status(rt: HostRuntime) -> Result<(), Fail> {
     // three attachments, and at least one read for each image of each of six sets
     let images = each_call(&rt, alloc, &FIRST, false, Object::Images)?;
     assert!(rt; images >= 21 && images < MANY);
-    // a text of 214 bytes in pieces of seven, and its end
+    // a text of 193 bytes in pieces of seven
     let plan = each_call(&rt, alloc, &FIRST, true, Object::Plan)?;
-    assert!(rt; plan >= 31 && plan < MANY);
+    assert!(rt; plan >= 28 && plan < MANY);
     assert_eq!(rt; each_call(&rt, alloc, &FIRST, false, Object::Out)?, 1);
     // at status 0 nothing is noted, and the line of the cursor is one put
     assert_eq!(rt; each_call(&rt, alloc, &FIRST, false, Object::Notes)?, 0);
     assert_eq!(rt; each_call(&rt, alloc, &PAST, false, Object::Images)?, 3);
-    assert!(rt; each_call(&rt, alloc, &PAST, true, Object::Plan)? >= 31);
+    assert!(rt; each_call(&rt, alloc, &PAST, true, Object::Plan)? >= 28);
     assert_eq!(rt; each_call(&rt, alloc, &PAST, false, Object::Out)?, 0);
     assert_eq!(rt; each_call(&rt, alloc, &PAST, false, Object::Notes)?, 1);
     Ok(())

@@ -12,7 +12,8 @@ use std::thread::Threads;
 
 /// The plan of the first listing: three images of two sectors, RAID 5 left-symmetric, chunks of
 /// one sector.
-pub const PLAN: &str = "reraid-plan 1\nimages 3\nlength 2\nlength 2\nlength 2\nend 2\nlevels 5\nmembers 3\npatterns ls\nsyndromes none\nchunks 1\noffsets 0\norigins 0\nmissing 0\nforeign 0\nbadrows 0\nwindow 2\nmisfits 0\nleast 1\ndone\n";
+pub const PLAN: &str =
+    "reraid-plan 1\nimages 3\nlength 2\nlength 2\nlength 2\nend 2\nlevels 5\nmembers 3\npatterns ls\nsyndromes none\nchunks 1\noffsets 0\norigins 0\nmissing 0\nforeign 0\nbadrows 0\nwindow 2\nmisfits 0\nleast 1\ndone\n";
 
 /// The operands of a listing.
 #[derive(Clone, Copy)]

@@ -15,7 +15,7 @@ use Rattle.plan_text.specs.declared.plan.PlanFault.{PlanFault}
 use Rattle.plan_text.specs.declared.plan.PlanFault.TheVariants.{NotBuilt}
 use Rattle.plan_text.specs.PlanText.{IsThinPlan, ReadsPlan, plan_text}
 use Rattle.plan_text.specs.Spelling.{named, line}
-use Rattle.plan_text.specs.ThinText.{field, lengths_text, images_text, shape_text, limits_text, thin_text, plan_of, IsThin, IsShortShape, AreShortLimits}
+use Rattle.plan_text.specs.ThinText.{field, lengths_text, images_text, shape_text, limits_text, plan_of, IsThin, IsShortShape, AreShortLimits}
 use Rattle.plan_text.proofs.OneSpelling.{same_images, same_shape, same_limits}
 
 plan_with : List ℕ → ℕ → List Level → List ℕ → List Pattern → List Syndrome → List ℕ → List ℕ → ℕ → ℕ → Limits → Plan
@@ -75,7 +75,10 @@ number n m xs ys same e = append_assoc (decimal n) (10 ∷ []) xs ∙ ap (λ (k 
 zero_line : (xs ys : List ℕ) → xs ≡ ys → (decimal 0 ++ 10 ∷ []) ++ xs ≡ 48 ∷ 10 ∷ ys
 zero_line xs ys e = ap (λ (ds : List ℕ). (ds ++ 10 ∷ []) ++ xs) zero_is ∙ ap (λ (ds : List ℕ). 48 ∷ 10 ∷ ds) e
 
--- the text of a thin plan, by its numbers
+-- the text of a thin plan of these numbers
+abbrev pub thin_text : List ℕ → Shape → Limits → List ℕ
+thin_text lengths shape limits = images_text lengths (shape_text shape (limits_text limits))
+
 text_of : (lengths : List ℕ) (shape : Shape) (limits : Limits) → shape.members ≡ length lengths → plan_text (plan_of lengths shape limits) ≡ thin_text lengths shape limits
 unfolding field
 text_of lengths shape limits members =

@@ -35,14 +35,11 @@ limits_text limits =
     field (codes "origins 0\nmissing 0\nforeign 0\nbadrows ") limits.badrows
     (field (codes "window ") limits.window (codes "misfits 0\nleast 1\ndone\n"))
 
--- the text of a thin plan of these numbers
-abbrev pub thin_text : List ℕ → Shape → Limits → List ℕ
-thin_text lengths shape limits = images_text lengths (shape_text shape (limits_text limits))
-
--- the numbers of a text are below 2 ^ 55
+-- the numbers that are read are below 2 ^ 55
 abbrev pub IsShortShape : Shape → Type 0
 IsShortShape shape = (shape.end < 2 ^ 55) × (shape.members < 2 ^ 55) × (shape.chunk < 2 ^ 55) × (shape.offset < 2 ^ 55)
 
+-- and so are the limits
 abbrev pub AreShortLimits : Limits → Type 0
 AreShortLimits limits = (limits.badrows < 2 ^ 55) × (limits.window < 2 ^ 55)
 

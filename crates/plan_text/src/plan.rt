@@ -43,6 +43,8 @@ pub enum PlanFault {
 }
 
 /// Reads the text of a plan, to its last byte.
+///
+/// It answers `NotBuilt` exactly where the text is no thin plan's. It takes no memory today.
 pub fn read_plan(_alloc: Global, text: &[u8]) -> Result<Plan, PlanFault>
     ensures { ReadsPlan text.now result }
 {
@@ -65,6 +67,7 @@ fn thin_plan(text: &[u8]) -> Option<Plan>
     }
 }
 
+/// Whether numbers that were read are those of a thin plan.
 fn is_thin(lengths: &[u64], shape: &Shape, limits: &Limits) -> bool
     ensures { IsTrue result ↔ IsThin lengths.now shape.now limits.now }
 {

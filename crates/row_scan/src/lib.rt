@@ -7,6 +7,8 @@ mod cells;
 mod read;
 mod rows;
 mod scan;
+#[cfg(test)]
+mod tests;
 
 pub use blocks::Blocks;
 pub use scan::{ScanFault, parity_holds};

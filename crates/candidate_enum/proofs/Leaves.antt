@@ -13,11 +13,6 @@ use Rattle.candidate_enum.specs.declared.leaf.Leaf.{Leaf}
 use Rattle.candidate_enum.proofs.Bases.{list_at}
 
 -- the leaf of a rank
-numbered_length : (n : ℕ) (ls : List (List (Option ℕ))) → length (numbered n ls) ≡ length ls
-unfolding numbered
-numbered_length n [] = refl
-numbered_length n (l ∷ ls) = ap suc (numbered_length (n + 1) ls)
-
 numbered_at : (n r : ℕ) (ls : List (List (Option ℕ))) → slice_get (numbered n ls) r ≡ option_map (leaf_of (n + r)) (slice_get ls r)
 unfolding numbered
 numbered_at n r [] = refl

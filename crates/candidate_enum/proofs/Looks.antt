@@ -1,5 +1,6 @@
 -- A look at one of the prefixes of one place more, by how many lists begin with it.
 use Rattle.std.proofs.Common.{Bool, length-append, ◌<◌, ℕ, ◌≡◌, ◌≤◌, ◌+◌, ◌^◌, List, [], ◌∷◌, ◌++◌, length, sym, ap, ◌∙◌, arith, true, false, Option, subst}
+use Rattle.raid_params.specs.declared.limits.TheConstants.{MOST}
 use Rattle.std.specs.List.{filter}
 use Rattle.slot_math.specs.Space.{begins, lists_of}
 use Rattle.slot_math.proofs.Completions.{begun}
@@ -33,9 +34,9 @@ counted q p list old j at y count l ok e c same =
           ∙ begun q.space (p ++ y ∷ []) (omega arith) (all_images_more q.space.images p y l.parent.start.0 ok);
     }
 
-pub look_fits : (q : Question) (p : List (Option ℕ)) (old : Left) (j at count : ℕ) (y : Option ℕ) → IsSearch q.space q.from q.stop → Looked q p old j at → Counted q p j y count → at + count ≤ 17 ^ 16
+pub look_fits : (q : Question) (p : List (Option ℕ)) (old : Left) (j at count : ℕ) (y : Option ℕ) → IsSearch q.space q.from q.stop → Looked q p old j at → Counted q p j y count → at + count ≤ (MOST + 1) ^ MOST
 look_fits q p old j at count y w l n =
-    let h : at + length (ends q.space (p ++ y ∷ [])) ≤ 17 ^ 16 = child_fits q p j at y w l.parent n.place n.index in
+    let h : at + length (ends q.space (p ++ y ∷ [])) ≤ (MOST + 1) ^ MOST = child_fits q p j at y w l.parent n.place n.index in
     let e : count ≡ length (ends q.space (p ++ y ∷ [])) = n.lists in
     omega arith
 

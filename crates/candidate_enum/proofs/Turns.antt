@@ -1,5 +1,6 @@
 -- What a turn of a walk does, and where a walk begins.
 use Rattle.std.proofs.Common.{ℕ, ◌≡◌, ◌<◌, ◌≤◌, ◌+◌, ◌-◌, ◌^◌, min, max, List, [], ◌∷◌, ◌++◌, length, reverse, filter, refl, sym, ap, ap₂, ◌∙◌, arith, suc, Bool, true, false, cond, Option, Some, None, slice_get, subst, add-zero, add_comm}
+use Rattle.raid_params.specs.declared.limits.TheConstants.{MOST}
 use Rattle.std.proofs.lemmas.Bool.{ltb-false}
 use Rattle.raid_terms.specs.SlotLists.{is_distinct, is_kept, all_lists}
 use Rattle.slot_math.specs.Space.{lists_of, begins}
@@ -132,8 +133,8 @@ first_stands q p total none e o =
       meeting = ap (overlaps q.from q.stop 0) (ap length (ends_of_nothing q.space) ∙ sym e) ∙ o;
     })
 
-pub total_sum : (s : Space) (total : ℕ) → s.images ≤ 16 → s.members ≤ 16 → total ≡ length (lists_of s) → 0 + total ≤ 17 ^ 16
-total_sum s total n m e = let f : length (lists_of s) ≤ 17 ^ 16 = total_fits s n m in omega arith
+pub total_sum : (s : Space) (total : ℕ) → s.images ≤ MOST → s.members ≤ MOST → total ≡ length (lists_of s) → 0 + total ≤ (MOST + 1) ^ MOST
+total_sum s total n m e = let f : length (lists_of s) ≤ (MOST + 1) ^ MOST = total_fits s n m in omega arith
 
 pub first_nothing : (q : Question) (total : ℕ) → IsSearch q.space q.from q.stop → total ≡ length (lists_of q.space) → overlaps q.from q.stop 0 total ≡ false → [] ≡ survivors q
 first_nothing q total w e o =
@@ -143,23 +144,23 @@ first_nothing q total w e o =
     sym (none_left q q.from q.stop m)
 
 -- ranks are counted in 128 bits
-pub done_fits : (q : Question) (p : List (Option ℕ)) (rank count : ℕ) → IsSearch q.space q.from q.stop → StandsAt q p rank → count ≡ length (filter (begins p) (lists_of q.space)) → rank + count ≤ 17 ^ 16
+pub done_fits : (q : Question) (p : List (Option ℕ)) (rank count : ℕ) → IsSearch q.space q.from q.stop → StandsAt q p rank → count ≡ length (filter (begins p) (lists_of q.space)) → rank + count ≤ (MOST + 1) ^ MOST
 done_fits q p rank count w s c =
     let same : count ≡ length (ends q.space p) = c ∙ begun q.space p s.short s.start.0 in
     let at : rank ≡ base_of q.space p = s.at in
     let within : base_of q.space p + length (ends q.space p) ≤ length (lists_of q.space) = (block_of q.space p s.start.0 s.short).within in
-    let total : length (lists_of q.space) ≤ 17 ^ 16 = total_fits q.space w.images w.members in
+    let total : length (lists_of q.space) ≤ (MOST + 1) ^ MOST = total_fits q.space w.images w.members in
     omega arith
 
 pub child_fits : (q : Question) (p : List (Option ℕ)) (j rank : ℕ) (y : Option ℕ) → IsSearch q.space q.from q.stop → IsParent q p j rank → IsPlace q.space.images y → j ≡ index_of q.space.images y →
-    rank + length (ends q.space (p ++ y ∷ [])) ≤ 17 ^ 16
+    rank + length (ends q.space (p ++ y ∷ [])) ≤ (MOST + 1) ^ MOST
 child_fits q p j rank y w f ok e =
     let at : rank ≡ base_of q.space p + children_before q.space p j = f.at in
     let part : before q.space p y + length (ends q.space (p ++ y ∷ [])) ≤ length (ends q.space p) = part_of_ends q.space p y f.short ok in
     let same : before q.space p y ≡ children_before q.space p j = before_is q.space p y ok ∙ ap (children_before q.space p) (sym e) in
     let short : length p < q.space.members = f.short in
     let within : base_of q.space p + length (ends q.space p) ≤ length (lists_of q.space) = (block_of q.space p f.start.0 (omega arith)).within in
-    let total : length (lists_of q.space) ≤ 17 ^ 16 = total_fits q.space w.images w.members in
+    let total : length (lists_of q.space) ≤ (MOST + 1) ^ MOST = total_fits q.space w.images w.members in
     omega arith
 
 -- the rank of a prefix at which a walk stands is below the end of the range

@@ -1,5 +1,6 @@
 -- Where the lists that begin with a prefix stand in their space.
 use Rattle.std.proofs.Common.{rules, ℕ, ◌≡◌, ◌<◌, ◌≤◌, ◌+◌, ◌-◌, ◌^◌, List, [], ◌∷◌, ◌++◌, length, filter, take, refl, sym, ap, ap₂, ◌∙◌, arith, zero, suc, Bool, true, false, ◌&&◌, ◌||◌, not, ◌==◌, nat_le, cond, Option, Some, None, slice_get, get_or, inl, inr, subst, add_assoc, append-nil, zero-add, add-zero}
+use Rattle.raid_params.specs.declared.limits.TheConstants.{MOST}
 use Rattle.std.proofs.lemmas.Bool.{cases_Bool, and_parts, eqb-true, not-true}
 use Rattle.std.proofs.lemmas.List.{take_all, take_more, length-take-le}
 use Rattle.raid_terms.specs.SlotLists.{all_lists, is_kept, is_distinct, empties, stands}
@@ -106,17 +107,17 @@ next_front s l i base d b h lt =
     subst P (sym (take_more l i d lt)) (next_block s (take i l) (get_or l i d) base b (omega arith) (front_place s l i d h lt))
 
 -- ranks are counted in 128 bits
-pub total_fits : (s : Space) → s.images ≤ 16 → s.members ≤ 16 → length (lists_of s) ≤ 17 ^ 16
+pub total_fits : (s : Space) → s.images ≤ MOST → s.members ≤ MOST → length (lists_of s) ≤ (MOST + 1) ^ MOST
 total_fits s n m =
     let e : ways s.low s.high s.images s.members 0 ≡ length (lists_of s) = total_is s in
-    let f : ways s.low s.high s.images s.members 0 ≤ 17 ^ 16 = ways_fit s.low s.high s.images s.members 0 n m in
+    let f : ways s.low s.high s.images s.members 0 ≤ (MOST + 1) ^ MOST = ways_fit s.low s.high s.images s.members 0 n m in
     omega arith
 
-pub rank_fits : (s : Space) (l : List (Option ℕ)) (i base : ℕ) (d : Option ℕ) → StandsFrom s (take i l) base → is_listed s l ≡ true → i < length l → s.images ≤ 16 → s.members ≤ 16 →
-    base + before s (take i l) (get_or l i d) ≤ 17 ^ 16
+pub rank_fits : (s : Space) (l : List (Option ℕ)) (i base : ℕ) (d : Option ℕ) → StandsFrom s (take i l) base → is_listed s l ≡ true → i < length l → s.images ≤ MOST → s.members ≤ MOST →
+    base + before s (take i l) (get_or l i d) ≤ (MOST + 1) ^ MOST
 rank_fits s l i base d b h lt n m =
     let w : base + before s (take i l) (get_or l i d) + length (ends s (take (i + 1) l)) ≤ length (lists_of s) = (next_front s l i base d b h lt).within in
-    let f : length (lists_of s) ≤ 17 ^ 16 = total_fits s n m in
+    let f : length (lists_of s) ≤ (MOST + 1) ^ MOST = total_fits s n m in
     omega arith
 
 -- one list begins with all places of a list

@@ -1,5 +1,6 @@
 -- The numbers of ways fit, and how a row of them gives the next.
 use Rattle.std.proofs.Common.{ℕ, ◌≡◌, ◌≤◌, ◌+◌, ◌-◌, ◌*◌, ◌^◌, refl, sym, ap, ◌∙◌, arith, zero, suc, Bool, true, false, ◌&&◌, cond, nat_le}
+use Rattle.raid_params.specs.declared.limits.TheConstants.{MOST}
 use Rattle.std.proofs.lemmas.Nat.{mul-le}
 use Rattle.std.proofs.Math.Nat.{pow-suc, pow-zero, pow-le-pow_right, le_trans}
 use Rattle.std.proofs.Math.Numerals.{add-one}
@@ -19,12 +20,8 @@ ways_below low high c u (suc m) e h =
     let p : u * ways low high (u - 1) m e ≤ c * (c + 1) ^ m = mul-le u (ways low high (u - 1) m e) c ((c + 1) ^ m) h a in
     rw pow-suc (omega arith)
 
-pub ways_fit : (low high u m e : ℕ) → u ≤ 16 → m ≤ 16 → ways low high u m e ≤ 17 ^ 16
-ways_fit low high u m e hu hm = le_trans (ways_below low high 16 u m e hu) (pow-le-pow_right {n = 17} (omega arith) {i = m} {j = 16} hm)
-
--- a step of the table: unused images at place k, in two forms
-pub unused_is : (free left k m : ℕ) → k + m + 1 ≤ left → (free + k + (m + 1) - left) - 1 ≡ free + k + m - left
-unused_is free left k m h = omega arith
+pub ways_fit : (low high u m e : ℕ) → u ≤ MOST → m ≤ MOST → ways low high u m e ≤ (MOST + 1) ^ MOST
+ways_fit low high u m e hu hm = le_trans (ways_below low high MOST u m e hu) (pow-le-pow_right {n = MOST + 1} (omega arith) {i = m} {j = MOST} hm)
 
 pub ways_zero : (low high u e : ℕ) → ways low high u 0 e ≡ cond (nat_le low e && nat_le e high) 1 0
 unfolding ways
@@ -44,5 +41,5 @@ ways_next low high free left k m e x y h p q =
     ∙ ap (λ (n : ℕ). ways low high u n (e + k)) (sym (add-one m))
     ∙ ap (λ (v : ℕ). ways low high v (m + 1) (e + k)) (sym same)
 
-pub small_product : (u x y : ℕ) → u ≤ 16 → x ≤ 17 ^ 16 → y ≤ 17 ^ 16 → u * x + y ≤ 17 ^ 17
-small_product u x y hu hx hy = let p : u * x ≤ 16 * 17 ^ 16 = mul-le u x 16 (17 ^ 16) hu hx in omega arith
+pub small_product : (u x y : ℕ) → u ≤ MOST → x ≤ (MOST + 1) ^ MOST → y ≤ (MOST + 1) ^ MOST → u * x + y ≤ (MOST + 1) ^ (MOST + 1)
+small_product u x y hu hx hy = let p : u * x ≤ MOST * (MOST + 1) ^ MOST = mul-le u x MOST ((MOST + 1) ^ MOST) hu hx in omega arith

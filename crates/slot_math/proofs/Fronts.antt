@@ -1,5 +1,6 @@
 -- The list of a rank, place by place.
 use Rattle.std.proofs.Common.{ℕ, ◌≡◌, ◌<◌, ◌≤◌, ◌+◌, ◌-◌, ◌^◌, List, [], ◌∷◌, ◌++◌, length, filter, refl, sym, ap, subst, ap₂, ◌∙◌, arith, zero, suc, Bool, true, false, ◌&&◌, ◌||◌, not, ◌==◌, cond, Option, Some, None, slice_get, option_map, append_assoc, append-nil, length-append, inl, inr}
+use Rattle.raid_params.specs.declared.limits.TheConstants.{MOST}
 use Rattle.std.proofs.lemmas.Bool.{cases_Bool}
 use Rattle.raid_terms.specs.SlotLists.{all_lists, is_kept, is_distinct, stands, empties}
 use Rattle.slot_math.specs.Space.{lists_of}
@@ -148,12 +149,12 @@ nothing_yet s p rank e h = (
 )
 
 -- what goes on from a prefix is counted in 128 bits
-pub images_fit : (s : Space) (p : List (Option ℕ)) (k : ℕ) → s.images ≤ 16 → s.members ≤ 16 → IsStart s p → length p < s.members → k < s.images →
-    images_before s p k + length (ends s (p ++ Some k ∷ [])) ≤ 17 ^ 16
+pub images_fit : (s : Space) (p : List (Option ℕ)) (k : ℕ) → s.images ≤ MOST → s.members ≤ MOST → IsStart s p → length p < s.members → k < s.images →
+    images_before s p k + length (ends s (p ++ Some k ∷ [])) ≤ (MOST + 1) ^ MOST
 images_fit s p k n m h short ok =
     let a : images_before s p k + length (ends s (p ++ Some k ∷ [])) ≤ length (ends s p) = part_of_ends s p (Some k) short ok in
     let b : length (ends s p) ≡ ways s.low s.high (s.images - (length p - empties p)) (s.members - length p) (empties p) = ends_are s p h.0 h.1 in
-    let c : ways s.low s.high (s.images - (length p - empties p)) (s.members - length p) (empties p) ≤ 17 ^ 16
+    let c : ways s.low s.high (s.images - (length p - empties p)) (s.members - length p) (empties p) ≤ (MOST + 1) ^ MOST
     = ways_fit s.low s.high (s.images - (length p - empties p)) (s.members - length p) (empties p) (omega arith) (omega arith) in
     omega arith
 

@@ -1,4 +1,5 @@
 use Rattle.std.proofs.Common.{◌≡◌, ◌≤◌, ◌<◌, ◌+◌, ◌^◌, refl, arith, Some, None}
+use Rattle.raid_params.specs.declared.limits.TheConstants.{MOST}
 use Rattle.candidate_enum.specs.Survivors.{question}
 use Rattle.candidate_enum.specs.Left.{left_children}
 use Rattle.candidate_enum.proofs.Looks.{counted, look_fits, look_found, look_passed, look_done}
@@ -23,7 +24,7 @@ overflow_add-at g c =
     let q = question c.args.self.now.space (g.F.Family.admits c.args.self.now.family.now) c.args.self.now.from c.args.self.now.stop in
     let p = c.args.parent.now.items in
     let n = counted q p c.as_slice.result.now (left_children q p c.args.first c.args.rank) c.loop-image.image c.loop-image.at (Some c.loop-image.image) c.completions_with-count.result c.loop-image.invariant c.loop-image-test.true refl c.completions_with-count.ensures c.as_slice.ensures.value in
-    let fits : c.loop-image.at + c.completions_with-count.result ≤ 17 ^ 16 = look_fits q p (left_children q p c.args.first c.args.rank) c.loop-image.image c.loop-image.at c.completions_with-count.result (Some c.loop-image.image) c.requires.search c.loop-image.invariant n in
+    let fits : c.loop-image.at + c.completions_with-count.result ≤ (MOST + 1) ^ MOST = look_fits q p (left_children q p c.args.first c.args.rank) c.loop-image.image c.loop-image.at c.completions_with-count.result (Some c.loop-image.image) c.requires.search c.loop-image.invariant n in
     omega arith
 
 pub loop-image-preserved : goal.loop-image-preserved
@@ -55,7 +56,7 @@ overflow_add-result g c =
     let p = c.args.parent.now.items in
     let last : c.loop-image.image ≡ c.args.self.now.space.images = (let end = c.loop-image.auto.image-end c.if-first-self.false in omega arith) in
     let n = counted q p c.as_slice-2.result.now (left_children q p c.args.first c.args.rank) c.loop-image.image c.loop-image.at None c.completions_with-count-2.result c.loop-image.invariant tt last c.completions_with-count-2.ensures c.as_slice-2.ensures.value in
-    let fits : c.loop-image.at + c.completions_with-count-2.result ≤ 17 ^ 16 = look_fits q p (left_children q p c.args.first c.args.rank) c.loop-image.image c.loop-image.at c.completions_with-count-2.result None c.requires.search c.loop-image.invariant n in
+    let fits : c.loop-image.at + c.completions_with-count-2.result ≤ (MOST + 1) ^ MOST = look_fits q p (left_children q p c.args.first c.args.rank) c.loop-image.image c.loop-image.at c.completions_with-count-2.result None c.requires.search c.loop-image.invariant n in
     omega arith
 
 pub returns : goal.returns

@@ -1,4 +1,5 @@
 use Rattle.std.proofs.Common.{sym, ◌∙◌, subst, ◌≤◌, ◌<◌, ◌+◌, ◌^◌, ◌≡◌, length, arith}
+use Rattle.raid_params.specs.declared.limits.TheConstants.{MOST}
 use Rattle.std.specs.List.{filter}
 use Rattle.slot_math.specs.Space.{begins, lists_of}
 use Rattle.slot_math.specs.declared.space.Space.{Space}
@@ -15,7 +16,7 @@ may_pass-requires g c =
 pub overflow_add-next : goal.overflow_add-next
 overflow_add-next g c =
     let q = question c.args.self.now.space (g.F.Family.admits c.args.self.now.family.now) c.args.self.now.from c.args.self.now.stop in
-    let fits : c.args.place.rank + c.completions.result ≤ 17 ^ 16 = done_fits q c.args.place.slots.items c.args.place.rank c.completions.result c.requires.search c.requires.stands c.completions.ensures in
+    let fits : c.args.place.rank + c.completions.result ≤ (MOST + 1) ^ MOST = done_fits q c.args.place.slots.items c.args.place.rank c.completions.result c.requires.search c.requires.stands c.completions.ensures in
     omega arith
 
 pub climb-requires-clause-done : goal.climb-requires-clause-done

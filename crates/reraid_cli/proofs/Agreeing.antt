@@ -1,5 +1,5 @@
 -- Attached images against the lengths of a plan.
-use Rattle.std.proofs.Common.{◌≡◌, ◌≢◌, ℕ, zero, suc, ◌+◌, ◌<◌, ◌≤◌, Bool, true, false, nat_eq, List, [], ◌∷◌, length, map, get_or, refl, sym, ap, ap₂, ◌∙◌, arith, Option, Some, None, slice_get, inl, inr, not, is_some, below_more}
+use Rattle.std.proofs.Common.{◌≡◌, ◌≢◌, ℕ, zero, suc, ◌+◌, ◌<◌, Bool, true, false, nat_eq, List, [], ◌∷◌, length, map, get_or, refl, sym, ap, ap₂, ◌∙◌, arith, Option, Some, None, slice_get, inl, inr, not, is_some, below_more}
 use Rattle.std.specs.Option.{option_map}
 use Rattle.std.specs.Cmp.Lexicographic.{pointwise, bytes_decides}
 use Rattle.std.proofs.lemmas.Bool.{cases_Bool}
@@ -8,8 +8,9 @@ use Rattle.image_source.specs.Seen.{Image}
 
 differ : (xs ys : List ℕ) (k : ℕ) → slice_get xs k ≢ slice_get ys k → false ≡ pointwise nat_eq xs ys
 differ xs ys k ne = elim (cases_Bool (pointwise nat_eq xs ys)) [
-    inl same ↦ absurd (ne (ap (λ (zs : List ℕ). slice_get zs k) ((bytes_decides xs ys).0 same)))
-  | inr other ↦ sym other ]
+  | inl same ↦ absurd (ne (ap (λ (zs : List ℕ). slice_get zs k) ((bytes_decides xs ys).0 same)))
+  | inr other ↦ sym other
+]
 
 at_place : (xs : List ℕ) (k : ℕ) → k < length xs → slice_get xs k ≡ Some (get_or xs k 0)
 at_place [] k lt = absurd (omega arith)
@@ -21,7 +22,7 @@ pub differ_at : (attached : List Image) (lengths planned : List ℕ) (k : ℕ) �
     false ≡ pointwise nat_eq (map (λ (image : Image). image.sectors) attached) planned
 differ_at attached lengths planned k same lt ne =
     differ (map (λ (image : Image). image.sectors) attached) planned k
-        (λ e. ne (sym (slice_get-map (λ (image : Image). image.sectors) attached k) ∙ e ∙ ap (λ (xs : List ℕ). slice_get xs k) (sym same) ∙ at_place lengths k lt))
+    (λ e. ne (sym (slice_get-map (λ (image : Image). image.sectors) attached k) ∙ e ∙ ap (λ (xs : List ℕ). slice_get xs k) (sym same) ∙ at_place lengths k lt))
 
 -- one more image has its length
 pub one_more_agrees : (attached : List Image) (lengths : List ℕ) (n : ℕ) → ((k : ℕ) → k < n → option_map (λ image. image.sectors) (slice_get attached k) ≡ slice_get lengths k) → n < length lengths →
@@ -53,11 +54,12 @@ pub all_agree : (attached : List Image) (lengths planned : List ℕ) (n : ℕ) (
 all_agree attached lengths planned n next r same count each is tells =
     let sectors = map (λ (image : Image). image.sectors) attached in
     elim (cases_Bool r) [
-      inl yes_ ↦ yes_ ∙ sym ((bytes_decides sectors planned).1 (same_list sectors lengths
+      | inl yes_ ↦ yes_ ∙ sym ((bytes_decides sectors planned).1 (same_list sectors lengths
           (λ k lt. slice_get-map (λ (image : Image). image.sectors) attached k ∙ each k (omega arith))
           (slice_get-map (λ (image : Image). image.sectors) attached (length lengths) ∙ sym is ∙ is_no next r tells yes_) ∙ same))
-    | inr no_ ↦ no_ ∙ differ sectors planned (length lengths)
-        (λ e. is_yes next r tells no_ (is ∙ sym (slice_get-map (λ (image : Image). image.sectors) attached (length lengths)) ∙ e ∙ ap (λ (xs : List ℕ). slice_get xs (length lengths)) (sym same) ∙ past lengths)) ]
+      | inr no_ ↦ no_ ∙ differ sectors planned (length lengths)
+          (λ e. is_yes next r tells no_ (is ∙ sym (slice_get-map (λ (image : Image). image.sectors) attached (length lengths)) ∙ e ∙ ap (λ (xs : List ℕ). slice_get xs (length lengths)) (sym same) ∙ past lengths))
+    ]
   where
     past : (xs : List ℕ) → slice_get xs (length xs) ≡ None
     past [] = refl

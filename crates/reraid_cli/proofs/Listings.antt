@@ -1,15 +1,14 @@
 -- What the words of a listing say.
-use Rattle.std.proofs.Common.{◌≡◌, ◌≢◌, ℕ, zero, suc, ◌+◌, ◌-◌, ◌<◌, ◌≤◌, ◌^◌, Bool, true, false, cond, List, [], ◌∷◌, ◌++◌, length, map, take, drop, None, Some, Option, refl, sym, ap, ap₂, ◌∙◌, subst, arith, All, IfSome, codes, decimal, unwrap_or, length-append, length-drop}
+use Rattle.std.proofs.Common.{◌≡◌, ℕ, suc, ◌+◌, ◌-◌, ◌≤◌, Bool, true, false, cond, List, [], ◌∷◌, ◌++◌, length, map, take, drop, None, Some, refl, sym, ap, ap₂, ◌∙◌, subst, arith, All, codes, unwrap_or, length-append, length-drop}
 use Rattle.std.specs.Str.{bytes_eq}
 use Rattle.std.specs.Prelude.{option_and_then, is_none}
 use Rattle.std.proofs.lemmas.List.{take_all, length-map}
 use Rattle.std.proofs.lemmas.List.Elements.{All-head, All-tail}
-use Rattle.reraid_cli.specs.declared.words.Command.{Command}
 use Rattle.reraid_cli.specs.declared.words.Command.TheVariants.{List as ListCommand}
 use Rattle.reraid_cli.specs.declared.words.Given.{Given}
 use Rattle.reraid_cli.specs.declared.words.Operand.{Operand}
 use Rattle.reraid_cli.specs.declared.words.Operand.TheVariants.{From, Size, Span}
-use Rattle.reraid_cli.specs.Words.{GoOn, IsInLimits, IsListing, all_given, list_command, names_after, nothing_given, operand_word, with_operand}
+use Rattle.reraid_cli.specs.Words.{IsInLimits, IsListing, all_given, list_command, names_after, nothing_given, operand_word}
 
 -- an operand is no `--`
 pub not_dashes : (operand : Operand) → bytes_eq (operand_word operand) (codes "--") ≡ false
@@ -62,9 +61,10 @@ names_are words from size span names is =
     let operands = onward.operands in
     let at : names ≡ 1 + length operands + 1 = let e : ListCommand from size span names ≡ list_command onward.all (1 + length operands + 1) = onward.says in cc in
     let spelled : words ≡ codes "list" ∷ (map operand_word operands ++ codes "--" ∷ onward.names) = is.first ∙ ap (λ rest. codes "list" ∷ rest) onward.spelled in
-    let place : names ≡ suc (length operands + 1) = omega arith in
-    (ap names_after spelled ∙ names_past operands onward.names ∙ sym (ap₂ (λ (k : ℕ) (ws : List (List ℕ)). drop k ws) place spelled ∙ past operands onward.names),
-     omega (arith, ap length spelled, length-append (map operand_word operands) (codes "--" ∷ onward.names), length-map operands operand_word))
+    let place : names ≡ suc (length operands + 1) = omega arith in (
+      ap names_after spelled ∙ names_past operands onward.names ∙ sym (ap₂ (λ (k : ℕ) (ws : List (List ℕ)). drop k ws) place spelled ∙ past operands onward.names),
+      omega (arith, ap length spelled, length-append (map operand_word operands) (codes "--" ∷ onward.names), length-map operands operand_word),
+    )
 
 -- the slice of the words from that word on
 pub names_slice : (words : List (List ℕ)) (from size span names : ℕ) → IsListing words (ListCommand from size span names) → take (length words - names) (drop names words) ≡ names_after words

@@ -1,12 +1,10 @@
 -- Spelled operands.
-use Rattle.std.proofs.Common.{◌≡◌, ◌≢◌, ℕ, ◌<◌, ◌≤◌, ◌^◌, List, [], ◌∷◌, ◌++◌, length, drop, None, Some, Option, MatchOption, get_or, refl, sym, ap, ◌∙◌, arith, codes, decimal, nat_eq, true, false}
+use Rattle.std.proofs.Common.{◌≡◌, ◌≢◌, ℕ, ◌<◌, ◌^◌, List, ◌++◌, length, drop, get_or, refl, sym, ap, ◌∙◌, arith, codes, decimal, nat_eq, true, false}
 use Rattle.std.proofs.lemmas.Fmt.{decimal_injective}
 use Rattle.std.proofs.Math.Seq.{drop-append_seam}
 use Rattle.std.proofs.lemmas.Bool.{eq-eqb}
-use denote.Ref.{Bor}
-use Rattle.reraid_cli.specs.declared.words.Operand.{Operand}
-use Rattle.reraid_cli.specs.declared.words.Operand.TheVariants.{From, Size, Span}
-use Rattle.reraid_cli.specs.Words.{IsInLimits, IsSpelled, operand_word}
+use Rattle.reraid_cli.specs.declared.words.Operand.TheVariants.{Size}
+use Rattle.reraid_cli.specs.Words.{IsSpelled}
 
 -- one name has one number
 pub same_number : (word name : List ℕ) (m n : ℕ) → word ≡ name ++ decimal m → word ≡ name ++ decimal n → m < 2 ^ 64 → n < 2 ^ 64 → m ≡ n

@@ -1,7 +1,7 @@
 -- What a run answers, by the contracts of its parts.
-use Rattle.std.proofs.Common.{◌≡◌, ◌≢◌, ℕ, ◌<◌, ◌≤◌, ◌⊎◌, Bool, true, false, cond, nat_lt, nat_eq, List, [], ◌∷◌, ◌++◌, length, map, None, Some, Option, Result, Ok, Err, IfSome, IfErr, IfOk, OnOk, IsErrOf, IsErrAnd, refl, sym, ap, ◌∙◌, subst, arith, inl, inr}
+use Rattle.std.proofs.Common.{◌≡◌, ◌≢◌, ℕ, ◌≤◌, Bool, true, cond, nat_lt, List, [], ◌++◌, length, map, None, Some, Option, Result, Ok, Err, IfSome, IfErr, OnOk, IsErrOf, IsErrAnd, sym, ap, ◌∙◌, subst, arith, inl, inr}
 use Rattle.std.specs.Io.KnownBytes.{Appends, Keeps}
-use Rattle.std.specs.Cmp.Lexicographic.{pointwise, bytes_decides}
+use Rattle.std.specs.Cmp.Lexicographic.{bytes_decides}
 use Rattle.std.proofs.lemmas.Bool.{lt-ltb, le-ltb}
 use Rattle.image_source.specs.Attached.{AreImagesOf, AttachesSome, told_all}
 use Rattle.image_source.specs.Causes.{Rose}
@@ -12,9 +12,9 @@ use Rattle.reraid_cli.specs.declared.stop.Stop.{Stop}
 use Rattle.reraid_cli.specs.declared.stop.Stop.TheVariants.{PlanIsLong, Cursor, ImageFault, PlanFault, OutFault, NotBuilt, OutOfMemory}
 use Rattle.reraid_cli.specs.declared.words.Command.{Command}
 use Rattle.reraid_cli.specs.declared.words.Command.TheVariants.{List as ListCommand}
-use Rattle.reraid_cli.specs.Answers.{Counts, EndsBy, EndsListing, EndsPreparing, IsPrepared, IsTextOf, Outcome, Reading, Says, agree, command_refusal, command_output, list_refusal, output, plan_refusal, refusal}
+use Rattle.reraid_cli.specs.Answers.{EndsBy, EndsListing, IsPrepared, Outcome, Reading, Says, agree, command_refusal, command_output, output, plan_refusal, refusal}
 use Rattle.reraid_cli.specs.Listing.{AgreeWith, LeavesImages, listing, total_of}
-use Rattle.reraid_cli.specs.Words.{AreRead, IsListing, ReadsWords}
+use Rattle.reraid_cli.specs.Words.{AreRead, ReadsWords}
 
 -- images that agree have the planned lengths
 pub agreeing : (plan : Plan) (attached : List Image) → agree plan attached ≡ true → AgreeWith plan attached
@@ -41,8 +41,8 @@ ends_by : (text : List ℕ) (reading : Reading) (old new : Seen) (before now : �
 ends_by text reading old new before now from size span names plan PlanIsLong command is short same ends = absurd ends
 ends_by text reading old new before now from size span names plan (Cursor fault) command is short same ends =
     inr (refused text reading old.attached from size span names plan command is short same
-        ∙ ap (λ (b : Bool). cond b (Some (Cursor (record { from = from; total = total_of plan }))) None) (lt-ltb (total_of plan) from ends.0)
-        ∙ sym (ap (λ f. Some (Cursor f)) ends.1))
+    ∙ ap (λ (b : Bool). cond b (Some (Cursor (record { from = from; total = total_of plan }))) None) (lt-ltb (total_of plan) from ends.0)
+    ∙ sym (ap (λ f. Some (Cursor f)) ends.1))
 ends_by text reading old new before now from size span names plan ImageFault command is short same ends = inl tt
 ends_by text reading old new before now from size span names plan PlanFault command is short same ends = absurd ends
 ends_by text reading old new before now from size span names plan OutFault command is short same ends = inl tt
@@ -57,9 +57,9 @@ pub record IsSaid (reading : Reading) (from size span names : ℕ) (plan : Plan)
 said : (words : List (List ℕ)) (text : List ℕ) (attached : List Image) (from size span names : ℕ) (plan : Plan) (reading : Reading) → ReadsWords words (Some (ListCommand from size span names)) →
     IsPrepared (Some text) attached plan → Says words text reading → IsSaid reading from size span names plan
 said words text attached from size span names plan reading reads prepared says = record {
-    command = says_command words (ListCommand from size span names) reading.command reads says.command;
-    plan_is = prepared.text.1 reading.plan says.plan;
-  }
+  command = says_command words (ListCommand from size span names) reading.command reads says.command;
+  plan_is = prepared.text.1 reading.plan says.plan;
+}
 
 output_is : (reading : Reading) (from size span names : ℕ) (plan : Plan) (images : List (List ℕ)) → IsSaid reading from size span names plan → output reading images ≡ listing images plan from size span
 output_is reading from size span names plan images is =
@@ -100,8 +100,8 @@ outputs R words None mid last from size span names plan reads prepared same put 
 outputs R words (Some text) mid last from size span names plan reads prepared same put = λ reading says.
     let is = said words text mid from size span names plan reading reads prepared says in
     if_some_more (λ bytes. R (listing bytes plan from size span)) (λ bytes. R (output reading bytes)) (told_all last)
-        (λ bytes r. subst R (sym (output_is reading from size span names plan bytes is)) r)
-        (still_told mid last (λ bytes. R (listing bytes plan from size span)) same put)
+    (λ bytes r. subst R (sym (output_is reading from size span names plan bytes is)) r)
+    (still_told mid last (λ bytes. R (listing bytes plan from size span)) same put)
 
 -- the outcome of a run that came to its listing
 pub listed : (words : List (List ℕ)) (left : Option (List ℕ)) (from size span names : ℕ) (plan : Plan) (first mid last : Seen) (plan_before plan_now out_before out_now : ℕ) (old new : Option (List ℕ)) (result : Result (Unit {0}) Stop) →
@@ -112,33 +112,33 @@ pub listed : (words : List (List ℕ)) (left : Option (List ℕ)) (from size spa
     LeavesImages mid last → out_before ≤ out_now →
     Outcome words left last.attached (record { images = first.faults; plan = plan_before; out = out_before }) (record { images = last.faults; plan = plan_now; out = out_now }) old new result
 listed words left from size span names plan first mid last plan_before plan_now out_before out_now old new (Ok x) reads prepared later plan_later put front nothing within ends leaves out_later = record {
-    words_refused = λ none. absurd (none (ListCommand from size span names) reads.sound);
-    ends = tt;
-    passes = passes_all words left mid.attached last.attached from size span names plan reads prepared leaves.attached within;
-    printed = outputs (Appends old new) words left mid.attached last.attached from size span names plan reads prepared leaves.attached put;
-    front = λ e. absurd (cc);
-    nothing = tt;
-    image_fault = λ e. absurd (cc);
-    plan_fault = λ e. absurd (cc);
-    out_fault = λ e. absurd (cc);
-    images_later = let more = leaves.faults in omega arith;
-    plan_later = plan_later;
-    out_later = out_later;
-  }
+  words_refused = λ none. absurd (none (ListCommand from size span names) reads.sound);
+  ends = tt;
+  passes = passes_all words left mid.attached last.attached from size span names plan reads prepared leaves.attached within;
+  printed = outputs (Appends old new) words left mid.attached last.attached from size span names plan reads prepared leaves.attached put;
+  front = λ e. absurd (cc);
+  nothing = tt;
+  image_fault = λ e. absurd (cc);
+  plan_fault = λ e. absurd (cc);
+  out_fault = λ e. absurd (cc);
+  images_later = let more = leaves.faults in omega arith;
+  plan_later = plan_later;
+  out_later = out_later;
+}
 listed words left from size span names plan first mid last plan_before plan_now out_before out_now old new (Err stop) reads prepared later plan_later put front nothing within ends leaves out_later = record {
-    words_refused = λ none. absurd (none (ListCommand from size span names) reads.sound);
-    ends = ends_all words left mid last out_before out_now from size span names plan stop reads prepared leaves.attached ends;
-    passes = tt;
-    printed = tt;
-    front = λ e. outputs (AppendsFront old new) words left mid.attached last.attached from size span names plan reads prepared leaves.attached (front e);
-    nothing = nothing;
-    image_fault = λ e. let is : stop ≡ ImageFault = cc in let rose : Rose mid.faults last.faults = let P : Stop → Type 0 = λ s. EndsListing plan from mid last out_before out_now s in subst P is ends in omega arith;
-    plan_fault = λ e. absurd (let is : stop ≡ PlanFault = cc in let P : Stop → Type 0 = λ s. EndsListing plan from mid last out_before out_now s in subst P is ends);
-    out_fault = λ e. let is : stop ≡ OutFault = cc in let P : Stop → Type 0 = λ s. EndsListing plan from mid last out_before out_now s in subst P is ends;
-    images_later = let more = leaves.faults in omega arith;
-    plan_later = plan_later;
-    out_later = out_later;
-  }
+  words_refused = λ none. absurd (none (ListCommand from size span names) reads.sound);
+  ends = ends_all words left mid last out_before out_now from size span names plan stop reads prepared leaves.attached ends;
+  passes = tt;
+  printed = tt;
+  front = λ e. outputs (AppendsFront old new) words left mid.attached last.attached from size span names plan reads prepared leaves.attached (front e);
+  nothing = nothing;
+  image_fault = λ e. let is : stop ≡ ImageFault = cc in let rose : Rose mid.faults last.faults = let P : Stop → Type 0 = λ s. EndsListing plan from mid last out_before out_now s in subst P is ends in omega arith;
+  plan_fault = λ e. absurd (let is : stop ≡ PlanFault = cc in let P : Stop → Type 0 = λ s. EndsListing plan from mid last out_before out_now s in subst P is ends);
+  out_fault = λ e. let is : stop ≡ OutFault = cc in let P : Stop → Type 0 = λ s. EndsListing plan from mid last out_before out_now s in subst P is ends;
+  images_later = let more = leaves.faults in omega arith;
+  plan_later = plan_later;
+  out_later = out_later;
+}
 
 -- the command that was read
 pub listing_read : (words : List (List ℕ)) (command : Command) (from size span names : ℕ) → ReadsWords words (Some command) → command ≡ ListCommand from size span names → ReadsWords words (Some (ListCommand from size span names))

@@ -1,9 +1,8 @@
 -- A text that was read, and the plan that it says.
-use Rattle.std.proofs.Common.{◌≡◌, ◌≢◌, ℕ, ◌<◌, ◌≤◌, Bool, true, false, List, length, None, Some, Option, Result, Ok, Err, IfSome, refl, sym, ap, ◌∙◌, subst, arith}
-use Rattle.image_source.specs.Seen.{Image, Seen}
-use Rattle.plan_text.specs.PlanText.{IsThinPlan, ReadsPlan, plan_text}
+use Rattle.std.proofs.Common.{◌≡◌, ℕ, ◌≤◌, true, false, List, length, None, Some, Option, Ok, Err, IfSome, sym, ap, subst}
+use Rattle.image_source.specs.Seen.{Image}
+use Rattle.plan_text.specs.PlanText.{ReadsPlan}
 use Rattle.plan_text.specs.declared.plan.Plan.{Plan}
-use Rattle.plan_text.specs.declared.plan.PlanFault.{PlanFault}
 use Rattle.plan_text.specs.declared.plan.PlanFault.TheVariants.{NotBuilt, Memory}
 use Rattle.reraid_cli.specs.Answers.{IsPrepared, IsTextOf, agree}
 
@@ -16,12 +15,12 @@ pub is_prepared : (left : Option (List ℕ)) (attached : List Image) (plan : Pla
     agree plan attached ≡ true → IsPrepared left attached plan
 is_prepared None attached plan text is short reads same = record { thin = reads.sound.0; agrees = same; text = tt }
 is_prepared (Some bytes) attached plan text is short reads same = record {
-    thin = reads.sound.0;
-    agrees = same;
-    text =
+  thin = reads.sound.0;
+  agrees = same;
+  text =
       let P : List ℕ → Type 0 = λ xs. (length xs ≤ 4194304) × ((read : Option Plan) → IsTextOf xs read → read ≡ Some plan) in
       subst P is (short, λ read says. says_plan text plan read reads says);
-  }
+}
 
 not_said : (text : List ℕ) (attached : List Image) (read : Option Plan) → ReadsPlan text (Err NotBuilt) → IsTextOf text read → IfSome read (λ plan. agree plan attached ≡ false)
 not_said text attached None reads is = tt

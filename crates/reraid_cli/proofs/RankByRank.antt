@@ -1,6 +1,5 @@
 -- Ranks tested one by one.
-use Rattle.std.proofs.Common.{◌≡◌, ℕ, zero, suc, ◌+◌, ◌-◌, ◌<◌, ◌≤◌, min, Bool, true, false, cond, nat_le, List, [], ◌∷◌, ◌++◌, length, take, get_or, filter, map, refl, sym, ap, ◌∙◌, arith, append_assoc, append-nil, length-append, IfSome, Option, Some, None, All, subst, inl, inr, ◌⊎◌}
-use Rattle.std.specs.List.{range_with_len}
+use Rattle.std.proofs.Common.{◌≡◌, ℕ, ◌+◌, ◌-◌, ◌<◌, ◌≤◌, Bool, true, false, cond, List, [], ◌∷◌, ◌++◌, length, take, map, refl, sym, ap, ◌∙◌, arith, append_assoc, append-nil, length-append, IfSome, Option, Some, None, All, subst, inl, inr}
 use Rattle.std.proofs.lemmas.List.{take_all, take_at, get_or_at, map-append, length-map}
 use Rattle.std.proofs.lemmas.List.Elements.{All-append, All-cons, All-nil}
 use Rattle.std.proofs.lemmas.Bool.{le-leb, lt-leb}
@@ -10,7 +9,6 @@ use Rattle.plan_text.specs.declared.plan.Plan.{Plan}
 use Rattle.reraid_cli.specs.Listing.{passes_at, total_of, AddsIfPasses, HoldsSet, LeavesImages}
 use Rattle.image_source.specs.Seen.{Seen}
 use Rattle.reraid_cli.specs.declared.paging.Line.{Line}
-use Rattle.reraid_cli.specs.declared.paging.ListPage.{ListPage}
 
 abbrev ranks : List Line → List ℕ
 ranks lines = map (λ held. held.rank) lines
@@ -84,9 +82,9 @@ full_page None plan from size span rank old new far low below adds few many = tt
 full_page (Some bytes) plan from size span rank old new far low below (inl past) few many = absurd (let e = ap length past.0 in omega arith)
 full_page (Some bytes) plan from size span rank old new far low below (inr (held, at, holds, is, test)) few many =
     full (passes_at bytes plan) (total_of plan) from size span rank (map (λ (one : Line). one.rank) new) low below
-        (ap ranks is ∙ map-append (λ (one : Line). one.rank) old (held ∷ []) ∙ ap (λ xs. xs ++ held.rank ∷ []) far ∙ ap (λ (r : ℕ). passing (passes_at bytes plan) from rank ++ r ∷ []) at)
-        test
-        (length-map new (λ (one : Line). one.rank) ∙ many)
+    (ap ranks is ∙ map-append (λ (one : Line). one.rank) old (held ∷ []) ∙ ap (λ xs. xs ++ held.rank ∷ []) far ∙ ap (λ (r : ℕ). passing (passes_at bytes plan) from rank ++ r ∷ []) at)
+    test
+    (length-map new (λ (one : Line). one.rank) ∙ many)
 
 pub short_page : (told : Option (List (List ℕ))) (plan : Plan) (from size span stop : ℕ) (lines : List Line) → Walked told plan from stop lines → stop ≡ stop_of (total_of plan) from span → length lines < size →
     IfSome told (λ bytes. IsPage (passes_at bytes plan) (total_of plan) from size span (map (λ (one : Line). one.rank) lines) stop)
@@ -97,7 +95,7 @@ short_page (Some bytes) plan from size span stop lines far at few =
 -- images are left as they were, one call after the other
 pub left_on : (a b c : Seen) → LeavesImages a b → LeavesImages b c → LeavesImages a c
 left_on a b c ab bc = record {
-    world = bc.world ∙ ab.world;
-    attached = bc.attached ∙ ab.attached;
-    faults = let x = ab.faults in let y = bc.faults in omega arith;
-  }
+  world = bc.world ∙ ab.world;
+  attached = bc.attached ∙ ab.attached;
+  faults = let x = ab.faults in let y = bc.faults in omega arith;
+}

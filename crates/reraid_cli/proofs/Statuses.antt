@@ -1,10 +1,9 @@
 -- Statuses, their lines and their causes.
-use Rattle.std.proofs.Common.{◌≡◌, ◌≢◌, ℕ, ◌+◌, ◌<◌, ◌≤◌, ◌⊎◌, List, [], ◌∷◌, ◌++◌, length, take, None, Some, Option, Result, Ok, Err, IfSome, refl, sym, ap, ◌∙◌, subst, arith, Contains, inl, inr}
-use Rattle.std.specs.Io.KnownBytes.{Appends}
+use Rattle.std.proofs.Common.{◌≡◌, ◌≢◌, ℕ, List, length, None, Some, Option, Result, Ok, Err, IfSome, refl, sym, ap, ◌∙◌, subst, arith, Contains, inl, inr}
 use Rattle.std.proofs.lemmas.List.{take_all}
 use Rattle.image_source.specs.Causes.{HasCause}
 use Rattle.image_source.specs.Seen.{Image}
-use Rattle.image_source.specs.Streams.{Puts, AppendsFront}
+use Rattle.image_source.specs.Streams.{Puts}
 use Rattle.reraid_cli.specs.declared.stop.Stop.{Stop}
 use Rattle.reraid_cli.specs.declared.stop.Stop.TheVariants.{PlanIsLong, Cursor, ImageFault, PlanFault, OutFault, NotBuilt, OutOfMemory}
 use Rattle.reraid_cli.specs.Answers.{EndsBy, IsExcused, IsNoted, Reading, Says, note_by, note_of, note_for, refusal, status_by, status_of, statuses}
@@ -61,18 +60,18 @@ pub by_refusal : (words : List (List ℕ)) (left : Option (List ℕ)) (attached 
 by_refusal words None attached stop status is a b c d ends = tt
 by_refusal words (Some text) attached stop status is a b c d ends = λ reading says.
     is ∙ ap status_by (sym (by_refusal_of (refusal text reading attached) stop (ends reading says)
-        (not_excused stop (λ e. a (is ∙ e)) (λ e. b (is ∙ e)) (λ e. c (is ∙ e)) (λ e. d (is ∙ e)))))
+    (not_excused stop (λ e. a (is ∙ e)) (λ e. b (is ∙ e)) (λ e. c (is ∙ e)) (λ e. d (is ∙ e)))))
 
 -- what a put leaves on the notes
 pub noted : {T E : Type 0} (old new : Option (List ℕ)) (before now : ℕ) (put : Result T E) (line : List ℕ) → Puts old new put line → HasCause before now put → before ≡ 0 → IsNoted now old new line
 noted old new before now (Ok x) line puts cause none = record {
-    front = (length line, omega arith, rw (take_all (length line) line (omega arith)) puts);
-    whole = λ e. puts;
-  }
+  front = (length line, omega arith, rw (take_all (length line) line (omega arith)) puts);
+  whole = λ e. puts;
+}
 noted old new before now (Err x) line puts cause none = record {
-    front = puts;
-    whole = λ e. absurd (let rose = cause.failed in omega arith);
-  }
+  front = puts;
+  whole = λ e. absurd (let rose = cause.failed in omega arith);
+}
 
 pub noted_for : (now : ℕ) (old new : Option (List ℕ)) (stop : Stop) (status : ℕ) → status ≡ status_of stop → status ≢ 6 → IsNoted now old new (note_of stop) → IsNoted now old new (note_for status)
 noted_for now old new stop status is other done =

@@ -1,15 +1,14 @@
 -- The product of a thin plan has one head, and every order of its images.
-use Rattle.std.proofs.Common.{◌≡◌, ℕ, zero, suc, ◌+◌, ◌-◌, ◌*◌, ◌<◌, ◌≤◌, ◌^◌, Bool, true, false, cond, nat_le, nat_lt, ◌&&◌, subst, inl, inr, List, [], ◌∷◌, ◌++◌, length, map, filter, refl, sym, ap, ◌∙◌, arith, append-nil, Option, Some, None}
+use Rattle.std.proofs.Common.{◌≡◌, ℕ, zero, suc, ◌-◌, ◌<◌, ◌≤◌, ◌^◌, Bool, true, false, cond, nat_le, nat_lt, ◌&&◌, subst, inl, inr, List, [], ◌∷◌, length, map, filter, refl, sym, ap, ◌∙◌, arith, append-nil, Option}
 use Rattle.std.specs.List.{flat_map}
 use Rattle.std.proofs.lemmas.Bool.{le-leb, lt-leb, and_parts, cases_lt}
 use borrow.Author.Tests.{ltb-true}
 use Rattle.slot_math.proofs.Steps.{filter_same}
-use Rattle.raid_params.specs.declared.types.Geometry.{Geometry}
 use Rattle.raid_params.specs.declared.types.Head.{Head}
 use Rattle.raid_params.specs.declared.types.Level.TheVariants.{Raid5}
 use Rattle.raid_params.specs.declared.types.Pattern.TheVariants.{Ls}
 use Rattle.raid_params.specs.declared.types.Syndrome.TheVariants.{NoQ}
-use Rattle.raid_terms.specs.Product.{product, heads, fits, is_chunk, is_valid_head, sets_of as sets_of_head}
+use Rattle.raid_terms.specs.Product.{heads, fits, is_chunk, is_valid_head, sets_of as sets_of_head}
 use Rattle.raid_terms.specs.SlotLists.{all_lists, is_distinct, empties, is_kept, slot_lists}
 use Rattle.slot_math.specs.Ways.{ways}
 use Rattle.slot_math.specs.Space.{lists_of}
@@ -19,7 +18,6 @@ use Rattle.plan_text.specs.PlanText.{IsThinPlan}
 use Rattle.plan_text.specs.declared.plan.Plan.{Plan}
 use Rattle.reraid_cli.specs.Listing.{sets_of}
 use Rattle.reraid_cli.specs.Sets.{AreSetsOf, set_with}
-use Rattle.reraid_cli.specs.declared.sets.ThinSets.{ThinSets}
 
 abbrev pub thin_head : ℕ → ℕ → ℕ → Head
 thin_head n chunk offset = record { level = Raid5; members = n; pattern = Ls; syndrome = NoQ; chunk = chunk; offset = offset }
@@ -53,8 +51,9 @@ unfolding each_below
 at_each zero p h k lt = absurd (omega arith)
 at_each (suc n) p h k lt =
     elim (cases_lt k n) [
-      inl below ↦ at_each n p (and_parts (p n) (each_below n p) h).1 k below
-    | inr above ↦ (let e : n ≡ k = omega arith in let P : ℕ → Type 0 = λ m. p m ≡ true in subst P e (and_parts (p n) (each_below n p) h).0) ]
+      | inl below ↦ at_each n p (and_parts (p n) (each_below n p) h).1 k below
+      | inr above ↦ (let e : n ≡ k = omega arith in let P : ℕ → Type 0 = λ m. p m ≡ true in subst P e (and_parts (p n) (each_below n p) h).0)
+    ]
 
 -- there are fewer than 2 ^ 64 orders of so many images
 few_orders : (n : ℕ) → n ≤ 16 → ways 0 0 n n 0 < 2 ^ 64
@@ -90,13 +89,13 @@ are_sets plan chunk offset head space thin good chunks offsets is_head is_space 
     let most = thin.most in
     record {
       listed =
-        one_product plan head thin (one_head plan chunk offset thin good chunks offsets ∙ ap (λ (h : Head). h ∷ []) (sym is_head))
-            (ap (λ (h : Head). h.level) is_head) (ap (λ (h : Head). h.members) is_head)
-        ∙ ap (λ (s : Space). map (set_with head) (lists_of s)) (sym is_space);
+          one_product plan head thin (one_head plan chunk offset thin good chunks offsets ∙ ap (λ (h : Head). h ∷ []) (sym is_head))
+          (ap (λ (h : Head). h.level) is_head) (ap (λ (h : Head). h.members) is_head)
+          ∙ ap (λ (s : Space). map (set_with head) (lists_of s)) (sym is_space);
       images = let e = ap (λ (s : Space). s.images) is_space in omega arith;
       members = let e = ap (λ (s : Space). s.members) is_space in omega arith;
       few =
-        let count : length (lists_of space) ≡ ways 0 0 n n 0 = ap (λ (s : Space). length (lists_of s)) is_space ∙ sym (total_is (orders n)) in
-        let small = few_orders n most in
-        omega arith;
+          let count : length (lists_of space) ≡ ways 0 0 n n 0 = ap (λ (s : Space). length (lists_of s)) is_space ∙ sym (total_is (orders n)) in
+          let small = few_orders n most in
+          omega arith;
     }

@@ -1,26 +1,23 @@
 -- What is known of a set of a thin plan: its parity can be tested over images that agree with the plan.
-use Rattle.std.proofs.Common.{◌≡◌, ◌≢◌, ℕ, zero, suc, ◌+◌, ◌-◌, ◌/◌, ◌<◌, ◌≤◌, ◌^◌, Bool, true, false, cond, nat_le, nat_lt, ◌&&◌, List, [], ◌∷◌, length, map, refl, sym, ap, ◌∙◌, subst, arith, Option, Some, None, All, IsSomeAnd, IfSome, slice_get}
-use Rattle.std.specs.Option.{option_map}
-use Rattle.std.proofs.lemmas.Bool.{le-leb, lt-leb, leb-true, and_parts}
+use Rattle.std.proofs.Common.{◌≡◌, ◌≢◌, ℕ, zero, suc, ◌<◌, ◌≤◌, ◌^◌, Bool, true, false, nat_le, ◌&&◌, List, [], ◌∷◌, length, map, refl, sym, ap, ◌∙◌, subst, arith, Option, Some, None, All, IsSomeAnd, IfSome, slice_get}
+use Rattle.std.proofs.lemmas.Bool.{le-leb, leb-true, and_parts}
 use Rattle.std.proofs.lemmas.List.{length-map}
 use Rattle.std.proofs.lemmas.List.Elements.{All-head, All-tail, All-nil, All-cons}
-use Rattle.std.proofs.lemmas.Option.{slice_get-map}
 use Rattle.image_source.specs.Seen.{Image}
 use Rattle.raid_params.specs.declared.types.Geometry.{Geometry}
 use Rattle.raid_params.specs.declared.types.Head.{Head}
 use Rattle.raid_params.specs.declared.types.Level.TheVariants.{Raid5, Raid6}
 use Rattle.raid_terms.specs.Parity.{passes_parity}
-use Rattle.raid_terms.specs.Product.{is_chunk, passes, rank_passes}
+use Rattle.raid_terms.specs.Product.{is_chunk, passes}
 use Rattle.raid_terms.specs.Size.{rows}
-use Rattle.raid_terms.specs.SlotLists.{is_distinct, empties, is_kept, slot_lists}
-use Rattle.slot_math.specs.Space.{lists_of}
+use Rattle.raid_terms.specs.SlotLists.{is_distinct, empties, slot_lists}
 use Rattle.slot_math.specs.Ways.{AllImages}
 use Rattle.slot_math.proofs.Listed.{listed}
 use Rattle.row_scan.specs.Scan.{IsHeld, IsScannable}
 use Rattle.plan_text.specs.PlanText.{IsThinPlan, criteria_of}
 use Rattle.plan_text.specs.declared.plan.Plan.{Plan}
 use Rattle.reraid_cli.specs.Listing.{AgreeWith, passes_at, sets_of}
-use Rattle.reraid_cli.specs.Sets.{AreSetsOf, set_with}
+use Rattle.reraid_cli.specs.Sets.{set_with}
 use Rattle.reraid_cli.proofs.ThinPlans.{thin_head, orders, are_sets}
 
 -- no chunk is empty
@@ -95,9 +92,9 @@ scannable plan rank geo attached thin e agrees =
       chunk = set.chunk;
       near = ends_near plan thin;
       held =
-        let P : List ℕ → Type 0 = λ ns. All (λ k. plan.end ≤ k) ns in
-        let Q : ℕ → Type 0 = λ k. AllImages k geo.slots.items in
-        held attached plan.end geo.slots.items (subst P (sym agrees) thin.ends) (subst Q (sym count) set.images) set.whole;
+          let P : List ℕ → Type 0 = λ ns. All (λ k. plan.end ≤ k) ns in
+          let Q : ℕ → Type 0 = λ k. AllImages k geo.slots.items in
+          held attached plan.end geo.slots.items (subst P (sym agrees) thin.ends) (subst Q (sym count) set.images) set.whole;
     }
   where
     ends_near : (plan : Plan) → IsThinPlan plan → plan.end < 2 ^ 55

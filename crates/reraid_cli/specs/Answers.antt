@@ -1,5 +1,5 @@
 -- What a run answers.
-use Rattle.std.specs.Prelude.{ℕ, ◌≡◌, ◌≢◌, ◌⊎◌, ◌+◌, ◌<◌, ◌≤◌, Bool, true, false, nat_lt, nat_eq, ◌&&◌, ◌==◌, if◌then◌else◌, List, [], ◌∷◌, ◌++◌, length, map, drop, codes, decimal, Result, IsErr, IfOk, OnOk, OnErr, IfErr, IsErrOf, IfSome, IsNone, IsSome, Contains}
+use Rattle.std.specs.Prelude.{ℕ, ◌≡◌, ◌≢◌, ◌⊎◌, ◌<◌, ◌≤◌, Bool, true, false, nat_lt, nat_eq, ◌==◌, if◌then◌else◌, List, [], ◌∷◌, ◌++◌, length, map, codes, decimal, Result, OnOk, IfErr, IsErrOf, IfSome}
 use Rattle.std.specs.Cmp.Lexicographic.{pointwise}
 use Rattle.std.specs.declared.option.Option.{Option}
 use Rattle.std.specs.declared.option.Option.TheVariants.{None, Some}
@@ -9,7 +9,6 @@ use Rattle.image_source.specs.Causes.{Rose}
 use Rattle.image_source.specs.Seen.{Image, Seen}
 use Rattle.image_source.specs.Streams.{AppendsFront}
 use Rattle.plan_text.specs.PlanText.{IsThinPlan, plan_text}
-use Rattle.plan_text.specs.Spelling.{line}
 use Rattle.plan_text.specs.declared.plan.Plan.{Plan}
 use Rattle.plan_text.specs.declared.plan.PlanFault.{PlanFault as FaultOfPlan}
 use Rattle.plan_text.specs.declared.plan.PlanFault.TheVariants.{NotBuilt as PlanNotBuilt, Memory as PlanMemory}

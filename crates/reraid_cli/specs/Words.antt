@@ -1,5 +1,5 @@
 -- What the words of a command line say.
-use Rattle.std.specs.Prelude.{ℕ, ◌-◌, ◌≡◌, ◌≢◌, ◌≤◌, ◌<◌, ◌^◌, ◌+◌, List, [], ◌∷◌, ◌++◌, length, drop, map, All, codes, decimal, if◌then◌else◌, unwrap_or, option_and_then, IfSome, IsNone, Bool, is_none}
+use Rattle.std.specs.Prelude.{ℕ, ◌-◌, ◌≡◌, ◌≤◌, ◌<◌, ◌^◌, ◌+◌, List, [], ◌∷◌, ◌++◌, length, map, All, codes, decimal, if◌then◌else◌, unwrap_or, option_and_then, IfSome, is_none}
 use Rattle.std.specs.declared.option.Option.{Option}
 use Rattle.std.specs.declared.option.Option.TheVariants.{None, Some}
 use Rattle.std.specs.Str.{bytes_eq}

@@ -1,8 +1,6 @@
 // A page of the sets that pass.
 ghost use Rattle.std.specs.Prelude.{◌≡◌, ◌<◌, ◌≤◌, All, IfErr, IfOk, IfSome, IsErrOf, OnOk, Some, length, slice_get};
 ghost use Rattle.image_source.specs.Attached.{told_all};
-
-
 ghost use Rattle.plan_text.specs.PlanText.{IsThinPlan};
 ghost use Rattle.reraid_cli.specs.Listing.{AddsIfPasses, AgreeWith, EndsPage, EndsTest, HoldsSet, IsPageOf, LeavesImages, passes_at, sets_of, total_of};
 ghost use Rattle.reraid_cli.specs.Sets.{AreSetsOf};
@@ -14,6 +12,7 @@ use plan_text::Plan;
 use raid_params::Geometry;
 use row_scan::{Blocks, ScanFault, parity_holds};
 use std::alloc::Global;
+use thiserror::Error;
 
 /// A parameter set that passes, with its rank.
 #[derive(Drop)]
@@ -34,20 +33,23 @@ pub struct ListPage {
 }
 
 /// The first rank asked for, which is past the total.
-#[derive(Clone, Copy)]
+#[derive(Clone, Copy, Debug)]
 pub struct CursorFault {
     pub from: u64,
     pub total: u64,
 }
 
 /// Why there is no page.
-#[derive(Clone, Copy)]
+#[derive(Clone, Copy, Debug, Error)]
 pub enum PageFault {
     /// The first rank asked for is past the total.
+    #[error("the first rank is past the total")]
     Cursor(CursorFault),
     /// The images failed.
+    #[error("the images could not be read")]
     ReadFault,
     /// Want of memory.
+    #[error("out of memory")]
     Memory,
 }
 
@@ -145,7 +147,9 @@ fn add_if_passes<I: Images>(
     if !set_passes(images, blocks, plan, rank, &geo)? {
         return Ok(());
     }
-    lines.push(Line { rank, geo }).map_err(|_| PageFault::Memory)
+    lines
+        .push(Line { rank, geo })
+        .map_err(|_| PageFault::Memory)
 }
 
 /// Whether the set of a rank passes: it has a whole row, and meets the parity test.

@@ -1,4 +1,3 @@
-use Rattle.std.proofs.Common.{◌≡◌, ◌≤◌, ◌+◌, length}
 use Rattle.reraid_cli.proofs.OneByOne.{AttachedSoFar}
 use Rattle.reraid_cli.proofs.attaching.attach_all.Given as goal
 

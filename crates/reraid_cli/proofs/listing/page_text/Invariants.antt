@@ -1,7 +1,6 @@
 use Rattle.std.proofs.Common.{◌≡◌, take}
 use Rattle.std.specs.List.{flat_map}
 use Rattle.plan_text.specs.SetText.{set_line}
-use Rattle.raid_params.specs.declared.types.Geometry.{Geometry}
 use Rattle.reraid_cli.specs.declared.paging.Line.{Line}
 use Rattle.reraid_cli.proofs.listing.page_text.Given as goal
 

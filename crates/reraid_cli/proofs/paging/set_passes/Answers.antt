@@ -1,4 +1,4 @@
-use Rattle.std.proofs.Common.{◌≡◌, ◌<◌, ◌≤◌, length, arith, sym, ap, ◌∙◌, ◌/◌, ℕ}
+use Rattle.std.proofs.Common.{arith, sym, ap, ◌∙◌, ◌/◌, ℕ}
 use Rattle.image_source.specs.Attached.{told_all}
 use Rattle.reraid_cli.proofs.ThinSetTests.{thin_set, scannable, no_row, some_row}
 use Rattle.reraid_cli.proofs.paging.set_passes.Goals as goal
@@ -12,7 +12,7 @@ nonzero_div-saturating_sub g c =
 pub returns-then-saturating_sub-geo-eq0-clause-told : goal.returns-then-saturating_sub-geo-eq0-clause-told
 returns-then-saturating_sub-geo-eq0-clause-told g c =
     no_row (told_all (g.I.Images.seen c.args.images.now).attached) c.args.plan.now c.args.rank c.args.geo.now c.requires.set
-        (ap (λ (k : ℕ). k / c.args.geo.now.head.chunk) (sym c.saturating_sub.ensures) ∙ c.if-saturating_sub-geo-eq0.true)
+    (ap (λ (k : ℕ). k / c.args.geo.now.head.chunk) (sym c.saturating_sub.ensures) ∙ c.if-saturating_sub-geo-eq0.true)
 
 pub parity_holds-requires-clause-set : goal.parity_holds-requires-clause-set
 parity_holds-requires-clause-set g c =
@@ -28,4 +28,4 @@ parity_holds-requires-clause-blocks g c =
 pub returns-in-Ok-clause-told : goal.returns-in-Ok-clause-told
 returns-in-Ok-clause-told g c =
     some_row (told_all (g.I.Images.seen c.args.images.now).attached) c.args.plan.now c.args.rank c.args.geo.now c.in-Ok.holds c.requires.set
-        (λ none. c.if-saturating_sub-geo-eq0.false (ap (λ (k : ℕ). k / c.args.geo.now.head.chunk) c.saturating_sub.ensures ∙ none)) c.in-Ok.ensures.told
+    (λ none. c.if-saturating_sub-geo-eq0.false (ap (λ (k : ℕ). k / c.args.geo.now.head.chunk) c.saturating_sub.ensures ∙ none)) c.in-Ok.ensures.told

@@ -1,4 +1,4 @@
-use Rattle.std.proofs.Common.{◌≡◌, ◌<◌, ◌≤◌, ◌+◌, length, arith, sym, ap}
+use Rattle.std.proofs.Common.{length, arith, ap}
 use Rattle.image_source.specs.Attached.{told_all}
 use Rattle.reraid_cli.specs.Listing.{AddsIfPasses}
 use Rattle.reraid_cli.proofs.RankByRank.{walked_on, longer, still_hold, full_page, left_on}
@@ -12,11 +12,11 @@ loop-rank-preserved g c =
     record {
       walked = walked_on told c.args.plan.now c.args.from c.loop-rank.rank c.loop-rank.lines c.add_if_passes.new.lines far.walked (omega arith) adds;
       few =
-        let more = longer told c.args.plan.now c.loop-rank.rank c.loop-rank.lines c.add_if_passes.new.lines adds in
-        let same = ap length c.as_slice.ensures in
-        let less = far.few in
-        let other = c.if-as_slice-size.false in
-        omega arith;
+          let more = longer told c.args.plan.now c.loop-rank.rank c.loop-rank.lines c.add_if_passes.new.lines adds in
+          let same = ap length c.as_slice.ensures in
+          let less = far.few in
+          let other = c.if-as_slice-size.false in
+          omega arith;
       sets = still_hold told c.args.plan.now c.loop-rank.rank c.loop-rank.lines c.add_if_passes.new.lines far.sets adds;
       leaves = left_on _ _ _ far.leaves c.add_if_passes.ensures.leaves;
       blocks = let same = c.add_if_passes.ensures.blocks in let room = far.blocks in omega arith;

@@ -1,4 +1,4 @@
-use Rattle.std.proofs.Common.{◌≡◌, ◌<◌, ◌≤◌, length, All}
+use Rattle.std.proofs.Common.{◌<◌, ◌≤◌, length, All}
 use Rattle.image_source.specs.Attached.{told_all}
 use Rattle.reraid_cli.specs.Listing.{HoldsSet, LeavesImages}
 use Rattle.reraid_cli.proofs.RankByRank.{Walked}
@@ -6,9 +6,9 @@ use Rattle.reraid_cli.proofs.paging.walk.Given as goal
 
 abbrev pub invariant-loop-rank : goal.invariant-loop-rank
 invariant-loop-rank g l = record {
-    walked : Walked (told_all (g.I.Images.seen l.fn.images).attached) l.plan l.from l.rank l.lines;
-    few : length l.lines < l.size;
-    sets : All (HoldsSet l.plan) l.lines;
-    leaves : LeavesImages (g.I.Images.seen l.fn.images) (g.I.Images.seen l.images);
-    blocks : length l.plan.lengths.items ≤ l.blocks;
-  }
+  walked : Walked (told_all (g.I.Images.seen l.fn.images).attached) l.plan l.from l.rank l.lines;
+  few : length l.lines < l.size;
+  sets : All (HoldsSet l.plan) l.lines;
+  leaves : LeavesImages (g.I.Images.seen l.fn.images) (g.I.Images.seen l.images);
+  blocks : length l.plan.lengths.items ≤ l.blocks;
+}

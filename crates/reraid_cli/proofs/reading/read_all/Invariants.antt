@@ -1,4 +1,3 @@
-use Rattle.std.proofs.Common.{◌≤◌, length}
 use Rattle.reraid_cli.proofs.Taking.{ReadSoFar}
 use Rattle.reraid_cli.proofs.reading.read_all.Given as goal
 

@@ -1,4 +1,4 @@
-use Rattle.std.proofs.Common.{◌≡◌, ◌-◌, List, ℕ, Some, length, take, drop, sym, ap, ◌∙◌, false, codes}
+use Rattle.std.proofs.Common.{◌≡◌, ◌-◌, List, ℕ, length, take, drop, sym, ap, ◌∙◌, false, codes}
 use Rattle.std.specs.Str.{bytes_eq}
 use Rattle.reraid_cli.proofs.OperandLists.{split_first, names_come, no_operand, given_twice, one_operand}
 use Rattle.reraid_cli.proofs.words.+read_operands.Goals as goal

@@ -1,4 +1,4 @@
-use Rattle.std.proofs.Common.{◌≡◌, ◌≤◌, ◌<◌, ◌^◌, ap, codes, Some, arith, ℕ}
+use Rattle.std.proofs.Common.{ap, Some, arith, ℕ}
 use Rattle.reraid_cli.specs.declared.words.Operand.TheVariants.{Size}
 use Rattle.reraid_cli.proofs.Operands.{same_size}
 use Rattle.reraid_cli.proofs.words.read_limit.Goals as goal

@@ -1,4 +1,4 @@
-use Rattle.std.proofs.Common.{◌≡◌, ap, codes, Some, ℕ}
+use Rattle.std.proofs.Common.{ap, codes, Some, ℕ}
 use Rattle.reraid_cli.specs.declared.words.Operand.TheVariants.{From}
 use Rattle.reraid_cli.proofs.Operands.{same_number}
 use Rattle.reraid_cli.proofs.words.read_operand.Goals as goal

@@ -1,4 +1,4 @@
-use Rattle.std.proofs.Common.{◌≡◌, ◌-◌, length, take, drop, sym, ◌∙◌}
+use Rattle.std.proofs.Common.{◌-◌, length, take, drop, sym, ◌∙◌}
 use Rattle.reraid_cli.proofs.OperandLists.{listing_words, split_first}
 use Rattle.reraid_cli.proofs.words.read_words.Goals as goal
 

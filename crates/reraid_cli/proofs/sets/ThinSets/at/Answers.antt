@@ -1,9 +1,9 @@
-use Rattle.std.proofs.Common.{◌≡◌, ◌<◌, ℕ, List, Option, Some, length, sym, ap, ◌∙◌, arith, slice_get}
+use Rattle.std.proofs.Common.{◌≡◌, length, sym, ap, ◌∙◌, arith, slice_get}
 use Rattle.std.specs.Option.{option_map}
 use Rattle.std.proofs.lemmas.List.{length-map}
 use Rattle.std.proofs.lemmas.Option.{slice_get-map}
 use Rattle.slot_math.specs.Space.{lists_of}
-use Rattle.reraid_cli.specs.Listing.{sets_of, total_of}
+use Rattle.reraid_cli.specs.Listing.{total_of}
 use Rattle.reraid_cli.specs.Sets.{set_with}
 use Rattle.reraid_cli.proofs.sets.ThinSets.at.Goals as goal
 

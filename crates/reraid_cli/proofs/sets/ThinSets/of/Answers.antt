@@ -1,4 +1,4 @@
-use Rattle.std.proofs.Common.{◌≡◌, ℕ, length, get_or, refl, ap, ◌∙◌}
+use Rattle.std.proofs.Common.{◌≡◌, get_or, ap, ◌∙◌}
 use Rattle.raid_params.specs.declared.types.Level.TheVariants.{Raid0, Raid5}
 use Rattle.raid_params.specs.declared.types.Pattern.TheVariants.{Plain, Ls}
 use Rattle.raid_params.specs.declared.types.Syndrome.TheVariants.{NoQ}

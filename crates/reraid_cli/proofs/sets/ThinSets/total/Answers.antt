@@ -1,7 +1,7 @@
-use Rattle.std.proofs.Common.{◌≡◌, length, sym, ap, ◌∙◌}
+use Rattle.std.proofs.Common.{length, sym, ap, ◌∙◌}
 use Rattle.std.proofs.lemmas.List.{length-map}
 use Rattle.slot_math.specs.Space.{lists_of}
-use Rattle.reraid_cli.specs.Listing.{sets_of, total_of}
+use Rattle.reraid_cli.specs.Listing.{total_of}
 use Rattle.reraid_cli.specs.Sets.{set_with}
 use Rattle.reraid_cli.proofs.sets.ThinSets.total.Goals as goal
 

@@ -92,21 +92,62 @@ fn each_call<R: Threads + Sync + Abort>(
     Ok(MANY)
 }
 
+/// How many calls of each object could fail.
+#[derive(Clone, Copy)]
+struct Calls {
+    images: u64,
+    plan: u64,
+    out: u64,
+    notes: u64,
+}
+
+/// Fails each call of each object in turn.
+fn each_object<R: Threads + Sync + Abort>(
+    rt: &R,
+    alloc: Global,
+    ask: &Ask,
+    pieces: bool,
+) -> Result<Calls, Fail> {
+    Ok(Calls {
+        images: each_call(rt, alloc, ask, pieces, Object::Images)?,
+        plan: each_call(rt, alloc, ask, pieces, Object::Plan)?,
+        out: each_call(rt, alloc, ask, pieces, Object::Out)?,
+        notes: each_call(rt, alloc, ask, pieces, Object::Notes)?,
+    })
+}
+
+// A listing makes three attachments, and at least one read for each image of each of six sets; its
+// lines are one put, and nothing is noted.
 #[test]
-fn each_fault_has_its_status(rt: HostRuntime) -> Result<(), Fail> {
+fn each_fault_of_a_listing_has_its_status(rt: HostRuntime) -> Result<(), Fail> {
     let alloc = rt.alloc();
-    // three attachments, and at least one read for each image of each of six sets
-    let images = each_call(&rt, alloc, &FIRST, false, Object::Images)?;
-    assert!(rt; images >= 21 && images < MANY);
+    let whole = each_object(&rt, alloc, &FIRST, false)?;
+    assert!(rt; whole.images >= 21 && whole.images < MANY);
+    assert!(rt; whole.plan >= 2 && whole.plan < MANY);
+    assert_eq!(rt; whole.out, 1);
+    assert_eq!(rt; whole.notes, 0);
     // a text of 193 bytes in pieces of seven
-    let plan = each_call(&rt, alloc, &FIRST, true, Object::Plan)?;
-    assert!(rt; plan >= 28 && plan < MANY);
-    assert_eq!(rt; each_call(&rt, alloc, &FIRST, false, Object::Out)?, 1);
-    // at status 0 nothing is noted, and the line of the cursor is one put
-    assert_eq!(rt; each_call(&rt, alloc, &FIRST, false, Object::Notes)?, 0);
-    assert_eq!(rt; each_call(&rt, alloc, &PAST, false, Object::Images)?, 3);
-    assert!(rt; each_call(&rt, alloc, &PAST, true, Object::Plan)? >= 28);
-    assert_eq!(rt; each_call(&rt, alloc, &PAST, false, Object::Out)?, 0);
-    assert_eq!(rt; each_call(&rt, alloc, &PAST, false, Object::Notes)?, 1);
+    let pieces = each_object(&rt, alloc, &FIRST, true)?;
+    assert_eq!(rt; pieces.images, whole.images);
+    assert!(rt; pieces.plan >= 28 && pieces.plan < MANY);
+    assert_eq!(rt; pieces.out, 1);
+    assert_eq!(rt; pieces.notes, 0);
+    Ok(())
+}
+
+// Past the total nothing is read and nothing put, and the line of the cursor is one put.
+#[test]
+fn each_fault_past_the_total_has_its_status(rt: HostRuntime) -> Result<(), Fail> {
+    let alloc = rt.alloc();
+    let whole = each_object(&rt, alloc, &PAST, false)?;
+    assert_eq!(rt; whole.images, 3);
+    assert!(rt; whole.plan >= 2 && whole.plan < MANY);
+    assert_eq!(rt; whole.out, 0);
+    assert_eq!(rt; whole.notes, 1);
+    let pieces = each_object(&rt, alloc, &PAST, true)?;
+    assert_eq!(rt; pieces.images, 3);
+    assert!(rt; pieces.plan >= 28 && pieces.plan < MANY);
+    assert_eq!(rt; pieces.out, 0);
+    assert_eq!(rt; pieces.notes, 1);
     Ok(())
 }

@@ -15,6 +15,13 @@ use std::thread::Threads;
 pub const PLAN: &str =
     "reraid-plan 1\nimages 3\nlength 2\nlength 2\nlength 2\nend 2\nlevels 5\nmembers 3\npatterns ls\nsyndromes none\nchunks 1\noffsets 0\norigins 0\nmissing 0\nforeign 0\nbadrows 0\nwindow 2\nmisfits 0\nleast 1\ndone\n";
 
+/// The same, but one sector row of the two may break its equation.
+pub const PLAN_WITH_A_BAD_ROW: &str =
+    "reraid-plan 1\nimages 3\nlength 2\nlength 2\nlength 2\nend 2\nlevels 5\nmembers 3\npatterns ls\nsyndromes none\nchunks 1\noffsets 0\norigins 0\nmissing 0\nforeign 0\nbadrows 1\nwindow 2\nmisfits 0\nleast 1\ndone\n";
+
+/// A plan that ends in the middle of a line.
+pub const TORN_PLAN: &str = "reraid-plan 1\nimages 3\nlength 2\nleng";
+
 /// The operands of a listing.
 #[derive(Clone, Copy)]
 pub struct Ask {

@@ -74,12 +74,24 @@ fn two_rows(rt: HostRuntime) -> Result<(), Fail> {
     b[512..].fill(4);
     c[512..].fill(6);
     let mut images = three_images(&rt, [&a, &b, &c])?;
-    assert_eq!(rt; holds(&rt, &mut images, &mut blocks, 1, 2, 0, 2), Some(true));
+    assert_eq!(rt;
+        holds(&rt, &mut images, &mut blocks, 1, 2, 0, 2),
+        Some(true)
+    );
     c[512..].fill(7);
     let mut images = three_images(&rt, [&a, &b, &c])?;
-    assert_eq!(rt; holds(&rt, &mut images, &mut blocks, 1, 2, 0, 2), Some(false));
-    assert_eq!(rt; holds(&rt, &mut images, &mut blocks, 1, 2, 1, 2), Some(true));
-    assert_eq!(rt; holds(&rt, &mut images, &mut blocks, 1, 2, 0, 1), Some(true));
+    assert_eq!(rt;
+        holds(&rt, &mut images, &mut blocks, 1, 2, 0, 2),
+        Some(false)
+    );
+    assert_eq!(rt;
+        holds(&rt, &mut images, &mut blocks, 1, 2, 1, 2),
+        Some(true)
+    );
+    assert_eq!(rt;
+        holds(&rt, &mut images, &mut blocks, 1, 2, 0, 1),
+        Some(true)
+    );
     Ok(())
 }
 
@@ -91,9 +103,21 @@ fn many_blocks(rt: HostRuntime) -> Result<(), Fail> {
     let mut other = vec![in rt.alloc(); 0u8; 307_200]?;
     other[307_199] = 1;
     let mut images = three_images(&rt, [&zeros, &other, &zeros])?;
-    assert_eq!(rt; holds(&rt, &mut images, &mut blocks, 8, 600, 0, 600), Some(false));
-    assert_eq!(rt; holds(&rt, &mut images, &mut blocks, 8, 600, 1, 600), Some(true));
-    assert_eq!(rt; holds(&rt, &mut images, &mut blocks, 8, 600, 0, 599), Some(true));
-    assert_eq!(rt; holds(&rt, &mut images, &mut blocks, 8, 599, 0, 600), Some(true));
+    assert_eq!(rt;
+        holds(&rt, &mut images, &mut blocks, 8, 600, 0, 600),
+        Some(false)
+    );
+    assert_eq!(rt;
+        holds(&rt, &mut images, &mut blocks, 8, 600, 1, 600),
+        Some(true)
+    );
+    assert_eq!(rt;
+        holds(&rt, &mut images, &mut blocks, 8, 600, 0, 599),
+        Some(true)
+    );
+    assert_eq!(rt;
+        holds(&rt, &mut images, &mut blocks, 8, 599, 0, 600),
+        Some(true)
+    );
     Ok(())
 }

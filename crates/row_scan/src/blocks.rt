@@ -33,7 +33,8 @@ impl Model for Blocks {
 
     ghost view = { λ b. b.members };
 
-    ghost invariant = { λ b. (length b.sectors.items ≡ BLOCK_BYTES * b.members) × (length b.row.items ≡ 512 * b.members) };
+    ghost invariant = { λ b. (length b.sectors.items ≡ BLOCK_BYTES * b.members)
+        × (length b.row.items ≡ 512 * b.members) };
 }
 
 impl Blocks {

@@ -4,9 +4,12 @@ ghost use Rattle.raid_terms.specs.Cells.{p_slot, part_beside, row_cells};
 
 use raid_params::{Cell, Geometry, Level, MOST, Part, Pattern};
 
+/// A cell for each slot of a row, and cells that count for nothing after them.
+pub type Cells = [Cell; MOST];
+
 /// What the block of each slot is in a row of chunks, at levels 0 and 5, and whether its member is
-/// missing. The cells of the slots stand first.
-pub fn cells_of(geo: &Geometry, row: u64) -> [Cell; MOST]
+/// missing. As many cells as there are slots are meant, from the first on.
+pub fn cells_of(geo: &Geometry, row: u64) -> Cells
     requires { 1 ≤ geo.now.head.members }
     ensures { take (length geo.now.slots.items) result ≡ row_cells geo.now row }
 {

@@ -19,12 +19,14 @@ pub fn read_blocks<I: Images>(
     first: u64,
     count: usize,
 ) -> Result<(), Failed>
-    requires held { All (IsHeld (I.seen images.old).attached (geo.now.head.offset + (first + count))) geo.now.slots.items }
+    requires held { All (IsHeld (I.seen images.old).attached (geo.now.head.offset + (first + count)))
+        geo.now.slots.items }
     requires near { geo.now.head.offset + (first + count) < 2 ^ 55 }
     requires sectors { BLOCK_BYTES * length geo.now.slots.items ≤ length sectors.old }
     requires some { 1 ≤ count }
     requires most { count ≤ BLOCK }
-    ensures told { OnOk result (IfSome (told_all (I.seen images.old).attached) (λ bytes. HoldMembers bytes geo.now first (512 * count) (length geo.now.slots.items) sectors.new)) }
+    ensures told { OnOk result (IfSome (told_all (I.seen images.old).attached)
+        (λ bytes. HoldMembers bytes geo.now first (512 * count) (length geo.now.slots.items) sectors.new)) }
     ensures reads { OnlyReads (I.seen images.old) (I.seen images.new) (length geo.now.slots.items * count) }
     ensures cause { HasCause (I.seen images.old).faults (I.seen images.new).faults result }
 {
@@ -48,7 +50,8 @@ fn read_member<I: Images>(
     requires near { offset + first < 2 ^ 55 }
     requires whole { length to.old % 512 ≡ 0 }
     requires some { 0 < length to.old }
-    ensures told { OnOk result (IfSome (told_all (I.seen images.old).attached) (λ bytes. (y : ℕ) → y < length to.new → slice_index to.new y ≡ member_byte bytes offset first y held)) }
+    ensures told { OnOk result (IfSome (told_all (I.seen images.old).attached)
+        (λ bytes. (y : ℕ) → y < length to.new → slice_index to.new y ≡ member_byte bytes offset first y held)) }
     ensures reads { OnlyReads (I.seen images.old) (I.seen images.new) (length to.old / 512) }
     ensures cause { HasCause (I.seen images.old).faults (I.seen images.new).faults result }
 {

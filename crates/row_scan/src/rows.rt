@@ -24,7 +24,9 @@ pub fn rows_left(
     requires row { length row.old ≡ 512 * length geo.now.slots.items }
     requires first { first < 2 ^ 55 }
     requires count { count ≤ BLOCK }
-    ensures { MatchOption result (left < unsound_in geo.now sectors.now first count) (λ rest. unsound_in geo.now sectors.now first count + rest ≡ left) }
+    ensures { MatchOption result
+        (left < unsound_in geo.now sectors.now first count)
+        (λ rest. unsound_in geo.now sectors.now first count + rest ≡ left) }
 {
     let mut rest = left;
     for j in 0..count {
@@ -55,7 +57,8 @@ fn gather(sectors: &[u8], row: &mut [u8], j: usize, members: usize)
     requires sectors { BLOCK_BYTES * members ≤ length sectors.now }
     requires row { length row.old ≡ 512 * members }
     requires j { j < BLOCK }
-    ensures { (i x : ℕ) → i < members → x < 512 → slice_index row.new (512 * i + x) ≡ slice_index sectors.now (BLOCK_BYTES * i + (512 * j + x)) }
+    ensures { (i x : ℕ) → i < members → x < 512 →
+        slice_index row.new (512 * i + x) ≡ slice_index sectors.now (BLOCK_BYTES * i + (512 * j + x)) }
 {
     for i in 0..members {
         let at = BLOCK_BYTES * i + SECTOR * j;

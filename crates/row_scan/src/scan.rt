@@ -38,8 +38,10 @@ pub fn parity_holds<I: Images>(
 ) -> Result<bool, ScanFault>
     requires set { IsScannable geo.now end (I.seen images.old).attached }
     requires blocks { length geo.now.slots.items ≤ blocks.old }
-    ensures told { IfOk result (λ holds. IfSome (told_all (I.seen images.old).attached) (λ bytes. holds ≡ passes_parity bytes geo.now end limits.now.window limits.now.badrows)) }
-    ensures reads { OnlyReads (I.seen images.old) (I.seen images.new) (length geo.now.slots.items * tested_rows geo.now end limits.now.window) }
+    ensures told { IfOk result (λ holds. IfSome (told_all (I.seen images.old).attached)
+        (λ bytes. holds ≡ passes_parity bytes geo.now end limits.now.window limits.now.badrows)) }
+    ensures reads { OnlyReads (I.seen images.old) (I.seen images.new)
+        (length geo.now.slots.items * tested_rows geo.now end limits.now.window) }
     ensures ends { IfErr result (EndsScan (I.seen images.old) (I.seen images.new)) }
     ensures blocks { blocks.new ≡ blocks.old }
 {
@@ -66,8 +68,10 @@ fn test_rows<I: Images>(
     requires set { IsScannable geo.now end (I.seen images.old).attached }
     requires sectors { BLOCK_BYTES * length geo.now.slots.items ≤ length sectors.old }
     requires row { 512 * length geo.now.slots.items ≤ length row.old }
-    ensures told { IfOk result (λ holds. IfSome (told_all (I.seen images.old).attached) (λ bytes. holds ≡ passes_parity bytes geo.now end limits.now.window limits.now.badrows)) }
-    ensures reads { OnlyReads (I.seen images.old) (I.seen images.new) (length geo.now.slots.items * tested_rows geo.now end limits.now.window) }
+    ensures told { IfOk result (λ holds. IfSome (told_all (I.seen images.old).attached)
+        (λ bytes. holds ≡ passes_parity bytes geo.now end limits.now.window limits.now.badrows)) }
+    ensures reads { OnlyReads (I.seen images.old) (I.seen images.new)
+        (length geo.now.slots.items * tested_rows geo.now end limits.now.window) }
     ensures ends { IfErr result (EndsScan (I.seen images.old) (I.seen images.new)) }
 {
     let rows = rows_to_test(geo, end, limits.window);
@@ -112,7 +116,8 @@ fn block_left<I: Images>(
     requires row { 512 * length geo.now.slots.items ≤ length row.old }
     requires some { 1 ≤ count }
     requires most { count ≤ BLOCK }
-    ensures told { IfOk result (λ rest. IfSome (told_all (I.seen images.old).attached) (λ bytes. IsLeft bytes geo.now first count left rest)) }
+    ensures told { IfOk result (λ rest. IfSome (told_all (I.seen images.old).attached)
+        (λ bytes. IsLeft bytes geo.now first count left rest)) }
     ensures reads { OnlyReads (I.seen images.old) (I.seen images.new) (length geo.now.slots.items * count) }
     ensures ends { IfErr result (EndsScan (I.seen images.old) (I.seen images.new)) }
 {

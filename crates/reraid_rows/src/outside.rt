@@ -63,7 +63,7 @@ fn two_sectors(first: u8, second: u8) -> [u8; 1024] {
 }
 
 /// A run of `list` over the three images, and its status.
-pub fn list<R: Threads + Sync>(
+pub(crate) fn list<R: Threads + Sync>(
     rt: &R,
     alloc: Global,
     ask: &Ask,
@@ -84,7 +84,7 @@ pub fn list<R: Threads + Sync>(
 }
 
 /// The same, with the plan in pieces of a few bytes.
-pub fn list_in_pieces<R: Threads + Sync>(
+pub(crate) fn list_in_pieces<R: Threads + Sync>(
     rt: &R,
     alloc: Global,
     ask: &Ask,

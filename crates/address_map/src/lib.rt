@@ -1,0 +1,15 @@
+//! The map between a striped volume and its members.
+//!
+//! The volume is cut into chunks. Each row takes as many of them as it has data items, and puts
+//! one on each slot that holds data. [`locate`] goes from a sector of the volume to the member
+//! sector that holds it, and [`place`] back. Member sectors are counted from the data offset.
+#![tactic(auto)]
+
+mod laws;
+mod map;
+
+pub use laws::{each_sector_has_one_home, each_sector_has_one_place, places_and_homes_undo};
+pub use map::{Home, MemberPlace, area, locate, place, rows, volume_sectors};
+
+#[cfg(test)]
+mod tests;

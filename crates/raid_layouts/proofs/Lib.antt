@@ -1,0 +1,10 @@
+pub mod Single
+pub mod Double
+pub mod Levels
+pub mod Steps
+pub mod Walks
+pub mod Powers
+pub mod Filling
+pub mod Plain
+pub mod RoleExamples
+pub mod ExponentExamples

@@ -1,0 +1,6 @@
+pub mod Role
+pub mod Exponent
+pub mod Laws
+pub mod Roles
+pub mod Names
+pub mod Rows

@@ -1,0 +1,10 @@
+-- The role that a value of the code stands for.
+use Rattle.raid_layouts.specs.Role.{Role, Item, P as RoleP, Q as RoleQ}
+use Rattle.raid_layouts.specs.declared.roles.SlotRole.{SlotRole}
+use Rattle.raid_layouts.specs.declared.roles.SlotRole.TheVariants.{Block, P, Q}
+
+-- the role that is meant
+abbrev pub meant : SlotRole → Role
+meant (Block i) = Item i
+meant P = RoleP
+meant Q = RoleQ

@@ -1,0 +1,26 @@
+//! The layouts of striped arrays: which slot of a row holds parity, and which holds each data item.
+//!
+//! A row is one chunk of each member. At level 0 all chunks hold data; at level 5 one holds the
+//! parity P, at level 6 two hold P and Q, and the pattern says how they move from row to row and
+//! where the data items lie beside them. The layouts are those of the Linux md driver, with its
+//! meaning of the three DDF layouts of RAID 6.
+#![tactic(auto)]
+
+mod exponents;
+mod items;
+mod laws;
+mod names;
+mod parity;
+mod roles;
+mod rows;
+
+pub use exponents::exponent;
+pub use laws::{
+    each_block_has_one_exponent, each_role_has_one_slot, each_slot_has_one_role, exponents_differ,
+};
+pub use names::md_name;
+pub use roles::{SlotRole, p_slot, q_slot, role, slot_of_item};
+pub use rows::row_cells;
+
+#[cfg(test)]
+mod tests;

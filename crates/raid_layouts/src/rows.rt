@@ -1,0 +1,58 @@
+// The cells of a row.
+ghost use Rattle.std.specs.Prelude.{◌≡◌, ◌≢◌, ◌<◌, length, take, IsTrue};
+ghost use Rattle.raid_layouts.specs.Rows.{AreCells, IsPart, IsWeight};
+ghost use Rattle.raid_params.specs.declared.types.Level.TheVariants.{Raid6};
+ghost use Rattle.raid_terms.specs.Cells.{row_cells as row_cells_of};
+ghost use Rattle.raid_layouts.specs.Exponent.{HoldsData};
+ghost use Rattle.raid_terms.specs.Product.{is_valid_head};
+
+use crate::exponents::exponent;
+use crate::roles::{SlotRole, role};
+use raid_params::{Cell, Geometry, Head, Level, MOST, Part};
+
+/// The power by which Q weighs a data block: 0 below level 6, where there is no Q.
+fn weight(head: &Head, row: u64, slot: u8) -> u8
+    requires head { IsTrue (is_valid_head head.now) }
+    requires slot { slot < head.now.members }
+    requires holds { HoldsData head.now row slot }
+    ensures { IsWeight head.now.level head.now row slot result }
+{
+    match head.level {
+        Level::Raid0 | Level::Raid5 => 0,
+        Level::Raid6 => exponent(head, row, slot),
+    }
+}
+
+/// What the block of a slot is in a row.
+fn part_of(head: &Head, row: u64, slot: u8) -> Part
+    requires head { IsTrue (is_valid_head head.now) }
+    requires slot { slot < head.now.members }
+    ensures { IsPart head.now row slot result }
+{
+    match role(head, row, slot) {
+        SlotRole::Block(_) => Part::Block(weight(head, row, slot)),
+        SlotRole::P => Part::P,
+        SlotRole::Q => Part::Q,
+    }
+}
+
+/// The cells of a row: for each slot, what its block is, and whether its member is missing. The
+/// cells of the slots stand first. Below level 6 all exponents are 0.
+pub fn row_cells(geo: &Geometry, row: u64) -> [Cell; MOST]
+    requires head { IsTrue (is_valid_head geo.now.head) }
+    requires slots { length geo.now.slots.items ≡ geo.now.head.members }
+    ensures cells { AreCells geo.now row (take (length geo.now.slots.items) result) }
+    ensures known { geo.now.head.level ≢ Raid6 → take (length geo.now.slots.items) result ≡ row_cells_of geo.now row }
+{
+    let mut cells = [Cell {
+        part: Part::Block(0),
+        missing: true,
+    }; MOST];
+    for (slot, held) in geo.slots.iter().enumerate() {
+        cells[slot] = Cell {
+            part: part_of(&geo.head, row, slot as u8),
+            missing: held.is_none(),
+        };
+    }
+    cells
+}

@@ -5,8 +5,8 @@ use Rattle.raid_params.specs.declared.types.Head.{Head}
 use Rattle.raid_params.specs.declared.types.Level.TheVariants.{Raid5}
 use Rattle.raid_params.specs.declared.types.Pattern.TheVariants.{Ls}
 use Rattle.raid_params.specs.declared.types.Syndrome.TheVariants.{NoQ}
-use Rattle.address_map.specs.Address.{home_row, home_item, home_sector}
-use Rattle.raid_layouts.specs.Role.{item_of}
+use Rattle.raid_terms.specs.Address.{home_row, home_item, home_sector}
+use Rattle.raid_terms.specs.Role.{item_of}
 
 abbrev head : Head
 head = record { level = Raid5; members = 4; pattern = Ls; syndrome = NoQ; chunk = 2; offset = 0 }

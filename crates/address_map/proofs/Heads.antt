@@ -5,8 +5,8 @@ use Rattle.std.proofs.lemmas.Nat.{mul-le, div-add-mod'}
 use Rattle.std.specs.Prelude.{IsTrue}
 use Rattle.raid_params.specs.declared.types.Head.{Head}
 use Rattle.raid_params.specs.declared.types.Level.{Level}
-use Rattle.raid_terms.specs.Product.{fewest, is_chunk, is_valid_head}
-use Rattle.raid_terms.specs.Size.{redundancy, data_blocks}
+use Rattle.raid_params.specs.Validity.{fewest, is_chunk, is_valid_head}
+use Rattle.raid_params.specs.Size.{redundancy, data_blocks}
 use Rattle.raid_layouts.proofs.Levels.{enough, at_most}
 
 pub chunk_above : (chunk : ℕ) → IsTrue (is_chunk chunk) → 0 < chunk

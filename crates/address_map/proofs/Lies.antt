@@ -3,10 +3,10 @@ use Rattle.std.proofs.Common.{◌≡◌, ℕ, ◌+◌, ◌*◌, ◌%◌, ◌/◌
 use Rattle.std.proofs.lemmas.Nat.{mul-le, div-add-mod', div-mul-add, mod_below}
 use Rattle.std.specs.Prelude.{IsTrue}
 use Rattle.raid_params.specs.declared.types.Head.{Head}
-use Rattle.address_map.specs.Address.{LiesAt, home_row, home_item, home_sector}
-use Rattle.raid_terms.specs.Product.{is_valid_head}
-use Rattle.raid_layouts.specs.Role.{HasRole, Item}
-use Rattle.raid_terms.specs.Size.{data_blocks, area, rows, volume_sectors}
+use Rattle.raid_terms.specs.Address.{LiesAt, home_row, home_item, home_sector}
+use Rattle.raid_params.specs.Validity.{is_valid_head}
+use Rattle.raid_terms.specs.Role.{HasRole, Item}
+use Rattle.raid_params.specs.Size.{data_blocks, area, rows, volume_sectors}
 use Rattle.raid_layouts.proofs.Levels.{layout_of}
 use Rattle.address_map.proofs.Heads.{some_chunk, some_data, few_data, short_chunk}
 use Rattle.address_map.proofs.Sectors.{made_row, made_item, made_at, same_parts, same_place, volume_below, sector_below}

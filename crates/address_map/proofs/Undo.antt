@@ -2,10 +2,10 @@
 use Rattle.std.proofs.Common.{◌≡◌, ℕ, ◌<◌, ◌⊎◌, inl, inr, sym, arith, ap, subst, ◌∙◌, refl, Option, Some, None, ◌/◌}
 use Rattle.std.specs.Prelude.{IsTrue}
 use Rattle.raid_params.specs.declared.types.Head.{Head}
-use Rattle.address_map.specs.Address.{LiesAt, home_item}
-use Rattle.raid_terms.specs.Product.{is_valid_head}
-use Rattle.raid_layouts.specs.Role.{HasRole, Item, P, Q}
-use Rattle.raid_terms.specs.Size.{area, volume_sectors}
+use Rattle.raid_terms.specs.Address.{LiesAt, home_item}
+use Rattle.raid_params.specs.Validity.{is_valid_head}
+use Rattle.raid_terms.specs.Role.{HasRole, Item, P, Q}
+use Rattle.raid_params.specs.Size.{area, volume_sectors}
 use Rattle.raid_layouts.proofs.Levels.{just_item}
 use Rattle.address_map.specs.Places.{IsPlace, IsHome, IsAt}
 use Rattle.address_map.specs.Laws.{IsAtHome, PlacesAndHomesUndo, EachSectorHasOnePlace, EachSectorHasOneHome}

@@ -3,7 +3,7 @@ use Rattle.std.specs.Prelude.{ℕ, ◌≡◌, ◌<◌, ◌↔◌, IsTrue}
 use Rattle.std.specs.declared.option.Option.{Option}
 use Rattle.std.specs.declared.option.Option.TheVariants.{Some}
 use Rattle.raid_params.specs.declared.types.Head.{Head}
-use Rattle.raid_terms.specs.Product.{is_valid_head}
+use Rattle.raid_params.specs.Validity.{is_valid_head}
 use Rattle.address_map.specs.Places.{IsPlace, IsHome}
 use Rattle.address_map.specs.declared.map.Home.{Home}
 use Rattle.address_map.specs.declared.map.MemberPlace.{MemberPlace}

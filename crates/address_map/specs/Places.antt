@@ -3,9 +3,9 @@ use Rattle.std.specs.Prelude.{ℕ, ◌≡◌, ◌<◌, ◌≤◌, ◌/◌, ◌�
 use Rattle.std.specs.declared.option.Option.{Option}
 use Rattle.std.specs.declared.option.Option.TheVariants.{None, Some}
 use Rattle.raid_params.specs.declared.types.Head.{Head}
-use Rattle.address_map.specs.Address.{LiesAt, home_row, home_item}
-use Rattle.raid_layouts.specs.Role.{HasRole, P, Q}
-use Rattle.raid_terms.specs.Size.{area, volume_sectors}
+use Rattle.raid_terms.specs.Address.{LiesAt, home_row, home_item}
+use Rattle.raid_terms.specs.Role.{HasRole, P, Q}
+use Rattle.raid_params.specs.Size.{area, volume_sectors}
 use Rattle.address_map.specs.declared.map.Home.{Home}
 use Rattle.address_map.specs.declared.map.MemberPlace.{MemberPlace}
 use Rattle.address_map.specs.declared.map.MemberPlace.TheVariants.{Outside, Parity, At}

@@ -1,8 +1,8 @@
 // The map between the sectors of the volume and those of the members.
 ghost use Rattle.std.specs.Prelude.{◌≡◌, ◌<◌, ◌+◌, ◌*◌, ◌^◌, IsTrue};
 ghost use Rattle.address_map.specs.Places.{IsHome, IsPlace};
-ghost use Rattle.raid_terms.specs.Product.{is_valid_head};
-ghost use Rattle.raid_terms.specs.Size.{area as area_of, data_blocks as data_blocks_of, rows as rows_of, volume_sectors as volume_sectors_of};
+ghost use Rattle.raid_params.specs.Validity.{is_valid_head};
+ghost use Rattle.raid_params.specs.Size.{area as area_of, data_blocks as data_blocks_of, rows as rows_of, volume_sectors as volume_sectors_of};
 
 use raid_layouts::{SlotRole, role, slot_of_item};
 use raid_params::{Head, Level};

@@ -6,7 +6,7 @@ use raid_params::{Head, Level, Pattern, Syndrome};
 // Left-symmetric over four members, two sectors a chunk, from sector 5 on: rows 0 1 2 P and
 // 1 2 P 0.
 #[test]
-#[tactic(auto, unfolding(raid_terms::specs::Product::is_chunk))]
+#[tactic(auto, unfolding(raid_params::specs::Validity::is_chunk))]
 fn two_rows(rt: HostRuntime) {
     let head = Head {
         level: Level::Raid5,

@@ -2,7 +2,8 @@
 use Rattle.std.proofs.Common.{ℕ, ◌≡◌, ◌<◌, ◌≤◌, ◌+◌, ◌-◌, ◌^◌, min, max, List, [], ◌∷◌, ◌++◌, length, reverse, filter, refl, sym, ap, ap₂, ◌∙◌, arith, suc, Bool, true, false, cond, Option, Some, None, slice_get, subst, add-zero, add_comm}
 use Rattle.raid_params.specs.declared.limits.TheConstants.{MOST}
 use Rattle.std.proofs.lemmas.Bool.{ltb-false}
-use Rattle.raid_terms.specs.SlotLists.{is_distinct, is_kept, all_lists}
+use Rattle.raid_terms.specs.SlotLists.{is_kept, all_lists}
+use Rattle.raid_params.specs.Slots.{is_distinct}
 use Rattle.slot_math.specs.Space.{lists_of, begins}
 use Rattle.slot_math.specs.Ways.{ends, before, IsPlace}
 use Rattle.slot_math.specs.declared.space.Space.{Space}

@@ -2,7 +2,7 @@
 use Rattle.std.proofs.Common.{◌≡◌, ◌≢◌, ◌<◌, ◌≤◌, ◌^◌, ℕ, List, [], ◌∷◌, ◌++◌, All, IsTrue, length, map, decimal, codes, refl, sym, ap, ◌∙◌, arith, append_assoc, Option, None, Some, MatchOption, Result}
 use Rattle.std.specs.Fmt.{digits}
 use Rattle.std.specs.Option.{ok_or}
-use Rattle.raid_terms.specs.Product.{is_chunk}
+use Rattle.raid_params.specs.Validity.{is_chunk}
 use Rattle.std.specs.List.{flat_map}
 use Rattle.std.proofs.lemmas.Bool.Decides.{nat_tests}
 use Rattle.raid_params.specs.declared.types.Level.{Level}

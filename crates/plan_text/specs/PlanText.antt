@@ -4,7 +4,8 @@ use Rattle.std.specs.List.{flat_map}
 use Rattle.raid_params.specs.declared.types.Level.TheVariants.{Raid5}
 use Rattle.raid_params.specs.declared.types.Pattern.TheVariants.{Ls}
 use Rattle.raid_params.specs.declared.types.Syndrome.TheVariants.{NoQ}
-use Rattle.raid_terms.specs.Product.{Criteria, is_chunk}
+use Rattle.raid_terms.specs.Product.{Criteria}
+use Rattle.raid_params.specs.Validity.{is_chunk}
 use Rattle.plan_text.specs.declared.plan.Plan.{Plan}
 use Rattle.plan_text.specs.declared.plan.PlanFault.{PlanFault}
 use Rattle.plan_text.specs.declared.plan.PlanFault.TheVariants.{Memory}

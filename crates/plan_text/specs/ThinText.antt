@@ -3,7 +3,7 @@ use Rattle.std.specs.Prelude.{ℕ, ◌≡◌, ◌^◌, ◌≤◌, ◌<◌, IsTru
 use Rattle.raid_params.specs.declared.types.Level.TheVariants.{Raid5}
 use Rattle.raid_params.specs.declared.types.Pattern.TheVariants.{Ls}
 use Rattle.raid_params.specs.declared.types.Syndrome.TheVariants.{NoQ}
-use Rattle.raid_terms.specs.Product.{is_chunk}
+use Rattle.raid_params.specs.Validity.{is_chunk}
 use Rattle.plan_text.specs.declared.plan.Limits.{Limits}
 use Rattle.plan_text.specs.declared.plan.Plan.{Plan}
 use Rattle.plan_text.specs.declared.fields.Shape.{Shape}

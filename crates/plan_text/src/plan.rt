@@ -1,6 +1,6 @@
 // The plan of a search.
 ghost use Rattle.std.specs.Prelude.{◌≡◌, ◌≢◌, ◌<◌, ◌↔◌, [], ◌∷◌, IsTrue, MatchOption};
-ghost use Rattle.raid_terms.specs.Product.{is_chunk as is_chunk_size};
+ghost use Rattle.raid_params.specs.Validity.{is_chunk as is_chunk_size};
 ghost use Rattle.plan_text.specs.PlanText.{ReadsPlan, IsThinPlan, plan_text};
 ghost use Rattle.plan_text.specs.ThinText.{IsThin, plan_of as plan_with};
 ghost use Rattle.plan_text.specs.declared.plan.Plan.{Plan as PlanOf};

@@ -2,7 +2,7 @@
 use Rattle.std.proofs.Common.{◌≡◌, ◌≢◌, ℕ, ◌+◌, ◌-◌, ◌%◌, ◌<◌, ◌≤◌, inl, inr, sym, arith, ap, ◌∙◌, refl}
 use Rattle.std.proofs.lemmas.Bool.{cases_lt}
 use Rattle.std.proofs.lemmas.Bool.Decides.{nat_tests}
-use Rattle.raid_layouts.specs.Role.{after, over_p_and_q}
+use Rattle.raid_terms.specs.Role.{after, over_p_and_q}
 use Rattle.raid_layouts.proofs.Single.{IsSingle, wrapped, round_in, round_once, round_apart, round_behind, round_before}
 
 -- P and Q stand on two slots of the row, and the items on the others, each on its own

@@ -6,8 +6,8 @@ use Rattle.raid_params.specs.declared.types.Pattern.{Pattern}
 use Rattle.raid_params.specs.declared.types.Pattern.TheVariants.{La, Ls, NContinue}
 use Rattle.raid_params.specs.declared.types.Syndrome.{Syndrome}
 use Rattle.raid_params.specs.declared.types.Syndrome.TheVariants.{AfterQ, ByData, BySlot}
-use Rattle.raid_layouts.specs.Exponent.{walk, number_after_q, HasExponent}
-use Rattle.raid_layouts.specs.Role.{double_p, double_q}
+use Rattle.raid_terms.specs.Exponent.{walk, number_after_q, HasExponent}
+use Rattle.raid_terms.specs.Role.{double_p, double_q}
 
 abbrev of : Syndrome → Head
 of syndrome = record { level = Raid6; members = 4; pattern = La; syndrome = syndrome; chunk = 1; offset = 0 }

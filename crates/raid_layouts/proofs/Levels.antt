@@ -8,9 +8,9 @@ use Rattle.raid_params.specs.declared.types.Level.{Level}
 use Rattle.raid_params.specs.declared.types.Level.TheVariants.{Raid0, Raid5, Raid6}
 use Rattle.raid_params.specs.declared.types.Pattern.{Pattern}
 use Rattle.raid_params.specs.declared.types.Pattern.TheVariants.{Plain, La, Ra, Ls, Rs, ParityFirst, ParityLast, NRestart, NContinue, La6, Ra6, Ls6, Rs6, ParityFirst6}
-use Rattle.raid_terms.specs.Product.{fewest, is_valid_head}
-use Rattle.raid_terms.specs.Size.{redundancy, data_blocks}
-use Rattle.raid_layouts.specs.Role.{Role, Item, P, Q, leftward, rightward, single_p, single_item, double_p, double_q, double_item, p_at, q_at, item_at, p_of, q_of, item_of, HasRole}
+use Rattle.raid_params.specs.Validity.{fewest, is_valid_head}
+use Rattle.raid_params.specs.Size.{redundancy, data_blocks}
+use Rattle.raid_terms.specs.Role.{Role, Item, P, Q, leftward, rightward, single_p, single_item, double_p, double_q, double_item, p_at, q_at, item_at, p_of, q_of, item_of, HasRole}
 use Rattle.raid_layouts.proofs.Single.{IsSingle}
 use Rattle.raid_layouts.proofs.Double.{IsDouble}
 use Rattle.raid_layouts.proofs.Single

@@ -12,8 +12,8 @@ use Rattle.raid_params.specs.declared.types.Part.TheVariants.{Block, P, Q}
 use Rattle.raid_params.specs.declared.types.Pattern.{Pattern}
 use Rattle.raid_params.specs.declared.types.Pattern.TheVariants.{La, Ra, Ls, Rs, ParityFirst}
 use Rattle.raid_terms.specs.Cells.{p_slot, part_beside, part_of, cells_from}
-use Rattle.raid_terms.specs.Product.{is_valid_head}
-use Rattle.raid_layouts.specs.Role.{single_p, p_at, q_at}
+use Rattle.raid_params.specs.Validity.{is_valid_head}
+use Rattle.raid_terms.specs.Role.{single_p, p_at, q_at}
 use Rattle.raid_layouts.specs.Rows.{IsCell, IsPart, IsWeight, AreCellsFrom}
 use Rattle.raid_layouts.proofs.Powers.{data_not_p}
 

@@ -9,9 +9,9 @@ use Rattle.raid_params.specs.declared.types.Level.TheVariants.{Raid6}
 use Rattle.raid_params.specs.declared.types.Pattern.{Pattern}
 use Rattle.raid_params.specs.declared.types.Syndrome.{Syndrome}
 use Rattle.raid_params.specs.declared.types.Syndrome.TheVariants.{NoQ, AfterQ, ByData, BySlot}
-use Rattle.raid_layouts.specs.Exponent.{IsExponent, HoldsData, number_after_q}
-use Rattle.raid_terms.specs.Product.{fewest, has_syndrome, is_valid_head}
-use Rattle.raid_layouts.specs.Role.{HasRole, Item, double_p, double_q, p_at, q_at, p_of, q_of}
+use Rattle.raid_terms.specs.Exponent.{IsExponent, HoldsData, number_after_q}
+use Rattle.raid_params.specs.Validity.{fewest, has_syndrome, is_valid_head}
+use Rattle.raid_terms.specs.Role.{HasRole, Item, double_p, double_q, p_at, q_at, p_of, q_of}
 use Rattle.raid_layouts.specs.Laws.{EachBlockHasOneExponent, ExponentsDiffer}
 use Rattle.raid_layouts.proofs.Levels.{enough, layout_of, double_of}
 use Rattle.raid_layouts.proofs.Single.{round_behind, round_before}

@@ -5,7 +5,7 @@ use Rattle.raid_params.specs.declared.types.Level.{Level}
 use Rattle.raid_params.specs.declared.types.Level.TheVariants.{Raid0, Raid5, Raid6}
 use Rattle.raid_params.specs.declared.types.Pattern.{Pattern}
 use Rattle.raid_params.specs.declared.types.Pattern.TheVariants.{Plain, La, Ra, Ls, Rs, ParityFirst, ParityLast, NRestart, NContinue, La6, Ra6, Ls6, Rs6, ParityFirst6}
-use Rattle.raid_layouts.specs.Role.{p_at, q_at, item_at}
+use Rattle.raid_terms.specs.Role.{p_at, q_at, item_at}
 
 -- a row drawn by its slots: that of P, that of Q, and those of the items
 record Drawn : Type 0 where

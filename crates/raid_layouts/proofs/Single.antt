@@ -3,7 +3,7 @@ use Rattle.std.proofs.Common.{◌≡◌, ◌≢◌, ℕ, ◌+◌, ◌-◌, ◌*�
 use Rattle.std.proofs.Math.Nat.{mod-eq_of_lt, add-mul-mod_self_left}
 use Rattle.std.proofs.lemmas.Bool.{cases_lt}
 use Rattle.std.proofs.lemmas.Bool.Decides.{nat_tests}
-use Rattle.raid_layouts.specs.Role.{over_p}
+use Rattle.raid_terms.specs.Role.{over_p}
 
 -- P stands on a slot of the row, and the items on the others, each on its own
 pub record IsSingle (n p : ℕ) (item : ℕ → ℕ) : Type 0 where

@@ -1,7 +1,7 @@
 -- A row further on, and the item of a slot by formulas.
 use Rattle.std.proofs.Common.{◌≡◌, ◌≢◌, ℕ, ◌+◌, ◌-◌, ◌%◌, ◌<◌, ◌≤◌, arith, ap, ◌∙◌}
 use Rattle.std.proofs.Math.Nat.{mod-add-mod}
-use Rattle.raid_layouts.specs.Role.{leftward}
+use Rattle.raid_terms.specs.Role.{leftward}
 use Rattle.raid_layouts.proofs.Single.{round_behind, round_before}
 use Rattle.raid_layouts.proofs.Double.{two_on, two_round}
 

@@ -6,7 +6,7 @@ use Rattle.std.proofs.lemmas.Bool.Decides.{nat_tests}
 use Rattle.std.proofs.lemmas.List.Sums.{take_while-cons, sum_by-cons}
 use Rattle.std.specs.List.{range_with_len, take_while, count_by}
 use Rattle.std.specs.Prelude.{◌==◌, nat_lt, not}
-use Rattle.raid_layouts.specs.Exponent.{number_after_q}
+use Rattle.raid_terms.specs.Exponent.{number_after_q}
 use Rattle.raid_layouts.proofs.Single.{round_once}
 
 other : (a b : ℕ) → a ≢ b → not (a == b) ≡ true

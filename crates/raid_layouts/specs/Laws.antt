@@ -2,9 +2,9 @@
 use Rattle.std.specs.Prelude.{ℕ, ◌≡◌, ◌<◌, IsTrue}
 use Rattle.raid_params.specs.declared.types.Head.{Head}
 use Rattle.raid_params.specs.declared.types.Level.TheVariants.{Raid6}
-use Rattle.raid_layouts.specs.Exponent.{HasExponent, HoldsData}
-use Rattle.raid_terms.specs.Product.{is_valid_head}
-use Rattle.raid_layouts.specs.Role.{Role, HasRole, IsRoleOf}
+use Rattle.raid_terms.specs.Exponent.{HasExponent, HoldsData}
+use Rattle.raid_params.specs.Validity.{is_valid_head}
+use Rattle.raid_terms.specs.Role.{Role, HasRole, IsRoleOf}
 
 -- each role of the head stands in every row on one slot below the members, and on no other
 abbrev pub EachRoleHasOneSlot : Type 0

@@ -1,5 +1,3 @@
-pub mod Role
-pub mod Exponent
 pub mod Laws
 pub mod Roles
 pub mod Names

@@ -1,5 +1,5 @@
 -- The role that a value of the code stands for.
-use Rattle.raid_layouts.specs.Role.{Role, Item, P as RoleP, Q as RoleQ}
+use Rattle.raid_terms.specs.Role.{Role, Item, P as RoleP, Q as RoleQ}
 use Rattle.raid_layouts.specs.declared.roles.SlotRole.{SlotRole}
 use Rattle.raid_layouts.specs.declared.roles.SlotRole.TheVariants.{Block, P, Q}
 

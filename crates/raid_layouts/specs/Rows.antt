@@ -9,8 +9,8 @@ use Rattle.raid_params.specs.declared.types.Level.{Level}
 use Rattle.raid_params.specs.declared.types.Level.TheVariants.{Raid0, Raid5, Raid6}
 use Rattle.raid_params.specs.declared.types.Part.{Part}
 use Rattle.raid_params.specs.declared.types.Part.TheVariants.{Block, P, Q}
-use Rattle.raid_layouts.specs.Exponent.{HasExponent, HoldsData}
-use Rattle.raid_layouts.specs.Role.{HasRole, P as RoleP, Q as RoleQ}
+use Rattle.raid_terms.specs.Exponent.{HasExponent, HoldsData}
+use Rattle.raid_terms.specs.Role.{HasRole, P as RoleP, Q as RoleQ}
 
 -- the power by which a data block is weighed: its exponent at level 6, and 0 below, where nothing weighs it
 abbrev pub IsWeight : Level → Head → ℕ → ℕ → ℕ → Type 0

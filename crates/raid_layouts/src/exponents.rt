@@ -1,9 +1,9 @@
 // The exponents of the data blocks of a row.
 ghost use Rattle.std.specs.Prelude.{◌≡◌, ◌≢◌, ◌<◌, ◌≤◌, IsTrue};
 ghost use Rattle.raid_params.specs.declared.types.Level.TheVariants.{Raid6};
-ghost use Rattle.raid_layouts.specs.Exponent.{HasExponent, HoldsData, number_after_q as number_after_q_of};
-ghost use Rattle.raid_terms.specs.Product.{is_valid_head};
-ghost use Rattle.raid_layouts.specs.Role.{p_of, q_of, double_p as double_p_of, double_q as double_q_of};
+ghost use Rattle.raid_terms.specs.Exponent.{HasExponent, HoldsData, number_after_q as number_after_q_of};
+ghost use Rattle.raid_params.specs.Validity.{is_valid_head};
+ghost use Rattle.raid_terms.specs.Role.{p_of, q_of, double_p as double_p_of, double_q as double_q_of};
 
 use crate::items::slots_between;
 use crate::parity::{double_p, double_q};

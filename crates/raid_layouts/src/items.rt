@@ -1,6 +1,6 @@
 // The data item of a slot, by pattern: the way back.
 ghost use Rattle.std.specs.Prelude.{◌≡◌, ◌≢◌, ◌<◌, ◌≤◌, ◌-◌, ◌+◌, ◌%◌};
-ghost use Rattle.raid_layouts.specs.Role.{after, double_item as double_item_of, double_p as double_p_of, double_q as double_q_of, over_p, over_p_and_q, single_item as single_item_of, single_p as single_p_of};
+ghost use Rattle.raid_terms.specs.Role.{after, double_item as double_item_of, double_p as double_p_of, double_q as double_q_of, over_p, over_p_and_q, single_item as single_item_of, single_p as single_p_of};
 
 use crate::parity::{double_p, single_p};
 use raid_params::Pattern;

@@ -1,9 +1,9 @@
 // The roles of slots.
 ghost use Rattle.std.specs.Prelude.{◌≡◌, ◌≢◌, ◌<◌, IsTrue};
 ghost use Rattle.raid_layouts.specs.Roles.{meant};
-ghost use Rattle.raid_terms.specs.Product.{is_valid_head};
-ghost use Rattle.raid_layouts.specs.Role.{HasRole, item_of, p_of, q_of};
-ghost use Rattle.raid_terms.specs.Size.{data_blocks};
+ghost use Rattle.raid_params.specs.Validity.{is_valid_head};
+ghost use Rattle.raid_terms.specs.Role.{HasRole, item_of, p_of, q_of};
+ghost use Rattle.raid_params.specs.Size.{data_blocks};
 
 use crate::items::{double_item_at, single_item_at};
 use crate::parity::{double_item, double_p, double_q, single_item, single_p};

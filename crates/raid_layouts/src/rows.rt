@@ -3,8 +3,8 @@ ghost use Rattle.std.specs.Prelude.{◌≡◌, ◌≢◌, ◌<◌, length, take,
 ghost use Rattle.raid_layouts.specs.Rows.{AreCells, IsPart, IsWeight};
 ghost use Rattle.raid_params.specs.declared.types.Level.TheVariants.{Raid6};
 ghost use Rattle.raid_terms.specs.Cells.{row_cells as row_cells_of};
-ghost use Rattle.raid_layouts.specs.Exponent.{HoldsData};
-ghost use Rattle.raid_terms.specs.Product.{is_valid_head};
+ghost use Rattle.raid_terms.specs.Exponent.{HoldsData};
+ghost use Rattle.raid_params.specs.Validity.{is_valid_head};
 
 use crate::exponents::exponent;
 use crate::roles::{SlotRole, role};

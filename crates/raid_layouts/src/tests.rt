@@ -1,7 +1,7 @@
 // The first four rows of arrays of four members, as docs/LAYOUTS.md draws them. The drawings come
 // from the layouts of the Linux md driver, and not from this crate.
 ghost use Rattle.std.specs.Prelude.{◌≡◌, IsTrue};
-ghost use Rattle.raid_terms.specs.Product.{is_valid_head};
+ghost use Rattle.raid_params.specs.Validity.{is_valid_head};
 
 use crate::SlotRole::{Block, P, Q};
 use crate::{SlotRole, md_name, role};
@@ -45,7 +45,7 @@ fn is_drawn(head: &Head, drawing: [[SlotRole; 4]; 4]) -> bool
 }
 
 #[test]
-#[tactic(auto, unfolding(raid_terms::specs::Product::is_chunk))]
+#[tactic(auto, unfolding(raid_params::specs::Validity::is_chunk))]
 fn rows_of_level_5(rt: HostRuntime) {
     let head = four_members(Level::Raid5, Pattern::La, Syndrome::NoQ);
     assert!(rt;
@@ -84,7 +84,7 @@ fn rows_of_level_5(rt: HostRuntime) {
 }
 
 #[test]
-#[tactic(auto, unfolding(raid_terms::specs::Product::is_chunk))]
+#[tactic(auto, unfolding(raid_params::specs::Validity::is_chunk))]
 fn rows_of_level_6(rt: HostRuntime) {
     let head = four_members(Level::Raid6, Pattern::La, Syndrome::AfterQ);
     assert!(rt;
@@ -135,7 +135,7 @@ fn rows_of_level_6(rt: HostRuntime) {
 }
 
 #[test]
-#[tactic(auto, unfolding(raid_terms::specs::Product::is_chunk))]
+#[tactic(auto, unfolding(raid_params::specs::Validity::is_chunk))]
 fn rows_with_q_last(rt: HostRuntime) {
     let head = four_members(Level::Raid6, Pattern::La6, Syndrome::AfterQ);
     assert!(rt;

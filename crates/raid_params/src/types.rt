@@ -87,18 +87,19 @@ pub struct Geometry {
 }
 
 /// What a block of a row is for the parity equations.
-#[derive(Clone, Copy)]
+#[derive(Clone, Copy, Default)]
 pub enum Part {
     /// A data block, which Q weighs by 2 to this power in the field of 256 elements.
     Block(u8),
     /// The parity block.
+    #[default]
     P,
     /// The block of the Q syndrome.
     Q,
 }
 
 /// A block of a row, and whether its member is missing.
-#[derive(Clone, Copy)]
+#[derive(Clone, Copy, Default)]
 pub struct Cell {
     pub part: Part,
     pub missing: bool,

@@ -1,35 +1,34 @@
--- The cells of a row: for each slot, what its block is, and whether its member is missing.
-use Rattle.std.specs.Prelude.{ℕ, ◌+◌, ◌-◌, ◌%◌, ◌==◌, if◌then◌else◌, List, [], ◌∷◌}
-use Rattle.std.specs.Option.{is_none}
+-- The cells of a row: for each slot, what its block is for the parity equations, and whether its member is missing.
+use Rattle.std.specs.Prelude.{ℕ, ◌+◌, Bool, ◌==◌, if◌then◌else◌, List, [], ◌∷◌}
+use Rattle.std.specs.Option.{is_none, option_map_or}
 use Rattle.std.specs.declared.option.Option.{Option}
 use Rattle.raid_params.specs.declared.types.Cell.{Cell}
 use Rattle.raid_params.specs.declared.types.Geometry.{Geometry}
 use Rattle.raid_params.specs.declared.types.Head.{Head}
 use Rattle.raid_params.specs.declared.types.Level.{Level}
-use Rattle.raid_params.specs.declared.types.Level.TheVariants.{Raid5}
+use Rattle.raid_params.specs.declared.types.Level.TheVariants.{Raid0, Raid5, Raid6}
 use Rattle.raid_params.specs.declared.types.Part.{Part}
-use Rattle.raid_params.specs.declared.types.Part.TheVariants.{Block, P}
-use Rattle.raid_params.specs.declared.types.Pattern.{Pattern}
-use Rattle.raid_params.specs.declared.types.Pattern.TheVariants.{La, Ra, Ls, Rs, ParityFirst}
+use Rattle.raid_params.specs.declared.types.Part.TheVariants.{Block, P, Q}
+use Rattle.raid_terms.specs.Exponent.{exponent_of}
+use Rattle.raid_terms.specs.Role.{p_of, q_of}
+use Rattle.std.specs.Prelude.{false}
 
--- the slot of P in a row of n slots at level 5, as md rotates it: left from the last slot, right
--- from the first, or it stays
-abbrev pub p_slot : Pattern → ℕ → ℕ → ℕ
-p_slot La n row = n - 1 - row % n
-p_slot Ra n row = row % n
-p_slot Ls n row = n - 1 - row % n
-p_slot Rs n row = row % n
-p_slot ParityFirst n row = 0
-p_slot _ n row = n - 1
+-- the block stands in this slot, where there is one
+abbrev pub stands_in : ℕ → Option ℕ → Bool
+stands_in slot place = option_map_or (λ p. p == slot) place false
 
--- what the block of a slot is at levels 0 and 5, with P in this slot: the parity block, or data
-abbrev pub part_beside : Level → ℕ → ℕ → Part
-part_beside Raid5 p slot = if slot == p then P else Block 0
-part_beside _ p slot = Block 0
+-- the power of 2 by which Q weighs a data block: its exponent at level 6, and 0 below, where there is no Q
+abbrev pub weight_at : Level → Head → ℕ → ℕ → ℕ
+weight_at Raid0 head row slot = 0
+weight_at Raid5 head row slot = 0
+weight_at Raid6 head row slot = exponent_of head row slot
 
--- what the block of a slot is in a row, at levels 0 and 5
+-- what the block of a slot is in a row
 abbrev pub part_of : Head → ℕ → ℕ → Part
-part_of head row slot = part_beside head.level (p_slot head.pattern head.members row) slot
+part_of head row slot =
+    if stands_in slot (p_of head row) then P
+    else if stands_in slot (q_of head row) then Q
+    else Block (weight_at head.level head row slot)
 
 -- the cells of the slots from number `slot` on
 abbrev pub cells_from : Head → ℕ → ℕ → List (Option ℕ) → List Cell

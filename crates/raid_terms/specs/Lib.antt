@@ -1,6 +1,10 @@
-pub mod Size
 pub mod SlotLists
+pub mod Role
+pub mod Exponent
 pub mod Cells
+pub mod Address
 pub mod Parity
+pub mod Solving
+pub mod Volume
 pub mod Product
 pub mod Page

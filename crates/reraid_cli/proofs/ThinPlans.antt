@@ -8,8 +8,10 @@ use Rattle.raid_params.specs.declared.types.Head.{Head}
 use Rattle.raid_params.specs.declared.types.Level.TheVariants.{Raid5}
 use Rattle.raid_params.specs.declared.types.Pattern.TheVariants.{Ls}
 use Rattle.raid_params.specs.declared.types.Syndrome.TheVariants.{NoQ}
-use Rattle.raid_terms.specs.Product.{heads, fits, is_chunk, is_valid_head, sets_of as sets_of_head}
-use Rattle.raid_terms.specs.SlotLists.{all_lists, is_distinct, empties, is_kept, slot_lists}
+use Rattle.raid_terms.specs.Product.{heads, fits, sets_of as sets_of_head}
+use Rattle.raid_params.specs.Validity.{is_chunk, is_valid_head}
+use Rattle.raid_terms.specs.SlotLists.{all_lists, is_kept, slot_lists}
+use Rattle.raid_params.specs.Slots.{is_distinct, empties}
 use Rattle.slot_math.specs.Ways.{ways}
 use Rattle.slot_math.specs.Space.{lists_of}
 use Rattle.slot_math.specs.declared.space.Space.{Space}

@@ -8,9 +8,11 @@ use Rattle.raid_params.specs.declared.types.Geometry.{Geometry}
 use Rattle.raid_params.specs.declared.types.Head.{Head}
 use Rattle.raid_params.specs.declared.types.Level.TheVariants.{Raid5, Raid6}
 use Rattle.raid_terms.specs.Parity.{passes_parity}
-use Rattle.raid_terms.specs.Product.{is_chunk, passes}
-use Rattle.raid_terms.specs.Size.{rows}
-use Rattle.raid_terms.specs.SlotLists.{is_distinct, empties, slot_lists}
+use Rattle.raid_terms.specs.Product.{passes}
+use Rattle.raid_params.specs.Validity.{is_chunk}
+use Rattle.raid_params.specs.Size.{rows}
+use Rattle.raid_terms.specs.SlotLists.{slot_lists}
+use Rattle.raid_params.specs.Slots.{is_distinct, empties}
 use Rattle.slot_math.specs.Ways.{AllImages}
 use Rattle.slot_math.proofs.Listed.{listed}
 use Rattle.row_scan.specs.Scan.{IsHeld, IsScannable}

@@ -5,7 +5,7 @@ use Rattle.std.proofs.lemmas.Bool.{cases_Bool, and_parts, eqb-true, eq-eqb, lt-l
 use Rattle.std.proofs.lemmas.Option.{slice_get_within, get_or_from_slice_get, slice_get-get_or}
 use Rattle.std.proofs.lemmas.List.Sums.{position_or_len_is}
 use Rattle.std.proofs.lemmas.List.Quantifiers.{position-Some}
-use Rattle.raid_terms.specs.SlotLists.{is_distinct, empties}
+use Rattle.raid_params.specs.Slots.{is_distinct, empties}
 use Rattle.slot_math.specs.Space.{lists_of, same_place, same_slots, rank_in}
 use Rattle.slot_math.specs.Ways.{is_listed, are_images}
 use Rattle.slot_math.specs.declared.space.Space.{Space}

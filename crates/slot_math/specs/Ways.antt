@@ -2,7 +2,8 @@
 use Rattle.std.specs.Prelude.{ℕ, zero, suc, ◌≡◌, true, false, ◌+◌, ◌-◌, ◌*◌, ◌<◌, Bool, nat_le, nat_lt, ◌&&◌, ◌==◌, if◌then◌else◌, List, [], ◌∷◌, ◌++◌, length, filter}
 use Rattle.std.specs.declared.option.Option.{Option}
 use Rattle.std.specs.declared.option.Option.TheVariants.{None, Some}
-use Rattle.raid_terms.specs.SlotLists.{all_lists, is_kept, is_distinct, empties, stands}
+use Rattle.raid_terms.specs.SlotLists.{all_lists, is_kept}
+use Rattle.raid_params.specs.Slots.{is_distinct, empties, stands}
 use Rattle.slot_math.specs.declared.space.Space.{Space}
 
 -- how many ways there are to fill m more places, with u unused images and e empty places so far

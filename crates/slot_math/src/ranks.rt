@@ -1,6 +1,6 @@
 // The list of a rank, and the rank of a list.
 ghost use Rattle.std.specs.Prelude.{◌≡◌, ◌≤◌, ◌<◌, ◌+◌, ◌++◌, ◌∷◌, [], None, Some, length, filter, slice_get};
-ghost use Rattle.raid_terms.specs.SlotLists.{stands, empties};
+ghost use Rattle.raid_params.specs.Slots.{stands, empties};
 ghost use Rattle.slot_math.specs.Space.{begins, lists_of, rank_in};
 ghost use Rattle.slot_math.specs.Ways.{ends, images_before, before, is_listed, IsImageWays, IsPlace, IsStart};
 

@@ -1,7 +1,7 @@
 use Rattle.std.proofs.Common.{◌^◌, ◌*◌, ◌%◌, nat_eq, refl, rules, tests}
 use Rattle.std.proofs.lemmas.Iterator.{YieldsList-from_range}
 use Rattle.std.proofs.lemmas.Iterator.Search.{any_from_yields_List}
-use Rattle.raid_terms.specs.Product.{is_chunk}
+use Rattle.raid_params.specs.Validity.{is_chunk}
 use Rattle.plan_text.proofs.plan.is_chunk.Goals as goal
 
 pub returns : goal.returns

@@ -7,7 +7,7 @@ use Rattle.raid_params.specs.declared.types.Level.{Level}
 use Rattle.raid_params.specs.declared.types.Level.TheVariants.{Raid0, Raid5, Raid6}
 use Rattle.raid_params.specs.declared.types.Pattern.{Pattern}
 use Rattle.raid_params.specs.declared.types.Pattern.TheVariants.{Plain, La, Ra, Ls, Rs, ParityFirst, ParityLast, NRestart, NContinue, La6, Ra6, Ls6, Rs6, ParityFirst6}
-use Rattle.raid_terms.specs.Size.{data_blocks, redundancy}
+use Rattle.raid_params.specs.Size.{data_blocks, redundancy}
 
 -- what a slot is for in a row: a data item by its number, or parity
 pub data Role : Type 0 where

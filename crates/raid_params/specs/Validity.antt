@@ -1,0 +1,99 @@
+-- Which parameters make sense, and the first rule that a parameter set breaks.
+use Rattle.std.specs.Prelude.{ℕ, ◌+◌, ◌^◌, Bool, true, false, nat_eq, nat_le, nat_lt, ◌&&◌, not, if◌then◌else◌, List, length, take, slice_get}
+use Rattle.std.specs.List.{find, list_any, range_with_len}
+use Rattle.std.specs.Option.{is_none, option_map_or, option_and_then}
+use Rattle.std.specs.declared.option.Option.{Option}
+use Rattle.std.specs.declared.option.Option.TheVariants.{None, Some}
+use Rattle.raid_params.specs.Size.{redundancy, rows}
+use Rattle.raid_params.specs.Slots.{empties, held}
+use Rattle.raid_params.specs.declared.limits.TheConstants.{MOST, MOST_CHUNKS}
+use Rattle.raid_params.specs.declared.types.GeoFault.{GeoFault}
+use Rattle.raid_params.specs.declared.types.GeoFault.TheVariants.{Members, Pattern as BadPattern, Syndrome as BadSyndrome, Chunk, Image, Repeat, Missing, NoRow}
+use Rattle.raid_params.specs.declared.types.Geometry.{Geometry}
+use Rattle.raid_params.specs.declared.types.Head.{Head}
+use Rattle.raid_params.specs.declared.types.Level.{Level}
+use Rattle.raid_params.specs.declared.types.Level.TheVariants.{Raid0, Raid5, Raid6}
+use Rattle.raid_params.specs.declared.types.Pattern.{Pattern}
+use Rattle.raid_params.specs.declared.types.Pattern.TheVariants.{Plain, La, Ra, Ls, Rs, ParityFirst, ParityLast}
+use Rattle.raid_params.specs.declared.types.Syndrome.{Syndrome}
+use Rattle.raid_params.specs.declared.types.Syndrome.TheVariants.{NoQ}
+
+-- the fewest members of a level
+abbrev pub fewest : Level → ℕ
+fewest level = redundancy level + 2
+
+-- the level has the pattern
+abbrev pub has_pattern : Level → Pattern → Bool
+has_pattern Raid0 Plain = true
+has_pattern Raid0 _ = false
+has_pattern Raid5 La = true
+has_pattern Raid5 Ra = true
+has_pattern Raid5 Ls = true
+has_pattern Raid5 Rs = true
+has_pattern Raid5 ParityFirst = true
+has_pattern Raid5 ParityLast = true
+has_pattern Raid5 _ = false
+has_pattern Raid6 Plain = false
+has_pattern Raid6 _ = true
+
+-- level 6 has an order of its Q, the others have none
+abbrev pub has_syndrome : Level → Syndrome → Bool
+has_syndrome Raid6 NoQ = false
+has_syndrome Raid6 _ = true
+has_syndrome _ NoQ = true
+has_syndrome _ _ = false
+
+-- a power of two from 1 to the largest chunk
+unfoldable pub is_chunk : ℕ → Bool
+is_chunk chunk = list_any (λ k. nat_eq chunk (2 ^ k)) (range_with_len 0 MOST_CHUNKS)
+
+-- the level has arrays of so many members
+abbrev pub has_members : Level → ℕ → Bool
+has_members level members = nat_le (fewest level) members && nat_le members MOST
+
+-- the members, the pattern, the order of Q and the chunk suit the level
+abbrev pub is_valid_head : Head → Bool
+is_valid_head head =
+    has_members head.level head.members
+    && (has_pattern head.level head.pattern && (has_syndrome head.level head.syndrome && is_chunk head.chunk))
+
+-- the first image that a slot names and that is not among so many
+unfoldable pub first_absent : ℕ → List (Option ℕ) → Option ℕ
+first_absent images slots = find (λ i. not (nat_lt i images)) (held slots)
+
+-- the image at this place of a list stands before it too
+abbrev pub is_met_again : List ℕ → ℕ → Bool
+is_met_again list at = option_map_or (λ i. list_any (nat_eq i) (take at list)) (slice_get list at) false
+
+-- the first image that is met again
+unfoldable pub first_repeat : List (Option ℕ) → Option ℕ
+first_repeat slots = option_and_then (slice_get (held slots)) (find (is_met_again (held slots)) (range_with_len 0 (length (held slots))))
+
+-- the first rule on the slots that is broken: each names an image that is there, none stands
+-- twice, and no more are empty than the level survives
+abbrev pub slots_fault : Level → ℕ → List (Option ℕ) → Option ℕ → Option ℕ → Option GeoFault
+slots_fault level images slots (Some i) repeated = Some (Image i)
+slots_fault level images slots None (Some i) = Some (Repeat i)
+slots_fault level images slots None None = if nat_le (empties slots) (redundancy level) then None else Some (Missing (empties slots))
+
+-- the first rule on the shape that is broken, over so many images
+abbrev pub shape_fault : Geometry → ℕ → Option GeoFault
+shape_fault geo images =
+    if not (has_members geo.head.level (length geo.slots.items) && nat_eq geo.head.members (length geo.slots.items)) then Some (Members geo.head.members)
+    else if not (has_pattern geo.head.level geo.head.pattern) then Some (BadPattern geo.head.pattern)
+    else if not (has_syndrome geo.head.level geo.head.syndrome) then Some (BadSyndrome geo.head.syndrome)
+    else if not (is_chunk geo.head.chunk) then Some (Chunk geo.head.chunk)
+    else slots_fault geo.head.level images geo.slots.items (first_absent images geo.slots.items) (first_repeat geo.slots.items)
+
+-- the set has a sensible shape over so many images
+abbrev pub is_shaped : Geometry → ℕ → Bool
+is_shaped geo images = is_none (shape_fault geo images)
+
+-- after the shape: the set has a whole row before the image sector `end`
+abbrev pub row_fault : Geometry → ℕ → Option GeoFault → Option GeoFault
+row_fault geo end (Some fault) = Some fault
+row_fault geo end None = if nat_eq (rows geo.head end) 0 then Some (NoRow geo.head.offset) else None
+
+-- the first broken rule
+abbrev pub first_fault : Geometry → ℕ → ℕ → Option GeoFault
+first_fault geo images end = row_fault geo end (shape_fault geo images)

@@ -1,5 +1,3 @@
 pub mod Spelling
 pub mod PlanText
 pub mod SetText
-pub mod ThinText
-pub mod Laws

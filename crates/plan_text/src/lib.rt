@@ -6,15 +6,10 @@
 //! members as images.
 #![tactic(auto)]
 
-mod fields;
-mod laws;
 mod number;
 mod plan;
 mod set;
-#[cfg(test)]
-mod tests;
 
-pub use laws::one_spelling;
 pub use number::{after, read_number};
-pub use plan::{Limits, Plan, PlanFault, read_plan};
+pub use plan::{Limits, Plan, PlanFault};
 pub use set::{Text, set_line};

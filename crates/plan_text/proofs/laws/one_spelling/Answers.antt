@@ -1,5 +1,0 @@
-use Rattle.plan_text.proofs.ThinPlans.{one_spelling}
-use Rattle.plan_text.proofs.laws.one_spelling.Goals as goal
-
-pub returns : goal.returns
-returns c = one_spelling

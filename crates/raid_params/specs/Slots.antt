@@ -20,9 +20,3 @@ unfoldable pub empties : List (Option ℕ) → ℕ
 empties [] = 0
 empties (None ∷ slots) = 1 + empties slots
 empties (Some i ∷ slots) = empties slots
-
--- the images that stand in the list, in its order
-unfoldable pub held : List (Option ℕ) → List ℕ
-held [] = []
-held (None ∷ slots) = held slots
-held (Some i ∷ slots) = i ∷ held slots

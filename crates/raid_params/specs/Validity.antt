@@ -1,11 +1,11 @@
 -- Which parameters make sense, and the first rule that a parameter set breaks.
-use Rattle.std.specs.Prelude.{ℕ, ◌+◌, ◌^◌, Bool, true, false, nat_eq, nat_le, nat_lt, ◌&&◌, not, if◌then◌else◌, List, length, take, slice_get}
+use Rattle.std.specs.Prelude.{ℕ, ◌+◌, ◌^◌, Bool, true, false, nat_eq, nat_le, ◌&&◌, not, if◌then◌else◌, List, length, take, slice_index_or}
 use Rattle.std.specs.List.{find, list_any, range_with_len}
 use Rattle.std.specs.Option.{is_none, option_map_or, option_and_then}
 use Rattle.std.specs.declared.option.Option.{Option}
 use Rattle.std.specs.declared.option.Option.TheVariants.{None, Some}
 use Rattle.raid_params.specs.Size.{redundancy, rows}
-use Rattle.raid_params.specs.Slots.{empties, held}
+use Rattle.raid_params.specs.Slots.{empties, stands}
 use Rattle.raid_params.specs.declared.limits.TheConstants.{MOST, MOST_CHUNKS}
 use Rattle.raid_params.specs.declared.types.GeoFault.{GeoFault}
 use Rattle.raid_params.specs.declared.types.GeoFault.TheVariants.{Members, Pattern as BadPattern, Syndrome as BadSyndrome, Chunk, Image, Repeat, Missing, NoRow}
@@ -57,17 +57,21 @@ is_valid_head head =
     has_members head.level head.members
     && (has_pattern head.level head.pattern && (has_syndrome head.level head.syndrome && is_chunk head.chunk))
 
--- the first image that a slot names and that is not among so many
-unfoldable pub first_absent : ℕ → List (Option ℕ) → Option ℕ
-first_absent images slots = find (λ i. not (nat_lt i images)) (held slots)
+-- the slot at this place names an image that is not among so many
+abbrev pub is_absent : ℕ → List (Option ℕ) → ℕ → Bool
+is_absent images slots at = option_map_or (λ i. nat_le images i) (slice_index_or slots at None) false
 
--- the image at this place of a list stands before it too
-abbrev pub is_met_again : List ℕ → ℕ → Bool
-is_met_again list at = option_map_or (λ i. list_any (nat_eq i) (take at list)) (slice_get list at) false
+-- the first such image
+abbrev pub first_absent : ℕ → List (Option ℕ) → Option ℕ
+first_absent images slots = option_and_then (λ at. slice_index_or slots at None) (find (is_absent images slots) (range_with_len 0 (length slots)))
+
+-- the slot at this place holds an image that stands before it too
+abbrev pub is_met_again : List (Option ℕ) → ℕ → Bool
+is_met_again slots at = option_map_or (λ i. stands i (take at slots)) (slice_index_or slots at None) false
 
 -- the first image that is met again
-unfoldable pub first_repeat : List (Option ℕ) → Option ℕ
-first_repeat slots = option_and_then (slice_get (held slots)) (find (is_met_again (held slots)) (range_with_len 0 (length (held slots))))
+abbrev pub first_repeat : List (Option ℕ) → Option ℕ
+first_repeat slots = option_and_then (λ at. slice_index_or slots at None) (find (is_met_again slots) (range_with_len 0 (length slots)))
 
 -- the first rule on the slots that is broken: each names an image that is there, none stands
 -- twice, and no more are empty than the level survives

@@ -8,6 +8,8 @@
 
 mod limits;
 mod types;
+mod validity;
 
 pub use limits::{LARGEST_CHUNK, MOST, MOST_CHUNKS, MOST_LESS_ONE, MOST_OFFSETS, SECTORS_END};
 pub use types::{Bounds, Cell, GeoFault, Geometry, Head, Level, Part, Pattern, Slots, Syndrome};
+pub use validity::is_chunk;

@@ -120,6 +120,7 @@ pub struct Bounds {
 }
 
 /// Why a parameter set makes no sense, with the value that breaks the rule.
+#[derive(Clone, Copy)]
 pub enum GeoFault {
     /// Too few or too many members, or not as many as there are slots.
     Members(u8),

@@ -1,3 +1,5 @@
 pub mod Spelling
+pub mod NameLaws
 pub mod PlanText
 pub mod SetText
+pub mod Laws

@@ -1,6 +1,6 @@
 -- How values are spelled in the texts of reraid.
-use Rattle.std.specs.Prelude.{ℕ, List, [], ◌∷◌, ◌++◌, codes, decimal}
-use Rattle.std.specs.List.{join_with_byte}
+use Rattle.std.specs.Prelude.{ℕ, ◌≡◌, Bool, true, List, [], ◌∷◌, ◌++◌, ◌==◌, ◌||◌, not, codes, decimal}
+use Rattle.std.specs.List.{join_with_byte, list_all}
 use Rattle.std.specs.declared.option.Option.{Option}
 use Rattle.std.specs.declared.option.Option.TheVariants.{None, Some}
 use Rattle.raid_params.specs.declared.types.Level.{Level}
@@ -57,3 +57,16 @@ named name value = name ++ 32 ∷ value
 -- a line ends with one line feed
 abbrev pub line : List ℕ → List ℕ
 line text = text ++ 10 ∷ []
+
+-- a mark that ends a value: a comma, a colon or a line feed
+abbrev pub is_mark : ℕ → Bool
+is_mark byte = byte == 44 || byte == 58 || byte == 10
+
+-- a byte of a value
+abbrev pub is_plain : ℕ → Bool
+is_plain byte = not (is_mark byte)
+
+-- names of values: each value has one of its own, and no name has a mark
+pub record IsSpelling {A : Type 0} (name : A → List ℕ) (IsSpelled : A → Type 0) : Type 0 where
+  pub one_value : (x y : A) → IsSpelled x → IsSpelled y → name x ≡ name y → x ≡ y
+  pub has_no_mark : (x : A) → IsSpelled x → list_all is_plain (name x) ≡ true

@@ -1,6 +1,6 @@
 // The texts of a parameter set.
 ghost use Rattle.std.specs.Prelude.{◌≡◌, ◌∷◌, ◌++◌, IfOk, OnOk, decimal, map, []};
-ghost use Rattle.plan_text.specs.SetText.{set_line as set_line_text};
+ghost use Rattle.plan_text.specs.SetText.{set_line as set_line_text, set_word};
 ghost use Rattle.plan_text.specs.Spelling.{level_name as level_spelling, pattern_name as pattern_spelling, syndrome_name as syndrome_spelling, slot_name, commas};
 ghost use Rattle.std.specs.List.{flat_map};
 
@@ -12,6 +12,15 @@ use std::alloc::Global;
 /// A list of bytes.
 pub type Text = ListOf<u8>;
 
+/// The word `LEVEL:PATTERN:SYNDROME:CHUNK:OFFSET:SLOTS` of a parameter set.
+pub fn write_set(alloc: Global, geo: &Geometry) -> Result<Text, Memory>
+    ensures { IfOk result (λ text. text ≡ set_word geo.now) }
+{
+    let mut text = Text::new(alloc);
+    add_set(&mut text, geo)?;
+    Ok(text)
+}
+
 /// The line `RANK SETWORD` of a parameter set, with its line feed.
 pub fn set_line(alloc: Global, rank: u64, geo: &Geometry) -> Result<Text, Memory>
     ensures { IfOk result (λ text. text ≡ set_line_text rank geo.now) }
@@ -19,11 +28,18 @@ pub fn set_line(alloc: Global, rank: u64, geo: &Geometry) -> Result<Text, Memory
     let mut text = Text::new(alloc);
     add_number(&mut text, rank)?;
     text.push(b' ')?;
-    add_layout(&mut text, &geo.head)?;
-    add_sizes(&mut text, &geo.head)?;
-    add_slots(&mut text, &geo.slots)?;
+    add_set(&mut text, geo)?;
     text.push(b'\n')?;
     Ok(text)
+}
+
+/// Appends the word of a parameter set.
+fn add_set(text: &mut Text, geo: &Geometry) -> Result<(), Memory>
+    ensures { OnOk result (text.new ≡ text.old ++ set_word geo.now) }
+{
+    add_layout(text, &geo.head)?;
+    add_sizes(text, &geo.head)?;
+    add_slots(text, &geo.slots)
 }
 
 /// Appends `LEVEL:PATTERN:SYNDROME:`.

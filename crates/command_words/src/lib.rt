@@ -1,0 +1,15 @@
+//! The command line: its words, and what they ask for.
+//!
+//! The words are a command, its operands `name=value` in any order, each at most once, the word
+//! `--`, and the names of the images. Any other list of words asks for nothing.
+#![tactic(auto)]
+
+mod command;
+mod operands;
+mod reading;
+mod word;
+
+pub use command::{Command, Kind};
+pub use operands::{Given, Name, Operand, read_operand};
+pub use reading::read_words;
+pub use word::Word;

@@ -1,0 +1,204 @@
+-- What it says of values that a text spells them up to a mark, or with commas between them.
+use Rattle.std.proofs.Common.{◌≡◌, ◌≢◌, ◌≤◌, ◌+◌, ℕ, true, List, [], ◌∷◌, ◌++◌, All, IsTrue, length, map, refl, sym, ap, subst, ◌∙◌, arith, length-append, suc, get_or, drop, drop-cons, Option, None, Some, MatchOption, Result, Ok, Err, OnOk, OnErr, IsOk, ◌↔◌}
+use Rattle.std.specs.Result.{result_ok}
+use Rattle.std.specs.List.{list_all}
+use Rattle.std.proofs.lemmas.Bool.{and_parts}
+use Rattle.std.proofs.lemmas.Bool.Decides.{nat_tests}
+use Rattle.std.proofs.lemmas.List.{drop_all}
+use Rattle.std.proofs.lemmas.List.Elements.{All-head, All-tail, All-nil, All-cons, All-push}
+use Rattle.plan_text.specs.Spelling.{IsSpelling, commas, is_mark, is_plain}
+
+pub none_then : {A : Type 0} (P : Type 0) (Q : A → Type 0) (r : Option A) → r ≡ None → P → MatchOption r P Q
+none_then P Q r none holds = rw none holds
+
+-- a push that was refused, and one that was not
+pub was_full : {A E : Type 0} (P : Type 0) (r : Result A E) (o : Option A) → o ≡ None → o ≡ result_ok r → OnErr r P → P
+was_full P (Ok v) o none same full = cc
+was_full P (Err e) o none same full = full
+
+pub was_pushed : {A E : Type 0} (P : Type 0) (r : Result A E) (o : Option A) (v : A) → o ≡ Some v → o ≡ result_ok r → OnOk r P → P
+was_pushed P (Ok v) o w some same pushed = pushed
+was_pushed P (Err e) o w some same pushed = cc
+
+pub had_room : {A E : Type 0} (P : Type 0) (r : Result A E) (o : Option A) (v : A) → o ≡ Some v → o ≡ result_ok r → IsOk r ↔ P → P
+had_room P (Ok v) o w some same room = room.0 refl
+had_room P (Err e) o w some same room = cc
+
+abbrev IsOther : ℕ → ℕ → Type 0
+IsOther mark byte = byte ≢ mark
+
+-- no byte of it is the mark
+abbrev pub IsWithout : ℕ → List ℕ → Type 0
+IsWithout mark bytes = All (λ byte. byte ≢ mark) bytes
+
+plain_byte : (mark byte : ℕ) → IsTrue (is_mark mark) → is_plain byte ≡ true → byte ≢ mark
+plain_byte mark byte is plain same = grind (arith, nat_tests)
+
+pub plain_word : (mark : ℕ) (bytes : List ℕ) → IsTrue (is_mark mark) → list_all is_plain bytes ≡ true → IsWithout mark bytes
+plain_word mark [] is plain = All-nil (IsOther mark)
+plain_word mark (byte ∷ bytes) is plain =
+    let parts = and_parts (is_plain byte) (list_all is_plain bytes) plain in
+    All-cons (IsOther mark) byte bytes (plain_byte mark byte is parts.0) (plain_word mark bytes is parts.1)
+
+pub has_mark : (mark : ℕ) (word rest : List ℕ) → IsWithout mark (word ++ mark ∷ rest) → ⊥
+has_mark mark [] rest all = All-head (IsOther mark) mark rest all refl
+has_mark mark (b ∷ word) rest all = has_mark mark word rest (All-tail (IsOther mark) b (word ++ mark ∷ rest) all)
+
+-- the first mark is in one place
+pub first_mark : (mark : ℕ) (xs ys after_x after_y : List ℕ) → IsWithout mark xs → IsWithout mark ys → xs ++ mark ∷ after_x ≡ ys ++ mark ∷ after_y → (xs ≡ ys) × (after_x ≡ after_y)
+first_mark mark [] [] u v p q e = (refl, cc)
+first_mark mark [] (y ∷ ys) u v p q e = let same : y ≡ mark = cc in absurd (All-head (IsOther mark) y ys q same)
+first_mark mark (x ∷ xs) [] u v p q e = let same : x ≡ mark = cc in absurd (All-head (IsOther mark) x xs p same)
+first_mark mark (x ∷ xs) (y ∷ ys) u v p q e =
+    let head : x ≡ y = cc in
+    let tail : xs ++ mark ∷ u ≡ ys ++ mark ∷ v = cc in
+    let more = first_mark mark xs ys u v (All-tail (IsOther mark) x xs p) (All-tail (IsOther mark) y ys q) tail in
+    let front : xs ≡ ys = more.0 in
+    (cc, more.1)
+
+-- a word up to a mark is the value's
+pub word_is : {A : Type 0} (name : A → List ℕ) (IsSpelled : A → Type 0) → IsSpelling name IsSpelled → (mark : ℕ) (word rest more : List ℕ) (x : A) → IsTrue (is_mark mark) → IsWithout mark word → IsSpelled x →
+    word ++ mark ∷ rest ≡ name x ++ mark ∷ more → (word ≡ name x) × (rest ≡ more)
+word_is name IsSpelled s mark word rest more x is without spelled e = first_mark mark word (name x) rest more without (plain_word mark (name x) is (s.has_no_mark x spelled)) e
+
+-- values up to a mark are the same where the texts are
+pub same_value : {A : Type 0} (name : A → List ℕ) (IsSpelled : A → Type 0) → IsSpelling name IsSpelled → (mark : ℕ) (x y : A) (rest more : List ℕ) → IsTrue (is_mark mark) → IsSpelled x → IsSpelled y →
+    name x ++ mark ∷ rest ≡ name y ++ mark ∷ more → (x ≡ y) × (rest ≡ more)
+same_value name IsSpelled s mark x y rest more is spelled_x spelled_y e =
+    let both = word_is name IsSpelled s mark (name x) rest more y is (plain_word mark (name x) is (s.has_no_mark x spelled_x)) spelled_y e in
+    (s.one_value x y spelled_x spelled_y both.0, both.1)
+
+-- values with a comma after each, and what follows
+unfoldable pub before : {A : Type 0} → (A → List ℕ) → List A → List ℕ → List ℕ
+before name [] rest = rest
+before name (x ∷ xs) rest = name x ++ 44 ∷ before name xs rest
+
+pub before_none : {A : Type 0} (name : A → List ℕ) (rest : List ℕ) → before name [] rest ≡ rest
+unfolding before
+before_none name rest = refl
+
+-- one more value
+pub before_more : {A : Type 0} (name : A → List ℕ) (xs : List A) (x : A) (rest : List ℕ) → before name xs (name x ++ 44 ∷ rest) ≡ before name (xs ++ x ∷ []) rest
+unfolding before
+before_more name [] x rest = refl
+before_more name (y ∷ xs) x rest = ap (λ (more : List ℕ). name y ++ 44 ∷ more) (before_more name xs x rest)
+
+-- the last value
+pub before_last : {A : Type 0} (name : A → List ℕ) (xs : List A) (x : A) → before name xs (name x) ≡ commas (map name (xs ++ x ∷ []))
+unfolding before
+before_last name [] x = refl
+before_last name (y ∷ []) x = refl
+before_last name (y ∷ z ∷ xs) x = ap (λ (more : List ℕ). name y ++ 44 ∷ more) (before_last name (z ∷ xs) x)
+
+-- what values are left after the first ones of a list
+abbrev AreLeft : {A : Type 0} → (A → List ℕ) → (A → Type 0) → List A → List A → List ℕ → List A → Type 0
+AreLeft name IsSpelled firsts xs rest ys = (xs ≡ firsts ++ ys) × (1 ≤ length ys) × All IsSpelled ys × (rest ≡ commas (map name ys))
+
+left_after : {A : Type 0} (name : A → List ℕ) (IsSpelled : A → Type 0) → IsSpelling name IsSpelled → (firsts xs : List A) (rest : List ℕ) → All IsSpelled firsts → All IsSpelled xs → 1 ≤ length xs →
+    before name firsts rest ≡ commas (map name xs) → (ys : List A) × AreLeft name IsSpelled firsts xs rest ys
+unfolding before
+left_after name IsSpelled s [] xs rest p q some e = (xs, (refl, some, q, e))
+left_after name IsSpelled s (i ∷ firsts) [] rest p q some e = absurd (omega arith)
+left_after name IsSpelled s (i ∷ firsts) (x ∷ []) rest p q some e =
+    let plain = plain_word 44 (name x) refl (s.has_no_mark x (All-head IsSpelled x [] q)) in
+    absurd (has_mark 44 (name i) (before name firsts rest) (subst (IsWithout 44) (sym e) plain))
+left_after name IsSpelled s (i ∷ firsts) (x ∷ y ∷ xs) rest p q some e =
+    let both = same_value name IsSpelled s 44 i x (before name firsts rest) (commas (map name (y ∷ xs))) refl (All-head IsSpelled i firsts p) (All-head IsSpelled x (y ∷ xs) q) e in
+    let more = left_after name IsSpelled s firsts (y ∷ xs) rest (All-tail IsSpelled i firsts p) (All-tail IsSpelled x (y ∷ xs) q) (omega arith) both.1 in
+    let head : i ≡ x = both.0 in
+    let tail : y ∷ xs ≡ firsts ++ more.0 = more.1.0 in
+    (more.0, (cc, more.1.1, more.1.2, more.1.3))
+
+-- a word of a list is a value's, and the list is longer than what stands before it
+abbrev pub IsWord : {A : Type 0} → (A → List ℕ) → (A → Type 0) → List A → List A → List ℕ → Type 0
+IsWord {A = A} name IsSpelled firsts xs word = (x : A) × IsSpelled x × (word ≡ name x) × (length firsts + 1 ≤ length xs)
+
+word_with_more : {A : Type 0} (name : A → List ℕ) (IsSpelled : A → Type 0) → IsSpelling name IsSpelled → (firsts xs ys : List A) (word more : List ℕ) → AreLeft name IsSpelled firsts xs (word ++ 44 ∷ more) ys → IsWithout 44 word →
+    IsWord name IsSpelled firsts xs word
+word_with_more name IsSpelled s firsts xs [] word more left without = let some = left.1 in absurd (omega arith)
+word_with_more name IsSpelled s firsts xs (y ∷ []) word more left without =
+    let plain = plain_word 44 (name y) refl (s.has_no_mark y (All-head IsSpelled y [] left.2)) in
+    absurd (has_mark 44 word more (subst (IsWithout 44) (sym left.3) plain))
+word_with_more name IsSpelled s firsts xs (y ∷ z ∷ ys) word more left without =
+    let spelled = All-head IsSpelled y (z ∷ ys) left.2 in
+    let lengths = ap length left.0 ∙ length-append firsts (y ∷ z ∷ ys) in
+    (y, spelled, (word_is name IsSpelled s 44 word more (commas (map name (z ∷ ys))) y refl without spelled left.3).0, omega arith)
+
+last_word : {A : Type 0} (name : A → List ℕ) (IsSpelled : A → Type 0) (firsts xs ys : List A) (word : List ℕ) → AreLeft name IsSpelled firsts xs word ys → IsWithout 44 word →
+    IsWord name IsSpelled firsts xs word
+last_word name IsSpelled firsts xs [] word left without = let some = left.1 in absurd (omega arith)
+last_word name IsSpelled firsts xs (y ∷ []) word left without =
+    let lengths = ap length left.0 ∙ length-append firsts (y ∷ []) in
+    (y, All-head IsSpelled y [] left.2, left.3, omega arith)
+last_word name IsSpelled firsts xs (y ∷ z ∷ ys) word left without = absurd (has_mark 44 (name y) (commas (map name (z ∷ ys))) (subst (IsWithout 44) left.3 without))
+
+-- the word after the first ones of a list, and the last one
+pub next_is_word : {A : Type 0} (name : A → List ℕ) (IsSpelled : A → Type 0) → IsSpelling name IsSpelled → (firsts xs : List A) (text rest word more : List ℕ) → All IsSpelled firsts × (text ≡ before name firsts rest) → IsWithout 44 word × (rest ≡ word ++ 44 ∷ more) →
+    1 ≤ length xs → All IsSpelled xs → text ≡ commas (map name xs) → IsWord name IsSpelled firsts xs word
+next_is_word name IsSpelled s firsts xs text rest word more first next some all e =
+    let left = left_after name IsSpelled s firsts xs (word ++ 44 ∷ more) first.0 all some (ap (λ (ds : List ℕ). before name firsts ds) (sym next.1) ∙ sym first.1 ∙ e) in
+    word_with_more name IsSpelled s firsts xs left.0 word more left.1 next.0
+
+pub last_is_word : {A : Type 0} (name : A → List ℕ) (IsSpelled : A → Type 0) → IsSpelling name IsSpelled → (firsts xs : List A) (text word : List ℕ) → All IsSpelled firsts × (text ≡ before name firsts word) → IsWithout 44 word →
+    1 ≤ length xs → All IsSpelled xs → text ≡ commas (map name xs) → IsWord name IsSpelled firsts xs word
+last_is_word name IsSpelled s firsts xs text word first without some all e =
+    let left = left_after name IsSpelled s firsts xs word first.0 all some (sym first.1 ∙ e) in
+    last_word name IsSpelled firsts xs left.0 word left.1 without
+
+-- what is read so far, with one more value
+pub one_more : {A : Type 0} (name : A → List ℕ) (IsSpelled : A → Type 0) (firsts : List A) (x : A) (text rest word more : List ℕ) → All IsSpelled firsts × (text ≡ before name firsts rest) → rest ≡ word ++ 44 ∷ more → IsSpelled x × (word ≡ name x) →
+    All IsSpelled (firsts ++ x ∷ []) × (text ≡ before name (firsts ++ x ∷ []) more)
+one_more name IsSpelled firsts x text rest word more first next is = (
+  All-push IsSpelled firsts x first.0 is.0,
+  first.1 ∙ ap (λ (ds : List ℕ). before name firsts ds) (next ∙ ap (λ (ds : List ℕ). ds ++ 44 ∷ more) is.1) ∙ before_more name firsts x more,
+)
+
+pub whole_list : {A : Type 0} (name : A → List ℕ) (IsSpelled : A → Type 0) (firsts : List A) (x : A) (text word : List ℕ) → All IsSpelled firsts × (text ≡ before name firsts word) → IsSpelled x × (word ≡ name x) →
+    All IsSpelled (firsts ++ x ∷ []) × (text ≡ commas (map name (firsts ++ x ∷ [])))
+whole_list name IsSpelled firsts x text word first is = (
+  All-push IsSpelled firsts x first.0 is.0,
+  first.1 ∙ ap (λ (ds : List ℕ). before name firsts ds) is.1 ∙ before_last name firsts x,
+)
+
+-- a list has one spelling
+pub same_list : {A : Type 0} (name : A → List ℕ) (IsSpelled : A → Type 0) → IsSpelling name IsSpelled → (xs ys : List A) → 1 ≤ length xs → 1 ≤ length ys → All IsSpelled xs → All IsSpelled ys → commas (map name xs) ≡ commas (map name ys) → xs ≡ ys
+same_list name IsSpelled s [] ys some more p q e = absurd (omega arith)
+same_list name IsSpelled s (x ∷ []) [] some more p q e = absurd (omega arith)
+same_list name IsSpelled s (x ∷ []) (y ∷ []) some more p q e =
+    let head = s.one_value x y (All-head IsSpelled x [] p) (All-head IsSpelled y [] q) e in cc
+same_list name IsSpelled s (x ∷ []) (y ∷ z ∷ ys) some more p q e =
+    let plain = plain_word 44 (name x) refl (s.has_no_mark x (All-head IsSpelled x [] p)) in
+    absurd (has_mark 44 (name y) (commas (map name (z ∷ ys))) (subst (IsWithout 44) e plain))
+same_list name IsSpelled s (x ∷ w ∷ xs) [] some more p q e = absurd (omega arith)
+same_list name IsSpelled s (x ∷ w ∷ xs) (y ∷ []) some more p q e =
+    let plain = plain_word 44 (name y) refl (s.has_no_mark y (All-head IsSpelled y [] q)) in
+    absurd (has_mark 44 (name x) (commas (map name (w ∷ xs))) (subst (IsWithout 44) (sym e) plain))
+same_list name IsSpelled s (x ∷ w ∷ xs) (y ∷ z ∷ ys) some more p q e =
+    let both = same_value name IsSpelled s 44 x y (commas (map name (w ∷ xs))) (commas (map name (z ∷ ys))) refl (All-head IsSpelled x (w ∷ xs) p) (All-head IsSpelled y (z ∷ ys) q) e in
+    let tail = same_list name IsSpelled s (w ∷ xs) (z ∷ ys) (omega arith) (omega arith) (All-tail IsSpelled x (w ∷ xs) p) (All-tail IsSpelled y (z ∷ ys) q) both.1 in
+    let head : x ≡ y = both.0 in
+    cc
+
+-- a value that was read up to a mark is the one that stands there
+pub next_value : {A : Type 0} (name : A → List ℕ) (IsSpelled : A → Type 0) → IsSpelling name IsSpelled → (mark : ℕ) (text : List ℕ) (x y : A) (rest more : List ℕ) → IsTrue (is_mark mark) → IsSpelled x × (text ≡ name x ++ mark ∷ rest) → IsSpelled y →
+    text ≡ name y ++ mark ∷ more → (x ≡ y) × (rest ≡ more)
+next_value name IsSpelled s mark text x y rest more is read spelled e = same_value name IsSpelled s mark x y rest more is read.0 spelled (sym read.1 ∙ e)
+
+-- the bytes of a word, and then the end
+abbrev pub AreAt : List ℕ → ℕ → List ℕ → Type 0
+AreAt text i [] = length text ≡ i
+AreAt text i (byte ∷ word) = (get_or text i 0 ≡ byte) × AreAt text (i + 1) word
+
+length_at : (text word : List ℕ) (i : ℕ) → AreAt text i word → length text ≡ i + length word
+length_at text [] i at = omega arith
+length_at text (byte ∷ word) i at = let more = length_at text word (i + 1) at.1 in omega arith
+
+drop_at : (text word : List ℕ) (i : ℕ) → AreAt text i word → drop i text ≡ word
+drop_at text [] i at = drop_all i text (omega arith)
+drop_at text (byte ∷ word) i at =
+    let whole = length_at text (byte ∷ word) i at in
+    let more = drop_at text word (i + 1) at.1 in
+    drop-cons text i 0 (omega arith) ∙ (let next : suc i ≡ i + 1 = omega arith in ap (λ (k : ℕ). get_or text i 0 ∷ drop k text) next) ∙ ap (λ (b : ℕ). b ∷ drop (i + 1) text) at.0 ∙ ap (λ (ds : List ℕ). byte ∷ ds) more
+
+pub word_at : (text word : List ℕ) → AreAt text 0 word → text ≡ word
+word_at text word at = drop_at text word 0 at

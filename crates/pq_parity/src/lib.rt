@@ -1,11 +1,11 @@
 //! The parity of a row: whether its blocks agree.
 //!
-//! A row is sound where, in each of the 512 columns of a sector, the data bytes and the parity
-//! byte cancel. Today rows of levels 0 and 5 are tested, with every member there.
+//! P is the exclusive or of the data blocks. Q is their sum in the field of 256 elements, each
+//! weighed by a power of 2. A sector row is sound where in each of its 512 columns there are
+//! bytes for the missing blocks with which both equations hold.
 #![tactic(auto)]
 
 mod rows;
-#[cfg(test)]
-mod tests;
+mod syndromes;
 
 pub use rows::row_holds;

@@ -1,50 +1,102 @@
 // Whether a sector row is sound.
-ghost use Rattle.std.specs.Prelude.{◌≡◌, ◌<◌, ◌*◌, length, All, IsTrue, nat_eq};
-ghost use Rattle.std.specs.List.{list_all, range_with_len};
-ghost use Rattle.raid_terms.specs.Parity.{column_of, has_p, is_sound, xor_all};
-ghost use Rattle.pq_parity.specs.Known.{IsKnown};
+ghost use Rattle.std.specs.Prelude.{ℕ, ◌≡◌, ◌<◌, ◌*◌, length, slice_index, count_by, not};
+ghost use Rattle.std.specs.Bool.{Decides};
+ghost use Rattle.std.specs.List.{find};
+ghost use Rattle.std.specs.Option.{option_map};
+ghost use Rattle.raid_terms.specs.Parity.{column_of, has_q, in_p, in_q, is_data, is_sound, IsRow};
+ghost use Rattle.pq_parity.specs.Syndromes.{AllCancel, Cancel, CancelByP};
 
-use image_source::SECTOR;
+use crate::syndromes::{p_syndrome, q_syndrome};
+use lane_kernels::{first_nonzero, scale_xor};
 use raid_params::{Cell, Part};
 
-/// Whether a sector row is sound. `row` holds one sector for each cell, one after the other.
-#[tactic(auto, using(crate::proofs::Known::sound_without_p, crate::proofs::Known::sound_with_p))]
+/// Whether a sector row is sound. `row` holds one sector for each cell, one after the other. What
+/// it holds for a missing cell counts for nothing.
 pub fn row_holds(cells: &[Cell], row: &[u8]) -> bool
-    requires known { All IsKnown cells.now }
+    requires cells { IsRow cells.now }
     requires row { length row.now ≡ 512 * length cells.now }
     ensures { result ≡ is_sound cells.now (column_of (length cells.now) row.now) }
 {
-    if has_parity(cells) {
-        columns_cancel(cells.len(), row)
-    } else {
-        true
+    if missing_count(cells) == parity_count(cells) {
+        return true;
+    }
+    match missing_part(cells) {
+        None => all_cancel(cells, row),
+        Some(Part::P) => q_cancels(cells, row),
+        Some(Part::Q) => p_cancels(cells, row),
+        Some(Part::Block(k)) => q_cancels_by_p(cells, row, k),
     }
 }
 
-/// Whether one of the cells is P.
-fn has_parity(cells: &[Cell]) -> bool
-    ensures { result ≡ has_p cells.now }
+/// How many cells are missing.
+fn missing_count(cells: &[Cell]) -> usize
+    ensures { result ≡ count_by (λ c. c.missing) cells.now }
 {
-    cells.iter().any(|cell| matches!(cell.part, Part::P))
+    cells.iter().filter(|cell| cell.missing).count()
 }
 
-/// Whether in each column the bytes of so many sectors cancel.
-fn columns_cancel(sectors: usize, row: &[u8]) -> bool
-    requires { length row.now ≡ 512 * sectors }
-    ensures { result ≡ list_all (λ x. nat_eq (xor_all (column_of sectors row.now x)) 0) (range_with_len 0 512) }
+/// How many cells hold parity.
+fn parity_count(cells: &[Cell]) -> usize
+    ensures { result ≡ count_by (λ c. not (is_data c.part)) cells.now }
 {
-    (0..SECTOR).all(|x: usize| column_sum(sectors, row, x) == 0)
+    cells
+        .iter()
+        .filter(|cell| !matches!(cell.part, Part::Block(_)))
+        .count()
 }
 
-/// The exclusive or of column `x` of so many sectors.
-fn column_sum(sectors: usize, row: &[u8], x: usize) -> u8
-    requires row { length row.now ≡ 512 * sectors }
-    requires column { x < 512 }
-    ensures { result ≡ xor_all (column_of sectors row.now x) }
+/// What the first missing cell holds.
+fn missing_part(cells: &[Cell]) -> Option<Part>
+    ensures { result ≡ option_map (λ c. c.part) (find (λ c. c.missing) cells.now) }
 {
-    let mut sum = 0;
-    for i in 0..sectors {
-        sum ^= row[SECTOR * i + x];
-    }
-    sum
+    cells.iter().find(|cell| cell.missing).map(|cell| cell.part)
+}
+
+/// Whether one of the cells is Q.
+fn has_syndrome(cells: &[Cell]) -> bool
+    ensures { result ≡ has_q cells.now }
+{
+    cells.iter().any(|cell| matches!(cell.part, Part::Q))
+}
+
+/// Whether in each column of the known cells P's equation holds, and Q's where the row has a Q.
+fn all_cancel(cells: &[Cell], row: &[u8]) -> bool
+    requires { length row.now ≡ 512 * length cells.now }
+    ensures { Decides result (AllCancel cells.now row.now) }
+{
+    p_cancels(cells, row) && (!has_syndrome(cells) || q_cancels(cells, row))
+}
+
+/// Whether P's equation holds in each column of the known cells.
+fn p_cancels(cells: &[Cell], row: &[u8]) -> bool
+    requires { length row.now ≡ 512 * length cells.now }
+    ensures { Decides result (Cancel in_p cells.now row.now) }
+{
+    is_zero(&p_syndrome(cells, row))
+}
+
+/// Whether Q's equation holds in each column of the known cells.
+fn q_cancels(cells: &[Cell], row: &[u8]) -> bool
+    requires { length row.now ≡ 512 * length cells.now }
+    ensures { Decides result (Cancel in_q cells.now row.now) }
+{
+    is_zero(&q_syndrome(cells, row))
+}
+
+/// Whether Q's equation holds in each column, with the lost block of this exponent as P gives it.
+fn q_cancels_by_p(cells: &[Cell], row: &[u8], k: u8) -> bool
+    requires { length row.now ≡ 512 * length cells.now }
+    ensures { Decides result (CancelByP k cells.now row.now) }
+{
+    let mut sums = q_syndrome(cells, row);
+    scale_xor(&mut sums, &p_syndrome(cells, row), gf256::power(k));
+    is_zero(&sums)
+}
+
+/// Whether each of the 512 bytes is 0.
+fn is_zero(sums: &[u8]) -> bool
+    requires { length sums.now ≡ 512 }
+    ensures { Decides result ((x : ℕ) → x < 512 → slice_index sums.now x ≡ 0) }
+{
+    first_nonzero(sums).is_none()
 }

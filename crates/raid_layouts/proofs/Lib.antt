@@ -4,7 +4,10 @@ pub mod Levels
 pub mod Steps
 pub mod Walks
 pub mod Powers
+pub mod Parts
 pub mod Filling
-pub mod Plain
+pub mod Shapes
+pub mod Counts
+pub mod Solvable
 pub mod RoleExamples
 pub mod ExponentExamples

@@ -1,4 +1,3 @@
 pub mod Laws
 pub mod Roles
 pub mod Names
-pub mod Rows

@@ -1,7 +1,7 @@
 // The exponents of the data blocks of a row.
 ghost use Rattle.std.specs.Prelude.{◌≡◌, ◌≢◌, ◌<◌, ◌≤◌, IsTrue};
 ghost use Rattle.raid_params.specs.declared.types.Level.TheVariants.{Raid6};
-ghost use Rattle.raid_terms.specs.Exponent.{HasExponent, HoldsData, number_after_q as number_after_q_of};
+ghost use Rattle.raid_terms.specs.Exponent.{HoldsData, exponent_of, number_after_q as number_after_q_of};
 ghost use Rattle.raid_params.specs.Validity.{is_valid_head};
 ghost use Rattle.raid_terms.specs.Role.{p_of, q_of, double_p as double_p_of, double_q as double_q_of};
 
@@ -31,13 +31,13 @@ fn number_after_q(slots: u8, p: u8, q: u8, slot: u8) -> u8
 }
 
 /// The exponent of a slot that holds data, at level 6: Q weighs its block by 2 to this power.
-#[tactic(auto, using(crate::proofs::Powers::data_off_p, crate::proofs::Powers::data_off_q, crate::proofs::Powers::data_not_p, crate::proofs::Powers::data_not_q, crate::proofs::Powers::four_members, crate::proofs::Powers::parity_apart, crate::proofs::Levels::at_most))]
+#[tactic(auto, using(crate::proofs::Powers::data_off_p, crate::proofs::Powers::data_off_q, crate::proofs::Powers::data_not_p, crate::proofs::Powers::data_not_q, crate::proofs::Powers::four_members, crate::proofs::Powers::parity_apart, crate::proofs::Powers::item_is, crate::proofs::Levels::at_most))]
 pub fn exponent(head: &Head, row: u64, slot: u8) -> u8
     requires head { IsTrue (is_valid_head head.now) }
     requires level { head.now.level ≡ Raid6 }
     requires slot { slot < head.now.members }
     requires holds { HoldsData head.now row slot }
-    ensures { HasExponent head.now row slot result }
+    ensures { result ≡ exponent_of head.now row slot }
 {
     match head.syndrome {
         Syndrome::AfterQ => {

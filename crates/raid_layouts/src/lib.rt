@@ -16,7 +16,8 @@ mod rows;
 
 pub use exponents::exponent;
 pub use laws::{
-    each_block_has_one_exponent, each_role_has_one_slot, each_slot_has_one_role, exponents_differ,
+    each_role_has_one_slot, each_row_can_be_solved, each_slot_has_one_role,
+    exponents_are_below_members, exponents_differ,
 };
 pub use names::md_name;
 pub use roles::{SlotRole, p_slot, q_slot, role, slot_of_item};

@@ -4,7 +4,7 @@ ghost use Rattle.raid_params.specs.Slots.{stands, is_distinct, empties};
 ghost use Rattle.slot_math.specs.Ways.{are_images};
 
 // The image stands in the list.
-#[tactic(auto, unfolding(raid_terms::specs::SlotLists::stands))]
+#[tactic(auto, unfolding(raid_params::specs::Slots::stands))]
 pub(crate) fn holds_image(list: &[Option<u8>], image: u8) -> bool
     ensures { result ≡ stands image list.now }
 {
@@ -16,7 +16,7 @@ pub(crate) fn holds_image(list: &[Option<u8>], image: u8) -> bool
 }
 
 // How many places of the list are empty.
-#[tactic(auto, unfolding(raid_terms::specs::SlotLists::empties))]
+#[tactic(auto, unfolding(raid_params::specs::Slots::empties))]
 pub(crate) fn empty_count(list: &[Option<u8>]) -> usize
     ensures count { result ≡ empties list.now }
     ensures within { result ≤ length list.now }
@@ -29,7 +29,7 @@ pub(crate) fn empty_count(list: &[Option<u8>]) -> usize
 }
 
 // No image stands twice in the list.
-#[tactic(auto, unfolding(raid_terms::specs::SlotLists::is_distinct))]
+#[tactic(auto, unfolding(raid_params::specs::Slots::is_distinct))]
 pub(crate) fn all_different(list: &[Option<u8>]) -> bool
     ensures { result ≡ is_distinct list.now }
 {

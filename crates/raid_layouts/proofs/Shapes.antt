@@ -1,14 +1,15 @@
 -- What a sensible shape says of a parameter set.
-use Rattle.std.proofs.Common.{◌≡◌, ℕ, ◌≤◌, ◌<◌, List, [], ◌∷◌, length, cond, ap, sym, ◌∙◌, refl, arith, Option, Some, None, true, false, Bool, All, IfSome}
-use Rattle.std.proofs.lemmas.Bool.{eqb-true, leb-true}
+use Rattle.std.proofs.Common.{◌≡◌, ℕ, zero, suc, ◌+◌, ◌≤◌, ◌<◌, List, [], ◌∷◌, length, cond, ap, sym, ◌∙◌, refl, arith, Option, Some, None, true, false, Bool, All, IfSome, get_or, slice_index_or, subst, inl, inr}
+use Rattle.std.proofs.lemmas.Bool.{cases_lt, cases_Bool, eqb-true, leb-true}
+use Rattle.std.proofs.lemmas.List.{get_or_default}
 use Rattle.std.proofs.lemmas.Bool.Decides.{nat_tests}
 use Rattle.std.proofs.lemmas.List.Elements.{All-cons, All-nil}
-use Rattle.std.specs.List.{find}
-use Rattle.std.specs.Option.{is_none}
+use Rattle.std.specs.List.{find, range_with_len}
+use Rattle.std.specs.Option.{is_none, option_map_or, option_and_then}
 use Rattle.std.specs.Prelude.{IsTrue, nat_eq, nat_le, nat_lt, ◌&&◌, not, if◌then◌else◌}
 use Rattle.raid_params.specs.Size.{redundancy}
-use Rattle.raid_params.specs.Slots.{empties, held}
-use Rattle.raid_params.specs.Validity.{is_shaped, is_valid_head, has_members, has_pattern, has_syndrome, is_chunk, slots_fault, first_absent, first_repeat}
+use Rattle.raid_params.specs.Slots.{empties}
+use Rattle.raid_params.specs.Validity.{is_shaped, is_valid_head, has_members, has_pattern, has_syndrome, is_chunk, slots_fault, first_absent, is_absent, first_repeat}
 use Rattle.raid_params.specs.declared.types.GeoFault.{GeoFault}
 use Rattle.raid_params.specs.declared.types.GeoFault.TheVariants.{Members, Pattern as BadPattern, Syndrome as BadSyndrome, Chunk, Missing}
 use Rattle.raid_params.specs.declared.types.Geometry.{Geometry}
@@ -85,25 +86,46 @@ shaped_missing geo images h =
     leb-true (empties geo.slots.items) (redundancy geo.head.level)
     (slot_rules geo.head.level images geo.slots.items (first_absent images geo.slots.items) (first_repeat geo.slots.items) (rules_of geo images h).slots).few
 
--- nothing is found
-found_none : (b : Bool) (x : ℕ) (rest : Option ℕ) → cond b (Some x) rest ≡ None → (b ≡ false) × (rest ≡ None)
-found_none true x rest h = (cc)
-found_none false x rest h = (refl, h)
+-- what a search in a range finds passes, and where it finds nothing no number passes
+found_passes : (p : ℕ → Bool) (a n at : ℕ) → find p (range_with_len a n) ≡ Some at → p at ≡ true
+found_passes p a zero at h = absurd (cc)
+found_passes p a (suc n) at h =
+    elim (cases_Bool (p a)) [
+      inl is ↦ (let e : Some a ≡ Some at = sym (ap (λ (b : Bool). cond b (Some a) (find p (range_with_len (a + 1) n))) is) ∙ h in let same : a ≡ at = cc in ap p (sym same) ∙ is)
+    | inr is ↦ found_passes p (a + 1) n at (sym (ap (λ (b : Bool). cond b (Some a) (find p (range_with_len (a + 1) n))) is) ∙ h) ]
 
-below : (i images : ℕ) → not (nat_lt i images) ≡ false → i < images
+found_none : (p : ℕ → Bool) (a n k : ℕ) → find p (range_with_len a n) ≡ None → a ≤ k → k < a + n → p k ≡ false
+found_none p a zero k h from to = absurd (omega arith)
+found_none p a (suc n) k h from to =
+    elim (cases_Bool (p a)) [
+      inl is ↦ absurd (let e : Some a ≡ None = sym (ap (λ (b : Bool). cond b (Some a) (find p (range_with_len (a + 1) n))) is) ∙ h in cc)
+    | inr is ↦ (let rest : find p (range_with_len (a + 1) n) ≡ None = sym (ap (λ (b : Bool). cond b (Some a) (find p (range_with_len (a + 1) n))) is) ∙ h in
+        elim (cases_lt a k) [
+          inl more ↦ found_none p (a + 1) n k rest (omega arith) (omega arith)
+        | inr same ↦ (let e : a ≡ k = omega arith in ap p (sym e) ∙ is) ]) ]
+
+below : (i images : ℕ) → nat_le images i ≡ false → i < images
 below i images h = grind (arith, nat_tests)
 
-all_below : (images : ℕ) (slots : List (Option ℕ)) → find (λ i. not (nat_lt i images)) (held slots) ≡ None → All (λ slot. IfSome slot (λ i. i < images)) slots
-unfolding held
-all_below images [] h = All-nil (λ slot. IfSome slot (λ i. i < images))
-all_below images (None ∷ slots) h = All-cons (λ slot. IfSome slot (λ i. i < images)) None slots tt (all_below images slots h)
-all_below images (Some i ∷ slots) h =
-    let parts = found_none (not (nat_lt i images)) i (find (λ k. not (nat_lt k images)) (held slots)) h in
-    All-cons (λ slot. IfSome slot (λ k. k < images)) (Some i) slots (below i images parts.0) (all_below images slots parts.1)
+there : (images : ℕ) (slot : Option ℕ) → option_map_or (λ i. nat_le images i) slot false ≡ false → IfSome slot (λ i. i < images)
+there images None h = tt
+there images (Some i) h = below i images h
+
+absent_some : (images : ℕ) (slot : Option ℕ) → option_map_or (λ i. nat_le images i) slot false ≡ true → slot ≡ None → ⊥
+absent_some images None h e = absurd (cc)
+absent_some images (Some i) h e = absurd (cc)
 
 absent_below : (images : ℕ) (slots : List (Option ℕ)) → first_absent images slots ≡ None → All (λ slot. IfSome slot (λ i. i < images)) slots
-unfolding first_absent
-absent_below images slots h = all_below images slots h
+absent_below images slots h = λ k d lt. at_place k d lt (find (is_absent images slots) (range_with_len 0 (length slots))) refl
+  where
+    at_place : (k : ℕ) (d : Option ℕ) → k < length slots → (r : Option ℕ) → find (is_absent images slots) (range_with_len 0 (length slots)) ≡ r → IfSome (get_or slots k d) (λ i. i < images)
+    at_place k d lt None e =
+        let is : is_absent images slots k ≡ false = found_none (is_absent images slots) 0 (length slots) k e (omega arith) (omega arith) in
+        let P : Option ℕ → Type 0 = λ slot. IfSome slot (λ i. i < images) in
+        subst P (get_or_default slots k None d lt) (there images (slice_index_or slots k None) is)
+    at_place k d lt (Some at) e =
+        absurd (absent_some images (slice_index_or slots at None) (found_passes (is_absent images slots) 0 (length slots) at e)
+        (sym (ap (option_and_then (λ at. slice_index_or slots at None)) e) ∙ h))
 
 -- the slots hold images that are there
 pub shaped_images : (geo : Geometry) (images : ℕ) → is_shaped geo images ≡ true → All (λ slot. IfSome slot (λ i. i < images)) geo.slots.items

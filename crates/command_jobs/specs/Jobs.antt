@@ -1,0 +1,50 @@
+-- How a job ends, what it prints, and what it leaves.
+use Rattle.std.specs.Prelude.{ℕ, ◌≡◌, ◌≢◌, ◌≤◌, ◌+◌, Bool, true, false, List, Result, OnOk, IfErr, IsErrOf, IfSome}
+use Rattle.std.specs.declared.option.Option.{Option}
+use Rattle.std.specs.declared.option.Option.TheVariants.{None}
+use Rattle.std.specs.Io.KnownBytes.{Appends, Keeps}
+use Rattle.image_source.specs.Causes.{Rose}
+use Rattle.image_source.specs.Streams.{AppendsFront}
+use Rattle.command_jobs.specs.Stops.{EndsBy}
+use Rattle.command_jobs.specs.declared.stop.Stop.{Stop}
+use Rattle.command_jobs.specs.declared.stop.Stop.TheVariants.{ImageFault, PlanFault, OutFault, OutOfMemory}
+
+-- the counts of faults of images, plan and out, and the count of sectors read
+pub record Counts : Type 0 where
+  pub images : ℕ
+  pub plan : ℕ
+  pub out : ℕ
+  pub sectors : ℕ
+
+-- how a job ends that has this first refusal and this output, where the outside tells what it holds
+pub record Ends {T : Type 0} (refused : Option Stop) (printed : Option (List ℕ)) (old new : Option (List ℕ)) (result : Result T Stop) : Type 0 where
+  pub ends : IfErr result (EndsBy refused)
+  pub passes : OnOk result (refused ≡ None)
+  pub printed : OnOk result (IfSome printed (λ text. Appends old new text))
+  pub front : IfErr result (λ stop. IfSome printed (λ text. AppendsFront old new text))
+
+-- at this stop a job may have put a front of its output: where the output failed, and, for a job that
+-- puts as it reads, where the images failed
+abbrev pub MayHavePut : Bool → Stop → Type 0
+MayHavePut streams OutFault = Unit {0}
+MayHavePut streams ImageFault = streams ≡ true
+MayHavePut streams _ = ⊥
+
+-- at this stop a job may have read
+abbrev pub MayHaveRead : Stop → Type 0
+MayHaveRead ImageFault = Unit {0}
+MayHaveRead OutFault = Unit {0}
+MayHaveRead OutOfMemory = Unit {0}
+MayHaveRead _ = ⊥
+
+-- what a job leaves: faults have their causes, nothing is put but at Ok and where it may be, and
+-- nothing is read before the job itself
+pub record Leaves {T : Type 0} (streams : Bool) (before after : Counts) (old new : Option (List ℕ)) (result : Result T Stop) : Type 0 where
+  pub image_fault : IsErrOf result ImageFault → Rose before.images after.images
+  pub plan_fault : IsErrOf result PlanFault → Rose before.plan after.plan
+  pub out_fault : IsErrOf result OutFault → Rose before.out after.out
+  pub images_later : before.images ≤ after.images
+  pub plan_later : before.plan ≤ after.plan
+  pub out_later : before.out ≤ after.out
+  pub nothing : IfErr result (λ stop. (MayHavePut streams stop → ⊥) → Keeps old new)
+  pub unread : IfErr result (λ stop. (MayHaveRead stop → ⊥) → after.sectors ≡ before.sectors)

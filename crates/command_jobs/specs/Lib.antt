@@ -1,0 +1,5 @@
+pub mod Agreement
+pub mod Stops
+pub mod Jobs
+pub mod Mapping
+pub mod Source

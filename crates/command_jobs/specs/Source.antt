@@ -1,0 +1,13 @@
+-- Why reading a source ends without its text.
+use Rattle.std.specs.Prelude.{ℕ, ◌<◌, List, length, IfSome}
+use Rattle.std.specs.declared.option.Option.{Option}
+use Rattle.image_source.specs.Causes.{Rose}
+use Rattle.command_jobs.specs.declared.stop.Stop.{Stop}
+use Rattle.command_jobs.specs.declared.stop.Stop.TheVariants.{PlanIsLong, PlanFault, OutOfMemory}
+
+-- it is too long, the source failed, or memory is wanting
+abbrev pub EndsReading : Option (List ℕ) → ℕ → ℕ → Stop → Type 0
+EndsReading left before now PlanIsLong = IfSome left (λ text. 4194304 < length text)
+EndsReading left before now PlanFault = Rose before now
+EndsReading left before now OutOfMemory = Unit {0}
+EndsReading left before now _ = ⊥

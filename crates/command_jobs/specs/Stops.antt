@@ -1,0 +1,92 @@
+-- What a stop says: its status and its line.
+use Rattle.std.specs.Prelude.{ℕ, ◌≡◌, ◌⊎◌, List, [], ◌∷◌, ◌++◌, codes, decimal}
+use Rattle.std.specs.declared.option.Option.{Option}
+use Rattle.std.specs.declared.option.Option.TheVariants.{None, Some}
+use Rattle.raid_params.specs.declared.types.GeoFault.{GeoFault}
+use Rattle.raid_params.specs.declared.types.GeoFault.TheVariants.{Members, Pattern, Syndrome, Chunk, Image, Repeat, Missing, NoRow}
+use Rattle.plan_text.specs.PlanText.{pattern_place, syndrome_place}
+use Rattle.command_jobs.specs.declared.agreement.Disagreement.{Disagreement}
+use Rattle.command_jobs.specs.declared.agreement.Kind.{Kind}
+use Rattle.command_jobs.specs.declared.agreement.Kind.TheVariants.{Count, Length, End}
+use Rattle.command_jobs.specs.declared.stop.Stop.{Stop}
+use Rattle.command_jobs.specs.declared.stop.Stop.TheVariants.{PlanIsLong, Images, Many, Cursor, Set, Slot, Sector, ImageFault, PlanFault, OutFault, NotBuilt, OutOfMemory}
+
+-- the number of a set rule, in the order of the rules
+abbrev pub rule_of : GeoFault → ℕ
+rule_of (Members n) = 1
+rule_of (Pattern p) = 2
+rule_of (Syndrome s) = 3
+rule_of (Chunk n) = 4
+rule_of (Image n) = 5
+rule_of (Repeat n) = 6
+rule_of (Missing n) = 7
+rule_of (NoRow n) = 8
+
+-- the value that breaks it; a pattern and an order of Q by their places among their kind, from 0
+abbrev pub value_of : GeoFault → ℕ
+value_of (Members n) = n
+value_of (Pattern p) = pattern_place p
+value_of (Syndrome s) = syndrome_place s
+value_of (Chunk n) = n
+value_of (Image n) = n
+value_of (Repeat n) = n
+value_of (Missing n) = n
+value_of (NoRow n) = n
+
+-- the status of a stop
+abbrev pub status_of : Stop → ℕ
+status_of PlanIsLong = 3
+status_of (Images fault) = 4
+status_of Many = 5
+status_of (Cursor fault) = 6
+status_of (Set fault) = 7
+status_of (Slot slot) = 7
+status_of (Sector fault) = 8
+status_of ImageFault = 10
+status_of PlanFault = 11
+status_of OutFault = 12
+status_of NotBuilt = 19
+status_of OutOfMemory = 20
+
+-- what of the images disagrees, as it is printed
+abbrev pub kind_text : Kind → List ℕ
+kind_text Count = codes "count"
+kind_text (Length image) = codes "length " ++ decimal image
+kind_text End = codes "end"
+
+-- the line of a broken rule
+abbrev pub rule_line : ℕ → ℕ → List ℕ
+rule_line rule value = codes "reraid: set rule " ++ decimal rule ++ codes " value " ++ decimal value ++ codes "\n"
+
+-- the line on the notes for a stop
+abbrev pub note_of : Stop → List ℕ
+note_of PlanIsLong = codes "reraid: plan is longer than 4194304 bytes\n"
+note_of (Images fault) = codes "reraid: images: " ++ kind_text fault.kind ++ codes " given " ++ decimal fault.given ++ codes " planned " ++ decimal fault.planned ++ codes "\n"
+note_of Many = codes "reraid: the product has more than 18446744073709551615 sets\n"
+note_of (Cursor fault) = codes "reraid: cursor " ++ decimal fault.from ++ codes " is past " ++ decimal fault.total ++ codes "\n"
+note_of (Set fault) = rule_line (rule_of fault) (value_of fault)
+note_of (Slot slot) = rule_line 9 slot
+note_of (Sector fault) = codes "reraid: sector " ++ decimal fault.sector ++ codes " of " ++ decimal fault.size ++ codes "\n"
+note_of ImageFault = codes "reraid: image read fault\n"
+note_of PlanFault = codes "reraid: plan read fault\n"
+note_of OutFault = codes "reraid: output fault\n"
+note_of NotBuilt = codes "reraid: not built\n"
+note_of OutOfMemory = codes "reraid: out of memory\n"
+
+-- a stop for which the outside, or memory, is the cause
+abbrev pub IsExcused : Stop → Type 0
+IsExcused ImageFault = Unit {0}
+IsExcused PlanFault = Unit {0}
+IsExcused OutFault = Unit {0}
+IsExcused OutOfMemory = Unit {0}
+IsExcused _ = ⊥
+
+-- it ends by the refusal, unless it is excused
+abbrev pub EndsBy : Option Stop → Stop → Type 0
+EndsBy refused stop = IsExcused stop ⊎ (refused ≡ Some stop)
+
+-- the first refusal, of these in the order of work
+abbrev pub first_of : List (Option Stop) → Option Stop
+first_of [] = None
+first_of (None ∷ refusals) = first_of refusals
+first_of (Some stop ∷ refusals) = Some stop

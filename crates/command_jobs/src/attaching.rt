@@ -1,0 +1,34 @@
+// Attaching the images of the words.
+ghost use Rattle.std.specs.Prelude.{◌≡◌, ◌+◌, ◌≤◌, ◌<◌, length, All, IsTrue, OnOk, [], min};
+ghost use Rattle.image_source.specs.Attached.{AttachesSome};
+ghost use Rattle.image_source.specs.Causes.{HasCause};
+
+use command_words::Word;
+use image_source::{Failed, Images, MOST_ATTACHED};
+
+/// Attaches the images of these names, in their order.
+#[tactic(auto, using(crate::proofs::OneByOne::none_attached, crate::proofs::OneByOne::attached_more, crate::proofs::OneByOne::attached_no_more))]
+fn attach_all<I: Images>(images: &mut I, names: &[Word]) -> Result<(), Failed>
+    requires room { length (I.seen images.old).attached + length names.now ≤ MOST_ATTACHED }
+    requires named { All (λ name. IsTrue ((I.seen images.old).world.may_attach name)) names.now }
+    ensures some { AttachesSome (I.seen images.old) (I.seen images.new) names.now }
+    ensures all { OnOk result (length (I.seen images.new).attached ≡ length (I.seen images.old).attached + length names.now) }
+    ensures cause { HasCause (I.seen images.old).faults (I.seen images.new).faults result }
+{
+    for name in names {
+        images.attach(name.as_str())?;
+    }
+    Ok(())
+}
+
+/// Attaches the images of the first of these names, of as many as may be attached.
+#[tactic(auto, using(crate::proofs::OneByOne::attached_front))]
+pub fn attach_front<I: Images>(images: &mut I, names: &[Word]) -> Result<(), Failed>
+    requires fresh { (I.seen images.old).attached ≡ [] }
+    requires named { All (λ name. IsTrue ((I.seen images.old).world.may_attach name)) names.now }
+    ensures some { AttachesSome (I.seen images.old) (I.seen images.new) names.now }
+    ensures all { OnOk result (length (I.seen images.new).attached ≡ min (length names.now) MOST_ATTACHED) }
+    ensures cause { HasCause (I.seen images.old).faults (I.seen images.new).faults result }
+{
+    attach_all(images, &names[..names.len().min(MOST_ATTACHED)])
+}

@@ -1,0 +1,18 @@
+//! What each command does with its operands, the images and the plan.
+//!
+//! A job answers with its output on `out`, or with the [`Stop`] that says why there is none. Its
+//! contract holds the first refusal in the order of work, and the bytes of its output, each as a
+//! function of what the words, the plan and the images say.
+#![tactic(auto)]
+
+mod agreement;
+mod attaching;
+mod mapping;
+mod reading;
+mod stop;
+
+pub use agreement::{Disagreement, Kind};
+pub use attaching::attach_front;
+pub use mapping::map;
+pub use reading::read_all;
+pub use stop::{CursorFault, SectorFault, Stop};

@@ -1,0 +1,185 @@
+// The command `map`.
+ghost use Rattle.std.specs.Prelude.{◌≡◌, ◌<◌, ◌≤◌, ◌+◌, ◌++◌, ◌^◌, All, IfErr, IfOk, IfSome, IsTrue, None, OnOk, Some, codes, decimal, length, min, slice_index_or, unwrap_or};
+ghost use Rattle.command_jobs.specs.Agreement.{end_of as end_of_images};
+ghost use Rattle.command_jobs.specs.Jobs.{Ends, Leaves};
+ghost use Rattle.command_jobs.specs.Mapping.{map_refusal, map_text as map_text_of, name_line, or_dash, place_line, sector_refusal, set_refusals};
+ghost use Rattle.command_jobs.specs.Stops.{first_of};
+ghost use Rattle.plan_text.specs.SetText.{HasWord};
+ghost use Rattle.raid_params.specs.Validity.{first_fault, is_valid_head};
+ghost use Rattle.raid_layouts.specs.Names.{name_of};
+ghost use Rattle.raid_terms.specs.Role.{p_of, q_of};
+ghost use Rattle.raid_terms.specs.Address.{home_item, home_row, home_sector, home_slot};
+
+use crate::agreement::{end_of, limits_fault};
+use crate::stop::{SectorFault, Stop};
+use address_map::{Home, locate, volume_sectors};
+use image_source::{Images, Memory, Sink};
+use itoa::Buffer;
+use plan_text::Text;
+use raid_layouts::{md_name, p_slot, q_slot};
+use raid_params::{Geometry, Head};
+use std::alloc::Global;
+
+/// Prints where a sector of the volume of a set lies, whole or not at all. `names` is the number of
+/// images; `end` is the image sector after the last one of the members, or None for the shortest
+/// image's.
+pub fn map<I: Images, K: Sink>(
+    alloc: Global,
+    images: &I,
+    names: usize,
+    set: &Geometry,
+    sector: u64,
+    end: Option<u64>,
+    out: &mut K,
+) -> Result<(), Stop>
+    requires attached { length (I.seen images.now).attached ≡ min names 65536 }
+    requires small { All (λ image. image.sectors < 2 ^ 55) (I.seen images.now).attached }
+    requires set { HasWord set.now }
+    requires end { IfSome end (λ sector. sector < 2 ^ 55) }
+    ensures ends { Ends (map_refusal set.now sector end names (I.seen images.now).attached) (Some (map_text_of set.now sector)) (K.gained out.old) (K.gained out.new) result }
+    ensures leaves { Leaves false
+        (record { images = (I.seen images.now).faults; plan = 0; out = K.faults out.old; sectors = (I.seen images.now).sectors_read })
+        (record { images = (I.seen images.now).faults; plan = 0; out = K.faults out.new; sectors = (I.seen images.now).sectors_read })
+        (K.gained out.old) (K.gained out.new) result }
+{
+    let end = checked_end(images, names, set, end)?;
+    let home = home_of(&set.head, end, sector)?;
+    let text = map_text(alloc, set, &home)?;
+    match out.put(text.as_slice()) {
+        Ok(()) => Ok(()),
+        Err(_) => Err(Stop::OutFault),
+    }
+}
+
+/// The end of the members, where so many images and the set are such that a command over the set
+/// goes on.
+pub fn checked_end<I: Images>(
+    images: &I,
+    names: usize,
+    set: &Geometry,
+    end: Option<u64>,
+) -> Result<u64, Stop>
+    requires attached { length (I.seen images.now).attached ≡ min names 65536 }
+    requires small { All (λ image. image.sectors < 2 ^ 55) (I.seen images.now).attached }
+    requires end { IfSome end (λ sector. sector < 2 ^ 55) }
+    ensures end { IfOk result (λ e. (e ≡ end_of_images end (I.seen images.now).attached) × (e < 2 ^ 55)) }
+    ensures allowed { OnOk result (first_of (set_refusals set.now end names (I.seen images.now).attached) ≡ None) }
+    ensures valid { IfOk result (λ e. first_fault set.now names e ≡ None) }
+    ensures refused { IfErr result (λ stop. first_of (set_refusals set.now end names (I.seen images.now).attached) ≡ Some stop) }
+{
+    if let Some(fault) = limits_fault(images, names, end) {
+        return Err(Stop::Images(fault));
+    }
+    let end = end_of(images, names, end);
+    match set.validate(names as u8, end) {
+        Ok(()) => Ok(end),
+        Err(fault) => Err(Stop::Set(fault)),
+    }
+}
+
+/// Where a sector of the volume lies.
+fn home_of(head: &Head, end: u64, sector: u64) -> Result<Home, Stop>
+    requires head { IsTrue (is_valid_head head.now) }
+    requires end { end < 2 ^ 55 }
+    ensures home { IfOk result (λ home. (home.row ≡ home_row head.now sector) × (home.item ≡ home_item head.now sector)
+        × (home.slot ≡ home_slot head.now sector) × (home.sector ≡ home_sector head.now sector) × (home.slot < head.now.members)) }
+    ensures allowed { OnOk result (sector_refusal head.now sector end ≡ None) }
+    ensures refused { IfErr result (λ stop. sector_refusal head.now sector end ≡ Some stop) }
+{
+    match locate(head, end, sector) {
+        Some(home) => Ok(home),
+        None => Err(Stop::Sector(SectorFault {
+            sector,
+            size: volume_sectors(head, end),
+        })),
+    }
+}
+
+/// The two lines of `map`.
+fn map_text(alloc: Global, set: &Geometry, home: &Home) -> Result<Text, Memory>
+    requires head { IsTrue (is_valid_head set.now.head) }
+    requires slots { length set.now.slots.items ≡ set.now.head.members }
+    requires slot { home.now.slot < set.now.head.members }
+    requires sector { set.now.head.offset + home.now.sector < 2 ^ 64 }
+    ensures { IfOk result (λ text. text ≡ place_line set.now home.now.row home.now.item home.now.slot home.now.sector ++ name_line set.now.head) }
+{
+    let mut text = Text::new(alloc);
+    add_item(&mut text, home)?;
+    add_image(&mut text, set, home)?;
+    add_parity(&mut text, &set.head, home.row)?;
+    add_name(&mut text, &set.head)?;
+    Ok(text)
+}
+
+/// Appends the item: its row, its number in the row and its slot.
+fn add_item(text: &mut Text, home: &Home) -> Result<(), Memory>
+    ensures { OnOk result (text.new ≡ text.old ++ (codes "row " ++ (decimal home.now.row ++ (codes " item " ++ (decimal home.now.item ++ (codes " slot " ++ decimal home.now.slot)))))) }
+{
+    text.extend_from_slice(b"row ")?;
+    add_number(text, home.row)?;
+    text.extend_from_slice(b" item ")?;
+    add_number(text, home.item as u64)?;
+    text.extend_from_slice(b" slot ")?;
+    add_number(text, home.slot as u64)
+}
+
+/// Appends the image that holds the sector, and the sector of the image.
+fn add_image(text: &mut Text, set: &Geometry, home: &Home) -> Result<(), Memory>
+    requires slot { home.now.slot < length set.now.slots.items }
+    requires sector { set.now.head.offset + home.now.sector < 2 ^ 64 }
+    ensures { OnOk result (text.new ≡ text.old ++ (codes " image " ++ (or_dash (slice_index_or set.now.slots.items home.now.slot None) ++ (codes " sector " ++ decimal (set.now.head.offset + home.now.sector))))) }
+{
+    text.extend_from_slice(b" image ")?;
+    add_or_dash(text, set.slots[home.slot as usize])?;
+    text.extend_from_slice(b" sector ")?;
+    add_number(text, set.head.offset + home.sector)
+}
+
+/// Appends the slots of P and Q in a row, and the line feed.
+fn add_parity(text: &mut Text, head: &Head, row: u64) -> Result<(), Memory>
+    requires { IsTrue (is_valid_head head.now) }
+    ensures { OnOk result (text.new ≡ text.old ++ (codes " p " ++ (or_dash (p_of head.now row) ++ (codes " q " ++ (or_dash (q_of head.now row) ++ codes "\n"))))) }
+{
+    text.extend_from_slice(b" p ")?;
+    add_or_dash(text, p_slot(head, row))?;
+    text.extend_from_slice(b" q ")?;
+    add_or_dash(text, q_slot(head, row))?;
+    text.extend_from_slice(b"\n")
+}
+
+/// Appends the line of the layout's name.
+fn add_name(text: &mut Text, head: &Head) -> Result<(), Memory>
+    ensures { OnOk result (text.new ≡ text.old ++ name_line head.now) }
+{
+    text.extend_from_slice(b"name ")?;
+    text.extend_from_slice(layout_name(head).as_bytes())?;
+    text.extend_from_slice(b"\n")
+}
+
+/// The name of the layout, or a dash.
+fn layout_name(head: &Head) -> &'static str
+    ensures { result.now ≡ unwrap_or (name_of head.now.level head.now.pattern head.now.syndrome) (codes "-") }
+{
+    match md_name(head.level, head.pattern, head.syndrome) {
+        Some(name) => name,
+        None => "-",
+    }
+}
+
+/// Appends a number, or a dash where there is none.
+fn add_or_dash(text: &mut Text, number: Option<u8>) -> Result<(), Memory>
+    ensures { OnOk result (text.new ≡ text.old ++ or_dash number) }
+{
+    match number {
+        Some(number) => add_number(text, number as u64),
+        None => text.extend_from_slice(b"-"),
+    }
+}
+
+/// Appends a number in decimal.
+pub(crate) fn add_number(text: &mut Text, number: u64) -> Result<(), Memory>
+    ensures { OnOk result (text.new ≡ text.old ++ decimal number) }
+{
+    let mut buffer = Buffer::new();
+    text.extend_from_slice(buffer.format(number).as_bytes())
+}

@@ -1,3 +1,6 @@
+pub mod Homes
 pub mod Lengths
 pub mod OneByOne
+pub mod Printed
+pub mod Refusals
 pub mod Taking

@@ -1,5 +1,5 @@
 -- How a job ends, what it prints, and what it leaves.
-use Rattle.std.specs.Prelude.{ℕ, ◌≡◌, ◌≢◌, ◌≤◌, ◌+◌, Bool, true, false, List, Result, OnOk, IfErr, IsErrOf, IfSome}
+use Rattle.std.specs.Prelude.{ℕ, ◌≡◌, ◌≢◌, ◌≤◌, ◌+◌, Bool, true, false, List, Result, Ok, Err, MatchResult, OnOk, IfErr, IsErrOf, IfSome}
 use Rattle.std.specs.declared.option.Option.{Option}
 use Rattle.std.specs.declared.option.Option.TheVariants.{None}
 use Rattle.std.specs.Io.KnownBytes.{Appends, Keeps}
@@ -20,7 +20,7 @@ pub record Counts : Type 0 where
 pub record Ends {T : Type 0} (refused : Option Stop) (printed : Option (List ℕ)) (old new : Option (List ℕ)) (result : Result T Stop) : Type 0 where
   pub ends : IfErr result (EndsBy refused)
   pub passes : OnOk result (refused ≡ None)
-  pub printed : OnOk result (IfSome printed (λ text. Appends old new text))
+  pub puts : OnOk result (IfSome printed (λ text. Appends old new text))
   pub front : IfErr result (λ stop. IfSome printed (λ text. AppendsFront old new text))
 
 -- at this stop a job may have put a front of its output: where the output failed, and, for a job that
@@ -48,3 +48,21 @@ pub record Leaves {T : Type 0} (streams : Bool) (before after : Counts) (old new
   pub out_later : before.out ≤ after.out
   pub nothing : IfErr result (λ stop. (MayHavePut streams stop → ⊥) → Keeps old new)
   pub unread : IfErr result (λ stop. (MayHaveRead stop → ⊥) → after.sectors ≡ before.sectors)
+
+-- how an answer is found, before anything is put: its first refusal, the causes of faults, and that
+-- nothing is read before the job itself
+pub record Answered {T : Type 0} (refused : Option Stop) (before after : Counts) (result : Result T Stop) : Type 0 where
+  pub ends : IfErr result (EndsBy refused)
+  pub passes : OnOk result (refused ≡ None)
+  pub image_fault : IsErrOf result ImageFault → Rose before.images after.images
+  pub plan_fault : IsErrOf result PlanFault → Rose before.plan after.plan
+  pub out_fault : IsErrOf result OutFault → ⊥
+  pub images_later : before.images ≤ after.images
+  pub plan_later : before.plan ≤ after.plan
+  pub unread : IfErr result (λ stop. (MayHaveRead stop → ⊥) → after.sectors ≡ before.sectors)
+
+-- an answer is put whole, or a front of it where the output fails; without an answer nothing is put
+abbrev pub IsPrinted : {T : Type 0} → Option (List ℕ) → Option (List ℕ) → ℕ → ℕ → Result (List ℕ) Stop → Result T Stop → Type 0
+IsPrinted old new before after (Err stop) result = (result ≡ Err stop) × (new ≡ old)
+IsPrinted old new before after (Ok text) result =
+    MatchResult result (λ _. Appends old new text) (λ stop. (stop ≡ OutFault) × AppendsFront old new text × Rose before after)

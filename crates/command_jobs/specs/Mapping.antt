@@ -18,11 +18,11 @@ use Rattle.command_jobs.specs.declared.stop.Stop.{Stop}
 use Rattle.command_jobs.specs.declared.stop.Stop.TheVariants.{Images, Set, Sector}
 
 -- the refusals of a command over one set: the images, then the set
-abbrev pub set_refusals : Geometry → Option ℕ → ℕ → List Image → List (Option Stop)
-set_refusals set end names attached =
-    option_map (λ fault. Images fault) (limits_fault end names attached)
+unfoldable pub set_refusal : Geometry → Option ℕ → ℕ → List Image → Option Stop
+set_refusal set end names attached =
+    first_of (option_map (λ fault. Images fault) (limits_fault end names attached)
     ∷ option_map (λ fault. Set fault) (first_fault set names (end_of end attached))
-    ∷ []
+    ∷ [])
 
 -- the sector is past the end of the volume
 abbrev pub sector_refusal : Head → ℕ → ℕ → Option Stop
@@ -30,9 +30,9 @@ sector_refusal head sector end =
     if nat_lt sector (volume_sectors head end) then None else Some (Sector (record { sector = sector; size = volume_sectors head end }))
 
 -- the first refusal of `map`
-abbrev pub map_refusal : Geometry → ℕ → Option ℕ → ℕ → List Image → Option Stop
+unfoldable pub map_refusal : Geometry → ℕ → Option ℕ → ℕ → List Image → Option Stop
 map_refusal set sector end names attached =
-    first_of (set_refusals set end names attached ++ sector_refusal set.head sector (end_of end attached) ∷ [])
+    first_of (set_refusal set end names attached ∷ sector_refusal set.head sector (end_of end attached) ∷ [])
 
 -- a number, or a dash where there is none
 abbrev pub or_dash : Option ℕ → List ℕ

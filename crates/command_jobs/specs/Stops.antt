@@ -81,6 +81,14 @@ IsExcused OutFault = Unit {0}
 IsExcused OutOfMemory = Unit {0}
 IsExcused _ = ⊥
 
+-- a stop of which neither the outside nor memory is the cause
+abbrev pub IsRefusal : Stop → Type 0
+IsRefusal ImageFault = ⊥
+IsRefusal PlanFault = ⊥
+IsRefusal OutFault = ⊥
+IsRefusal OutOfMemory = ⊥
+IsRefusal _ = Unit {0}
+
 -- it ends by the refusal, unless it is excused
 abbrev pub EndsBy : Option Stop → Stop → Type 0
 EndsBy refused stop = IsExcused stop ⊎ (refused ≡ Some stop)

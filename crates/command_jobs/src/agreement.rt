@@ -102,6 +102,7 @@ fn count_fault(given: usize, planned: usize) -> Disagreement
 /// The end that is asked for, or that of the shortest image, of so many.
 pub fn end_of<I: Images>(images: &I, count: usize, end: Option<u64>) -> u64
     requires attached { length (I.seen images.now).attached ≡ count }
+    requires few { count ≤ 65536 }
     ensures { result ≡ end_of_images end (I.seen images.now).attached }
 {
     match end {
@@ -111,9 +112,10 @@ pub fn end_of<I: Images>(images: &I, count: usize, end: Option<u64>) -> u64
 }
 
 /// The length of the shortest of so many images, 0 where there are none.
-#[tactic(auto, using(crate::proofs::Lengths::shortest_first, crate::proofs::Lengths::shortest_more, crate::proofs::Lengths::shortest_all))]
+#[tactic(auto, using(crate::proofs::Lengths::shortest_first, crate::proofs::Lengths::shortest_more))]
 fn shortest<I: Images>(images: &I, count: usize) -> u64
     requires attached { length (I.seen images.now).attached ≡ count }
+    requires few { count ≤ 65536 }
     ensures { result ≡ shortest_of (lengths_of (I.seen images.now).attached) }
 {
     let mut least = sectors_of(images, 0);
@@ -125,7 +127,8 @@ fn shortest<I: Images>(images: &I, count: usize) -> u64
 
 /// Whether the length of an image is not the planned one.
 fn has_other_length<I: Images>(images: &I, image: usize, planned: &[u64]) -> bool
-    requires { image < length planned.now }
+    requires few { length planned.now ≤ 16 }
+    requires within { image < length planned.now }
     ensures { result ≡ not (nat_eq (slice_index (lengths_of (I.seen images.now).attached) image) (slice_index planned.now image)) }
 {
     sectors_of(images, image) != planned[image]
@@ -134,6 +137,7 @@ fn has_other_length<I: Images>(images: &I, image: usize, planned: &[u64]) -> boo
 /// The length of an attached image in sectors, 0 where there is none of this number.
 #[tactic(auto, using(crate::proofs::Lengths::sectors_at))]
 fn sectors_of<I: Images>(images: &I, image: usize) -> u64
+    requires few { image < 65536 }
     ensures { result ≡ slice_index (lengths_of (I.seen images.now).attached) image }
 {
     images.length(image as u32).unwrap_or(0)

@@ -8,6 +8,7 @@
 mod agreement;
 mod attaching;
 mod mapping;
+mod printing;
 mod reading;
 mod stop;
 

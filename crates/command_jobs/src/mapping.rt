@@ -1,9 +1,9 @@
 // The command `map`.
-ghost use Rattle.std.specs.Prelude.{◌≡◌, ◌<◌, ◌≤◌, ◌+◌, ◌++◌, ◌^◌, All, IfErr, IfOk, IfSome, IsTrue, None, OnOk, Some, codes, decimal, length, min, slice_index_or, unwrap_or};
+ghost use Rattle.std.specs.Prelude.{◌≡◌, ◌<◌, ◌≤◌, ◌+◌, ◌++◌, ◌^◌, ◌⊎◌, All, IfErr, IfOk, IfSome, IsTrue, None, OnOk, Some, codes, decimal, false, length, min, slice_index_or, unwrap_or};
 ghost use Rattle.command_jobs.specs.Agreement.{end_of as end_of_images};
-ghost use Rattle.command_jobs.specs.Jobs.{Ends, Leaves};
-ghost use Rattle.command_jobs.specs.Mapping.{map_refusal, map_text as map_text_of, name_line, or_dash, place_line, sector_refusal, set_refusals};
-ghost use Rattle.command_jobs.specs.Stops.{first_of};
+ghost use Rattle.command_jobs.specs.Jobs.{Answered, Ends, Leaves};
+ghost use Rattle.command_jobs.specs.Mapping.{map_refusal, map_text as map_text_of, name_line, or_dash, place_line, sector_refusal, set_refusal};
+ghost use Rattle.command_jobs.specs.Stops.{IsRefusal};
 ghost use Rattle.plan_text.specs.SetText.{HasWord};
 ghost use Rattle.raid_params.specs.Validity.{first_fault, is_valid_head};
 ghost use Rattle.raid_layouts.specs.Names.{name_of};
@@ -11,10 +11,10 @@ ghost use Rattle.raid_terms.specs.Role.{p_of, q_of};
 ghost use Rattle.raid_terms.specs.Address.{home_item, home_row, home_sector, home_slot};
 
 use crate::agreement::{end_of, limits_fault};
+use crate::printing::{add_number, add_or_dash, print};
 use crate::stop::{SectorFault, Stop};
 use address_map::{Home, locate, volume_sectors};
 use image_source::{Images, Memory, Sink};
-use itoa::Buffer;
 use plan_text::Text;
 use raid_layouts::{md_name, p_slot, q_slot};
 use raid_params::{Geometry, Head};
@@ -23,6 +23,7 @@ use std::alloc::Global;
 /// Prints where a sector of the volume of a set lies, whole or not at all. `names` is the number of
 /// images; `end` is the image sector after the last one of the members, or None for the shortest
 /// image's.
+#[tactic(auto, using(crate::proofs::Printed::ends_printed, crate::proofs::Printed::leaves_printed))]
 pub fn map<I: Images, K: Sink>(
     alloc: Global,
     images: &I,
@@ -42,17 +43,53 @@ pub fn map<I: Images, K: Sink>(
         (record { images = (I.seen images.now).faults; plan = 0; out = K.faults out.new; sectors = (I.seen images.now).sectors_read })
         (K.gained out.old) (K.gained out.new) result }
 {
-    let end = checked_end(images, names, set, end)?;
-    let home = home_of(&set.head, end, sector)?;
-    let text = map_text(alloc, set, &home)?;
-    match out.put(text.as_slice()) {
-        Ok(()) => Ok(()),
-        Err(_) => Err(Stop::OutFault),
+    print(out, answer(alloc, images, names, set, sector, end))
+}
+
+/// The text of `map`, or why there is none.
+#[tactic(auto, using(crate::proofs::Refusals::map_set_refused, crate::proofs::Refusals::map_answered, raid_layouts::proofs::Shapes::shaped_head, raid_layouts::proofs::Shapes::shaped_slots, crate::proofs::Refusals::ruled_shape))]
+fn answer<I: Images>(
+    alloc: Global,
+    images: &I,
+    names: usize,
+    set: &Geometry,
+    sector: u64,
+    end: Option<u64>,
+) -> Result<Text, Stop>
+    requires attached { length (I.seen images.now).attached ≡ min names 65536 }
+    requires small { All (λ image. image.sectors < 2 ^ 55) (I.seen images.now).attached }
+    requires set { HasWord set.now }
+    requires end { IfSome end (λ sector. sector < 2 ^ 55) }
+    ensures text { IfOk result (λ text. text ≡ map_text_of set.now sector) }
+    ensures answered { Answered (map_refusal set.now sector end names (I.seen images.now).attached)
+        (record { images = (I.seen images.now).faults; plan = 0; out = 0; sectors = (I.seen images.now).sectors_read })
+        (record { images = (I.seen images.now).faults; plan = 0; out = 0; sectors = (I.seen images.now).sectors_read }) result }
+{
+    match checked_end(images, names, set, end) {
+        Ok(end) => located(alloc, set, sector, end),
+        Err(stop) => Err(stop),
+    }
+}
+
+/// The text of `map` over a set whose members end before the image sector `end`.
+fn located(alloc: Global, set: &Geometry, sector: u64, end: u64) -> Result<Text, Stop>
+    requires head { IsTrue (is_valid_head set.now.head) }
+    requires slots { length set.now.slots.items ≡ set.now.head.members }
+    requires offset { set.now.head.offset < 2 ^ 55 }
+    requires end { end < 2 ^ 55 }
+    ensures text { IfOk result (λ text. text ≡ map_text_of set.now sector) }
+    ensures allowed { OnOk result (sector_refusal set.now.head sector end ≡ None) }
+    ensures refused { IfErr result (λ stop. (stop ≡ Stop.OutOfMemory) ⊎ ((sector_refusal set.now.head sector end ≡ Some stop) × IsRefusal stop)) }
+{
+    match home_of(&set.head, end, sector) {
+        Ok(home) => Ok(map_text(alloc, set, &home)?),
+        Err(stop) => Err(stop),
     }
 }
 
 /// The end of the members, where so many images and the set are such that a command over the set
 /// goes on.
+#[tactic(auto, using(crate::proofs::Lengths::end_near, crate::proofs::Refusals::images_refused, crate::proofs::Refusals::rule_refused, crate::proofs::Refusals::set_allowed))]
 pub fn checked_end<I: Images>(
     images: &I,
     names: usize,
@@ -63,9 +100,9 @@ pub fn checked_end<I: Images>(
     requires small { All (λ image. image.sectors < 2 ^ 55) (I.seen images.now).attached }
     requires end { IfSome end (λ sector. sector < 2 ^ 55) }
     ensures end { IfOk result (λ e. (e ≡ end_of_images end (I.seen images.now).attached) × (e < 2 ^ 55)) }
-    ensures allowed { OnOk result (first_of (set_refusals set.now end names (I.seen images.now).attached) ≡ None) }
+    ensures allowed { OnOk result (set_refusal set.now end names (I.seen images.now).attached ≡ None) }
     ensures valid { IfOk result (λ e. first_fault set.now names e ≡ None) }
-    ensures refused { IfErr result (λ stop. first_of (set_refusals set.now end names (I.seen images.now).attached) ≡ Some stop) }
+    ensures refused { IfErr result (λ stop. (set_refusal set.now end names (I.seen images.now).attached ≡ Some stop) × IsRefusal stop) }
 {
     if let Some(fault) = limits_fault(images, names, end) {
         return Err(Stop::Images(fault));
@@ -78,13 +115,15 @@ pub fn checked_end<I: Images>(
 }
 
 /// Where a sector of the volume lies.
+#[tactic(auto, using(crate::proofs::Homes::home_near, address_map::proofs::Lies::slot_in))]
 fn home_of(head: &Head, end: u64, sector: u64) -> Result<Home, Stop>
     requires head { IsTrue (is_valid_head head.now) }
     requires end { end < 2 ^ 55 }
     ensures home { IfOk result (λ home. (home.row ≡ home_row head.now sector) × (home.item ≡ home_item head.now sector)
         × (home.slot ≡ home_slot head.now sector) × (home.sector ≡ home_sector head.now sector) × (home.slot < head.now.members)) }
+    ensures near { IfOk result (λ home. home.sector < 2 ^ 55) }
     ensures allowed { OnOk result (sector_refusal head.now sector end ≡ None) }
-    ensures refused { IfErr result (λ stop. sector_refusal head.now sector end ≡ Some stop) }
+    ensures refused { IfErr result (λ stop. (sector_refusal head.now sector end ≡ Some stop) × IsRefusal stop) }
 {
     match locate(head, end, sector) {
         Some(home) => Ok(home),
@@ -96,6 +135,7 @@ fn home_of(head: &Head, end: u64, sector: u64) -> Result<Home, Stop>
 }
 
 /// The two lines of `map`.
+#[tactic(auto, unfolding(crate::specs::Mapping::place_line))]
 fn map_text(alloc: Global, set: &Geometry, home: &Home) -> Result<Text, Memory>
     requires head { IsTrue (is_valid_head set.now.head) }
     requires slots { length set.now.slots.items ≡ set.now.head.members }
@@ -148,6 +188,7 @@ fn add_parity(text: &mut Text, head: &Head, row: u64) -> Result<(), Memory>
 }
 
 /// Appends the line of the layout's name.
+#[tactic(auto, unfolding(crate::specs::Mapping::name_line))]
 fn add_name(text: &mut Text, head: &Head) -> Result<(), Memory>
     ensures { OnOk result (text.new ≡ text.old ++ name_line head.now) }
 {
@@ -164,22 +205,4 @@ fn layout_name(head: &Head) -> &'static str
         Some(name) => name,
         None => "-",
     }
-}
-
-/// Appends a number, or a dash where there is none.
-fn add_or_dash(text: &mut Text, number: Option<u8>) -> Result<(), Memory>
-    ensures { OnOk result (text.new ≡ text.old ++ or_dash number) }
-{
-    match number {
-        Some(number) => add_number(text, number as u64),
-        None => text.extend_from_slice(b"-"),
-    }
-}
-
-/// Appends a number in decimal.
-pub(crate) fn add_number(text: &mut Text, number: u64) -> Result<(), Memory>
-    ensures { OnOk result (text.new ≡ text.old ++ decimal number) }
-{
-    let mut buffer = Buffer::new();
-    text.extend_from_slice(buffer.format(number).as_bytes())
 }

@@ -1,0 +1,39 @@
+// Putting an answer to the output, and the parts of its text.
+ghost use Rattle.std.specs.Prelude.{◌≡◌, ◌≤◌, ◌++◌, OnOk, decimal};
+ghost use Rattle.command_jobs.specs.Jobs.{IsPrinted};
+ghost use Rattle.command_jobs.specs.Mapping.{or_dash};
+
+use crate::stop::Stop;
+use image_source::{Memory, Sink};
+use itoa::Buffer;
+use plan_text::Text;
+
+/// Puts an answer, whole, if there is one.
+pub(crate) fn print<K: Sink>(out: &mut K, answer: Result<Text, Stop>) -> Result<(), Stop>
+    ensures printed { IsPrinted (K.gained out.old) (K.gained out.new) (K.faults out.old) (K.faults out.new) answer result }
+    ensures later { K.faults out.old ≤ K.faults out.new }
+{
+    let text = answer?;
+    match out.put(text.as_slice()) {
+        Ok(()) => Ok(()),
+        Err(_) => Err(Stop::OutFault),
+    }
+}
+
+/// Appends a number, or a dash where there is none.
+pub(crate) fn add_or_dash(text: &mut Text, number: Option<u8>) -> Result<(), Memory>
+    ensures { OnOk result (text.new ≡ text.old ++ or_dash number) }
+{
+    match number {
+        Some(number) => add_number(text, number as u64),
+        None => text.extend_from_slice(b"-"),
+    }
+}
+
+/// Appends a number in decimal.
+pub(crate) fn add_number(text: &mut Text, number: u64) -> Result<(), Memory>
+    ensures { OnOk result (text.new ≡ text.old ++ decimal number) }
+{
+    let mut buffer = Buffer::new();
+    text.extend_from_slice(buffer.format(number).as_bytes())
+}

@@ -7,5 +7,7 @@
 
 mod rows;
 mod syndromes;
+#[cfg(test)]
+mod tests;
 
 pub use rows::row_holds;

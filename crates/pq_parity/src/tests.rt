@@ -1,0 +1,126 @@
+// Rows worked out by hand: 01 + 80 = 81 and 01 + 2 * 80 = 01 + 1D = 1C, in the field.
+ghost use Rattle.std.specs.Prelude.{◌≡◌, ◌≢◌, ◌<◌, ◌≤◌, [], ◌∷◌, count_by};
+ghost use Rattle.raid_terms.specs.Parity.{IsRow};
+
+use crate::row_holds;
+use image_source::SECTOR;
+use raid_params::{Cell, Part};
+
+/// Q, two data blocks with these exponents, and P, of which some are missing.
+fn four(i: u8, j: u8, q: bool, first: bool, second: bool, p: bool) -> [Cell; 4]
+    requires exponents { (i < 255) × (j < 255) × (i ≢ j) }
+    requires lost { count_by (λ m. m) (q ∷ first ∷ second ∷ p ∷ []) ≤ 2 }
+    ensures { IsRow result }
+{
+    [
+        Cell {
+            part: Part::Q,
+            missing: q,
+        },
+        Cell {
+            part: Part::Block(i),
+            missing: first,
+        },
+        Cell {
+            part: Part::Block(j),
+            missing: second,
+        },
+        Cell {
+            part: Part::P,
+            missing: p,
+        },
+    ]
+}
+
+/// Four data blocks between P and Q.
+fn six() -> [Cell; 6]
+    ensures { IsRow result }
+{
+    [
+        Cell {
+            part: Part::Block(7),
+            missing: false,
+        },
+        Cell {
+            part: Part::P,
+            missing: false,
+        },
+        Cell {
+            part: Part::Block(200),
+            missing: false,
+        },
+        Cell {
+            part: Part::Block(31),
+            missing: false,
+        },
+        Cell {
+            part: Part::Q,
+            missing: false,
+        },
+        Cell {
+            part: Part::Block(254),
+            missing: false,
+        },
+    ]
+}
+
+/// Four sectors that repeat one byte each.
+fn four_sectors(bytes: [u8; 4]) -> [u8; 2048] {
+    let mut row = [bytes[0]; 2048];
+    row[SECTOR..2 * SECTOR].fill(bytes[1]);
+    row[2 * SECTOR..3 * SECTOR].fill(bytes[2]);
+    row[3 * SECTOR..].fill(bytes[3]);
+    row
+}
+
+#[test]
+fn four_members(rt: HostRuntime) {
+    let cells = four(0, 1, false, false, false, false);
+    assert!(rt; row_holds(&cells, &four_sectors([0x1C, 0x01, 0x80, 0x81])));
+    assert!(rt; !row_holds(&cells, &four_sectors([0x1D, 0x01, 0x80, 0x81])));
+    assert!(rt; !row_holds(&cells, &four_sectors([0x1C, 0x01, 0x80, 0x80])));
+    let apart = four(0, 2, false, false, false, false);
+    assert!(rt; !row_holds(&apart, &four_sectors([0x1C, 0x01, 0x80, 0x81])));
+    assert!(rt; row_holds(&apart, &four_sectors([0x3B, 0x01, 0x80, 0x81])));
+}
+
+// AA stands where a member is missing.
+#[test]
+fn missing_members(rt: HostRuntime) {
+    let without_data = four(0, 1, false, true, false, false);
+    assert!(rt; row_holds(&without_data, &four_sectors([0x1C, 0xAA, 0x80, 0x81])));
+    assert!(rt; !row_holds(&without_data, &four_sectors([0x1D, 0xAA, 0x80, 0x81])));
+    let without_p = four(0, 1, false, false, false, true);
+    assert!(rt; row_holds(&without_p, &four_sectors([0x1C, 0x01, 0x80, 0xAA])));
+    assert!(rt; !row_holds(&without_p, &four_sectors([0x1D, 0x01, 0x80, 0xAA])));
+    let without_q = four(0, 1, true, false, false, false);
+    assert!(rt; row_holds(&without_q, &four_sectors([0xAA, 0x01, 0x80, 0x81])));
+    assert!(rt; !row_holds(&without_q, &four_sectors([0xAA, 0x01, 0x80, 0x80])));
+    let without_two = four(0, 1, false, true, true, false);
+    assert!(rt; row_holds(&without_two, &four_sectors([0x12, 0xAA, 0xAA, 0x34])));
+}
+
+/// The row with one byte changed.
+fn changed(row: [u8; 3072], place: usize) -> [u8; 3072]
+    requires { place < 3072 }
+{
+    let mut other = row;
+    other[place] ^= 0x10;
+    other
+}
+
+// The sums are those of another program.
+#[test]
+fn six_members(rt: HostRuntime) {
+    let cells = six();
+    let mut row = [0x12; 3072];
+    row[SECTOR..2 * SECTOR].fill(0x29);
+    row[2 * SECTOR..3 * SECTOR].fill(0x9F);
+    row[3 * SECTOR..4 * SECTOR].fill(0x47);
+    row[4 * SECTOR..5 * SECTOR].fill(0xF5);
+    row[5 * SECTOR..].fill(0xE3);
+    assert!(rt; row_holds(&cells, &row));
+    for place in [0, 511, 512, 1800, 2048, 3071] {
+        assert!(rt; !row_holds(&cells, &changed(row, place)), "at {place}");
+    }
+}

@@ -2,4 +2,9 @@ pub mod Numbers
 pub mod Commas
 pub mod Spellings
 pub mod SetWords
+pub mod PlanFields
+pub mod Fits
+pub mod PlanBounds
+pub mod PlanImages
+pub mod PlanTexts
 pub mod Examples

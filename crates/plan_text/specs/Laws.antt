@@ -1,7 +1,13 @@
--- What holds of the texts of all parameter sets.
+-- What holds of the texts of all plans and of all parameter sets.
 use Rattle.std.specs.Prelude.{◌≡◌}
 use Rattle.raid_params.specs.declared.types.Geometry.{Geometry}
+use Rattle.plan_text.specs.declared.plan.Plan.{Plan}
+use Rattle.plan_text.specs.PlanText.{IsPlan, plan_text}
 use Rattle.plan_text.specs.SetText.{HasWord, set_word}
+
+-- plans with the same text are the same plan
+abbrev pub PlansHaveOneSpelling : Type 0
+PlansHaveOneSpelling = (p q : Plan) → IsPlan p → IsPlan q → plan_text p ≡ plan_text q → p ≡ q
 
 -- parameter sets with the same word are the same set
 abbrev pub SetWordsHaveOneSpelling : Type 0

@@ -1,5 +1,10 @@
-// What holds of the texts of all parameter sets.
-ghost use Rattle.plan_text.specs.Laws.{SetWordsHaveOneSpelling};
+// What holds of the texts of all plans and of all parameter sets.
+ghost use Rattle.plan_text.specs.Laws.{PlansHaveOneSpelling, SetWordsHaveOneSpelling};
+
+/// Two plans with the same text are the same plan, field by field.
+pub fn one_spelling()
+    ensures { PlansHaveOneSpelling }
+{}
 
 /// Two parameter sets with the same word are the same set, field by field.
 pub fn set_words_have_one_spelling()

@@ -18,6 +18,15 @@ pub trait Spelled: Default + Drop {
     ghost law: { IsSpelling name IsSpelled };
 }
 
+/// A value with a place among those of its kind, which the lists of a plan follow.
+pub trait Placed: Spelled {
+    ghost place: { Self → ℕ };
+
+    /// The place of the value, from 0.
+    fn place(&self) -> u64
+        ensures { result ≡ place self.now };
+}
+
 /// The value before the first such mark, and what follows the mark.
 pub fn value_until<T: Spelled>(text: &[u8], mark: u8) -> Option<(T, &[u8])>
     requires { IsTrue (is_mark mark) }

@@ -1,4 +1,5 @@
--- Laws of names: each value has one of its own, without a mark.
+-- Proofs that each value has a name of its own, without a mark. The implementations of `Spelled`
+-- give them as their law, which may cite `specs` alone.
 use Rattle.std.proofs.Common.{◌≡◌, ◌<◌, ◌≤◌, ◌^◌, ℕ, suc, true, List, [], ◌∷◌, sum, length, get_or, codes, decimal, cond, eqb, refl, sym, ap, ◌∙◌, arith, lit≤, Option, None, Some, IfSome}
 use Rattle.std.specs.Int.{IsInRange}
 use Rattle.std.specs.Cmp.Derive.{both_true}
@@ -15,6 +16,7 @@ use Rattle.raid_params.specs.declared.types.Syndrome.{Syndrome}
 use Rattle.raid_params.specs.declared.types.Syndrome.TheVariants.{NoQ, AfterQ, ByData, BySlot}
 use Rattle.plan_text.specs.Spelling.{level_name, pattern_name, syndrome_name, slot_name, is_plain, IsSpelling}
 
+-- the level with a name whose bytes have this sum
 level_at : ℕ → Level
 level_at weight = cond (eqb weight 48) Raid0 (cond (eqb weight 53) Raid5 Raid6)
 
@@ -35,6 +37,7 @@ level_has_no_mark Raid6 = refl
 pub level_law : IsSpelling level_name (λ level. Unit {0})
 level_law = record { one_value = λ x y p q. one_level x y; has_no_mark = λ x p. level_has_no_mark x }
 
+-- the pattern with a name whose bytes have this sum
 pattern_at : ℕ → Pattern
 pattern_at weight =
     cond (eqb weight 532) Plain
@@ -90,6 +93,7 @@ pattern_has_no_mark ParityFirst6 = refl
 pub pattern_law : IsSpelling pattern_name (λ pattern. Unit {0})
 pattern_law = record { one_value = λ x y p q. one_pattern x y; has_no_mark = λ x p. pattern_has_no_mark x }
 
+-- the order of Q with a name whose bytes have this sum
 syndrome_at : ℕ → Syndrome
 syndrome_at weight = cond (eqb weight 432) NoQ (cond (eqb weight 688) AfterQ (cond (eqb weight 674) ByData BySlot))
 

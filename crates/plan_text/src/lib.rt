@@ -17,6 +17,8 @@ mod plan;
 mod set;
 mod set_word;
 mod spelled;
+#[cfg(test)]
+mod tests;
 
 pub use laws::{one_spelling, set_words_have_one_spelling};
 pub use number::{after, read_number};

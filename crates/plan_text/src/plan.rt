@@ -34,8 +34,8 @@ pub struct Plan {
 /// Why a text gives no plan.
 #[derive(Clone, Copy, Debug, Error, PartialEq, Eq)]
 pub enum PlanFault {
-    /// The text is no plan of those that are read today.
-    #[error("the text is no plan that this version reads")]
+    /// The text is no plan.
+    #[error("the text is no plan")]
     NotBuilt,
     /// Want of memory.
     #[error("not enough memory")]
@@ -44,7 +44,7 @@ pub enum PlanFault {
 
 /// Reads the text of a plan, to its last byte.
 ///
-/// It answers `NotBuilt` exactly where the text is no plan's. It takes no memory today.
+/// It answers `NotBuilt` exactly where the text is no plan. It takes no memory today.
 pub fn read_plan(_alloc: Global, text: &[u8]) -> Result<Plan, PlanFault>
     ensures { ReadsPlan text.now result }
 {

@@ -1,67 +1,60 @@
 -- The rows of blocks.
-use Rattle.std.proofs.Common.{◌≡◌, ◌≢◌, ℕ, suc, ◌+◌, ◌*◌, ◌/◌, ◌<◌, ◌≤◌, Bool, true, false, not, cond, List, [], ◌∷◌, length, get_or, All, refl, sym, ap, ◌∙◌, arith, add-one}
-use Rattle.std.specs.Prelude.{◌==◌}
+use Rattle.std.proofs.Common.{◌≡◌, ℕ, suc, ◌+◌, ◌*◌, ◌/◌, ◌<◌, ◌≤◌, Bool, true, false, not, cond, List, [], ◌∷◌, length, get_or, map, refl, sym, ap, ◌∙◌, arith, add-one, Some, None}
 use Rattle.std.specs.Option.{is_none}
-use Rattle.std.proofs.lemmas.List.Elements.{All-nil, All-cons, All-head, All-tail}
+use Rattle.std.specs.List.{flat_map, list_any, range_with_len}
 use Rattle.std.specs.declared.option.Option.{Option}
 use Rattle.raid_params.specs.declared.types.Cell.{Cell}
 use Rattle.raid_params.specs.declared.types.Geometry.{Geometry}
 use Rattle.raid_params.specs.declared.types.Head.{Head}
-use Rattle.raid_params.specs.declared.types.Level.{Level}
-use Rattle.raid_params.specs.declared.types.Level.TheVariants.{Raid0, Raid5, Raid6}
-use Rattle.raid_params.specs.declared.types.Part.TheVariants.{Block, P}
-use Rattle.raid_terms.specs.Cells.{cells_from, row_cells, part_of, part_beside}
-use Rattle.raid_terms.specs.Parity.{is_q, is_sound, is_sound_column, column_of}
-use Rattle.pq_parity.specs.Known.{IsKnown}
-use Rattle.row_scan.specs.Block.{block_column, is_sound_in, unsound_in, IsTestable}
+use Rattle.raid_terms.specs.Cells.{cells_from, row_cells}
+use Rattle.raid_terms.specs.Parity.{column_of, equations_hold, filled, is_sound, is_sound_column}
+use Rattle.row_scan.specs.Block.{block_column, is_sound_in, unsound_in}
 use Rattle.row_scan.proofs.Counting.{all_same, map_same, count_suc, count_grows}
+use Rattle.row_scan.proofs.Sets.{row_length}
 use Rattle.row_scan.specs.declared.blocks.TheConstants.{BLOCK_BYTES}
 
--- there is a cell for each slot
-cells_length : (head : Head) (row slot : ℕ) (slots : List (Option ℕ)) → length (cells_from head row slot slots) ≡ length slots
-cells_length head row slot [] = refl
-cells_length head row slot (held ∷ slots) = ap (λ n. suc n) (cells_length head row (slot + 1) slots)
+-- bytes before each of these columns
+abbrev before : List (List ℕ) → List ℕ → List (List ℕ)
+before columns bytes = flat_map (λ b. map (λ rest. b ∷ rest) columns) bytes
 
--- P or data
-p_or_data : (b : Bool) → is_q (cond b P (Block 0)) ≡ false
-p_or_data true = refl
-p_or_data false = refl
+-- columns that agree where a member is there are filled alike: the bytes of missing members count for nothing
+pub filled_alike : (f : Option ℕ → ℕ) (g : ℕ → ℕ) (head : Head) (row slot a : ℕ) (slots : List (Option ℕ)) →
+    ((i : ℕ) → i < length slots → is_none (get_or slots i None) ≡ false → g (a + i) ≡ f (get_or slots i None)) →
+    filled (cells_from head row slot slots) (map g (range_with_len a (length slots))) ≡ filled (cells_from head row slot slots) (map f slots)
+unfolding filled
+filled_alike f g head row slot a [] same = refl
+filled_alike f g head row slot a (None ∷ slots) same =
+    ap (λ (columns : List (List ℕ)). before columns (range_with_len 0 256))
+    (filled_alike f g head row (slot + 1) (a + 1) slots (λ i below there. let on : a + 1 + i ≡ a + suc i = omega arith in ap g on ∙ same (suc i) (omega arith) there))
+filled_alike f g head row slot a (Some image ∷ slots) same =
+    let at : a + 0 ≡ a = omega arith in
+    let here : g a ≡ f (Some image) = ap g (sym at) ∙ same 0 (omega arith) refl in
+    ap (λ (v : ℕ). before (filled (cells_from head row (slot + 1) slots) (map g (range_with_len (a + 1) (length slots)))) (v ∷ [])) here
+    ∙ ap (λ (columns : List (List ℕ)). before columns (f (Some image) ∷ []))
+    (filled_alike f g head row (slot + 1) (a + 1) slots (λ i below there. let on : a + 1 + i ≡ a + suc i = omega arith in ap g on ∙ same (suc i) (omega arith) there))
 
--- levels 0 and 5 have no Q
-no_q : (level : Level) (p slot : ℕ) → level ≢ Raid6 → is_q (part_beside level p slot) ≡ false
-no_q Raid0 p slot other = refl
-no_q Raid5 p slot other = p_or_data (slot == p)
-no_q Raid6 p slot other = absurd (other refl)
-
-known_from : (head : Head) (row slot : ℕ) (slots : List (Option ℕ)) → head.level ≢ Raid6 → All (λ held. is_none held ≡ false) slots → All IsKnown (cells_from head row slot slots)
-known_from head row slot [] level all = All-nil IsKnown
-known_from head row slot (held ∷ slots) level all =
-    All-cons IsKnown (record { part = part_of head row slot; missing = is_none held }) (cells_from head row (slot + 1) slots)
-    (record { there = All-head (λ h. is_none h ≡ false) held slots all; no_q = no_q head.level _ slot level })
-    (known_from head row (slot + 1) slots level (All-tail (λ h. is_none h ≡ false) held slots all))
-
--- the cells of a row that can be tested are known
-pub known_cells : (geo : Geometry) (row : ℕ) → IsTestable geo → All IsKnown (row_cells geo row)
-known_cells geo row testable = known_from geo.head row 0 geo.slots.items testable.level testable.held
-
--- two ways to give the same columns
-pub sound_same : (cells : List Cell) (f g : ℕ → List ℕ) → ((x : ℕ) → x < 512 → f x ≡ g x) → is_sound cells f ≡ is_sound cells g
+-- columns that are filled alike are sound alike
+pub sound_alike : (cells : List Cell) (f g : ℕ → List ℕ) → ((x : ℕ) → x < 512 → filled cells (f x) ≡ filled cells (g x)) → is_sound cells f ≡ is_sound cells g
 unfolding is_sound
-sound_same cells f g same =
-    all_same (λ x. is_sound_column cells (f x)) (λ x. is_sound_column cells (g x)) 0 512 (λ x low high. ap (is_sound_column cells) (same x (omega arith)))
+sound_alike cells f g same =
+    all_same (λ x. is_sound_column cells (f x)) (λ x. is_sound_column cells (g x)) 0 512
+    (λ x low high. ap (λ (columns : List (List ℕ)). list_any (equations_hold cells) columns) (same x (omega arith)))
 
 -- a row that was gathered is sound where its sectors in the blocks are
-pub gathered_sound : (geo : Geometry) (sectors row : List ℕ) (first j : ℕ) (cells : List Cell) →
-    cells ≡ row_cells geo ((first + j) / geo.head.chunk) →
-    ((i x : ℕ) → i < length geo.slots.items → x < 512 → get_or row (512 * i + x) 0 ≡ get_or sectors (BLOCK_BYTES * i + (512 * j + x)) 0) →
-    is_sound cells (column_of (length cells) row) ≡ is_sound_in geo sectors first j
+pub gathered_sound : (cells : List Cell) (sectors row : List ℕ) (j : ℕ) →
+    ((i x : ℕ) → i < length cells → x < 512 → get_or row (512 * i + x) 0 ≡ get_or sectors (BLOCK_BYTES * i + (512 * j + x)) 0) →
+    is_sound cells (column_of (length cells) row) ≡ is_sound cells (block_column (length cells) sectors j)
+gathered_sound cells sectors row j gathered =
+    sound_alike cells (column_of (length cells) row) (block_column (length cells) sectors j)
+    (λ x inside. ap (filled cells) (map_same (λ i. get_or row (512 * i + x) 0) (λ i. get_or sectors (BLOCK_BYTES * i + (512 * j + x)) 0) 0 (length cells) (λ i low high. gathered i x (omega arith) inside)))
+
+-- the sectors of a block are a sound row where they are one of the cells of their row
+pub sound_here : (geo : Geometry) (sectors : List ℕ) (first j : ℕ) (cells : List Cell) → cells ≡ row_cells geo ((first + j) / geo.head.chunk) →
+    is_sound cells (block_column (length cells) sectors j) ≡ is_sound_in geo sectors first j
 unfolding is_sound_in
-gathered_sound geo sectors row first j cells are gathered =
-    let count : length cells ≡ length geo.slots.items = ap length are ∙ cells_length geo.head ((first + j) / geo.head.chunk) 0 geo.slots.items in
-    ap (λ n. is_sound cells (column_of n row)) count
-    ∙ ap (λ cs. is_sound cs (column_of (length geo.slots.items) row)) are
-    ∙ sound_same (row_cells geo ((first + j) / geo.head.chunk)) (column_of (length geo.slots.items) row) (block_column (length geo.slots.items) sectors j)
-    (λ x inside. map_same (λ i. get_or row (512 * i + x) 0) (λ i. get_or sectors (BLOCK_BYTES * i + (512 * j + x)) 0) 0 (length geo.slots.items) (λ i low high. gathered i x (omega arith) inside))
+sound_here geo sectors first j cells are =
+    ap (λ (n : ℕ). is_sound cells (block_column n sectors j)) (row_length geo ((first + j) / geo.head.chunk) cells are)
+    ∙ ap (λ (cs : List Cell). is_sound cs (block_column (length geo.slots.items) sectors j)) are
 
 -- no row, none unsound
 pub unsound_none : (geo : Geometry) (sectors : List ℕ) (first : ℕ) → unsound_in geo sectors first 0 ≡ 0

@@ -1,6 +1,9 @@
 -- The rows of a block are those of the array.
-use Rattle.std.proofs.Common.{◌≡◌, ℕ, zero, suc, ◌+◌, ◌*◌, ◌/◌, ◌<◌, ◌≤◌, Bool, false, not, cond, List, [], ◌∷◌, length, map, get_or, refl, sym, ap, ◌∙◌, arith, IfSome, Some, None}
-use Rattle.std.specs.Prelude.{nat_le, MatchOption}
+use Rattle.std.proofs.Common.{◌≡◌, ℕ, zero, suc, ◌+◌, ◌-◌, ◌*◌, ◌/◌, ◌<◌, ◌≤◌, Bool, true, false, not, cond, List, [], length, get_or, refl, sym, ap, ◌∙◌, arith, IfSome, Some, None}
+use Rattle.std.proofs.lemmas.List.FromFn.{length-range_with_len}
+use Rattle.std.proofs.lemmas.List.Sums.{count_by-le-length}
+use Rattle.std.specs.Option.{is_some}
+use Rattle.std.specs.Prelude.{count_by, nat_le, unwrap_or, MatchOption}
 use Rattle.std.specs.List.{range_with_len}
 use Rattle.std.proofs.lemmas.Bool.Decides.{nat_tests}
 use Rattle.std.specs.declared.option.Option.{Option}
@@ -10,18 +13,10 @@ use Rattle.raid_terms.specs.Parity.{is_sound_row, member_byte, member_column, un
 use Rattle.std.proofs.Math.Nat.{mul-add, mul-le-mul_left}
 use Rattle.image_source.specs.Seen.{Seen, OnlyReads}
 use Rattle.image_source.proofs.Reading.{reads_join, reads_up}
-use Rattle.row_scan.specs.Block.{block_column, HoldMembers, is_sound_in, unsound_in, IsLeft}
+use Rattle.row_scan.specs.Block.{block_column, HoldMembers, is_sound_in, unsound_in, IsLeft, IsRest}
 use Rattle.row_scan.proofs.Counting.{count_suc, count_grows}
-use Rattle.row_scan.proofs.Columns.{sound_same, unsound_none, unsound_more}
+use Rattle.row_scan.proofs.Columns.{filled_alike, sound_alike, unsound_none, unsound_more}
 use Rattle.row_scan.specs.declared.blocks.TheConstants.{BLOCK_BYTES}
-
--- a function of places that gives what another gives of the elements there
-map_places : (f : Option ℕ → ℕ) (g : ℕ → ℕ) (a : ℕ) (xs : List (Option ℕ)) → ((i : ℕ) → i < length xs → g (a + i) ≡ f (get_or xs i None)) → map g (range_with_len a (length xs)) ≡ map f xs
-map_places f g a [] same = refl
-map_places f g a (x ∷ xs) same =
-    let at : a + 0 ≡ a = omega arith in
-    ap (λ (v : ℕ). v ∷ map g (range_with_len (a + 1) (length xs))) (ap g (sym at) ∙ same 0 (omega arith))
-    ∙ ap (λ (vs : List ℕ). f x ∷ vs) (map_places f g (a + 1) xs (λ i below. let on : a + 1 + i ≡ a + suc i = omega arith in ap g on ∙ same (suc i) (omega arith)))
 
 -- a byte of a later sector
 later_byte : (images : List (List ℕ)) (offset first j x : ℕ) (held : Option ℕ) → member_byte images offset first (512 * j + x) held ≡ member_byte images offset (first + j) x held
@@ -33,9 +28,9 @@ held_sound : (images : List (List ℕ)) (geo : Geometry) (first count : ℕ) (se
     HoldMembers images geo first (512 * count) (length geo.slots.items) sectors → j < count → is_sound_in geo sectors first j ≡ is_sound_row images geo (first + j)
 unfolding is_sound_in
 held_sound images geo first count sectors j hold below =
-    sound_same (row_cells geo ((first + j) / geo.head.chunk)) (block_column (length geo.slots.items) sectors j) (member_column images geo (first + j))
-    (λ x inside. map_places (member_byte images geo.head.offset (first + j) x) (λ i. get_or sectors (BLOCK_BYTES * i + (512 * j + x)) 0) 0 geo.slots.items
-    (λ i within. let at : 0 + i ≡ i = omega arith in rw at (hold i (512 * j + x) within (omega arith)) ∙ later_byte images geo.head.offset first j x (get_or geo.slots.items i None)))
+    sound_alike (row_cells geo ((first + j) / geo.head.chunk)) (block_column (length geo.slots.items) sectors j) (member_column images geo (first + j))
+    (λ x inside. filled_alike (member_byte images geo.head.offset (first + j) x) (λ i. get_or sectors (BLOCK_BYTES * i + (512 * j + x)) 0) geo.head ((first + j) / geo.head.chunk) 0 0 geo.slots.items
+    (λ i within there. let at : 0 + i ≡ i = omega arith in rw at (hold i (512 * j + x) within (omega arith) there) ∙ later_byte images geo.head.offset first j x (get_or geo.slots.items i None)))
 
 -- the unsound rows of the block come after those before it
 pub unsound_after : (images : List (List ℕ)) (geo : Geometry) (first count : ℕ) (sectors : List ℕ) (n : ℕ) →
@@ -69,20 +64,44 @@ pub told_after : (told : Option (List (List ℕ))) (geo : Geometry) (first count
 told_after None geo first count left sectors rest hold is = tt
 told_after (Some bytes) geo first count left sectors rest hold is = left_after bytes geo first count left sectors rest hold is
 
--- a number above another
-above_fails : (n m : ℕ) → m < n → nat_le n m ≡ false
-above_fails n m above = grind (arith, nat_tests)
-
--- where more rows are unsound than may be, the test fails
-pub told_fails : (told : Option (List (List ℕ))) (geo : Geometry) (first count left end window bad : ℕ) →
-    first + count ≤ tested_rows geo end window →
+-- where more rows are unsound than may be, no more may be
+pub told_ends : (told : Option (List (List ℕ))) (geo : Geometry) (first count left rows bad : ℕ) → first + count ≤ rows →
     IfSome told (λ bytes. unsound_rows bytes geo first + left ≡ bad) →
     IfSome told (λ bytes. IsLeft bytes geo first count left None) →
-    IfSome told (λ bytes. false ≡ passes_parity bytes geo end window bad)
-told_fails None geo first count left end window bad within far more = tt
-told_fails (Some bytes) geo first count left end window bad within far more =
-    let grows = count_grows (λ t. not (is_sound_row bytes geo t)) 0 (first + count) (tested_rows geo end window) within in
-    sym (above_fails (unsound_rows bytes geo (tested_rows geo end window)) bad (omega arith))
+    IfSome told (λ bytes. IsRest bytes geo rows bad None)
+told_ends None geo first count left rows bad within far more = tt
+told_ends (Some bytes) geo first count left rows bad within far more =
+    let grows = count_grows (λ t. not (is_sound_row bytes geo t)) 0 (first + count) rows within in
+    omega arith
+
+at_most : (n m : ℕ) → n ≤ m → nat_le n m ≡ true
+at_most n m le = grind (arith, nat_tests)
+
+above : (n m : ℕ) → m < n → nat_le n m ≡ false
+above n m lt = grind (arith, nat_tests)
+
+-- the test passes where rows may be unsound still
+passes_where : (bytes : List (List ℕ)) (geo : Geometry) (rows bad : ℕ) (rest : Option ℕ) → IsRest bytes geo rows bad rest → is_some rest ≡ nat_le (unsound_rows bytes geo rows) bad
+passes_where bytes geo rows bad None more = sym (above (unsound_rows bytes geo rows) bad more)
+passes_where bytes geo rows bad (Some k) is = sym (at_most (unsound_rows bytes geo rows) bad (omega arith))
+
+pub told_passes : (told : Option (List (List ℕ))) (geo : Geometry) (end window bad : ℕ) (rest : Option ℕ) (holds : Bool) → holds ≡ is_some rest →
+    IfSome told (λ bytes. IsRest bytes geo (tested_rows geo end window) bad rest) → IfSome told (λ bytes. holds ≡ passes_parity bytes geo end window bad)
+told_passes None geo end window bad rest holds is left = tt
+told_passes (Some bytes) geo end window bad rest holds is left = is ∙ passes_where bytes geo (tested_rows geo end window) bad rest left
+
+-- no more of the numbers pass than there are
+count_within : (p : ℕ → Bool) (n : ℕ) → count_by p (range_with_len 0 n) ≤ n
+count_within p n = omega (arith, count_by-le-length p (range_with_len 0 n), length-range_with_len 0 n)
+
+-- of as many rows as may be, those that are unsound are known by the rest
+pub told_unsound : (told : Option (List (List ℕ))) (geo : Geometry) (rows bad n : ℕ) (rest : Option ℕ) → rows ≤ bad → n ≡ bad - unwrap_or rest 0 →
+    IfSome told (λ bytes. IsRest bytes geo rows bad rest) → IfSome told (λ bytes. n ≡ unsound_rows bytes geo rows)
+told_unsound None geo rows bad n rest most is left = tt
+told_unsound (Some bytes) geo rows bad n None most is more =
+    let all = count_within (λ t. not (is_sound_row bytes geo t)) rows in
+    absurd (omega arith)
+told_unsound (Some bytes) geo rows bad n (Some k) most is left = omega arith
 
 -- the readings so far and of one more block
 pub reads_on : (old mid new : Seen) (n first count rows : ℕ) → OnlyReads old mid (n * first) → OnlyReads mid new (n * count) → first + count ≤ rows → OnlyReads old new (n * rows)

@@ -1,10 +1,11 @@
 -- Blocks of the members' sectors, one after the other.
-use Rattle.std.specs.Prelude.{ℕ, ◌≡◌, ◌≢◌, ◌+◌, ◌*◌, ◌/◌, ◌<◌, ◌≤◌, Bool, not, false, List, length, map, count_by, slice_index, slice_index_or, All, MatchOption}
+use Rattle.std.specs.Prelude.{ℕ, ◌≡◌, ◌+◌, ◌*◌, ◌/◌, ◌<◌, ◌≤◌, Bool, not, true, false, List, length, map, count_by, slice_get, slice_index, slice_index_or, IfSome, IsSomeAnd, MatchOption}
 use Rattle.std.specs.declared.option.Option.{Option}
 use Rattle.std.specs.Option.{is_none}
-use Rattle.raid_params.specs.declared.types.Level.TheVariants.{Raid6}
 use Rattle.std.specs.List.{range_with_len}
 use Rattle.std.specs.declared.option.Option.TheVariants.{None}
+use Rattle.image_source.specs.Seen.{Image}
+use Rattle.raid_params.specs.Validity.{is_shaped}
 use Rattle.raid_params.specs.declared.types.Geometry.{Geometry}
 use Rattle.raid_terms.specs.Cells.{row_cells}
 use Rattle.raid_terms.specs.Parity.{is_sound, member_byte, unsound_rows}
@@ -22,22 +23,27 @@ is_sound_in geo sectors first j = is_sound (row_cells geo ((first + j) / geo.hea
 unfoldable pub unsound_in : Geometry → List ℕ → ℕ → ℕ → ℕ
 unsound_in geo sectors first n = count_by (λ j. not (is_sound_in geo sectors first j)) (range_with_len 0 n)
 
--- the blocks of the first n slots hold so many bytes of their members from sector `first` on
+-- the blocks of those of the first n slots that hold an image hold so many bytes of their members from sector `first` on
 abbrev pub HoldMembers : List (List ℕ) → Geometry → ℕ → ℕ → ℕ → List ℕ → Type 0
 HoldMembers images geo first bytes n sectors =
-    (i y : ℕ) → i < n → y < bytes → slice_index sectors (BLOCK_BYTES * i + y) ≡ member_byte images geo.head.offset first y (slice_index_or geo.slots.items i None)
+    (i y : ℕ) → i < n → y < bytes → is_none (slice_index_or geo.slots.items i None) ≡ false →
+    slice_index sectors (BLOCK_BYTES * i + y) ≡ member_byte images geo.head.offset first y (slice_index_or geo.slots.items i None)
 
--- a set whose rows can be tested: its level is 0 or 5, it has as many members as slots, at least
--- one, none of them missing, and its chunk is not empty
+-- a set of a sensible shape, over so many images
 pub record IsTestable (geo : Geometry) : Type 0 where
-  pub level : geo.head.level ≢ Raid6
-  pub some : 1 ≤ geo.head.members
-  pub members : geo.head.members ≡ length geo.slots.items
-  pub chunk : 1 ≤ geo.head.chunk
-  pub held : All (λ slot. is_none slot ≡ false) geo.slots.items
+  pub images : ℕ
+  pub shaped : is_shaped geo images ≡ true
 
--- where `left` rows may be unsound from `first` on, so many may be after `count` rows, or more are
+-- a slot is empty, or holds an attached image that reaches to the end
+abbrev pub Reaches : List Image → ℕ → Option ℕ → Type 0
+Reaches attached end slot = IfSome slot (λ i. IsSomeAnd (slice_get attached i) (λ image. end ≤ image.sectors))
+
+-- so many of the first n rows may be unsound still, where `left` may be in all, or more are than may be
+abbrev pub IsRest : List (List ℕ) → Geometry → ℕ → ℕ → Option ℕ → Type 0
+IsRest images geo n left rest = MatchOption rest (left < unsound_rows images geo n) (λ k. unsound_rows images geo n + k ≡ left)
+
+-- the same from row `first` on, for `count` rows
 abbrev pub IsLeft : List (List ℕ) → Geometry → ℕ → ℕ → ℕ → Option ℕ → Type 0
 IsLeft images geo first count left rest = MatchOption rest
     (unsound_rows images geo first + left < unsound_rows images geo (first + count))
-    (λ n. unsound_rows images geo (first + count) + n ≡ unsound_rows images geo first + left)
+    (λ k. unsound_rows images geo (first + count) + k ≡ unsound_rows images geo first + left)

@@ -1,9 +1,8 @@
 //! The parity test of a parameter set over the images: sector rows are read in blocks, and at
-//! most so many of the tested ones may be unsound.
+//! most so many of the tested ones may be unsound. The unsound ones can be counted, too.
 #![tactic(auto)]
 
 mod blocks;
-mod cells;
 mod read;
 mod rows;
 mod scan;
@@ -11,4 +10,4 @@ mod scan;
 mod tests;
 
 pub use blocks::Blocks;
-pub use scan::{ScanFault, parity_holds};
+pub use scan::{ScanFault, parity_holds, unsound};

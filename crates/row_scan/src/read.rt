@@ -1,17 +1,17 @@
 // Reads the members' blocks.
-ghost use Rattle.std.specs.Prelude.{ℕ, ◌≡◌, ◌+◌, ◌*◌, ◌%◌, ◌/◌, ◌^◌, ◌<◌, ◌≤◌, length, slice_index, All, OnOk, IfSome};
+ghost use Rattle.std.specs.Prelude.{ℕ, ◌≡◌, ◌+◌, ◌*◌, ◌%◌, ◌/◌, ◌^◌, ◌<◌, ◌≤◌, length, slice_index, false, All, OnOk, IfSome};
+ghost use Rattle.std.specs.Option.{is_none};
 ghost use Rattle.image_source.specs.Attached.{told_all};
 ghost use Rattle.image_source.specs.Causes.{HasCause};
 ghost use Rattle.image_source.specs.Seen.{OnlyReads};
 ghost use Rattle.raid_terms.specs.Parity.{member_byte};
-ghost use Rattle.row_scan.specs.Block.{HoldMembers};
-ghost use Rattle.row_scan.specs.Scan.{IsHeld};
+ghost use Rattle.row_scan.specs.Block.{HoldMembers, Reaches};
 
 use crate::blocks::{BLOCK, BLOCK_BYTES};
 use image_source::{Failed, Images, SECTOR};
 use raid_params::Geometry;
 
-/// Reads `count` sectors of each member into its block, from member sector `first` on.
+/// Reads `count` sectors of each member that is there into its block, from member sector `first` on.
 pub fn read_blocks<I: Images>(
     images: &mut I,
     sectors: &mut [u8],
@@ -19,7 +19,7 @@ pub fn read_blocks<I: Images>(
     first: u64,
     count: usize,
 ) -> Result<(), Failed>
-    requires held { All (IsHeld (I.seen images.old).attached (geo.now.head.offset + (first + count)))
+    requires held { All (Reaches (I.seen images.old).attached (geo.now.head.offset + (first + count)))
         geo.now.slots.items }
     requires near { geo.now.head.offset + (first + count) < 2 ^ 55 }
     requires sectors { BLOCK_BYTES * length geo.now.slots.items ≤ length sectors.old }
@@ -38,7 +38,7 @@ pub fn read_blocks<I: Images>(
     Ok(())
 }
 
-/// Fills `to` with the sectors of the member in a slot from number `first` on.
+/// Fills `to` with the sectors of the member in a slot from number `first` on, where there is one.
 fn read_member<I: Images>(
     images: &mut I,
     held: Option<u8>,
@@ -46,12 +46,13 @@ fn read_member<I: Images>(
     first: u64,
     to: &mut [u8],
 ) -> Result<(), Failed>
-    requires held { IsHeld (I.seen images.old).attached (offset + (first + length to.old / 512)) held }
+    requires held { Reaches (I.seen images.old).attached (offset + (first + length to.old / 512)) held }
     requires near { offset + first < 2 ^ 55 }
     requires whole { length to.old % 512 ≡ 0 }
     requires some { 0 < length to.old }
     ensures told { OnOk result (IfSome (told_all (I.seen images.old).attached)
-        (λ bytes. (y : ℕ) → y < length to.new → slice_index to.new y ≡ member_byte bytes offset first y held)) }
+        (λ bytes. (y : ℕ) → y < length to.new → is_none held ≡ false →
+        slice_index to.new y ≡ member_byte bytes offset first y held)) }
     ensures reads { OnlyReads (I.seen images.old) (I.seen images.new) (length to.old / 512) }
     ensures cause { HasCause (I.seen images.old).faults (I.seen images.new).faults result }
 {

@@ -1,15 +1,15 @@
-// The parity test of a parameter set.
-ghost use Rattle.std.specs.Prelude.{◌≡◌, ◌≢◌, ◌+◌, ◌-◌, ◌*◌, ◌≤◌, length, IfErr, IfOk, IfSome};
+// The parity test of a parameter set, and the count of its unsound rows.
+ghost use Rattle.std.specs.Prelude.{◌≡◌, ◌+◌, ◌-◌, ◌*◌, ◌^◌, ◌<◌, ◌≤◌, length, All, IfErr, IfOk, IfSome};
 ghost use Rattle.image_source.specs.Attached.{told_all};
 ghost use Rattle.image_source.specs.Seen.{OnlyReads};
-ghost use Rattle.raid_params.specs.declared.types.Level.TheVariants.{Raid6};
-ghost use Rattle.raid_terms.specs.Parity.{passes_parity, tested_rows};
-ghost use Rattle.row_scan.specs.Block.{IsLeft};
+ghost use Rattle.raid_terms.specs.Parity.{passes_parity, tested_rows, unsound_rows};
+ghost use Rattle.row_scan.specs.Block.{IsLeft, IsRest, IsTestable, Reaches};
 ghost use Rattle.row_scan.specs.Scan.{EndsScan, IsScannable};
 
 use crate::blocks::{BLOCK, BLOCK_BYTES, Blocks, FIRST_BLOCK};
 use crate::read::read_blocks;
 use crate::rows::rows_left;
+use address_map::area;
 use image_source::{Images, SECTOR};
 use plan_text::Limits;
 use raid_params::Geometry;
@@ -28,7 +28,8 @@ pub enum ScanFault {
 
 /// Whether at most `limits.badrows` of the tested sector rows of a parameter set are unsound: those
 /// below its area, whose whole rows end before the image sector `end`, and below `limits.window`.
-/// No member of it is missing, and its level is 0 or 5. It stops at the first row too many.
+/// It stops at the first row too many.
+#[tactic(auto, using(crate::proofs::Parity::told_passes))]
 pub fn parity_holds<I: Images>(
     images: &mut I,
     blocks: &mut Blocks,
@@ -45,63 +46,108 @@ pub fn parity_holds<I: Images>(
     ensures ends { IfErr result (EndsScan (I.seen images.old) (I.seen images.new)) }
     ensures blocks { blocks.new ≡ blocks.old }
 {
-    test_rows(
+    let left = test_rows(images, blocks, geo, end, limits.window, limits.badrows)?;
+    Ok(left.is_some())
+}
+
+/// How many sector rows of a parameter set are unsound, of those below its area, whose whole rows
+/// end before the image sector `end`, and below `window`.
+pub fn unsound<I: Images>(
+    images: &mut I,
+    blocks: &mut Blocks,
+    geo: &Geometry,
+    end: u64,
+    window: u64,
+) -> Result<u64, ScanFault>
+    requires set { IsScannable geo.now end (I.seen images.old).attached }
+    requires blocks { length geo.now.slots.items ≤ blocks.old }
+    ensures told { IfOk result (λ n. IfSome (told_all (I.seen images.old).attached)
+        (λ bytes. n ≡ unsound_rows bytes geo.now (tested_rows geo.now end window))) }
+    ensures reads { OnlyReads (I.seen images.old) (I.seen images.new)
+        (length geo.now.slots.items * tested_rows geo.now end window) }
+    ensures ends { IfErr result (EndsScan (I.seen images.old) (I.seen images.new)) }
+    ensures blocks { blocks.new ≡ blocks.old }
+{
+    let left = test_rows(images, blocks, geo, end, window, u64::MAX)?;
+    Ok(u64::MAX - left.unwrap_or(0))
+}
+
+/// How many more of the tested rows may be unsound, where `left` may be, and None where more are.
+fn test_rows<I: Images>(
+    images: &mut I,
+    blocks: &mut Blocks,
+    geo: &Geometry,
+    end: u64,
+    window: u64,
+    left: u64,
+) -> Result<Option<u64>, ScanFault>
+    requires set { IsScannable geo.now end (I.seen images.old).attached }
+    requires blocks { length geo.now.slots.items ≤ blocks.old }
+    ensures told { IfOk result (λ rest. IfSome (told_all (I.seen images.old).attached)
+        (λ bytes. IsRest bytes geo.now (tested_rows geo.now end window) left rest)) }
+    ensures reads { OnlyReads (I.seen images.old) (I.seen images.new)
+        (length geo.now.slots.items * tested_rows geo.now end window) }
+    ensures ends { IfErr result (EndsScan (I.seen images.old) (I.seen images.new)) }
+    ensures blocks { blocks.new ≡ blocks.old }
+{
+    let rows = rows_to_test(geo, end, window);
+    test_in(
         images,
         &mut blocks.sectors,
         &mut blocks.row,
         geo,
-        end,
-        limits,
+        rows,
+        left,
     )
 }
 
-/// The test, with room for a block of each member and for a sector of each. The first block is
-/// small, and each later one as long as all before it, up to `BLOCK` sectors.
-fn test_rows<I: Images>(
+/// The same of the first `rows` rows, with room for a block of each member and for a sector of
+/// each. The first block is small, and each later one as long as all before it, up to `BLOCK`
+/// sectors.
+fn test_in<I: Images>(
     images: &mut I,
     sectors: &mut [u8],
     row: &mut [u8],
     geo: &Geometry,
-    end: u64,
-    limits: &Limits,
-) -> Result<bool, ScanFault>
-    requires set { IsScannable geo.now end (I.seen images.old).attached }
+    rows: u64,
+    left: u64,
+) -> Result<Option<u64>, ScanFault>
+    requires set { IsTestable geo.now }
+    requires near { geo.now.head.offset + rows < 2 ^ 55 }
+    requires held { 1 ≤ rows → All (Reaches (I.seen images.old).attached (geo.now.head.offset + rows)) geo.now.slots.items }
     requires sectors { BLOCK_BYTES * length geo.now.slots.items ≤ length sectors.old }
     requires row { 512 * length geo.now.slots.items ≤ length row.old }
-    ensures told { IfOk result (λ holds. IfSome (told_all (I.seen images.old).attached)
-        (λ bytes. holds ≡ passes_parity bytes geo.now end limits.now.window limits.now.badrows)) }
-    ensures reads { OnlyReads (I.seen images.old) (I.seen images.new)
-        (length geo.now.slots.items * tested_rows geo.now end limits.now.window) }
+    ensures told { IfOk result (λ rest. IfSome (told_all (I.seen images.old).attached)
+        (λ bytes. IsRest bytes geo.now rows left rest)) }
+    ensures reads { OnlyReads (I.seen images.old) (I.seen images.new) (length geo.now.slots.items * rows) }
     ensures ends { IfErr result (EndsScan (I.seen images.old) (I.seen images.new)) }
 {
-    let rows = rows_to_test(geo, end, limits.window);
-    let mut left = limits.badrows;
+    let mut rest = left;
     let mut first = 0;
     while first < rows {
         let most = first.clamp(FIRST_BLOCK as u64, BLOCK as u64);
         let count = most.min(rows - first);
-        match block_left(images, sectors, row, geo, first, count, left)? {
-            Some(rest) => left = rest,
-            None => return Ok(false),
+        match block_left(images, sectors, row, geo, first, count, rest)? {
+            Some(fewer) => rest = fewer,
+            None => return Ok(None),
         }
         first += count;
     }
-    Ok(true)
+    Ok(Some(rest))
 }
 
 /// How many member sectors lie below the area and the window.
+#[tactic(auto, using(raid_layouts::proofs::Shapes::shaped_head, crate::proofs::Sets::area_below))]
 fn rows_to_test(geo: &Geometry, end: u64, window: u64) -> u64
-    requires { 1 ≤ geo.now.head.chunk }
+    requires { IsTestable geo.now }
     ensures value { result ≡ tested_rows geo.now end window }
     ensures within { result ≤ end - geo.now.head.offset }
 {
-    let sectors = end.saturating_sub(geo.head.offset);
-    let area = sectors / geo.head.chunk * geo.head.chunk;
-    area.min(window)
+    area(&geo.head, end).min(window)
 }
 
 /// How many more rows may be unsound after the `count` rows from `first` on, where `left` may be,
-/// and None where more are. It reads a block of each member.
+/// and None where more are. It reads a block of each member that is there.
 fn block_left<I: Images>(
     images: &mut I,
     sectors: &mut [u8],
@@ -111,7 +157,9 @@ fn block_left<I: Images>(
     count: u64,
     left: u64,
 ) -> Result<Option<u64>, ScanFault>
-    requires set { IsScannable geo.now (geo.now.head.offset + (first + count)) (I.seen images.old).attached }
+    requires set { IsTestable geo.now }
+    requires near { geo.now.head.offset + (first + count) < 2 ^ 55 }
+    requires held { All (Reaches (I.seen images.old).attached (geo.now.head.offset + (first + count))) geo.now.slots.items }
     requires sectors { BLOCK_BYTES * length geo.now.slots.items ≤ length sectors.old }
     requires row { 512 * length geo.now.slots.items ≤ length row.old }
     requires some { 1 ≤ count }

@@ -1,9 +1,8 @@
 // That a test succeeds, over images in memory.
-ghost use Rattle.std.specs.Prelude.{◌≡◌, ◌≤◌, ◌^◌, ◌<◌, length, Some, IsTrue};
+ghost use Rattle.std.specs.Prelude.{◌≡◌, ◌≤◌, ◌^◌, ◌<◌, length, All, IsSomeAnd, IsTrue, slice_get};
 ghost use Rattle.image_source.specs.Memory.{seen_of};
-ghost use Rattle.row_scan.specs.Scan.{IsHeld};
 
-use crate::{Blocks, parity_holds};
+use crate::{Blocks, parity_holds, unsound};
 use image_source::{Images, MemImages};
 use plan_text::Limits;
 use raid_params::{Geometry, Head, Level, Pattern, Slots, Syndrome};
@@ -22,33 +21,71 @@ fn three_images<R: AllocGlobal>(rt: &R, bytes: [&[u8]; 3]) -> Result<MemImages, 
     Ok(images)
 }
 
-fn reaches(images: &MemImages, image: u8, end: u64) -> bool
-    ensures { IsTrue result → IsHeld (seen_of images.now).attached end (Some image) }
+fn reaches(images: &MemImages, image: u32, end: u64) -> bool
+    ensures { IsTrue result → IsSomeAnd (slice_get (seen_of images.now).attached image) (λ a. end ≤ a.sectors) }
 {
-    match images.length(image as u32) {
+    match images.length(image) {
         Some(sectors) => end <= sectors,
         None => false,
     }
 }
 
-// The answer for images 0, 1 and 2 in this order, left-symmetric at level 5.
+// Whether three images are attached, and each reaches to the end.
+fn three_reach(images: &MemImages, end: u64) -> bool
+    ensures { IsTrue result → (length (seen_of images.now).attached ≡ 3) × All (λ a. end ≤ a.sectors) (seen_of images.now).attached }
+{
+    if !reaches(images, 0, end) || !reaches(images, 1, end) || !reaches(images, 2, end) {
+        return false;
+    }
+    images.length(3).is_none()
+}
+
+// Whether at most `badrows` rows are unsound.
+#[tactic(auto, using(crate::proofs::TestSets::three_scannable))]
 fn holds<R: Abort>(
     rt: &R,
     images: &mut MemImages,
     blocks: &mut Blocks,
-    chunk: u64,
+    geo: &Geometry,
     end: u64,
     badrows: u64,
     window: u64,
 ) -> Option<bool>
-    requires blocks { 3 ≤ blocks.old }
-    requires chunk { 1 ≤ chunk }
+    requires offset { geo.now.head.offset < 2 ^ 55 }
+    requires blocks { length geo.now.slots.items ≤ blocks.old }
     requires end { end < 2 ^ 55 }
-    ensures { 3 ≤ blocks.new }
+    ensures { blocks.new ≡ blocks.old }
 {
-    assert!(rt; reaches(images, 0, end));
-    assert!(rt; reaches(images, 1, end));
-    assert!(rt; reaches(images, 2, end));
+    assert!(rt; geo.is_shaped(3));
+    assert!(rt; three_reach(images, end));
+    parity_holds(images, blocks, geo, end, &Limits { badrows, window }).ok()
+}
+
+// How many rows are unsound.
+#[tactic(auto, using(crate::proofs::TestSets::three_scannable))]
+fn count<R: Abort>(
+    rt: &R,
+    images: &mut MemImages,
+    blocks: &mut Blocks,
+    geo: &Geometry,
+    end: u64,
+    window: u64,
+) -> Option<u64>
+    requires offset { geo.now.head.offset < 2 ^ 55 }
+    requires blocks { length geo.now.slots.items ≤ blocks.old }
+    requires end { end < 2 ^ 55 }
+    ensures { blocks.new ≡ blocks.old }
+{
+    assert!(rt; geo.is_shaped(3));
+    assert!(rt; three_reach(images, end));
+    unsound(images, blocks, geo, end, window).ok()
+}
+
+// Images 0, 1 and 2 in this order, left-symmetric at level 5.
+fn three_members(chunk: u64) -> Geometry
+    ensures slots { length result.slots.items ≡ 3 }
+    ensures offset { result.head.offset ≡ 0 }
+{
     let mut slots = Slots::new();
     slots.push(Some(0));
     slots.push(Some(1));
@@ -61,63 +98,105 @@ fn holds<R: Abort>(
         chunk,
         offset: 0,
     };
-    let limits = Limits { badrows, window };
-    parity_holds(images, blocks, &Geometry { head, slots }, end, &limits).ok()
+    Geometry { head, slots }
+}
+
+// Images 0, 1 and 2 in slots 0, 2 and 3 of four, with parity on the last slots.
+fn parity_last(level: Level, syndrome: Syndrome) -> Geometry
+    ensures slots { length result.slots.items ≡ 4 }
+    ensures offset { result.head.offset ≡ 0 }
+{
+    let head = Head {
+        level,
+        members: 4,
+        pattern: Pattern::ParityLast,
+        syndrome,
+        chunk: 1,
+        offset: 0,
+    };
+    let mut slots = Slots::new();
+    slots.push(Some(0));
+    slots.push(None);
+    slots.push(Some(1));
+    slots.push(Some(2));
+    Geometry { head, slots }
 }
 
 // 1 + 3 + 2 and 2 + 4 + 6 cancel bit by bit, 2 + 4 + 7 do not.
 #[test]
 fn two_rows(rt: HostRuntime) -> Result<(), Fail> {
     let mut blocks = Blocks::new(rt.alloc(), 3)?;
+    let geo = three_members(1);
     let (mut a, mut b, mut c) = ([1; 1024], [3; 1024], [2; 1024]);
     a[512..].fill(2);
     b[512..].fill(4);
     c[512..].fill(6);
     let mut images = three_images(&rt, [&a, &b, &c])?;
     assert_eq!(rt;
-        holds(&rt, &mut images, &mut blocks, 1, 2, 0, 2),
+        holds(&rt, &mut images, &mut blocks, &geo, 2, 0, 2),
         Some(true)
     );
     c[512..].fill(7);
     let mut images = three_images(&rt, [&a, &b, &c])?;
     assert_eq!(rt;
-        holds(&rt, &mut images, &mut blocks, 1, 2, 0, 2),
+        holds(&rt, &mut images, &mut blocks, &geo, 2, 0, 2),
         Some(false)
     );
     assert_eq!(rt;
-        holds(&rt, &mut images, &mut blocks, 1, 2, 1, 2),
+        holds(&rt, &mut images, &mut blocks, &geo, 2, 1, 2),
         Some(true)
     );
     assert_eq!(rt;
-        holds(&rt, &mut images, &mut blocks, 1, 2, 0, 1),
+        holds(&rt, &mut images, &mut blocks, &geo, 2, 0, 1),
         Some(true)
     );
+    assert_eq!(rt; count(&rt, &mut images, &mut blocks, &geo, 2, 2), Some(1));
     Ok(())
 }
 
 // 600 rows, of which the last has a bad byte.
 #[test]
 fn many_blocks(rt: HostRuntime) -> Result<(), Fail> {
-    let mut blocks = Blocks::new(rt.alloc(), 4)?;
     let zeros = vec![in rt.alloc(); 0u8; 307_200]?;
     let mut other = vec![in rt.alloc(); 0u8; 307_200]?;
     other[307_199] = 1;
     let mut images = three_images(&rt, [&zeros, &other, &zeros])?;
+    let mut blocks = Blocks::new(rt.alloc(), 4)?;
+    let geo = three_members(8);
     assert_eq!(rt;
-        holds(&rt, &mut images, &mut blocks, 8, 600, 0, 600),
+        holds(&rt, &mut images, &mut blocks, &geo, 600, 0, 600),
         Some(false)
     );
     assert_eq!(rt;
-        holds(&rt, &mut images, &mut blocks, 8, 600, 1, 600),
+        holds(&rt, &mut images, &mut blocks, &geo, 600, 0, 599),
         Some(true)
     );
     assert_eq!(rt;
-        holds(&rt, &mut images, &mut blocks, 8, 600, 0, 599),
+        holds(&rt, &mut images, &mut blocks, &geo, 599, 0, 600),
         Some(true)
     );
     assert_eq!(rt;
-        holds(&rt, &mut images, &mut blocks, 8, 599, 0, 600),
+        count(&rt, &mut images, &mut blocks, &geo, 600, 600),
+        Some(1)
+    );
+    Ok(())
+}
+
+// The missing block is 3 + 6 = 5, bit by bit, by P; 3 + 2 * 5 = 9 is Q, and 8 is not. With P alone,
+// any bytes can be a row.
+#[test]
+fn a_missing_member(rt: HostRuntime) -> Result<(), Fail> {
+    let mut blocks = Blocks::new(rt.alloc(), 4)?;
+    let mut q = [9; 1024];
+    q[512..].fill(8);
+    let mut images = three_images(&rt, [&[3; 1024], &[6; 1024], &q])?;
+    let geo = parity_last(Level::Raid6, Syndrome::BySlot);
+    assert_eq!(rt;
+        holds(&rt, &mut images, &mut blocks, &geo, 2, 0, 1),
         Some(true)
     );
+    assert_eq!(rt; count(&rt, &mut images, &mut blocks, &geo, 2, 2), Some(1));
+    let geo = parity_last(Level::Raid5, Syndrome::NoQ);
+    assert_eq!(rt; count(&rt, &mut images, &mut blocks, &geo, 2, 2), Some(0));
     Ok(())
 }

@@ -1,22 +1,19 @@
-use Rattle.std.proofs.Common.{◌+◌, ◌≤◌, None, IfSome, rules, arith}
-use Rattle.image_source.specs.Attached.{told_all}
-use Rattle.raid_terms.specs.Parity.{tested_rows}
-use Rattle.row_scan.specs.Block.{IsLeft}
-use Rattle.row_scan.proofs.Parity.{reads_on, told_fails}
+use Rattle.std.proofs.Common.{◌≡◌, ℕ, ◌+◌, List, ◌++◌, length, take, drop, sym, ap, ◌∙◌, arith, length-append, length-drop}
+use Rattle.std.proofs.lemmas.List.{length-take}
+use Rattle.row_scan.proofs.Sets.{scannable_held}
 use Rattle.row_scan.proofs.scan.test_rows.Goals as goal
 
-pub returns-in_err-rest-clause-reads : goal.returns-in_err-rest-clause-reads
-returns-in_err-rest-clause-reads g c =
-    let within : c.loop-first.first + c.min-count.result ≤ tested_rows c.args.geo.now c.args.end c.args.limits.now.window = omega arith in
-    reads_on (g.I.Images.seen c.args.images.now) (g.I.Images.seen c.loop-first.images) (g.I.Images.seen c.block_left.new.images) _ c.loop-first.first c.min-count.result _ c.loop-first.invariant.reads c.block_left.ensures.reads within
+-- a list that was replaced by one as long keeps its length
+as_long : (len n : ℕ) (new old : List ℕ) → length old ≡ len → length new ≡ length old → length old ≡ n → length (take len (new ++ drop (length new) old)) ≡ n
+as_long len n new old a b e = omega (arith, length-take len (new ++ drop (length new) old), length-append new (drop (length new) old), length-drop (length new) old)
 
-pub returns-in-None-clause-reads : goal.returns-in-None-clause-reads
-returns-in-None-clause-reads g c =
-    let within : c.loop-first.first + c.min-count.result ≤ tested_rows c.args.geo.now c.args.end c.args.limits.now.window = omega arith in
-    reads_on (g.I.Images.seen c.args.images.now) (g.I.Images.seen c.loop-first.images) (g.I.Images.seen c.block_left.new.images) _ c.loop-first.first c.min-count.result _ c.loop-first.invariant.reads c.block_left.ensures.reads within
+pub invariant_of-blocks : goal.invariant_of-blocks
+invariant_of-blocks g c =
+    let sectors : length c.deref_mut.result.now ≡ length c.blocks-2.inside.sectors.items = ap length c.deref_mut.ensures.value in
+    let row : length c.deref_mut-2.result.now ≡ length c.blocks-2.inside.row.items = ap length c.deref_mut-2.ensures.value in (
+      as_long c.blocks-2.inside.sectors.len _ c.test_in.new.sectors c.blocks-2.inside.sectors.items (sym sectors ∙ c.deref_mut.ensures.len) (c.test_in.auto.sectors ∙ sectors) c.blocks-2.invariant.0,
+      as_long c.blocks-2.inside.row.len _ c.test_in.new.row c.blocks-2.inside.row.items (sym row ∙ c.deref_mut-2.ensures.len) (c.test_in.auto.row ∙ row) c.blocks-2.invariant.1,
+    )
 
-pub returns-in-None-clause-told : goal.returns-in-None-clause-told
-returns-in-None-clause-told g c =
-    let within : c.loop-first.first + c.min-count.result ≤ tested_rows c.args.geo.now c.args.end c.args.limits.now.window = omega arith in
-    let more : IfSome (told_all (g.I.Images.seen c.loop-first.images).attached) (λ bytes. IsLeft bytes c.args.geo.now c.loop-first.first c.min-count.result c.loop-first.left None) = search rules in
-    told_fails (told_all (g.I.Images.seen c.args.images.now).attached) c.args.geo.now c.loop-first.first c.min-count.result c.loop-first.left c.args.end c.args.limits.now.window c.args.limits.now.badrows within c.loop-first.invariant.told (rw (← c.loop-first.invariant.reads.attached) more)
+pub test_in-requires-clause-held : goal.test_in-requires-clause-held
+test_in-requires-clause-held g c = λ some. scannable_held c.args.geo.now c.args.end (c.args.geo.now.head.offset + c.rows_to_test-rows.result) (g.I.Images.seen c.args.images.now).attached c.requires.set (omega arith)

@@ -1,0 +1,188 @@
+// The sets of one level and one number of members.
+ghost use Rattle.std.specs.Prelude.{◌≡◌, ◌<◌, ◌≤◌, ◌+◌, ◌*◌, ◌^◌, ◌==◌, IfSome, Some, length, filter, position, slice_get};
+ghost use Rattle.raid_params.specs.declared.limits.TheConstants.{MOST};
+ghost use Rattle.raid_params.specs.Validity.{has_syndrome};
+ghost use Rattle.plan_text.specs.PlanText.{IsPlan, pattern_place as place_of_pattern, syndrome_place as place_of_syndrome};
+ghost use Rattle.page_engine.specs.Blocks.{heads_with, sets_with, suits as suits_level, IsBlock};
+ghost use Rattle.page_engine.specs.Sets.{is_same_head, is_same_set};
+
+use crate::pairing::{pair_at, pair_rank, set_rank};
+use crate::same::{level_place, pattern_place, syndrome_place};
+use crate::slot_space::space_of;
+use crate::suits::{suits, suits_syndrome};
+use arrayvec::ArrayVec;
+use plan_text::Plan;
+use raid_params::{Geometry, Head, Level, Pattern, Syndrome};
+use slot_math::Space;
+
+// The sets of a plan with one level and one number of members: the patterns and the orders of Q
+// of the plan that suit these, and the slot lists.
+#[derive(Drop)]
+pub(crate) struct Block {
+    pub level: Level,
+    pub members: u8,
+    pub patterns: ArrayVec<Pattern, 14>,
+    pub syndromes: ArrayVec<Syndrome, 4>,
+    pub space: Space,
+}
+
+// The patterns of the plan that suit the level and the number of members.
+fn patterns_of(plan: &Plan, level: Level, members: u8) -> ArrayVec<Pattern, 14>
+    ensures { result.items ≡ filter (suits_level level members) plan.now.bounds.patterns.items }
+{
+    let mut kept = ArrayVec::new();
+    for pattern in plan.bounds.patterns.as_slice() {
+        if suits(level, members, *pattern) {
+            kept.push(*pattern);
+        }
+    }
+    kept
+}
+
+// The orders of Q of the plan that suit the level.
+fn syndromes_of(plan: &Plan, level: Level) -> ArrayVec<Syndrome, 4>
+    ensures { result.items ≡ filter (has_syndrome level) plan.now.bounds.syndromes.items }
+{
+    let mut kept = ArrayVec::new();
+    for syndrome in plan.bounds.syndromes.as_slice() {
+        if suits_syndrome(level, *syndrome) {
+            kept.push(*syndrome);
+        }
+    }
+    kept
+}
+
+// The place of a pattern among some.
+fn pattern_rank(patterns: &[Pattern], pattern: Pattern) -> Option<usize>
+    ensures { result ≡ position (λ other. place_of_pattern pattern == place_of_pattern other) patterns.now }
+{
+    let place = pattern_place(pattern);
+    patterns
+        .iter()
+        .position(|other| place == pattern_place(*other))
+}
+
+// The place of an order of Q among some.
+fn syndrome_rank(syndromes: &[Syndrome], syndrome: Syndrome) -> Option<usize>
+    ensures { result ≡ position (λ other. place_of_syndrome syndrome == place_of_syndrome other) syndromes.now }
+{
+    let place = syndrome_place(syndrome);
+    syndromes
+        .iter()
+        .position(|other| place == syndrome_place(*other))
+}
+
+// The place of a number among some.
+fn number_rank(numbers: &[u64], number: u64) -> Option<usize>
+    ensures { result ≡ position (λ other. number == other) numbers.now }
+{
+    numbers.iter().position(|other| number == *other)
+}
+
+impl Block {
+    // The block of a plan.
+    pub(crate) fn of(plan: &Plan, level: Level, members: u8) -> Block
+        requires plan { IsPlan plan.now }
+        requires members { members ≤ MOST }
+        ensures block { IsBlock plan.now result }
+        ensures level { result.level ≡ level }
+        ensures members { result.members ≡ members }
+    {
+        Block {
+            level,
+            members,
+            patterns: patterns_of(plan, level, members),
+            syndromes: syndromes_of(plan, level),
+            space: space_of(plan, level, members),
+        }
+    }
+
+    // How many heads the block has.
+    #[tactic(auto, using(crate::proofs::BlockRanks::heads_count))]
+    fn heads(&self, plan: &Plan) -> usize
+        requires plan { IsPlan plan.now }
+        requires block { IsBlock plan.now self.now }
+        ensures count { result ≡ length (heads_with plan.now.bounds self.now.level self.now.members) }
+        ensures few { result ≤ 57344 }
+    {
+        let starts = self.patterns.len() * self.syndromes.len();
+        let ends = plan.bounds.chunks.len() * plan.bounds.offsets.len();
+        starts * ends
+    }
+
+    // The head of this rank among those of the block.
+    #[tactic(auto, using(crate::proofs::BlockRanks::heads_count, crate::proofs::BlockRanks::head_found, crate::proofs::Pairs::second_some, crate::proofs::Pairs::row_within, crate::proofs::Pairs::column_within))]
+    fn head_at(&self, plan: &Plan, rank: u128) -> Head
+        requires plan { IsPlan plan.now }
+        requires block { IsBlock plan.now self.now }
+        requires rank { rank < length (heads_with plan.now.bounds self.now.level self.now.members) }
+        ensures { slice_get (heads_with plan.now.bounds self.now.level self.now.members) rank ≡ Some result }
+    {
+        let ends = (plan.bounds.chunks.len() * plan.bounds.offsets.len()) as u128;
+        let (pattern, syndrome) = pair_at(&self.patterns, &self.syndromes, rank / ends);
+        let (chunk, offset) = pair_at(&plan.bounds.chunks, &plan.bounds.offsets, rank % ends);
+        Head {
+            level: self.level,
+            members: self.members,
+            pattern,
+            syndrome,
+            chunk,
+            offset,
+        }
+    }
+
+    // The rank of a head among those of the block.
+    fn head_rank(&self, plan: &Plan, head: &Head) -> Option<usize>
+        requires plan { IsPlan plan.now }
+        requires block { IsBlock plan.now self.now }
+        ensures place { result ≡ position (is_same_head head.now) (heads_with plan.now.bounds self.now.level self.now.members) }
+        ensures few { IfSome result (λ place. place < 57344) }
+    {
+        if level_place(head.level) != level_place(self.level) || head.members != self.members {
+            return None;
+        }
+        let pattern = pattern_rank(&self.patterns, head.pattern);
+        let syndrome = syndrome_rank(&self.syndromes, head.syndrome);
+        let start = pair_rank(pattern, syndrome, self.syndromes.len());
+        let chunk = number_rank(&plan.bounds.chunks, head.chunk);
+        let offset = number_rank(&plan.bounds.offsets, head.offset);
+        let end = pair_rank(chunk, offset, plan.bounds.offsets.len());
+        let ends = plan.bounds.chunks.len() * plan.bounds.offsets.len();
+        pair_rank(start, end, ends)
+    }
+
+    // How many sets the block has.
+    pub(crate) fn total(&self, plan: &Plan) -> u128
+        requires plan { IsPlan plan.now }
+        requires block { IsBlock plan.now self.now }
+        ensures count { result ≡ length (sets_with plan.now (self.now.level, self.now.members)) }
+        ensures few { result ≤ 57344 * (MOST + 1) ^ MOST }
+    {
+        self.heads(plan) as u128 * self.space.total()
+    }
+
+    // The set of this rank among those of the block.
+    pub(crate) fn set(&self, plan: &Plan, rank: u128) -> Geometry
+        requires plan { IsPlan plan.now }
+        requires block { IsBlock plan.now self.now }
+        requires rank { rank < length (sets_with plan.now (self.now.level, self.now.members)) }
+        ensures { slice_get (sets_with plan.now (self.now.level, self.now.members)) rank ≡ Some result }
+    {
+        let lists = self.space.total();
+        Geometry {
+            head: self.head_at(plan, rank / lists),
+            slots: self.space.unrank(rank % lists),
+        }
+    }
+
+    // The rank of a set among those of the block.
+    pub(crate) fn rank(&self, plan: &Plan, geo: &Geometry) -> Option<u128>
+        requires plan { IsPlan plan.now }
+        requires block { IsBlock plan.now self.now }
+        ensures { result ≡ position (is_same_set geo.now) (sets_with plan.now (self.now.level, self.now.members)) }
+    {
+        let head = self.head_rank(plan, &geo.head);
+        let slots = self.space.rank(&geo.slots);
+        set_rank(head, slots, self.space.total())
+    }
+}

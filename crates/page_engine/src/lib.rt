@@ -1,0 +1,11 @@
+//! The product of a plan's parameter sets, by rank, and its pages.
+#![tactic(auto)]
+
+mod block;
+mod pairing;
+mod product;
+mod same;
+mod slot_space;
+mod suits;
+
+pub use product::{product_rank, product_set, product_total};

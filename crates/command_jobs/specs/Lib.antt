@@ -2,4 +2,8 @@ pub mod Agreement
 pub mod Stops
 pub mod Jobs
 pub mod Mapping
+pub mod Plans
+pub mod Listing
+pub mod Checking
+pub mod Writing
 pub mod Source

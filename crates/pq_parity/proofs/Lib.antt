@@ -6,3 +6,7 @@ pub mod Columns
 pub mod Solutions
 pub mod Steps
 pub mod Soundness
+pub mod Pairs
+pub mod Places
+pub mod Solved
+pub mod LostColumns

@@ -1,6 +1,6 @@
 -- Elements of lists that are made by other lists.
-use Rattle.std.proofs.Common.{ℕ, zero, suc, ◌≡◌, ◌+◌, ◌<◌, ◌≤◌, ◌⊎◌, inl, inr, Bool, true, false, ◌||◌, List, [], ◌∷◌, ◌++◌, map, refl, sym, ap, ◌∙◌, arith, subst}
-use Rattle.std.specs.List.{flat_map, list_any, range_with_len}
+use Rattle.std.proofs.Common.{ℕ, zero, suc, ◌≡◌, ◌+◌, ◌<◌, ◌≤◌, ◌⊎◌, inl, inr, Bool, true, false, ◌||◌, List, [], ◌∷◌, ◌++◌, length, get_or, map, refl, sym, ap, ◌∙◌, arith, subst}
+use Rattle.std.specs.List.{flat_map, list_any, range_with_len, Contains}
 use Rattle.std.proofs.lemmas.Bool.{or_cases, cases_lt, false≢true}
 
 -- x is an element of xs
@@ -72,3 +72,17 @@ passing p (z ∷ zs) e = elim (or_cases (p z) (list_any p zs) e) [
   | inl here ↦ (z, inl refl, here)
   | inr later ↦ (let r = passing p zs later in (r.0, inr r.1, r.2))
 ]
+
+-- the same by places
+pub Contains-from_In : {X : Type 0} (xs : List X) (x : X) → In xs x → Contains xs x
+Contains-from_In [] x i = absurd i
+Contains-from_In (y ∷ ys) x (inl e) = (0, omega arith, e)
+Contains-from_In (y ∷ ys) x (inr i) = let r = Contains-from_In ys x i in let h = r.1 in (suc r.0, omega arith, r.2)
+
+at_place : {X : Type 0} (xs : List X) (x : X) (k : ℕ) → k < length xs → get_or xs k x ≡ x → In xs x
+at_place [] x k h e = absurd (omega arith)
+at_place (y ∷ ys) x zero h e = inl e
+at_place (y ∷ ys) x (suc k) h e = inr (at_place ys x k (omega arith) e)
+
+pub In-from_Contains : {X : Type 0} (xs : List X) (x : X) → Contains xs x → In xs x
+In-from_Contains xs x c = at_place xs x c.0 c.1 c.2

@@ -1,1 +1,2 @@
 pub mod Syndromes
+pub mod LostBytes

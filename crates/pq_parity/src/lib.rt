@@ -1,13 +1,18 @@
-//! The parity of a row: whether its blocks agree.
+//! The parity of a row: whether its blocks agree, and what its missing blocks held.
 //!
 //! P is the exclusive or of the data blocks. Q is their sum in the field of 256 elements, each
 //! weighed by a power of 2. A sector row is sound where in each of its 512 columns there are
-//! bytes for the missing blocks with which both equations hold.
+//! bytes for the missing blocks with which both equations hold. `laws` says that lost bytes are
+//! found in one way only.
 #![tactic(auto)]
 
+pub mod laws;
 mod rows;
+mod solving;
 mod syndromes;
 #[cfg(test)]
 mod tests;
+mod weights;
 
 pub use rows::row_holds;
+pub use solving::solve;

@@ -1,9 +1,8 @@
 // Whether a sector row is sound.
 ghost use Rattle.std.specs.Prelude.{ℕ, ◌≡◌, ◌<◌, ◌*◌, length, slice_index, count_by, not};
 ghost use Rattle.std.specs.Bool.{Decides};
-ghost use Rattle.std.specs.List.{find};
-ghost use Rattle.std.specs.Option.{option_map};
 ghost use Rattle.raid_terms.specs.Parity.{column_of, has_q, in_p, in_q, is_data, is_sound, IsRow};
+ghost use Rattle.pq_parity.specs.LostBytes.{first_missing};
 ghost use Rattle.pq_parity.specs.Syndromes.{AllCancel, Cancel, CancelByP};
 
 use crate::syndromes::{p_syndrome, q_syndrome};
@@ -46,8 +45,8 @@ fn parity_count(cells: &[Cell]) -> usize
 }
 
 /// What the first missing cell holds.
-fn missing_part(cells: &[Cell]) -> Option<Part>
-    ensures { result ≡ option_map (λ c. c.part) (find (λ c. c.missing) cells.now) }
+pub fn missing_part(cells: &[Cell]) -> Option<Part>
+    ensures { result ≡ first_missing cells.now }
 {
     cells.iter().find(|cell| cell.missing).map(|cell| cell.part)
 }

@@ -2,7 +2,7 @@
 ghost use Rattle.std.specs.Prelude.{◌≡◌, ◌≢◌, ◌<◌, ◌≤◌, [], ◌∷◌, count_by};
 ghost use Rattle.raid_terms.specs.Parity.{IsRow};
 
-use crate::row_holds;
+use crate::{row_holds, solve};
 use image_source::SECTOR;
 use raid_params::{Cell, Part};
 
@@ -98,6 +98,53 @@ fn missing_members(rt: HostRuntime) {
     assert!(rt; !row_holds(&without_q, &four_sectors([0xAA, 0x01, 0x80, 0x80])));
     let without_two = four(0, 1, false, true, true, false);
     assert!(rt; row_holds(&without_two, &four_sectors([0x12, 0xAA, 0xAA, 0x34])));
+}
+
+/// Whether the lost sectors of a row of these bytes repeat these others. No sector is lost where
+/// its member is there.
+fn found(cells: &[Cell; 4], bytes: [u8; 4], want: [u8; 4]) -> bool
+    requires { IsRow cells.now }
+{
+    let row = four_sectors(bytes);
+    for place in 0..4usize {
+        let mut sector = [0; SECTOR];
+        if cells[place].missing {
+            solve(cells, &row, place, &mut sector);
+            if sector[0] != want[place] || sector[SECTOR - 1] != want[place] {
+                return false;
+            }
+        }
+    }
+    true
+}
+
+#[test]
+fn lost_members(rt: HostRuntime) {
+    let all = [0x1C, 0x01, 0x80, 0x81];
+    let q_and_first = four(0, 1, true, true, false, false);
+    assert!(rt; found(&q_and_first, [0xAA, 0xAA, 0x80, 0x81], all));
+    let q_and_second = four(0, 1, true, false, true, false);
+    assert!(rt; found(&q_and_second, [0xAA, 0x01, 0xAA, 0x81], all));
+    let q_and_p = four(0, 1, true, false, false, true);
+    assert!(rt; found(&q_and_p, [0xAA, 0x01, 0x80, 0xAA], all));
+    let both_data = four(0, 1, false, true, true, false);
+    assert!(rt; found(&both_data, [0x1C, 0xAA, 0xAA, 0x81], all));
+    let first_and_p = four(0, 1, false, true, false, true);
+    assert!(rt; found(&first_and_p, [0x1C, 0xAA, 0x80, 0xAA], all));
+    let second_and_p = four(0, 1, false, false, true, true);
+    assert!(rt; found(&second_and_p, [0x1C, 0x01, 0xAA, 0xAA], all));
+    assert!(rt; !found(&second_and_p, [0x1C, 0x01, 0xAA, 0xAA], [0; 4]));
+}
+
+// One lost byte is found by one equation, also where the other does not hold.
+#[test]
+fn one_lost_member(rt: HostRuntime) {
+    let data = four(0, 1, false, true, false, false);
+    assert!(rt; found(&data, [0x1D, 0xAA, 0x80, 0x81], [0, 0x01, 0, 0]));
+    let p = four(0, 1, false, false, false, true);
+    assert!(rt; found(&p, [0x1D, 0x01, 0x80, 0xAA], [0, 0, 0, 0x81]));
+    let q = four(0, 1, true, false, false, false);
+    assert!(rt; found(&q, [0xAA, 0x01, 0x80, 0x80], [0x1C, 0, 0, 0]));
 }
 
 /// The row with one byte changed.

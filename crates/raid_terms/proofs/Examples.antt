@@ -144,6 +144,18 @@ found_by_p : lost_byte (two_data true false) (29 ∷ 0 ∷ 128 ∷ 129 ∷ []) 1
 unfolding two_data cell sum_of power_of times solved filled
 found_by_p = refl
 
+-- so is P alone, and Q alone is found by Q's equation where P differs
+lost_parity : Bool → Bool → List Cell
+lost_parity q p = cell Q q ∷ cell (Block 0) false ∷ cell (Block 1) false ∷ cell P p ∷ []
+
+p_found_by_p : lost_byte (lost_parity false true) (29 ∷ 1 ∷ 128 ∷ 0 ∷ []) 3 ≡ 129
+unfolding lost_parity cell sum_of power_of times solved filled
+p_found_by_p = refl
+
+q_found_by_q : lost_byte (lost_parity true false) (0 ∷ 1 ∷ 128 ∷ 128 ∷ []) 0 ≡ 28
+unfolding lost_parity cell sum_of power_of times solved filled
+q_found_by_q = refl
+
 unsound_with_q : is_sound_column (two_data true false) (29 ∷ 0 ∷ 128 ∷ 129 ∷ []) ≡ false
 unfolding two_data cell sum_of power_of times filled
 unsound_with_q = refl

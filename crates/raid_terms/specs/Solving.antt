@@ -1,17 +1,23 @@
 -- The bytes of missing cells that the parity equations give.
-use Rattle.std.specs.Prelude.{ℕ, Bool, nat_eq, ◌&&◌, ◌||◌, List, [], count_by, slice_index, unwrap_or}
-use Rattle.std.specs.List.{find}
+use Rattle.std.specs.Prelude.{ℕ, Bool, nat_eq, ◌&&◌, if◌then◌else◌, List, [], count_by, slice_index, unwrap_or}
+use Rattle.std.specs.List.{find, list_any}
 use Rattle.raid_params.specs.declared.types.Cell.{Cell}
-use Rattle.raid_terms.specs.Parity.{filled, is_data, p_holds, q_holds}
+use Rattle.raid_terms.specs.Parity.{equations_hold, filled, is_q, p_holds, q_holds}
 
--- one data cell is missing, and no other cell
-abbrev pub is_one_data_lost : List Cell → Bool
-is_one_data_lost cells = nat_eq (count_by (λ c. c.missing) cells) 1 && nat_eq (count_by (λ c. c.missing && is_data c.part) cells) 1
+-- one cell alone is missing
+abbrev pub is_one_lost : List Cell → Bool
+is_one_lost cells = nat_eq (count_by (λ c. c.missing) cells) 1
 
--- the equations by which lost bytes are found hold: both, but where one data byte alone is lost P
--- decides, and Q is not asked
+-- Q is missing
+abbrev pub is_q_lost : List Cell → Bool
+is_q_lost cells = list_any (λ c. c.missing && is_q c.part) cells
+
+-- the equations by which lost bytes are found hold: both, but where one byte alone is lost one decides and
+-- the other is not asked, Q's where the byte is Q and P's elsewhere
 abbrev pub solves : List Cell → List ℕ → Bool
-solves cells column = p_holds cells column && (is_one_data_lost cells || q_holds cells column)
+solves cells column =
+    if is_one_lost cells then (if is_q_lost cells then q_holds cells column else p_holds cells column)
+    else equations_hold cells column
 
 -- the column with the bytes of its missing cells found
 unfoldable pub solved : List Cell → List ℕ → List ℕ

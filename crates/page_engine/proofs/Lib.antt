@@ -4,3 +4,6 @@ pub mod Spaces
 pub mod BlockRanks
 pub mod Walks
 pub mod Shaped
+pub mod RankByRank
+pub mod SetTests
+pub mod TestPlans

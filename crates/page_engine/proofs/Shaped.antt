@@ -1,24 +1,21 @@
 -- Each set of a plan has a sensible shape over as many images as the plan has.
-use Rattle.std.proofs.Common.{rules, ℕ, zero, suc, ◌≡◌, ◌<◌, ◌≤◌, ◌^◌, Bool, true, false, ◌&&◌, ◌||◌, ◌==◌, not, nat_eq, nat_le, nat_lt, if◌then◌else◌, cond, List, [], ◌∷◌, length, map, filter, take, refl, sym, ap, ap₂, ◌∙◌, arith, min, ◌-◌, All, IsTrue, Option, Some, None, slice_get, inl, inr}
-use Rattle.std.specs.List.{flat_map, find, list_any, range_with_len, AllByRecursion}
+use Rattle.std.proofs.Common.{rules, ℕ, zero, suc, ◌≡◌, ◌<◌, ◌≤◌, ◌^◌, Bool, true, false, ◌&&◌, ◌||◌, ◌==◌, not, nat_eq, nat_le, if◌then◌else◌, cond, List, [], ◌∷◌, length, filter, take, refl, sym, ap, ap₂, ◌∙◌, arith, min, ◌-◌, Option, Some, None, slice_get, slice_index_or}
+use Rattle.std.specs.List.{find, range_with_len, AllByRecursion}
 use Rattle.std.specs.Option.{is_none, option_map_or, option_and_then}
-use Rattle.std.proofs.lemmas.Bool.{and_from, and_parts, eq-eqb, le-leb, leb-true, lt-ltb, not-true}
+use Rattle.std.proofs.lemmas.Bool.{and_from, and_parts, eq-eqb, le-leb, lt-leb, leb-true, not-true}
 use Rattle.std.proofs.lemmas.List.Elements.{recursion_from_All}
-use Rattle.raid_params.specs.declared.types.Bounds.{Bounds}
 use Rattle.raid_params.specs.declared.types.GeoFault.{GeoFault}
 use Rattle.raid_params.specs.declared.types.GeoFault.TheVariants.{Members, Pattern as BadPattern, Syndrome as BadSyndrome, Chunk, Missing}
 use Rattle.raid_params.specs.declared.types.Geometry.{Geometry}
 use Rattle.raid_params.specs.declared.types.Head.{Head}
 use Rattle.raid_params.specs.declared.types.Level.{Level}
-use Rattle.raid_params.specs.declared.types.Pattern.{Pattern}
-use Rattle.raid_params.specs.declared.types.Syndrome.{Syndrome}
 use Rattle.raid_params.specs.Size.{redundancy}
-use Rattle.raid_params.specs.Slots.{empties, held, is_distinct, stands}
-use Rattle.raid_params.specs.Validity.{first_absent, first_repeat, has_members, has_pattern, has_syndrome, is_chunk, is_met_again, is_shaped, is_valid_head, slots_fault}
+use Rattle.raid_params.specs.Slots.{empties, is_distinct, stands}
+use Rattle.raid_params.specs.Validity.{first_absent, first_repeat, has_members, has_pattern, has_syndrome, is_absent, is_chunk, is_met_again, is_shaped, is_valid_head, slots_fault}
 use Rattle.raid_terms.specs.Product.{fits, heads, sets_of as sets_of_head}
 use Rattle.raid_terms.specs.SlotLists.{all_lists}
 use Rattle.slot_math.proofs.Kept.{turned}
-use Rattle.slot_math.proofs.Listed.{each_append, each_flat, each_get, each_kept, each_list, each_map, each_more}
+use Rattle.slot_math.proofs.Listed.{each_flat, each_get, each_kept, each_list, each_map, each_more}
 use Rattle.slot_math.specs.Ways.{AllImages}
 use Rattle.plan_text.specs.PlanText.{IsPlan}
 use Rattle.plan_text.specs.declared.plan.Plan.{Plan}
@@ -28,62 +25,54 @@ find_none : {A : Type 0} (p : A → Bool) (xs : List A) → ((x : A) → p x ≡
 find_none p [] h = refl
 find_none p (x ∷ xs) h = ap₂ (λ b o. cond b (Some x) o) (h x) (find_none p xs h)
 
--- no image is absent
+-- no slot names an absent image
+never_absent : (images : ℕ) (slots : List (Option ℕ)) (at : ℕ) → AllImages images slots → is_absent images slots at ≡ false
+never_absent images [] at all = refl
+never_absent images (None ∷ slots) zero all = refl
+never_absent images (Some i ∷ slots) zero all = lt-leb images i all.0
+never_absent images (None ∷ slots) (suc at) all = never_absent images slots at all
+never_absent images (Some i ∷ slots) (suc at) all = never_absent images slots at all.1
+
 none_absent : (images : ℕ) (slots : List (Option ℕ)) → AllImages images slots → first_absent images slots ≡ None
-unfolding first_absent held
-none_absent images [] all = refl
-none_absent images (None ∷ slots) all = none_absent images slots all
-none_absent images (Some i ∷ slots) all =
-    ap₂ (λ (b : Bool) (o : Option ℕ). cond (not b) (Some i) o) (lt-ltb i images all.0) (none_absent images slots all.1)
-
--- no element stands again
-unfoldable apart : List ℕ → Bool
-apart [] = true
-apart (x ∷ xs) = not (list_any (nat_eq x) xs) && apart xs
-
-stands_as : (i : ℕ) (slots : List (Option ℕ)) → stands i slots ≡ list_any (nat_eq i) (held slots)
-unfolding stands held
-stands_as i [] = refl
-stands_as i (None ∷ slots) = stands_as i slots
-stands_as i (Some k ∷ slots) = ap (λ (b : Bool). (i == k) || b) (stands_as i slots)
-
-distinct_as : (slots : List (Option ℕ)) → is_distinct slots ≡ apart (held slots)
-unfolding is_distinct held apart
-distinct_as [] = refl
-distinct_as (None ∷ slots) = distinct_as slots
-distinct_as (Some i ∷ slots) = ap₂ (λ (a b : Bool). not a && b) (stands_as i slots) (distinct_as slots)
+none_absent images slots all =
+    ap (option_and_then (λ at. slice_index_or slots at None)) (find_none (is_absent images slots) (range_with_len 0 (length slots)) (λ at. never_absent images slots at all))
 
 or_none : (a b : Bool) → (a || b) ≡ false → (a ≡ false) × (b ≡ false)
 or_none true b e = absurd (search rules)
 or_none false b e = (refl, e)
 
-other_than : (x : ℕ) (xs : List ℕ) (k i : ℕ) → list_any (nat_eq x) xs ≡ false → slice_get xs k ≡ Some i → nat_eq i x ≡ false
-other_than x [] k i none e = absurd (search rules)
-other_than x (y ∷ xs) zero i none e =
-    let same : y ≡ i = search rules in
-    turned i x ∙ ap (nat_eq x) (sym same) ∙ (or_none (nat_eq x y) (list_any (nat_eq x) xs) none).0
-other_than x (y ∷ xs) (suc k) i none e = other_than x xs k i (or_none (nat_eq x y) (list_any (nat_eq x) xs) none).1 e
+-- what stands in a list without this image is another
+other_than : (k : ℕ) (slots : List (Option ℕ)) (at i : ℕ) → stands k slots ≡ false → slice_index_or slots at None ≡ Some i → (i == k) ≡ false
+unfolding stands
+other_than k [] at i none e = absurd (search rules)
+other_than k (None ∷ slots) zero i none e = absurd (search rules)
+other_than k (Some j ∷ slots) zero i none e =
+    let same : j ≡ i = search rules in
+    turned i k ∙ ap (λ (n : ℕ). k == n) (sym same) ∙ (or_none (k == j) (stands k slots) none).0
+other_than k (None ∷ slots) (suc at) i none e = other_than k slots at i none e
+other_than k (Some j ∷ slots) (suc at) i none e = other_than k slots at i (or_none (k == j) (stands k slots) none).1 e
 
--- none is met again
-never_again : (xs : List ℕ) (k : ℕ) → apart xs ≡ true → is_met_again xs k ≡ false
-unfolding apart
-never_again [] k e = refl
-never_again (x ∷ xs) zero e = refl
-never_again (x ∷ xs) (suc k) e =
-    let parts = and_parts (not (list_any (nat_eq x) xs)) (apart xs) e in
-    later (slice_get xs k) refl (not-true (list_any (nat_eq x) xs) parts.0) (never_again xs k parts.1)
+-- no image is met again
+never_again : (slots : List (Option ℕ)) (at : ℕ) → is_distinct slots ≡ true → is_met_again slots at ≡ false
+unfolding stands is_distinct
+never_again [] at e = refl
+never_again (None ∷ slots) zero e = refl
+never_again (Some k ∷ slots) zero e = refl
+never_again (None ∷ slots) (suc at) e = never_again slots at e
+never_again (Some k ∷ slots) (suc at) e =
+    let parts = and_parts (not (stands k slots)) (is_distinct slots) e in
+    later (slice_index_or slots at None) refl (not-true (stands k slots) parts.0) (never_again slots at parts.1)
   where
-    later : (o : Option ℕ) → slice_get xs k ≡ o → list_any (nat_eq x) xs ≡ false → is_met_again xs k ≡ false → option_map_or (λ i. nat_eq i x || list_any (nat_eq i) (take k xs)) (slice_get xs k) false ≡ false
-    later None at none again = ap (λ (o : Option ℕ). option_map_or (λ (i : ℕ). nat_eq i x || list_any (nat_eq i) (take k xs)) o false) at
-    later (Some i) at none again =
-        ap (λ (o : Option ℕ). option_map_or (λ (j : ℕ). nat_eq j x || list_any (nat_eq j) (take k xs)) o false) at
-        ∙ ap₂ (λ (a b : Bool). a || b) (other_than x xs k i none at) (sym (ap (λ (o : Option ℕ). option_map_or (λ (j : ℕ). list_any (nat_eq j) (take k xs)) o false) at) ∙ again)
+    later : (o : Option ℕ) → slice_index_or slots at None ≡ o → stands k slots ≡ false → is_met_again slots at ≡ false →
+        option_map_or (λ i. (i == k) || stands i (take at slots)) (slice_index_or slots at None) false ≡ false
+    later None is none again = ap (λ (o : Option ℕ). option_map_or (λ (i : ℕ). (i == k) || stands i (take at slots)) o false) is
+    later (Some i) is none again =
+        ap (λ (o : Option ℕ). option_map_or (λ (j : ℕ). (j == k) || stands j (take at slots)) o false) is
+        ∙ ap₂ (λ (a b : Bool). a || b) (other_than k slots at i none is) (sym (ap (λ (o : Option ℕ). option_map_or (λ (j : ℕ). stands j (take at slots)) o false) is) ∙ again)
 
 none_repeated : (slots : List (Option ℕ)) → is_distinct slots ≡ true → first_repeat slots ≡ None
-unfolding first_repeat
 none_repeated slots e =
-    ap (option_and_then (slice_get (held slots)))
-    (find_none (is_met_again (held slots)) (range_with_len 0 (length (held slots))) (λ k. never_again (held slots) k (sym (distinct_as slots) ∙ e)))
+    ap (option_and_then (λ at. slice_index_or slots at None)) (find_none (is_met_again slots) (range_with_len 0 (length slots)) (λ at. never_again slots at e))
 
 -- what is known of a set of a plan
 pub record IsSet (plan : Plan) (geo : Geometry) : Type 0 where
@@ -160,9 +149,9 @@ shaped_set plan geo set =
     let rest = and_parts (has_pattern geo.head.level geo.head.pattern) (has_syndrome geo.head.level geo.head.syndrome && is_chunk geo.head.chunk) head.1 in
     let last = and_parts (has_syndrome geo.head.level geo.head.syndrome) (is_chunk geo.head.chunk) rest.1 in
     let fit = and_parts (is_distinct geo.slots.items)
-        (nat_le (empties geo.slots.items) (min plan.bounds.missing (redundancy geo.head.level)) && nat_le (length plan.lengths.items - (geo.head.members - empties geo.slots.items)) plan.bounds.foreign) set.fit in
+    (nat_le (empties geo.slots.items) (min plan.bounds.missing (redundancy geo.head.level)) && nat_le (length plan.lengths.items - (geo.head.members - empties geo.slots.items)) plan.bounds.foreign) set.fit in
     let few = leb-true (empties geo.slots.items) (min plan.bounds.missing (redundancy geo.head.level))
-        (and_parts (nat_le (empties geo.slots.items) (min plan.bounds.missing (redundancy geo.head.level))) (nat_le (length plan.lengths.items - (geo.head.members - empties geo.slots.items)) plan.bounds.foreign) fit.1).0 in
+    (and_parts (nat_le (empties geo.slots.items) (min plan.bounds.missing (redundancy geo.head.level))) (nat_le (length plan.lengths.items - (geo.head.members - empties geo.slots.items)) plan.bounds.foreign) fit.1).0 in
     no_rule (has_members geo.head.level (length geo.slots.items) && nat_eq geo.head.members (length geo.slots.items)) (has_pattern geo.head.level geo.head.pattern)
     (has_syndrome geo.head.level geo.head.syndrome) (is_chunk geo.head.chunk) (slots_fault level n slots (first_absent n slots) (first_repeat slots))
     (Members geo.head.members) (BadPattern geo.head.pattern) (BadSyndrome geo.head.syndrome) (Chunk geo.head.chunk)

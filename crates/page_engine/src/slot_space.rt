@@ -4,7 +4,6 @@ ghost use Rattle.raid_params.specs.declared.limits.TheConstants.{MOST};
 ghost use Rattle.plan_text.specs.PlanText.{IsPlan};
 ghost use Rattle.page_engine.specs.Blocks.{IsSpaceOf};
 
-use crate::suits::redundancy;
 use plan_text::Plan;
 use raid_params::Level;
 use slot_math::Space;
@@ -18,7 +17,7 @@ pub(crate) fn space_of(plan: &Plan, level: Level, members: u8) -> Space
     ensures { IsSpaceOf plan.now level members result }
 {
     let images = plan.lengths.len() as u8;
-    let missing = plan.bounds.missing.min(redundancy(level));
+    let missing = plan.bounds.missing.min(level.redundancy());
     let held = plan.bounds.foreign + members;
     if held < images {
         return Space {

@@ -1,28 +1,16 @@
 // Which values suit a level.
 ghost use Rattle.std.specs.Prelude.{◌≡◌};
-ghost use Rattle.raid_params.specs.Size.{redundancy as redundancy_of};
 ghost use Rattle.raid_params.specs.Validity.{has_members, has_pattern, has_syndrome};
 ghost use Rattle.raid_params.specs.declared.types.Level.TheVariants.{Raid5};
 ghost use Rattle.page_engine.specs.Blocks.{suits as suits_level};
 
 use raid_params::{Level, MOST, Pattern, Syndrome};
 
-// How many lost members a level survives.
-pub(crate) fn redundancy(level: Level) -> u8
-    ensures { result ≡ redundancy_of level }
-{
-    match level {
-        Level::Raid0 => 0,
-        Level::Raid5 => 1,
-        Level::Raid6 => 2,
-    }
-}
-
 // The level has arrays of so many members.
 fn suits_members(level: Level, members: u8) -> bool
     ensures { result ≡ has_members level members }
 {
-    redundancy(level) + 2 <= members && members as usize <= MOST
+    level.redundancy() + 2 <= members && members as usize <= MOST
 }
 
 // The level has the pattern.

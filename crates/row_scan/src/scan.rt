@@ -68,6 +68,7 @@ pub fn unsound<I: Images>(
     ensures ends { IfErr result (EndsScan (I.seen images.old) (I.seen images.new)) }
     ensures blocks { blocks.new ≡ blocks.old }
 {
+    // There are fewer rows than u64::MAX, so that none is too many.
     let left = test_rows(images, blocks, geo, end, window, u64::MAX)?;
     Ok(u64::MAX - left.unwrap_or(0))
 }

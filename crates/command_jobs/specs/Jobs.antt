@@ -1,11 +1,14 @@
 -- How a job ends, what it prints, and what it leaves.
-use Rattle.std.specs.Prelude.{ℕ, ◌≡◌, ◌≢◌, ◌≤◌, ◌+◌, Bool, true, false, List, Result, Ok, Err, MatchResult, OnOk, IfErr, IsErrOf, IfSome}
+use Rattle.std.specs.Prelude.{ℕ, ◌≡◌, ◌≤◌, Bool, true, List, [], ◌∷◌, Result, Ok, Err, MatchResult, OnOk, IfErr, IsErrOf, IfSome}
 use Rattle.std.specs.declared.option.Option.{Option}
-use Rattle.std.specs.declared.option.Option.TheVariants.{None}
+use Rattle.std.specs.declared.option.Option.TheVariants.{None, Some}
 use Rattle.std.specs.Io.KnownBytes.{Appends, Keeps}
 use Rattle.image_source.specs.Causes.{Rose}
 use Rattle.image_source.specs.Streams.{AppendsFront}
-use Rattle.command_jobs.specs.Stops.{EndsBy}
+use Rattle.image_source.specs.Seen.{Image}
+use Rattle.plan_text.specs.declared.plan.Plan.{Plan}
+use Rattle.command_jobs.specs.Plans.{IsTextOf, many_refusal, plan_refusal}
+use Rattle.command_jobs.specs.Stops.{EndsBy, IsRefusal, first_of}
 use Rattle.command_jobs.specs.declared.stop.Stop.{Stop}
 use Rattle.command_jobs.specs.declared.stop.Stop.TheVariants.{ImageFault, PlanFault, OutFault, OutOfMemory}
 
@@ -66,3 +69,17 @@ abbrev pub IsPrinted : {T : Type 0} → Option (List ℕ) → Option (List ℕ) 
 IsPrinted old new before after (Err stop) result = (result ≡ Err stop) × (new ≡ old)
 IsPrinted old new before after (Ok text) result =
     MatchResult result (λ _. Appends old new text) (λ stop. (stop ≡ OutFault) × AppendsFront old new text × Rose before after)
+
+-- why a plan could not be read, or the images do not agree with it, whatever else is refused: the
+-- source failed, memory is wanting, or it is the first refusal
+unfoldable pub EndsPreparing : Option (List ℕ) → ℕ → List Image → ℕ → ℕ → Stop → Type 0
+EndsPreparing left names attached before now PlanFault = Rose before now
+EndsPreparing left names attached before now OutOfMemory = Unit {0}
+EndsPreparing left names attached before now stop =
+    IsRefusal stop × IfSome left (λ text. (read : Option Plan) (further : Plan → Option Stop) → IsTextOf text read → plan_refusal text read names attached further ≡ Some stop)
+
+-- the plan is what the text says, the images agree with it, and what is refused after that comes next
+abbrev pub IsPrepared : Option (List ℕ) → ℕ → List Image → Plan → Type 0
+IsPrepared left names attached plan =
+    IfSome left (λ text. (read : Option Plan) → IsTextOf text read →
+    (read ≡ Some plan) × ((further : Plan → Option Stop) → plan_refusal text read names attached further ≡ first_of (many_refusal plan ∷ further plan ∷ [])))

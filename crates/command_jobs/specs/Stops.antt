@@ -5,7 +5,8 @@ use Rattle.std.specs.declared.option.Option.TheVariants.{None, Some}
 use Rattle.raid_params.specs.declared.types.GeoFault.{GeoFault}
 use Rattle.raid_params.specs.declared.types.GeoFault.TheVariants.{Members, Pattern, Syndrome, Chunk, Image, Repeat, Missing, NoRow}
 use Rattle.plan_text.specs.PlanText.{pattern_place, syndrome_place}
-use Rattle.command_jobs.specs.declared.agreement.Disagreement.{Disagreement}
+use Rattle.plan_text.specs.declared.plan.PlanFault.{PlanFault as FaultOfPlan}
+use Rattle.plan_text.specs.declared.plan.PlanFault.TheVariants.{NotBuilt as PlanNotBuilt, Memory as PlanMemory}
 use Rattle.command_jobs.specs.declared.agreement.Kind.{Kind}
 use Rattle.command_jobs.specs.declared.agreement.Kind.TheVariants.{Count, Length, End}
 use Rattle.command_jobs.specs.declared.stop.Stop.{Stop}
@@ -47,6 +48,11 @@ status_of PlanFault = 11
 status_of OutFault = 12
 status_of NotBuilt = 19
 status_of OutOfMemory = 20
+
+-- the stop of a fault of the plan
+abbrev pub stop_of_plan : FaultOfPlan → Stop
+stop_of_plan PlanNotBuilt = NotBuilt
+stop_of_plan PlanMemory = OutOfMemory
 
 -- what of the images disagrees, as it is printed
 abbrev pub kind_text : Kind → List ℕ

@@ -8,6 +8,7 @@
 mod agreement;
 mod attaching;
 mod mapping;
+mod preparing;
 mod printing;
 mod reading;
 mod stop;

@@ -1,6 +1,6 @@
 // Why a run ends without its answer.
 ghost use Rattle.std.specs.Prelude.{◌≡◌, ◌≤◌, ◌+◌, ◌++◌, codes, decimal, length};
-ghost use Rattle.command_jobs.specs.Stops.{kind_text as kind_text_of, note_of, rule_of, status_of, value_of};
+ghost use Rattle.command_jobs.specs.Stops.{kind_text as kind_text_of, note_of, rule_of, status_of, stop_of_plan, value_of};
 ghost use Rattle.command_jobs.specs.declared.stop.Stop.TheVariants.{Images as ImagesOf, Cursor as CursorOf, OutOfMemory, Sector as SectorOf};
 ghost use Rattle.plan_text.specs.PlanText.{pattern_place as pattern_place_of, syndrome_place as syndrome_place_of};
 
@@ -8,6 +8,7 @@ use crate::agreement::{Disagreement, Kind};
 use arrayvec::ArrayString;
 use image_source::Memory;
 use itoa::Buffer;
+use plan_text::PlanFault;
 use raid_params::{GeoFault, Pattern, Syndrome};
 
 /// The first rank asked for, which is past the total.
@@ -62,6 +63,17 @@ impl From<Memory> for Stop {
 
     fn from(_: Memory) -> Stop {
         Stop::OutOfMemory
+    }
+}
+
+impl From<PlanFault> for Stop {
+    ghost from_gives = { λ fault stop. stop ≡ stop_of_plan fault };
+
+    fn from(fault: PlanFault) -> Stop {
+        match fault {
+            PlanFault::NotBuilt => Stop::NotBuilt,
+            PlanFault::Memory => Stop::OutOfMemory,
+        }
     }
 }
 

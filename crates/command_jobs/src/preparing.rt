@@ -1,0 +1,35 @@
+// Reading the plan, and comparing the images with it.
+ghost use Rattle.std.specs.Prelude.{◌≡◌, ◌≤◌, IfErr, IfOk, length, min};
+ghost use Rattle.command_jobs.specs.Agreement.{plan_fault as plan_fault_of};
+ghost use Rattle.command_jobs.specs.Jobs.{EndsPreparing, IsPrepared};
+ghost use Rattle.plan_text.specs.PlanText.{IsPlan};
+
+use crate::agreement::plan_fault;
+use crate::reading::read_all;
+use crate::stop::Stop;
+use image_source::{Images, Source};
+use plan_text::{Plan, read_plan};
+use std::alloc::Global;
+
+/// Reads the plan to the end of its source, and compares so many images with it.
+#[tactic(auto, using(crate::proofs::Plans::reading_ends, crate::proofs::Plans::plan_ends, crate::proofs::Plans::disagrees, crate::proofs::Plans::is_prepared, crate::proofs::Plans::few_lengths))]
+pub(crate) fn prepare<S: Source, I: Images>(
+    alloc: Global,
+    source: &mut S,
+    images: &I,
+    names: usize,
+) -> Result<Plan, Stop>
+    requires attached { length (I.seen images.now).attached ≡ min names 65536 }
+    ensures plan { IfOk result IsPlan }
+    ensures agrees { IfOk result (λ plan. plan_fault_of plan names (I.seen images.now).attached ≡ None) }
+    ensures prepared { IfOk result (IsPrepared (S.left source.old) names (I.seen images.now).attached) }
+    ensures ends { IfErr result (EndsPreparing (S.left source.old) names (I.seen images.now).attached (S.faults source.old) (S.faults source.new)) }
+    ensures later { S.faults source.old ≤ S.faults source.new }
+{
+    let text = read_all(alloc, source)?;
+    let plan = read_plan(alloc, &text)?;
+    match plan_fault(images, names, &plan) {
+        Some(fault) => Err(Stop::Images(fault)),
+        None => Ok(plan),
+    }
+}

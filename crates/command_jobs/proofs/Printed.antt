@@ -4,7 +4,7 @@ use Rattle.std.specs.Io.KnownBytes.{Appends, Keeps}
 use Rattle.std.proofs.lemmas.List.{append-nil}
 use Rattle.image_source.specs.Causes.{Rose}
 use Rattle.image_source.specs.Streams.{AppendsFront}
-use Rattle.command_jobs.specs.Jobs.{Answered, Counts, Ends, IsPrinted, Leaves, MayHavePut, MayHaveRead}
+use Rattle.command_jobs.specs.Jobs.{Counts, Ends, HasCauses, Refuses, IsPrinted, Leaves, MayHavePut, MayHaveRead}
 use Rattle.command_jobs.specs.Stops.{EndsBy, IsExcused}
 use Rattle.command_jobs.specs.declared.stop.Stop.{Stop}
 use Rattle.command_jobs.specs.declared.stop.Stop.TheVariants.{PlanIsLong, Images, Many, Cursor, Set, Slot, Sector, ImageFault, PlanFault, OutFault, NotBuilt, OutOfMemory}
@@ -31,10 +31,10 @@ fronts_if None old new text is h = tt
 fronts_if (Some p) old new text is h = subst (λ t. AppendsFront old new t) is h
 
 -- an answer, and its printing
-pub ends_printed : {T : Type 0} (refused : Option Stop) (printed : Option (List ℕ)) (counts now : Counts) (old new : Option (List ℕ)) (before after : ℕ) (answer : Result (List ℕ) Stop) (result : Result T Stop) →
-    Answered refused counts now answer → IfOk answer (λ text. IfSome printed (λ p. text ≡ p)) → IsPrinted old new before after answer result → Ends refused printed old new result
-ends_printed refused printed counts now old new before after (Err stop) (Ok x) answered text is = absurd (let e = is.0 in cc)
-ends_printed refused printed counts now old new before after (Err stop) (Err other) answered text is =
+pub ends_printed : {T : Type 0} (refused : Option Stop) (printed : Option (List ℕ)) (old new : Option (List ℕ)) (before after : ℕ) (answer : Result (List ℕ) Stop) (result : Result T Stop) →
+    Refuses refused answer → IfOk answer (λ text. IfSome printed (λ p. text ≡ p)) → IsPrinted old new before after answer result → Ends refused printed old new result
+ends_printed refused printed old new before after (Err stop) (Ok x) answered text is = absurd (let e = is.0 in cc)
+ends_printed refused printed old new before after (Err stop) (Err other) answered text is =
     let same : other ≡ stop = let e = is.0 in cc in
     record {
       ends = subst (EndsBy refused) (sym same) answered.ends;
@@ -42,13 +42,13 @@ ends_printed refused printed counts now old new before after (Err stop) (Err oth
       puts = tt;
       front = subst (λ gained. IfSome printed (λ p. AppendsFront old gained p)) (sym is.1) (front_if printed old);
     }
-ends_printed refused printed counts now old new before after (Ok text) (Ok x) answered told is = record {
+ends_printed refused printed old new before after (Ok text) (Ok x) answered told is = record {
   ends = tt;
   passes = answered.passes;
   puts = appends_if printed old new text told is;
   front = tt;
 }
-ends_printed refused printed counts now old new before after (Ok text) (Err stop) answered told is = record {
+ends_printed refused printed old new before after (Ok text) (Err stop) answered told is = record {
   ends = inl (subst IsExcused (sym is.0) tt);
   passes = tt;
   puts = tt;
@@ -59,10 +59,10 @@ ends_printed refused printed counts now old new before after (Ok text) (Err stop
 abbrev pub with_out : Counts → ℕ → Counts
 with_out counts out = record { images = counts.images; plan = counts.plan; out = out; sectors = counts.sectors }
 
-pub leaves_printed : {T : Type 0} (streams : Bool) (refused : Option Stop) (counts now : Counts) (old new : Option (List ℕ)) (before after : ℕ) (answer : Result (List ℕ) Stop) (result : Result T Stop) →
-    Answered refused counts now answer → IsPrinted old new before after answer result → before ≤ after → Leaves streams (with_out counts before) (with_out now after) old new result
-leaves_printed streams refused counts now old new before after (Err stop) (Ok x) answered is later = absurd (let e = is.0 in cc)
-leaves_printed streams refused counts now old new before after (Err stop) (Err other) answered is later =
+pub leaves_printed : {T : Type 0} (streams : Bool) (counts now : Counts) (old new : Option (List ℕ)) (before after : ℕ) (answer : Result (List ℕ) Stop) (result : Result T Stop) →
+    HasCauses counts now answer → IsPrinted old new before after answer result → before ≤ after → Leaves streams (with_out counts before) (with_out now after) old new result
+leaves_printed streams counts now old new before after (Err stop) (Ok x) answered is later = absurd (let e = is.0 in cc)
+leaves_printed streams counts now old new before after (Err stop) (Err other) answered is later =
     let same : other ≡ stop = let e = is.0 in cc in
     record {
       image_fault = λ e. answered.image_fault (let f = e in let g : stop ≡ ImageFault = cc in ap (λ (x : Stop). Err x) g);
@@ -74,7 +74,7 @@ leaves_printed streams refused counts now old new before after (Err stop) (Err o
       nothing = λ h. subst (λ gained. Keeps old gained) (sym is.1) (keeps_itself old);
       unread = subst (λ s. (MayHaveRead s → ⊥) → now.sectors ≡ counts.sectors) (sym same) answered.unread;
     }
-leaves_printed streams refused counts now old new before after (Ok text) (Ok x) answered is later = record {
+leaves_printed streams counts now old new before after (Ok text) (Ok x) answered is later = record {
   image_fault = λ e. absurd (cc);
   plan_fault = λ e. absurd (cc);
   out_fault = λ e. absurd (cc);
@@ -84,7 +84,7 @@ leaves_printed streams refused counts now old new before after (Ok text) (Ok x) 
   nothing = tt;
   unread = tt;
 }
-leaves_printed streams refused counts now old new before after (Ok text) (Err stop) answered is later =
+leaves_printed streams counts now old new before after (Ok text) (Err stop) answered is later =
     record {
       image_fault = λ e. absurd (let g = is.0 in let f = e in cc);
       plan_fault = λ e. absurd (let g = is.0 in let f = e in cc);

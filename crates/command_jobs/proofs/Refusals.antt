@@ -4,11 +4,12 @@ use Rattle.std.specs.Option.{is_none, option_map}
 use Rattle.image_source.specs.Seen.{Image}
 use Rattle.raid_params.specs.declared.types.GeoFault.{GeoFault}
 use Rattle.raid_params.specs.declared.types.Geometry.{Geometry}
+use Rattle.raid_params.specs.declared.types.Head.{Head}
 use Rattle.raid_params.specs.Validity.{first_fault, is_shaped, shape_fault, row_fault}
 use Rattle.command_jobs.specs.Agreement.{end_of, limits_fault}
-use Rattle.command_jobs.specs.Jobs.{Answered, Counts, MayHaveRead}
+use Rattle.command_jobs.specs.Jobs.{Counts, HasCauses, MayHaveRead, Refuses}
 use Rattle.command_jobs.specs.Mapping.{map_refusal, sector_refusal, set_refusal}
-use Rattle.command_jobs.specs.Stops.{EndsBy, IsRefusal, first_of}
+use Rattle.command_jobs.specs.Stops.{EndsBy, IsEarly, IsRefusal, first_of}
 use Rattle.command_jobs.specs.declared.agreement.Disagreement.{Disagreement}
 use Rattle.command_jobs.specs.declared.stop.Stop.{Stop}
 use Rattle.command_jobs.specs.declared.stop.Stop.TheVariants.{PlanIsLong, Images, Many, Cursor, Set, Slot, Sector, ImageFault, PlanFault, OutFault, NotBuilt, OutOfMemory}
@@ -59,36 +60,14 @@ ruled_shape set images end e = of_rows (shape_fault set images) e
     of_rows None h = refl
     of_rows (Some fault) h = absurd (cc)
 
--- an answer that is refused before anything is touched
-pub answered_refused : (refused : Option Stop) (counts : Counts) (stop : Stop) → refused ≡ Some stop → IsRefusal stop → Answered {T = List ℕ} refused counts counts (Err stop)
-answered_refused refused counts stop e is = record {
-  ends = inr e;
-  passes = tt;
-  image_fault = λ f. absurd (let g : stop ≡ ImageFault = cc in subst IsRefusal g is);
-  plan_fault = λ f. absurd (let g : stop ≡ PlanFault = cc in subst IsRefusal g is);
-  out_fault = λ f. absurd (let g : stop ≡ OutFault = cc in subst IsRefusal g is);
-  images_later = omega arith;
-  plan_later = omega arith;
-  unread = λ h. refl;
-}
+-- an answer that is refused, or for which memory is wanting, before anything is touched
+early_fault : (stop : Stop) → IsEarly stop → (fault : Stop) → (IsRefusal fault → ⊥) → (fault ≡ OutOfMemory → ⊥) → stop ≡ fault → ⊥
+unfolding IsEarly
+early_fault stop (inl short) fault none other e = other (sym e ∙ short)
+early_fault stop (inr is) fault none other e = none (subst IsRefusal e is)
 
--- or for which memory is wanting
-answered_short : (refused : Option Stop) (counts : Counts) → Answered {T = List ℕ} refused counts counts (Err OutOfMemory)
-answered_short refused counts = record {
-  ends = inl tt;
-  passes = tt;
-  image_fault = λ f. absurd (cc);
-  plan_fault = λ f. absurd (cc);
-  out_fault = λ f. absurd (cc);
-  images_later = omega arith;
-  plan_later = omega arith;
-  unread = λ h. refl;
-}
-
-answered_ok : (refused : Option Stop) (counts : Counts) (text : List ℕ) → refused ≡ None → Answered {T = List ℕ} refused counts counts (Ok text)
-answered_ok refused counts text none = record {
-  ends = tt;
-  passes = none;
+pub nothing_touched : (counts : Counts) (r : Result (List ℕ) Stop) → IfErr r IsEarly → HasCauses counts counts r
+nothing_touched counts (Ok text) is = record {
   image_fault = λ f. absurd (cc);
   plan_fault = λ f. absurd (cc);
   out_fault = λ f. absurd (cc);
@@ -96,19 +75,43 @@ answered_ok refused counts text none = record {
   plan_later = omega arith;
   unread = tt;
 }
+nothing_touched counts (Err stop) is = record {
+  image_fault = λ f. absurd (early_fault stop is ImageFault (λ h. h) (λ h. absurd (cc)) (cc));
+  plan_fault = λ f. absurd (early_fault stop is PlanFault (λ h. h) (λ h. absurd (cc)) (cc));
+  out_fault = λ f. early_fault stop is OutFault (λ h. h) (λ h. absurd (cc)) (cc);
+  images_later = omega arith;
+  plan_later = omega arith;
+  unread = λ h. refl;
+}
 
-pub map_set_refused : (set : Geometry) (sector : ℕ) (end : Option ℕ) (names : ℕ) (attached : List Image) (counts : Counts) (stop : Stop) → set_refusal set end names attached ≡ Some stop → IsRefusal stop →
-    Answered {T = List ℕ} (map_refusal set sector end names attached) counts counts (Err stop)
-map_set_refused set sector end names attached counts stop e is =
-    answered_refused (map_refusal set sector end names attached) counts stop (set_refused set sector end names attached stop e) is
+pub refuses_first : (refused : Option Stop) (stop : Stop) → refused ≡ Some stop → Refuses {T = List ℕ} refused (Err stop)
+refuses_first refused stop e = record { ends = inr e; passes = tt }
 
-pub map_answered : (set : Geometry) (sector : ℕ) (end : Option ℕ) (names last : ℕ) (attached : List Image) (counts : Counts) (r : Result (List ℕ) Stop) → set_refusal set end names attached ≡ None → last ≡ end_of end attached →
+pub refuses_none : (refused : Option Stop) (text : List ℕ) → refused ≡ None → Refuses {T = List ℕ} refused (Ok text)
+refuses_none refused text none = record { ends = tt; passes = none }
+
+pub map_set_refused : (set : Geometry) (sector : ℕ) (end : Option ℕ) (names : ℕ) (attached : List Image) (stop : Stop) → set_refusal set end names attached ≡ Some stop →
+    Refuses {T = List ℕ} (map_refusal set sector end names attached) (Err stop)
+map_set_refused set sector end names attached stop e =
+    refuses_first (map_refusal set sector end names attached) stop (set_refused set sector end names attached stop e)
+
+pub map_answered : (set : Geometry) (sector : ℕ) (end : Option ℕ) (names last : ℕ) (attached : List Image) (r : Result (List ℕ) Stop) → set_refusal set end names attached ≡ None → last ≡ end_of end attached →
     OnOk r (sector_refusal set.head sector last ≡ None) → IfErr r (λ stop. (stop ≡ OutOfMemory) ⊎ ((sector_refusal set.head sector last ≡ Some stop) × IsRefusal stop)) →
-    Answered (map_refusal set sector end names attached) counts counts r
-map_answered set sector end names last attached counts (Ok text) none is allowed refused =
-    answered_ok (map_refusal set sector end names attached) counts text (map_allowed set sector end names attached none (subst (λ n. sector_refusal set.head sector n ≡ None) is allowed))
-map_answered set sector end names last attached counts (Err stop) none is allowed (inl short) =
-    subst (λ s. Answered {T = List ℕ} (map_refusal set sector end names attached) counts counts (Err s)) (sym short) (answered_short (map_refusal set sector end names attached) counts)
-map_answered set sector end names last attached counts (Err stop) none is allowed (inr refused) =
-    answered_refused (map_refusal set sector end names attached) counts stop
-    (sector_refused set sector end names attached stop none (subst (λ n. sector_refusal set.head sector n ≡ Some stop) is refused.0)) refused.1
+    Refuses (map_refusal set sector end names attached) r
+map_answered set sector end names last attached (Ok text) none is allowed refused =
+    refuses_none (map_refusal set sector end names attached) text (map_allowed set sector end names attached none (subst (λ n. sector_refusal set.head sector n ≡ None) is allowed))
+map_answered set sector end names last attached (Err stop) none is allowed (inl short) =
+    subst (λ s. Refuses {T = List ℕ} (map_refusal set sector end names attached) (Err s)) (sym short) (record { ends = inl tt; passes = tt })
+map_answered set sector end names last attached (Err stop) none is allowed (inr refused) =
+    refuses_first (map_refusal set sector end names attached) stop
+    (sector_refused set sector end names attached stop none (subst (λ n. sector_refusal set.head sector n ≡ Some stop) is refused.0))
+
+pub early_of : (head : Head) (sector last : ℕ) (r : Result (List ℕ) Stop) → IfErr r (λ stop. (stop ≡ OutOfMemory) ⊎ ((sector_refusal head sector last ≡ Some stop) × IsRefusal stop)) → IfErr r IsEarly
+unfolding IsEarly
+early_of head sector last (Ok text) refused = tt
+early_of head sector last (Err stop) (inl short) = inl short
+early_of head sector last (Err stop) (inr refused) = inr refused.1
+
+pub early_refusal : (stop : Stop) → IsRefusal stop → IsEarly stop
+unfolding IsEarly
+early_refusal stop is = inr is

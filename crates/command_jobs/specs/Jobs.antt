@@ -52,11 +52,13 @@ pub record Leaves {T : Type 0} (streams : Bool) (before after : Counts) (old new
   pub nothing : IfErr result (λ stop. (MayHavePut streams stop → ⊥) → Keeps old new)
   pub unread : IfErr result (λ stop. (MayHaveRead stop → ⊥) → after.sectors ≡ before.sectors)
 
--- how an answer is found, before anything is put: its first refusal, the causes of faults, and that
--- nothing is read before the job itself
-pub record Answered {T : Type 0} (refused : Option Stop) (before after : Counts) (result : Result T Stop) : Type 0 where
+-- an answer that is found before anything is put, where the first refusal is this
+pub record Refuses {T : Type 0} (refused : Option Stop) (result : Result T Stop) : Type 0 where
   pub ends : IfErr result (EndsBy refused)
   pub passes : OnOk result (refused ≡ None)
+
+-- and the causes of faults; nothing is read before the job itself
+pub record HasCauses {T : Type 0} (before after : Counts) (result : Result T Stop) : Type 0 where
   pub image_fault : IsErrOf result ImageFault → Rose before.images after.images
   pub plan_fault : IsErrOf result PlanFault → Rose before.plan after.plan
   pub out_fault : IsErrOf result OutFault → ⊥

@@ -95,6 +95,10 @@ IsRefusal OutFault = ⊥
 IsRefusal OutOfMemory = ⊥
 IsRefusal _ = Unit {0}
 
+-- a stop that comes before anything outside is touched
+unfoldable pub IsEarly : Stop → Type 0
+IsEarly stop = (stop ≡ OutOfMemory) ⊎ IsRefusal stop
+
 -- it ends by the refusal, unless it is excused
 abbrev pub EndsBy : Option Stop → Stop → Type 0
 EndsBy refused stop = IsExcused stop ⊎ (refused ≡ Some stop)

@@ -1,9 +1,9 @@
 // The command `map`.
 ghost use Rattle.std.specs.Prelude.{◌≡◌, ◌<◌, ◌≤◌, ◌+◌, ◌++◌, ◌^◌, ◌⊎◌, All, IfErr, IfOk, IfSome, IsTrue, None, OnOk, Some, codes, decimal, false, length, min, slice_index_or, unwrap_or};
 ghost use Rattle.command_jobs.specs.Agreement.{end_of as end_of_images};
-ghost use Rattle.command_jobs.specs.Jobs.{Answered, Ends, Leaves};
+ghost use Rattle.command_jobs.specs.Jobs.{Ends, Leaves, Refuses};
 ghost use Rattle.command_jobs.specs.Mapping.{map_refusal, map_text as map_text_of, name_line, or_dash, place_line, sector_refusal, set_refusal};
-ghost use Rattle.command_jobs.specs.Stops.{IsRefusal};
+ghost use Rattle.command_jobs.specs.Stops.{IsEarly, IsRefusal};
 ghost use Rattle.plan_text.specs.SetText.{HasWord};
 ghost use Rattle.raid_params.specs.Validity.{first_fault, is_valid_head};
 ghost use Rattle.raid_layouts.specs.Names.{name_of};
@@ -23,7 +23,7 @@ use std::alloc::Global;
 /// Prints where a sector of the volume of a set lies, whole or not at all. `names` is the number of
 /// images; `end` is the image sector after the last one of the members, or None for the shortest
 /// image's.
-#[tactic(auto, using(crate::proofs::Printed::ends_printed, crate::proofs::Printed::leaves_printed))]
+#[tactic(auto, using(crate::proofs::Printed::ends_printed))]
 pub fn map<I: Images, K: Sink>(
     alloc: Global,
     images: &I,
@@ -61,9 +61,8 @@ fn answer<I: Images>(
     requires set { HasWord set.now }
     requires end { IfSome end (λ sector. sector < 2 ^ 55) }
     ensures text { IfOk result (λ text. text ≡ map_text_of set.now sector) }
-    ensures answered { Answered (map_refusal set.now sector end names (I.seen images.now).attached)
-        (record { images = (I.seen images.now).faults; plan = 0; out = 0; sectors = (I.seen images.now).sectors_read })
-        (record { images = (I.seen images.now).faults; plan = 0; out = 0; sectors = (I.seen images.now).sectors_read }) result }
+    ensures refuses { Refuses (map_refusal set.now sector end names (I.seen images.now).attached) result }
+    ensures early { IfErr result IsEarly }
 {
     match checked_end(images, names, set, end) {
         Ok(end) => located(alloc, set, sector, end),

@@ -1,7 +1,9 @@
 pub mod Homes
 pub mod Lengths
+pub mod Listed
 pub mod OneByOne
 pub mod Plans
+pub mod Prepared
 pub mod Printed
 pub mod Refusals
 pub mod Taking

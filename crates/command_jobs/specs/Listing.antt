@@ -6,6 +6,7 @@ use Rattle.std.specs.declared.option.Option.{Option}
 use Rattle.std.specs.declared.option.Option.TheVariants.{None, Some}
 use Rattle.image_source.specs.Seen.{Image}
 use Rattle.raid_terms.specs.Page.{page_next, page_ranks}
+use Rattle.page_engine.specs.declared.paging.ListPage.{ListPage}
 use Rattle.page_engine.specs.Sets.{passes_at, sets_of, total_of}
 use Rattle.plan_text.specs.SetText.{set_line}
 use Rattle.plan_text.specs.Spelling.{line}
@@ -35,6 +36,10 @@ unfoldable pub listing : List (List ℕ) → Plan → ℕ → ℕ → ℕ → Li
 listing images plan from size span =
     flat_map (line_of plan) (page_ranks (passes_at images plan) (total_of plan) from size span)
     ++ next_line (page_next (passes_at images plan) (total_of plan) from size span) (total_of plan)
+
+-- the bytes of a page: its lines, then where the next one begins
+abbrev pub page_text : ListPage → List ℕ
+page_text page = flat_map (λ held. set_line held.rank held.geo) page.lines ++ next_line page.next page.total
 
 -- what `list` prints, over a plan and the bytes of the images where they are told
 abbrev pub list_output : ℕ → ℕ → ℕ → Option Plan → Option (List (List ℕ)) → Option (List ℕ)

@@ -5,6 +5,8 @@ use Rattle.std.specs.declared.option.Option.TheVariants.{None, Some}
 use Rattle.raid_params.specs.declared.types.GeoFault.{GeoFault}
 use Rattle.raid_params.specs.declared.types.GeoFault.TheVariants.{Members, Pattern, Syndrome, Chunk, Image, Repeat, Missing, NoRow}
 use Rattle.plan_text.specs.PlanText.{pattern_place, syndrome_place}
+use Rattle.page_engine.specs.declared.paging.PageFault.{PageFault}
+use Rattle.page_engine.specs.declared.paging.PageFault.TheVariants.{Many as PageMany, Cursor as PageCursor, ReadFault, Memory as PageMemory}
 use Rattle.plan_text.specs.declared.plan.PlanFault.{PlanFault as FaultOfPlan}
 use Rattle.plan_text.specs.declared.plan.PlanFault.TheVariants.{NotBuilt as PlanNotBuilt, Memory as PlanMemory}
 use Rattle.command_jobs.specs.declared.agreement.Kind.{Kind}
@@ -53,6 +55,13 @@ status_of OutOfMemory = 20
 abbrev pub stop_of_plan : FaultOfPlan → Stop
 stop_of_plan PlanNotBuilt = NotBuilt
 stop_of_plan PlanMemory = OutOfMemory
+
+-- the stop of a page
+abbrev pub stop_of_page : PageFault → Stop
+stop_of_page PageMany = Many
+stop_of_page (PageCursor fault) = Cursor fault
+stop_of_page ReadFault = ImageFault
+stop_of_page PageMemory = OutOfMemory
 
 -- what of the images disagrees, as it is printed
 abbrev pub kind_text : Kind → List ℕ

@@ -7,6 +7,7 @@
 
 mod agreement;
 mod attaching;
+mod listing;
 mod mapping;
 mod preparing;
 mod printing;
@@ -15,6 +16,7 @@ mod stop;
 
 pub use agreement::{Disagreement, Kind};
 pub use attaching::attach_front;
+pub use listing::list;
 pub use mapping::map;
 pub use reading::read_all;
-pub use stop::{CursorFault, SectorFault, Stop};
+pub use stop::{SectorFault, Stop};

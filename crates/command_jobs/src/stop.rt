@@ -1,6 +1,6 @@
 // Why a run ends without its answer.
 ghost use Rattle.std.specs.Prelude.{◌≡◌, ◌≤◌, ◌+◌, ◌++◌, codes, decimal, length};
-ghost use Rattle.command_jobs.specs.Stops.{kind_text as kind_text_of, note_of, rule_of, status_of, stop_of_plan, value_of};
+ghost use Rattle.command_jobs.specs.Stops.{kind_text as kind_text_of, note_of, rule_of, status_of, stop_of_page, stop_of_plan, value_of};
 ghost use Rattle.command_jobs.specs.declared.stop.Stop.TheVariants.{Images as ImagesOf, Cursor as CursorOf, OutOfMemory, Sector as SectorOf};
 ghost use Rattle.plan_text.specs.PlanText.{pattern_place as pattern_place_of, syndrome_place as syndrome_place_of};
 
@@ -8,15 +8,9 @@ use crate::agreement::{Disagreement, Kind};
 use arrayvec::ArrayString;
 use image_source::Memory;
 use itoa::Buffer;
+use page_engine::{CursorFault, PageFault};
 use plan_text::PlanFault;
 use raid_params::{GeoFault, Pattern, Syndrome};
-
-/// The first rank asked for, which is past the total.
-#[derive(Clone, Copy)]
-pub struct CursorFault {
-    pub from: u64,
-    pub total: u64,
-}
 
 /// A sector asked for, which is past the end of the volume.
 #[derive(Clone, Copy)]
@@ -73,6 +67,19 @@ impl From<PlanFault> for Stop {
         match fault {
             PlanFault::NotBuilt => Stop::NotBuilt,
             PlanFault::Memory => Stop::OutOfMemory,
+        }
+    }
+}
+
+impl From<PageFault> for Stop {
+    ghost from_gives = { λ fault stop. stop ≡ stop_of_page fault };
+
+    fn from(fault: PageFault) -> Stop {
+        match fault {
+            PageFault::Many => Stop::Many,
+            PageFault::Cursor(fault) => Stop::Cursor(fault),
+            PageFault::ReadFault => Stop::ImageFault,
+            PageFault::Memory => Stop::OutOfMemory,
         }
     }
 }

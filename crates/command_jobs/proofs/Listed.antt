@@ -1,0 +1,110 @@
+-- The bytes of a page are the listing.
+use Rattle.std.proofs.Common.{◌≡◌, ℕ, List, [], ◌∷◌, ◌++◌, map, refl, sym, ap, ◌∙◌, subst, Option, Some, None, All, IfSome, slice_get, Bool, cond, true, false, nat_le, nat_lt, ◌<◌, ◌≤◌, ◌^◌, ◌⊎◌, Result, Ok, Err, IfErr, IsErrOf, inl, inr, arith}
+use Rattle.std.specs.List.{flat_map}
+use Rattle.std.specs.Option.{option_map_or}
+use Rattle.std.proofs.lemmas.List.Elements.{All-head, All-tail}
+use Rattle.image_source.specs.Causes.{Rose}
+use Rattle.image_source.specs.Seen.{Seen}
+use Rattle.std.proofs.lemmas.Bool.{cases_lt, lt-ltb, le-ltb, le-leb}
+use Rattle.std.proofs.lemmas.Bool.Decides.{nat_tests}
+use Rattle.page_engine.specs.declared.paging.PageFault.{PageFault}
+use Rattle.page_engine.specs.declared.paging.PageFault.TheVariants.{Many as PageMany, Cursor as PageCursor, ReadFault, Memory as PageMemory}
+use Rattle.command_jobs.specs.Jobs.{HasCauses, Refuses}
+use Rattle.command_jobs.specs.Plans.{IsTextOf, many_refusal}
+use Rattle.command_jobs.specs.Stops.{first_of, stop_of_page}
+use Rattle.command_jobs.specs.declared.stop.Stop.{Stop}
+use Rattle.command_jobs.specs.declared.stop.Stop.TheVariants.{Many, Cursor, ImageFault, PlanFault, OutFault, OutOfMemory}
+use Rattle.raid_terms.specs.Page.{page_next, page_ranks}
+use Rattle.plan_text.specs.SetText.{set_line}
+use Rattle.plan_text.specs.declared.plan.Plan.{Plan}
+use Rattle.page_engine.specs.Sets.{AgreeWith, EndsPage, HoldsSet, IsPageOf, passes_at, sets_of, total_of}
+use Rattle.command_jobs.specs.Listing.{cursor_refusal, line_of, list_output, list_refusal, listing, next_line, page_text}
+use Rattle.page_engine.specs.declared.paging.Line.{Line}
+use Rattle.page_engine.specs.declared.paging.ListPage.{ListPage}
+
+-- lines that hold their sets
+lines_of : (plan : Plan) (lines : List Line) → All (HoldsSet plan) lines → flat_map (line_of plan) (map (λ (held : Line). held.rank) lines) ≡ flat_map (λ (held : Line). set_line held.rank held.geo) lines
+unfolding line_of
+lines_of plan [] all = refl
+lines_of plan (held ∷ lines) all =
+    let here : slice_get (sets_of plan) held.rank ≡ Some held.geo = All-head (HoldsSet plan) held lines all in
+    ap (λ found. option_map_or (set_line held.rank) found [] ++ flat_map (line_of plan) (map (λ (one : Line). one.rank) lines)) here
+    ∙ ap (λ xs. set_line held.rank held.geo ++ xs) (lines_of plan lines (All-tail (HoldsSet plan) held lines all))
+
+page_is : (bytes : List (List ℕ)) (plan : Plan) (from size span : ℕ) (page : ListPage) → IsPageOf bytes plan from size span page → All (HoldsSet plan) page.lines → page.total ≡ total_of plan →
+    page_text page ≡ listing bytes plan from size span
+unfolding listing
+page_is bytes plan from size span page is all total =
+    ap (λ xs. xs ++ next_line page.next page.total) (sym (lines_of plan page.lines all) ∙ ap (flat_map (line_of plan)) is.front)
+    ∙ ap (λ (n : ℕ). flat_map (line_of plan) (page_ranks (passes_at bytes plan) (total_of plan) from size span) ++ next_line n page.total) is.goes_on
+    ∙ ap (λ (t : ℕ). flat_map (line_of plan) (page_ranks (passes_at bytes plan) (total_of plan) from size span) ++ next_line (page_next (passes_at bytes plan) (total_of plan) from size span) t) total
+
+pub page_printed : (told : Option (List (List ℕ))) (plan : Plan) (from size span : ℕ) (page : ListPage) (text : List ℕ) →
+    IfSome told (λ bytes. IsPageOf bytes plan from size span page) → All (HoldsSet plan) page.lines → page.total ≡ total_of plan → text ≡ page_text page →
+    IfSome told (λ bytes. text ≡ listing bytes plan from size span)
+page_printed None plan from size span page text is all total e = tt
+page_printed (Some bytes) plan from size span page text is all total e = e ∙ page_is bytes plan from size span page is all total
+
+lt-leb : (a b : ℕ) → a < b → nat_le b a ≡ false
+lt-leb a b lt = grind (arith, nat_tests)
+
+-- sets and ranks in range are not refused
+allowed : (plan : Plan) (from : ℕ) → total_of plan < 2 ^ 64 → from ≤ total_of plan → first_of (many_refusal plan ∷ cursor_refusal from plan ∷ []) ≡ None
+allowed plan from low in_range =
+    ap (λ (t : Bool). first_of (cond t (Some Many) None ∷ cursor_refusal from plan ∷ [])) (lt-leb (total_of plan) (2 ^ 64) low)
+    ∙ ap (λ (t : Bool). first_of (cond t (Some (Cursor (record { from = from; total = total_of plan }))) None ∷ [])) (le-ltb (total_of plan) from in_range)
+
+many_first : (plan : Plan) (from : ℕ) → 2 ^ 64 ≤ total_of plan → first_of (many_refusal plan ∷ cursor_refusal from plan ∷ []) ≡ Some Many
+many_first plan from high = ap (λ (t : Bool). first_of (cond t (Some Many) None ∷ cursor_refusal from plan ∷ [])) (le-leb (2 ^ 64) (total_of plan) high)
+
+cursor_first : (plan : Plan) (from : ℕ) → total_of plan < 2 ^ 64 → total_of plan < from →
+    first_of (many_refusal plan ∷ cursor_refusal from plan ∷ []) ≡ Some (Cursor (record { from = from; total = total_of plan }))
+cursor_first plan from low past =
+    ap (λ (t : Bool). first_of (cond t (Some Many) None ∷ cursor_refusal from plan ∷ [])) (lt-leb (total_of plan) (2 ^ 64) low)
+    ∙ ap (λ (t : Bool). first_of (cond t (Some (Cursor (record { from = from; total = total_of plan }))) None ∷ [])) (lt-ltb (total_of plan) from past)
+
+-- a page that is there is not refused
+pub page_allowed : (plan : Plan) (from : ℕ) (page : ListPage) → (2 ^ 64 ≤ total_of plan → IsErrOf (Ok page) PageMany) →
+    (total_of plan < 2 ^ 64 → total_of plan < from → IsErrOf (Ok page) (PageCursor (record { from = from; total = total_of plan }))) →
+    first_of (many_refusal plan ∷ cursor_refusal from plan ∷ []) ≡ None
+page_allowed plan from page many cursor =
+    elim (cases_lt (total_of plan) (2 ^ 64)) [
+      inl low ↦ elim (cases_lt (total_of plan) from) [
+          inl past ↦ absurd (let e = cursor low past in cc)
+        | inr in_range ↦ allowed plan from low in_range ]
+    | inr high ↦ absurd (let e = many high in cc) ]
+
+-- a page that is not there is refused, or the outside or memory is the cause
+pub page_refuses : {T : Type 0} (plan : Plan) (from : ℕ) (old new : Seen) (fault : PageFault) → (total_of plan < 2 ^ 64 ⊎ (fault ≡ PageMany)) →
+    EndsPage plan from old new fault → Refuses {T = T} (first_of (many_refusal plan ∷ cursor_refusal from plan ∷ [])) (Err (stop_of_page fault))
+page_refuses plan from old new PageMany known ends = record { ends = inr (many_first plan from ends.0); passes = tt }
+page_refuses plan from old new (PageCursor fault) (inl low) ends = record { ends = inr (cursor_first plan from low ends.0 ∙ sym (ap (λ f. Some (Cursor f)) ends.1)); passes = tt }
+page_refuses plan from old new (PageCursor fault) (inr other) ends = absurd (cc)
+page_refuses plan from old new ReadFault known ends = record { ends = inl tt; passes = tt }
+page_refuses plan from old new PageMemory known ends = record { ends = inl tt; passes = tt }
+
+pub page_known : (plan : Plan) (fault : PageFault) → (2 ^ 64 ≤ total_of plan → IsErrOf {T = ListPage} (Err fault) PageMany) → (total_of plan < 2 ^ 64) ⊎ (fault ≡ PageMany)
+page_known plan fault many =
+    elim (cases_lt (total_of plan) (2 ^ 64)) [
+      inl low ↦ inl low
+    | inr high ↦ inr (let e = many high in cc) ]
+
+-- what its fault says of the images
+pub page_causes : {T : Type 0} (plan : Plan) (from : ℕ) (old new : Seen) (fault : PageFault) → EndsPage plan from old new fault → old.faults ≤ new.faults →
+    HasCauses {T = T} (record { images = old.faults; plan = 0; out = 0; sectors = old.sectors_read }) (record { images = new.faults; plan = 0; out = 0; sectors = new.sectors_read }) (Err (stop_of_page fault))
+page_causes plan from old new PageMany ends later = record {
+  image_fault = λ f. absurd (cc); plan_fault = λ f. absurd (cc); out_fault = λ f. absurd (cc); images_later = later; plan_later = omega arith;
+  unread = λ h. ap (λ (s : Seen). s.sectors_read) ends.1;
+}
+page_causes plan from old new (PageCursor fault) ends later = record {
+  image_fault = λ f. absurd (cc); plan_fault = λ f. absurd (cc); out_fault = λ f. absurd (cc); images_later = later; plan_later = omega arith;
+  unread = λ h. ap (λ (s : Seen). s.sectors_read) ends.2;
+}
+page_causes plan from old new ReadFault ends later = record {
+  image_fault = λ f. ends; plan_fault = λ f. absurd (cc); out_fault = λ f. absurd (cc); images_later = later; plan_later = omega arith;
+  unread = λ h. absurd (h tt);
+}
+page_causes plan from old new PageMemory ends later = record {
+  image_fault = λ f. absurd (cc); plan_fault = λ f. absurd (cc); out_fault = λ f. absurd (cc); images_later = later; plan_later = omega arith;
+  unread = λ h. absurd (h tt);
+}

@@ -1,8 +1,9 @@
 -- What the words of a command line say.
-use Rattle.std.specs.Prelude.{ℕ, ◌-◌, ◌≡◌, ◌^◌, ◌+◌, true, List, [], ◌∷◌, ◌++◌, length, map, All, codes, if◌then◌else◌, unwrap_or, option_and_then, option_map, IfSome}
+use Rattle.std.specs.Prelude.{ℕ, ◌-◌, ◌≡◌, ◌≤◌, ◌<◌, ◌^◌, ◌+◌, true, List, [], ◌∷◌, ◌++◌, length, map, drop, All, codes, if◌then◌else◌, unwrap_or, option_and_then, option_map, IfSome}
 use Rattle.std.specs.declared.option.Option.{Option}
 use Rattle.std.specs.declared.option.Option.TheVariants.{None, Some}
 use Rattle.std.specs.Str.{bytes_eq}
+use Rattle.plan_text.specs.SetText.{HasWord}
 use Rattle.command_words.specs.declared.command.Command.{Command}
 use Rattle.command_words.specs.declared.command.Command.TheVariants.{List as ListCommand, Check as CheckCommand, Map as MapCommand, Write as WriteCommand, Rebuild as RebuildCommand}
 use Rattle.command_words.specs.declared.command.Kind.{Kind}
@@ -67,3 +68,23 @@ pub record ReadsWords (words : List (List ℕ)) (result : Option Command) : Type
 pub record ReadsOn (kind : Kind) (given : Given) (place : ℕ) (words : List (List ℕ)) (result : Option Command) : Type 0 where
   pub sound : IfSome result (GoOn kind given place words)
   pub whole : (command : Command) → GoOn kind given place words command → result ≡ Some command
+
+-- how many words a command has up to the names of its images
+abbrev pub names_of : Command → ℕ
+names_of (ListCommand from size span names) = names
+names_of (CheckCommand set names) = names
+names_of (MapCommand set sector end names) = names
+names_of (WriteCommand set end names) = names
+names_of (RebuildCommand set slot end names) = names
+
+-- the values of a command are within the limits of its operands
+abbrev pub IsWithin : Command → Type 0
+IsWithin (ListCommand from size span names) = 1 ≤ size
+IsWithin (CheckCommand set names) = HasWord set
+IsWithin (MapCommand set sector end names) = HasWord set × IfSome end (λ n. n < 2 ^ 55)
+IsWithin (WriteCommand set end names) = HasWord set × IfSome end (λ n. n < 2 ^ 55)
+IsWithin (RebuildCommand set slot end names) = HasWord set × IfSome end (λ n. n < 2 ^ 55)
+
+-- the names of a command's images are the last words, from the one of this number on
+abbrev pub EndsInNames : List (List ℕ) → Command → Type 0
+EndsInNames words command = (names_of command ≤ length words) × (names_after words ≡ drop (names_of command) words)

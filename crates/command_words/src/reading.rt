@@ -1,6 +1,6 @@
 // Reading the words of a command line.
-ghost use Rattle.std.specs.Prelude.{◌≡◌, ◌<◌, ◌^◌, ◌+◌, length, ◌≢◌, MatchOption};
-ghost use Rattle.command_words.specs.Commands.{ReadsOn, ReadsWords, command_of, kind_word};
+ghost use Rattle.std.specs.Prelude.{◌≡◌, ◌<◌, ◌^◌, ◌+◌, length, ◌≢◌, IfSome, MatchOption};
+ghost use Rattle.command_words.specs.Commands.{EndsInNames, IsWithin, ReadsOn, ReadsWords, command_of, kind_word};
 ghost use Rattle.command_words.specs.declared.command.Kind.{Kind as KindOf};
 ghost use Rattle.command_words.specs.Operands.{ReadsTaken, nothing_given as nothing, takes as takes_operand, with_operand, name_of as name_of_operand};
 
@@ -10,7 +10,17 @@ use crate::word::Word;
 
 /// Reads the words: a command, its operands in any order, each at most once, then `--` and the
 /// names of the images. None exactly where the words are no such list.
+#[tactic(auto, using(crate::proofs::Said::all_within, crate::proofs::Said::all_names))]
 pub fn read_words(words: &[Word]) -> Option<Command>
+    ensures reads { ReadsWords words.now result }
+    ensures within { IfSome result IsWithin }
+    ensures names { IfSome result (EndsInNames words.now) }
+{
+    read_line(words)
+}
+
+/// Reads the words.
+fn read_line(words: &[Word]) -> Option<Command>
     ensures { ReadsWords words.now result }
 {
     match words {

@@ -2,7 +2,7 @@ use Rattle.std.proofs.Common.{◌≡◌, ◌-◌, length, take, drop, refl, subs
 use Rattle.command_words.specs.Commands.{ReadsOn}
 use Rattle.command_words.specs.declared.operands.Given.{Given}
 use Rattle.command_words.proofs.Going.{command_words, split_first}
-use Rattle.command_words.proofs.reading.read_words.Goals as goal
+use Rattle.command_words.proofs.reading.read_line.Goals as goal
 
 pub returns-in_ok-read_kind-in-len1-up : goal.returns-in_ok-read_kind-in-len1-up
 returns-in_ok-read_kind-in-len1-up c =

@@ -7,3 +7,6 @@ pub mod Shaped
 pub mod RankByRank
 pub mod SetTests
 pub mod TestPlans
+pub mod Equal
+pub mod Ranked
+pub mod Uniqueness

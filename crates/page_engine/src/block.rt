@@ -4,6 +4,7 @@ ghost use Rattle.raid_params.specs.declared.limits.TheConstants.{MOST};
 ghost use Rattle.raid_params.specs.Validity.{has_syndrome};
 ghost use Rattle.plan_text.specs.PlanText.{IsPlan, pattern_place as place_of_pattern, syndrome_place as place_of_syndrome};
 ghost use Rattle.page_engine.specs.Blocks.{heads_with, sets_with, suits as suits_level, IsBlock};
+ghost use Rattle.page_engine.specs.Pairs.{pairs};
 ghost use Rattle.page_engine.specs.Sets.{is_same_head, is_same_set};
 
 use crate::pairing::{pair_at, pair_rank, set_rank};
@@ -79,6 +80,14 @@ fn number_rank(numbers: &[u64], number: u64) -> Option<usize>
     numbers.iter().position(|other| number == *other)
 }
 
+// The chunk and the offset of this rank among those of the plan.
+fn end_at(plan: &Plan, rank: u128) -> (u64, u64)
+    requires { rank < length plan.now.bounds.chunks.items * length plan.now.bounds.offsets.items }
+    ensures { slice_get (pairs plan.now.bounds.chunks.items plan.now.bounds.offsets.items) rank ≡ Some result }
+{
+    pair_at(&plan.bounds.chunks, &plan.bounds.offsets, rank)
+}
+
 impl Block {
     // The block of a plan.
     pub(crate) fn of(plan: &Plan, level: Level, members: u8) -> Block
@@ -110,6 +119,14 @@ impl Block {
         starts * ends
     }
 
+    // The pattern and the order of Q of this rank among those of the block.
+    fn start_at(&self, rank: u128) -> (Pattern, Syndrome)
+        requires { rank < length self.now.patterns.items * length self.now.syndromes.items }
+        ensures { slice_get (pairs self.now.patterns.items self.now.syndromes.items) rank ≡ Some result }
+    {
+        pair_at(&self.patterns, &self.syndromes, rank)
+    }
+
     // The head of this rank among those of the block.
     #[tactic(auto, using(crate::proofs::BlockRanks::heads_count, crate::proofs::BlockRanks::head_found, crate::proofs::Pairs::second_some, crate::proofs::Pairs::row_within, crate::proofs::Pairs::column_within))]
     fn head_at(&self, plan: &Plan, rank: u128) -> Head
@@ -119,8 +136,8 @@ impl Block {
         ensures { slice_get (heads_with plan.now.bounds self.now.level self.now.members) rank ≡ Some result }
     {
         let ends = (plan.bounds.chunks.len() * plan.bounds.offsets.len()) as u128;
-        let (pattern, syndrome) = pair_at(&self.patterns, &self.syndromes, rank / ends);
-        let (chunk, offset) = pair_at(&plan.bounds.chunks, &plan.bounds.offsets, rank % ends);
+        let (pattern, syndrome) = self.start_at(rank / ends);
+        let (chunk, offset) = end_at(plan, rank % ends);
         Head {
             level: self.level,
             members: self.members,

@@ -1,7 +1,12 @@
-//! The product of a plan's parameter sets, by rank, and its pages.
+//! The product of a plan: every parameter set within its bounds, in one order.
+//!
+//! A set's rank is its position there. The product is counted, and each set found by its rank and
+//! ranked, from the numbers of values and of slot lists: no set is kept, and none is walked past.
+//! A [`page`] has the sets of a range of ranks whose parity holds on the images.
 #![tactic(auto)]
 
 mod block;
+mod laws;
 mod paging;
 mod pairing;
 mod product;
@@ -9,6 +14,7 @@ mod same;
 mod slot_space;
 mod suits;
 
+pub use laws::{ranks_and_sets_undo, same_sets_are_equal};
 pub use paging::{CursorFault, Line, Lines, ListPage, PageFault, page};
 pub use product::{product_rank, product_set, product_total};
 

@@ -91,18 +91,21 @@ found_passes : (p : ℕ → Bool) (a n at : ℕ) → find p (range_with_len a n)
 found_passes p a zero at h = absurd (cc)
 found_passes p a (suc n) at h =
     elim (cases_Bool (p a)) [
-      inl is ↦ (let e : Some a ≡ Some at = sym (ap (λ (b : Bool). cond b (Some a) (find p (range_with_len (a + 1) n))) is) ∙ h in let same : a ≡ at = cc in ap p (sym same) ∙ is)
-    | inr is ↦ found_passes p (a + 1) n at (sym (ap (λ (b : Bool). cond b (Some a) (find p (range_with_len (a + 1) n))) is) ∙ h) ]
+      | inl is ↦ (let e : Some a ≡ Some at = sym (ap (λ (b : Bool). cond b (Some a) (find p (range_with_len (a + 1) n))) is) ∙ h in let same : a ≡ at = cc in ap p (sym same) ∙ is)
+      | inr is ↦ found_passes p (a + 1) n at (sym (ap (λ (b : Bool). cond b (Some a) (find p (range_with_len (a + 1) n))) is) ∙ h)
+    ]
 
 found_none : (p : ℕ → Bool) (a n k : ℕ) → find p (range_with_len a n) ≡ None → a ≤ k → k < a + n → p k ≡ false
 found_none p a zero k h from to = absurd (omega arith)
 found_none p a (suc n) k h from to =
     elim (cases_Bool (p a)) [
-      inl is ↦ absurd (let e : Some a ≡ None = sym (ap (λ (b : Bool). cond b (Some a) (find p (range_with_len (a + 1) n))) is) ∙ h in cc)
-    | inr is ↦ (let rest : find p (range_with_len (a + 1) n) ≡ None = sym (ap (λ (b : Bool). cond b (Some a) (find p (range_with_len (a + 1) n))) is) ∙ h in
-        elim (cases_lt a k) [
-          inl more ↦ found_none p (a + 1) n k rest (omega arith) (omega arith)
-        | inr same ↦ (let e : a ≡ k = omega arith in ap p (sym e) ∙ is) ]) ]
+      | inl is ↦ absurd (let e : Some a ≡ None = sym (ap (λ (b : Bool). cond b (Some a) (find p (range_with_len (a + 1) n))) is) ∙ h in cc)
+      | inr is ↦ (let rest : find p (range_with_len (a + 1) n) ≡ None = sym (ap (λ (b : Bool). cond b (Some a) (find p (range_with_len (a + 1) n))) is) ∙ h in
+          elim (cases_lt a k) [
+            | inl more ↦ found_none p (a + 1) n k rest (omega arith) (omega arith)
+            | inr same ↦ (let e : a ≡ k = omega arith in ap p (sym e) ∙ is)
+          ])
+    ]
 
 below : (i images : ℕ) → nat_le images i ≡ false → i < images
 below i images h = grind (arith, nat_tests)

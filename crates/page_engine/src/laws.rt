@@ -1,0 +1,13 @@
+// Laws of parameter sets and their ranks.
+ghost use Rattle.page_engine.specs.Laws.{RanksAndSetsUndo, SameSetsAreEqual};
+
+/// Two parameter sets are the same, field by field and slot by slot, exactly where they are equal.
+pub fn same_sets_are_equal()
+    ensures { SameSetsAreEqual }
+{}
+
+/// The set at a rank has that rank, and the set at a set's rank is that set: `product_set` and
+/// `product_rank` undo each other, and no set of a plan stands twice.
+pub fn ranks_and_sets_undo()
+    ensures { RanksAndSetsUndo }
+{}

@@ -1,3 +1,4 @@
+pub mod Checks
 pub mod Homes
 pub mod Lengths
 pub mod Listed

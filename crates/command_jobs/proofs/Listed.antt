@@ -69,10 +69,12 @@ pub page_allowed : (plan : Plan) (from : ℕ) (page : ListPage) → (2 ^ 64 ≤ 
     first_of (many_refusal plan ∷ cursor_refusal from plan ∷ []) ≡ None
 page_allowed plan from page many cursor =
     elim (cases_lt (total_of plan) (2 ^ 64)) [
-      inl low ↦ elim (cases_lt (total_of plan) from) [
-          inl past ↦ absurd (let e = cursor low past in cc)
-        | inr in_range ↦ allowed plan from low in_range ]
-    | inr high ↦ absurd (let e = many high in cc) ]
+      | inl low ↦ elim (cases_lt (total_of plan) from) [
+        | inl past ↦ absurd (let e = cursor low past in cc)
+        | inr in_range ↦ allowed plan from low in_range
+      ]
+      | inr high ↦ absurd (let e = many high in cc)
+    ]
 
 -- a page that is not there is refused, or the outside or memory is the cause
 pub page_refuses : {T : Type 0} (plan : Plan) (from : ℕ) (old new : Seen) (fault : PageFault) → (total_of plan < 2 ^ 64 ⊎ (fault ≡ PageMany)) →
@@ -86,25 +88,42 @@ page_refuses plan from old new PageMemory known ends = record { ends = inl tt; p
 pub page_known : (plan : Plan) (fault : PageFault) → (2 ^ 64 ≤ total_of plan → IsErrOf {T = ListPage} (Err fault) PageMany) → (total_of plan < 2 ^ 64) ⊎ (fault ≡ PageMany)
 page_known plan fault many =
     elim (cases_lt (total_of plan) (2 ^ 64)) [
-      inl low ↦ inl low
-    | inr high ↦ inr (let e = many high in cc) ]
+      | inl low ↦ inl low
+      | inr high ↦ inr (let e = many high in cc)
+    ]
 
 -- what its fault says of the images
 pub page_causes : {T : Type 0} (plan : Plan) (from : ℕ) (old new : Seen) (fault : PageFault) → EndsPage plan from old new fault → old.faults ≤ new.faults →
     HasCauses {T = T} (record { images = old.faults; plan = 0; out = 0; sectors = old.sectors_read }) (record { images = new.faults; plan = 0; out = 0; sectors = new.sectors_read }) (Err (stop_of_page fault))
 page_causes plan from old new PageMany ends later = record {
-  image_fault = λ f. absurd (cc); plan_fault = λ f. absurd (cc); out_fault = λ f. absurd (cc); images_later = later; plan_later = omega arith;
+  image_fault = λ f. absurd (cc);
+  plan_fault = λ f. absurd (cc);
+  out_fault = λ f. absurd (cc);
+  images_later = later;
+  plan_later = omega arith;
   unread = λ h. ap (λ (s : Seen). s.sectors_read) ends.1;
 }
 page_causes plan from old new (PageCursor fault) ends later = record {
-  image_fault = λ f. absurd (cc); plan_fault = λ f. absurd (cc); out_fault = λ f. absurd (cc); images_later = later; plan_later = omega arith;
+  image_fault = λ f. absurd (cc);
+  plan_fault = λ f. absurd (cc);
+  out_fault = λ f. absurd (cc);
+  images_later = later;
+  plan_later = omega arith;
   unread = λ h. ap (λ (s : Seen). s.sectors_read) ends.2;
 }
 page_causes plan from old new ReadFault ends later = record {
-  image_fault = λ f. ends; plan_fault = λ f. absurd (cc); out_fault = λ f. absurd (cc); images_later = later; plan_later = omega arith;
+  image_fault = λ f. ends;
+  plan_fault = λ f. absurd (cc);
+  out_fault = λ f. absurd (cc);
+  images_later = later;
+  plan_later = omega arith;
   unread = λ h. absurd (h tt);
 }
 page_causes plan from old new PageMemory ends later = record {
-  image_fault = λ f. absurd (cc); plan_fault = λ f. absurd (cc); out_fault = λ f. absurd (cc); images_later = later; plan_later = omega arith;
+  image_fault = λ f. absurd (cc);
+  plan_fault = λ f. absurd (cc);
+  out_fault = λ f. absurd (cc);
+  images_later = later;
+  plan_later = omega arith;
   unread = λ h. absurd (h tt);
 }

@@ -66,9 +66,11 @@ pub not_a_plan : (left : Option (List ℕ)) (names : ℕ) (attached : List Image
 unfolding EndsPreparing
 not_a_plan None names attached before now text is short reads = (tt, tt)
 not_a_plan (Some bytes) names attached before now text is short reads =
-    let P : List ℕ → Type 0 = λ xs. (read : Option Plan) (further : Plan → Option Stop) → IsTextOf xs read → plan_refusal xs read names attached further ≡ Some NotBuilt in
-    (tt, subst P is (λ read further says. short_refusal text read names attached further short
-    ∙ ap (λ (r : Option Plan). read_refusal r names attached further) (says_none text read reads says)))
+    let P : List ℕ → Type 0 = λ xs. (read : Option Plan) (further : Plan → Option Stop) → IsTextOf xs read → plan_refusal xs read names attached further ≡ Some NotBuilt in (
+      tt,
+      subst P is (λ read further says. short_refusal text read names attached further short
+          ∙ ap (λ (r : Option Plan). read_refusal r names attached further) (says_none text read reads says)),
+    )
 
 -- the images do not agree
 pub disagrees : (left : Option (List ℕ)) (names : ℕ) (attached : List Image) (before now : ℕ) (text : List ℕ) (plan : Plan) (fault : Disagreement) → IfSome left (λ bytes. text ≡ bytes) → length text ≤ 4194304 → ReadsPlan text (Ok plan) →
@@ -76,10 +78,12 @@ pub disagrees : (left : Option (List ℕ)) (names : ℕ) (attached : List Image)
 unfolding EndsPreparing
 disagrees None names attached before now text plan fault is short reads different = (tt, tt)
 disagrees (Some bytes) names attached before now text plan fault is short reads different =
-    let P : List ℕ → Type 0 = λ xs. (read : Option Plan) (further : Plan → Option Stop) → IsTextOf xs read → plan_refusal xs read names attached further ≡ Some (Images fault) in
-    (tt, subst P is (λ read further says. short_refusal text read names attached further short
-    ∙ ap (λ (r : Option Plan). read_refusal r names attached further) (says_plan text plan read reads says)
-    ∙ ap (λ r. first_of (option_map (λ (f : Disagreement). Images f) r ∷ many_refusal plan ∷ further plan ∷ [])) different))
+    let P : List ℕ → Type 0 = λ xs. (read : Option Plan) (further : Plan → Option Stop) → IsTextOf xs read → plan_refusal xs read names attached further ≡ Some (Images fault) in (
+      tt,
+      subst P is (λ read further says. short_refusal text read names attached further short
+          ∙ ap (λ (r : Option Plan). read_refusal r names attached further) (says_plan text plan read reads says)
+          ∙ ap (λ r. first_of (option_map (λ (f : Disagreement). Images f) r ∷ many_refusal plan ∷ further plan ∷ [])) different),
+    )
 
 -- they agree
 pub is_prepared : (left : Option (List ℕ)) (names : ℕ) (attached : List Image) (text : List ℕ) (plan : Plan) → IfSome left (λ bytes. text ≡ bytes) → length text ≤ 4194304 → ReadsPlan text (Ok plan) →
@@ -87,10 +91,13 @@ pub is_prepared : (left : Option (List ℕ)) (names : ℕ) (attached : List Imag
 is_prepared None names attached text plan is short reads same = tt
 is_prepared (Some bytes) names attached text plan is short reads same =
     let P : List ℕ → Type 0 = λ xs. (read : Option Plan) → IsTextOf xs read →
-        (read ≡ Some plan) × ((further : Plan → Option Stop) → plan_refusal xs read names attached further ≡ first_of (many_refusal plan ∷ further plan ∷ [])) in
-    subst P is (λ read says. (says_plan text plan read reads says, λ further. short_refusal text read names attached further short
-    ∙ ap (λ (r : Option Plan). read_refusal r names attached further) (says_plan text plan read reads says)
-    ∙ ap (λ r. first_of (option_map (λ (f : Disagreement). Images f) r ∷ many_refusal plan ∷ further plan ∷ [])) same))
+    (read ≡ Some plan) × ((further : Plan → Option Stop) → plan_refusal xs read names attached further ≡ first_of (many_refusal plan ∷ further plan ∷ [])) in
+    subst P is (λ read says. (
+      says_plan text plan read reads says,
+      λ further. short_refusal text read names attached further short
+          ∙ ap (λ (r : Option Plan). read_refusal r names attached further) (says_plan text plan read reads says)
+          ∙ ap (λ r. first_of (option_map (λ (f : Disagreement). Images f) r ∷ many_refusal plan ∷ further plan ∷ [])) same,
+    ))
 
 -- a plan has few lengths
 pub few_lengths : (plan : Plan) → IsPlan plan → length plan.lengths.items ≤ 16

@@ -53,6 +53,7 @@ agreed_count plan names attached none = by_count (nat_eq names (length plan.leng
     by_length : (r : Option ℕ) → option_map (length_fault (lengths_of attached) plan.lengths.items) r ≡ None → r ≡ None
     by_length None h = refl
     by_length (Some i) h = absurd (cc)
+
     by_count : (b : Bool) → nat_eq names (length plan.lengths.items) ≡ b →
         cond (not b) (Some (count_fault names (length plan.lengths.items))) (option_map (length_fault (lengths_of attached) plan.lengths.items) (other_length (lengths_of attached) plan.lengths.items)) ≡ None →
         (names ≡ length plan.lengths.items) × (other_length (lengths_of attached) plan.lengths.items ≡ None)
@@ -71,7 +72,6 @@ images_agree plan names attached is long none =
     let count = length-map attached (λ (image : Image). image.sectors) in
     let e : names ≡ length plan.lengths.items = parts.0 in
     lengths_agree (lengths_of attached) plan.lengths.items (omega arith) parts.1
-
 
 -- the counts that are seen of images, and of a source
 abbrev pub counts_of : Seen → ℕ → Counts

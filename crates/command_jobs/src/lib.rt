@@ -7,6 +7,7 @@
 
 mod agreement;
 mod attaching;
+mod checking;
 mod listing;
 mod mapping;
 mod preparing;
@@ -16,6 +17,7 @@ mod stop;
 
 pub use agreement::{Disagreement, Kind};
 pub use attaching::attach_front;
+pub use checking::check;
 pub use listing::list;
 pub use mapping::map;
 pub use reading::read_all;

@@ -129,13 +129,13 @@ line_names words command line =
     let whole : words ≡ kind_word line.kind ∷ (map operand_word on.operands ++ codes "--" ∷ on.names) = line.first ∙ ap (λ ws. kind_word line.kind ∷ ws) on.spelled in
     let k : 1 + length on.operands + 1 ≡ suc (length on.operands + 1) = omega arith in
     let after : names_after words ≡ on.names =
-        ap names_after whole
-        ∙ ap (λ (b : Bool). cond b (map operand_word on.operands ++ codes "--" ∷ on.names) (names_after (map operand_word on.operands ++ codes "--" ∷ on.names))) (kind_no_dashes line.kind)
-        ∙ names_past on.operands on.names in
+    ap names_after whole
+    ∙ ap (λ (b : Bool). cond b (map operand_word on.operands ++ codes "--" ∷ on.names) (names_after (map operand_word on.operands ++ codes "--" ∷ on.names))) (kind_no_dashes line.kind)
+    ∙ names_past on.operands on.names in
     let dropped : drop (names_of command) words ≡ on.names =
-        ap (λ (n : ℕ). drop n words) (count ∙ k) ∙ ap (drop (suc (length on.operands + 1))) whole ∙ past on.operands on.names in
+    ap (λ (n : ℕ). drop n words) (count ∙ k) ∙ ap (drop (suc (length on.operands + 1))) whole ∙ past on.operands on.names in
     let long : length words ≡ suc (length on.operands + suc (length on.names)) =
-        ap length whole ∙ ap suc (length-append (map operand_word on.operands) (codes "--" ∷ on.names) ∙ ap (λ (n : ℕ). n + suc (length on.names)) (length-map on.operands operand_word)) in
+    ap length whole ∙ ap suc (length-append (map operand_word on.operands) (codes "--" ∷ on.names) ∙ ap (λ (n : ℕ). n + suc (length on.names)) (length-map on.operands operand_word)) in
     ((omega arith), after ∙ sym dropped)
 
 nothing_within : AreWithin nothing_given

@@ -23,7 +23,10 @@ pub enum Command {
         names: usize,
     },
     /// The tests of one set.
-    Check { set: Geometry, names: usize },
+    Check {
+        set: Geometry,
+        names: usize,
+    },
     /// Where a sector of the volume lies.
     Map {
         set: Geometry,

@@ -1,13 +1,3 @@
-pub mod Taking
-pub mod OneByOne
-pub mod ThinPlans
-pub mod RankByRank
-pub mod ThinSetTests
-pub mod Printing
-pub mod Agreeing
+pub mod Runs
+pub mod Serving
 pub mod Statuses
-pub mod Preparing
-pub mod Listings
-pub mod Outcomes
-pub mod Operands
-pub mod OperandLists

@@ -1,5 +1,2 @@
-pub mod Words
-pub mod Source
-pub mod Listing
 pub mod Answers
-pub mod Sets
+pub mod Asked

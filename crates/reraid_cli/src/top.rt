@@ -1,24 +1,25 @@
 // The top call.
-ghost use Rattle.std.specs.Prelude.{◌≡◌, ◌≢◌, ◌<◌, ◌≤◌, [], All, Contains, IsTrue, IfSome, None, length, min};
+ghost use Rattle.std.specs.Prelude.{◌≡◌, ◌≢◌, ◌<◌, ◌≤◌, ◌+◌, ◌⊎◌, [], All, Contains, IsTrue, IfSome, None, false, length, min, true};
 ghost use Rattle.std.specs.Io.KnownBytes.{Appends, Keeps};
-ghost use Rattle.image_source.specs.Attached.{AreImagesOf, told_all};
+ghost use Rattle.image_source.specs.Attached.{AreImagesOf};
 ghost use Rattle.image_source.specs.Streams.{AppendsFront};
-ghost use Rattle.reraid_cli.specs.Answers.{IsNoted, Reading, Says, note_by, note_for, output, refusal, status_by, statuses};
-ghost use Rattle.reraid_cli.specs.Words.{AreRead, IsListing, names_after};
-ghost use Rattle.reraid_cli.specs.declared.words.Command.{Command};
+ghost use Rattle.command_words.specs.Commands.{AreRead, IsCommandLine, names_after};
+ghost use Rattle.command_words.specs.declared.command.Command.{Command};
+ghost use Rattle.reraid_cli.specs.Answers.{IsNoted, Reading, Says, has_numbers, most_reads, note_by, note_for, output, refusal, status_by, statuses};
 
 use crate::running::run;
-use crate::words::Word;
+use command_words::Word;
 use image_source::{Images, MOST_ATTACHED, Sink, Source};
 use std::alloc::Global;
 use std::thread::Threads;
 
 /// Does all that the program does, and answers the status that it ends with.
 ///
-/// Status 0: the listing is on `out`. 3: more than 4,194,304 bytes were left in the source of the
-/// plan. 6: the first rank asked for is past the total. 10, 11 and 12: the images, the plan or
-/// the output failed. 19: the words, the plan or the images are of a kind that is not built yet.
-/// 20: want of memory.
+/// Status 0: the answer is on `out`. 3: more than 4,194,304 bytes were left in the source of the
+/// plan. 4: the images are not those that the plan or the command takes. 5: the plan has more sets
+/// than ranks. 6: the first rank asked for is past the total. 7: the set breaks a rule. 8: the
+/// sector asked for is past the end of the volume. 10, 11 and 12: the images, the plan or the output
+/// failed. 19: the words or the plan are of a kind that is not built yet. 20: want of memory.
 pub fn reraid<R: Threads + Sync, S: Source, I: Images, K: Sink, N: Sink>(
     _rt: &R,
     alloc: Global,
@@ -41,42 +42,41 @@ pub fn reraid<R: Threads + Sync, S: Source, I: Images, K: Sink, N: Sink>(
     // Unless the outside or memory is the cause, the status is that of the first refusal in the
     // order of work, and 0 where there is none.
     ensures exact { result ≢ 10 → result ≢ 11 → result ≢ 12 → result ≢ 20 →
-        IfSome (S.left plan.old) (λ text. (reading : Reading) → Says words.now text reading → result ≡ status_by (refusal text reading (I.seen images.new).attached)) }
+        (reading : Reading) → Says words.now (S.left plan.old) reading → result ≡ status_by (refusal reading (I.seen images.new).attached) }
 
     // Words that say nothing are refused before anything is touched.
     ensures words { AreRead words.now None → result ≡ 19 }
 
-    // Status 0: `out` gained the listing, and nothing else.
-    ensures printed { result ≡ 0 →
-        IfSome (S.left plan.old) (λ text. (reading : Reading) → Says words.now text reading →
-        IfSome (told_all (I.seen images.new).attached) (λ bytes. Appends (K.gained out.old) (K.gained out.new) (output reading bytes))) }
+    // Status 0: `out` gained the answer, and nothing else.
+    ensures printed { result ≡ 0 → (reading : Reading) → Says words.now (S.left plan.old) reading →
+        IfSome (output reading (I.seen images.new).attached) (λ text. Appends (K.gained out.old) (K.gained out.new) text) }
 
     // Statuses 10, 11 and 12 come only where that object failed.
     ensures image_fault { result ≡ 10 → 0 < (I.seen images.new).faults }
     ensures plan_fault { result ≡ 11 → 0 < S.faults plan.new }
     ensures out_fault { result ≡ 12 → 0 < K.faults out.new }
 
-    // At status 12 `out` gained a front of the listing, and at every other but 0 nothing.
-    ensures front { result ≡ 12 →
-        IfSome (S.left plan.old) (λ text. (reading : Reading) → Says words.now text reading →
-        IfSome (told_all (I.seen images.new).attached) (λ bytes. AppendsFront (K.gained out.old) (K.gained out.new) (output reading bytes))) }
+    // At status 12 `out` gained a front of the answer, and at every other but 0 nothing.
+    ensures front { result ≡ 12 → (reading : Reading) → Says words.now (S.left plan.old) reading →
+        IfSome (output reading (I.seen images.new).attached) (λ text. AppendsFront (K.gained out.old) (K.gained out.new) text) }
     ensures nothing { result ≢ 0 → result ≢ 12 → Keeps (K.gained out.old) (K.gained out.new) }
 
-    // The notes gained the line of the status, whole where they did not fail. The line of status 6
-    // holds the cursor and the total.
-    ensures note { result ≢ 6 → IsNoted (N.faults notes.new) (N.gained notes.old) (N.gained notes.new) (note_for result) }
-    ensures cursor_note { result ≡ 6 →
-        IfSome (S.left plan.old) (λ text. (reading : Reading) → Says words.now text reading →
-        IsNoted (N.faults notes.new) (N.gained notes.old) (N.gained notes.new) (note_by (refusal text reading (I.seen images.new).attached))) }
+    // The notes gained the line of the status, whole where they did not fail. Where the line holds
+    // numbers they are those of the refusal.
+    ensures note { has_numbers result ≡ false → IsNoted (N.faults notes.new) (N.gained notes.old) (N.gained notes.new) (note_for result) }
+    ensures numbers { has_numbers result ≡ true → (reading : Reading) → Says words.now (S.left plan.old) reading →
+        IsNoted (N.faults notes.new) (N.gained notes.old) (N.gained notes.new) (note_by (refusal reading (I.seen images.new).attached)) }
 
     // The images attached are those of the words after `--`, in their order, and all of them (of
     // more than 65,536 the first so many) unless an attachment failed. Nothing else is attached.
     ensures attached { AreImagesOf (I.seen images.old).world (names_after words.now) (I.seen images.new).attached }
-    ensures all { (command : Command) → IsListing words.now command → result ≢ 10 → length (I.seen images.new).attached ≡ min (length (names_after words.now)) MOST_ATTACHED }
+    ensures all { (command : Command) → IsCommandLine words.now command → result ≢ 10 → length (I.seen images.new).attached ≡ min (length (names_after words.now)) MOST_ATTACHED }
 
-    // Images are only attached and read, and a refusal reads none.
+    // Images are only attached and read; a refusal reads none, and what a command reads is bounded.
     ensures world { (I.seen images.new).world ≡ (I.seen images.old).world }
     ensures unread { result ≢ 0 → result ≢ 10 → result ≢ 12 → result ≢ 20 → (I.seen images.new).sectors_read ≡ (I.seen images.old).sectors_read }
+    ensures reads { (reading : Reading) → Says words.now (S.left plan.old) reading →
+        IfSome (most_reads reading) (λ n. (I.seen images.new).sectors_read ≤ (I.seen images.old).sectors_read + n) }
 {
     match run(alloc, words, plan, images, out) {
         Ok(()) => 0,

@@ -1,0 +1,19 @@
+use Rattle.std.proofs.Common.{false}
+use Rattle.image_source.specs.Attached.{told_all}
+use Rattle.command_jobs.proofs.Checks.{check_ends}
+use Rattle.command_jobs.proofs.Prepared.{counts_of}
+use Rattle.command_jobs.proofs.Printed.{leaves_printed}
+use Rattle.command_jobs.proofs.checking.check.Goals as goal
+
+pub returns-clause-ends : goal.returns-clause-ends
+returns-clause-ends g c =
+    let attached = (g.I.Images.seen c.args.images.now).attached in
+    check_ends (g.S.Source.left c.args.source.now) c.args.set.now c.args.names attached (told_all attached)
+    (g.K.Sink.gained c.args.out.now) (g.K.Sink.gained c.print.new.out) (g.K.Sink.faults c.args.out.now) (g.K.Sink.faults c.print.new.out) c.answer.result c.print.result
+    c.answer.ensures.refuses c.answer.ensures.text c.print.ensures.printed
+
+pub returns-clause-leaves : goal.returns-clause-leaves
+returns-clause-leaves g c =
+    leaves_printed false (counts_of (g.I.Images.seen c.args.images.now) (g.S.Source.faults c.args.source.now)) (counts_of (g.I.Images.seen c.answer.new.images) (g.S.Source.faults c.answer.new.source))
+    (g.K.Sink.gained c.args.out.now) (g.K.Sink.gained c.print.new.out) (g.K.Sink.faults c.args.out.now) (g.K.Sink.faults c.print.new.out) c.answer.result c.print.result
+    c.answer.ensures.causes c.print.ensures.printed c.print.ensures.later

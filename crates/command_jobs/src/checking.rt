@@ -1,0 +1,238 @@
+// The command `check`.
+ghost use Rattle.std.specs.Prelude.{[], ◌∷◌, ◌≡◌, ◌<◌, ◌≤◌, ◌*◌, ◌+◌, ◌++◌, ◌^◌, ◌⊎◌, IfErr, IfOk, IfSome, IsTrue, None, OnOk, Option, Some, false, length, min};
+ghost use Rattle.command_jobs.specs.Agreement.{plan_fault as plan_fault_of};
+ghost use Rattle.command_jobs.specs.Checking.{check_output, check_refusal, check_text as check_text_of, rank_line, rows_tested, rule_refusal, unsound_line, verdict_line};
+ghost use Rattle.command_jobs.specs.Jobs.{Ends, HasCauses, Leaves, Refuses};
+ghost use Rattle.command_jobs.specs.Plans.{IsTextOf, many_refusal};
+ghost use Rattle.command_jobs.specs.Stops.{IsRefusal, first_of};
+ghost use Rattle.command_jobs.specs.declared.stop.Stop.TheVariants.{ImageFault as ImageFaultOf, OutOfMemory as OutOfMemoryOf};
+ghost use Rattle.image_source.specs.Attached.{told_all};
+ghost use Rattle.image_source.specs.Causes.{Rose};
+ghost use Rattle.image_source.specs.Seen.{OnlyReads};
+ghost use Rattle.page_engine.specs.Sets.{total_of};
+ghost use Rattle.plan_text.specs.PlanText.{IsPlan};
+ghost use Rattle.plan_text.specs.SetText.{HasWord};
+ghost use Rattle.plan_text.specs.Spelling.{slot_name};
+ghost use Rattle.plan_text.specs.declared.plan.Plan.{Plan as PlanOf};
+ghost use Rattle.raid_params.specs.Validity.{first_fault, is_valid_head};
+ghost use Rattle.raid_terms.specs.Parity.{unsound_rows as unsound_rows_of};
+ghost use Rattle.row_scan.specs.Scan.{IsScannable};
+
+use crate::preparing::prepare;
+use crate::printing::{add_number, print};
+use crate::stop::Stop;
+use address_map::area;
+use image_source::{Images, Memory, Sink, Source};
+use page_engine::{product_rank, product_total};
+use plan_text::{Limits, Plan, Text};
+use raid_params::Geometry;
+use row_scan::{Blocks, ScanFault, unsound};
+use std::alloc::Global;
+
+/// Prints the tests of one set against a plan: its rank, how many tested rows are unsound, and the
+/// verdict. `names` is the number of images.
+pub fn check<S: Source, I: Images, K: Sink>(
+    alloc: Global,
+    source: &mut S,
+    images: &mut I,
+    names: usize,
+    set: &Geometry,
+    out: &mut K,
+) -> Result<(), Stop>
+    requires attached { length (I.seen images.old).attached ≡ min names 65536 }
+    requires set { HasWord set.now }
+    ensures ends { IfSome (S.left source.old) (λ text. (read : Option PlanOf) → IsTextOf text read →
+        Ends (check_refusal set.now text read names (I.seen images.old).attached) (check_output set.now read (told_all (I.seen images.old).attached)) (K.gained out.old) (K.gained out.new) result) }
+    ensures leaves { Leaves false
+        (record { images = (I.seen images.old).faults; plan = S.faults source.old; out = K.faults out.old; sectors = (I.seen images.old).sectors_read })
+        (record { images = (I.seen images.new).faults; plan = S.faults source.new; out = K.faults out.new; sectors = (I.seen images.new).sectors_read })
+        (K.gained out.old) (K.gained out.new) result }
+    ensures reads { IfSome (S.left source.old) (λ text. (plan : PlanOf) → IsTextOf text (Some plan) → (I.seen images.new).sectors_read ≤ (I.seen images.old).sectors_read + length set.now.slots.items * rows_tested plan set.now) }
+    ensures world { (I.seen images.new).world ≡ (I.seen images.old).world }
+    ensures attached { (I.seen images.new).attached ≡ (I.seen images.old).attached }
+{
+    print(out, answer(alloc, source, images, names, set))
+}
+
+/// The text of `check`, or why there is none.
+fn answer<S: Source, I: Images>(
+    alloc: Global,
+    source: &mut S,
+    images: &mut I,
+    names: usize,
+    set: &Geometry,
+) -> Result<Text, Stop>
+    requires attached { length (I.seen images.old).attached ≡ min names 65536 }
+    requires set { HasWord set.now }
+    ensures refuses { IfSome (S.left source.old) (λ text. (read : Option PlanOf) → IsTextOf text read →
+        Refuses (check_refusal set.now text read names (I.seen images.old).attached) result) }
+    ensures causes { HasCauses
+        (record { images = (I.seen images.old).faults; plan = S.faults source.old; out = 0; sectors = (I.seen images.old).sectors_read })
+        (record { images = (I.seen images.new).faults; plan = S.faults source.new; out = 0; sectors = (I.seen images.new).sectors_read }) result }
+    ensures text { IfOk result (λ found. IfSome (S.left source.old) (λ text. (read : Option PlanOf) → IsTextOf text read →
+        IfSome (check_output set.now read (told_all (I.seen images.old).attached)) (λ printed. found ≡ printed))) }
+    ensures reads { IfSome (S.left source.old) (λ text. (plan : PlanOf) → IsTextOf text (Some plan) → (I.seen images.new).sectors_read ≤ (I.seen images.old).sectors_read + length set.now.slots.items * rows_tested plan set.now) }
+    ensures world { (I.seen images.new).world ≡ (I.seen images.old).world }
+    ensures attached { (I.seen images.new).attached ≡ (I.seen images.old).attached }
+{
+    match prepare(alloc, source, images, names) {
+        Ok(plan) => checked(alloc, images, names, set, &plan),
+        Err(stop) => Err(stop),
+    }
+}
+
+/// The text of `check` over a plan that the images agree with.
+#[tactic(auto, using(crate::proofs::Prepared::names_agree, raid_layouts::proofs::Shapes::shaped_head))]
+fn checked<I: Images>(
+    alloc: Global,
+    images: &mut I,
+    names: usize,
+    set: &Geometry,
+    plan: &Plan,
+) -> Result<Text, Stop>
+    requires attached { length (I.seen images.old).attached ≡ min names 65536 }
+    requires set { HasWord set.now }
+    requires plan { IsPlan plan.now }
+    requires agrees { plan_fault_of plan.now names (I.seen images.old).attached ≡ None }
+    ensures text { IfOk result (λ text. IfSome (told_all (I.seen images.old).attached) (λ bytes. text ≡ check_text_of bytes plan.now set.now)) }
+    ensures refuses { Refuses (first_of (many_refusal plan.now ∷ rule_refusal set.now names plan.now ∷ [])) result }
+    ensures causes { HasCauses
+        (record { images = (I.seen images.old).faults; plan = 0; out = 0; sectors = (I.seen images.old).sectors_read })
+        (record { images = (I.seen images.new).faults; plan = 0; out = 0; sectors = (I.seen images.new).sectors_read }) result }
+    ensures reads { OnlyReads (I.seen images.old) (I.seen images.new) (length set.now.slots.items * rows_tested plan.now set.now) }
+{
+    match allowed(names, set, plan) {
+        Ok(()) => tested(alloc, images, set, plan),
+        Err(stop) => Err(stop),
+    }
+}
+
+/// Whether the plan and the set are such that the tests go on.
+#[tactic(auto, using(crate::proofs::Plans::few_lengths, crate::proofs::Checks::many_refused))]
+fn allowed(names: usize, set: &Geometry, plan: &Plan) -> Result<(), Stop>
+    requires plan { IsPlan plan.now }
+    requires names { names ≡ length plan.now.lengths.items }
+    ensures allowed { OnOk result (first_of (many_refusal plan.now ∷ rule_refusal set.now names plan.now ∷ []) ≡ None) }
+    ensures valid { OnOk result (first_fault set.now names plan.now.end ≡ None) }
+    ensures few { OnOk result (total_of plan.now < 2 ^ 64) }
+    ensures refused { IfErr result (λ stop. (first_of (many_refusal plan.now ∷ rule_refusal set.now names plan.now ∷ []) ≡ Some stop) × IsRefusal stop) }
+{
+    if product_total(plan).is_none() {
+        return Err(Stop::Many);
+    }
+    match set.validate(names as u8, plan.end) {
+        Ok(()) => Ok(()),
+        Err(fault) => Err(Stop::Set(fault)),
+    }
+}
+
+/// The text of `check` over a set that breaks no rule.
+fn tested<I: Images>(
+    alloc: Global,
+    images: &mut I,
+    set: &Geometry,
+    plan: &Plan,
+) -> Result<Text, Stop>
+    requires plan { IsPlan plan.now }
+    requires few { total_of plan.now < 2 ^ 64 }
+    requires set { IsScannable set.now plan.now.end (I.seen images.old).attached }
+    requires head { IsTrue (is_valid_head set.now.head) }
+    ensures text { IfOk result (λ text. IfSome (told_all (I.seen images.old).attached) (λ bytes. text ≡ check_text_of bytes plan.now set.now)) }
+    ensures reads { OnlyReads (I.seen images.old) (I.seen images.new) (length set.now.slots.items * rows_tested plan.now set.now) }
+    ensures ends { IfErr result (λ stop. ((stop ≡ ImageFaultOf) × Rose (I.seen images.old).faults (I.seen images.new).faults) ⊎ (stop ≡ OutOfMemoryOf)) }
+{
+    let rank = product_rank(plan, set);
+    let tested = area(&set.head, plan.end).min(plan.limits.window);
+    match unsound_rows(alloc, images, set, plan) {
+        Ok(unsound) => Ok(check_text(alloc, rank, unsound, tested, &plan.limits)?),
+        Err(stop) => Err(stop),
+    }
+}
+
+/// How many of the tested rows are unsound.
+fn unsound_rows<I: Images>(
+    alloc: Global,
+    images: &mut I,
+    set: &Geometry,
+    plan: &Plan,
+) -> Result<u64, Stop>
+    requires set { IsScannable set.now plan.now.end (I.seen images.old).attached }
+    ensures told { IfOk result (λ n. IfSome (told_all (I.seen images.old).attached) (λ bytes. n ≡ unsound_rows_of bytes set.now (rows_tested plan.now set.now))) }
+    ensures reads { OnlyReads (I.seen images.old) (I.seen images.new) (length set.now.slots.items * rows_tested plan.now set.now) }
+    ensures ends { IfErr result (λ stop. ((stop ≡ ImageFaultOf) × Rose (I.seen images.old).faults (I.seen images.new).faults) ⊎ (stop ≡ OutOfMemoryOf)) }
+{
+    let mut blocks = Blocks::new(alloc, set.slots.len())?;
+    match unsound(images, &mut blocks, set, plan.end, plan.limits.window) {
+        Ok(unsound) => Ok(unsound),
+        Err(ScanFault::ReadFault) => Err(Stop::ImageFault),
+        Err(ScanFault::Memory) => Err(Stop::OutOfMemory),
+    }
+}
+
+/// The three lines of `check`.
+fn check_text(
+    alloc: Global,
+    rank: Option<u64>,
+    unsound: u64,
+    tested: u64,
+    limits: &Limits,
+) -> Result<Text, Memory>
+    ensures { IfOk result (λ text. text ≡ rank_line rank ++ (unsound_line unsound tested ++ verdict_line unsound limits.now.badrows)) }
+{
+    let mut text = Text::new(alloc);
+    add_rank(&mut text, rank)?;
+    add_unsound(&mut text, unsound, tested)?;
+    add_verdict(&mut text, unsound, limits.badrows)?;
+    Ok(text)
+}
+
+/// Appends the line of the rank.
+#[tactic(auto, unfolding(crate::specs::Checking::rank_line))]
+fn add_rank(text: &mut Text, rank: Option<u64>) -> Result<(), Memory>
+    ensures { OnOk result (text.new ≡ text.old ++ rank_line rank) }
+{
+    text.extend_from_slice(b"rank ")?;
+    add_rank_or_dash(text, rank)?;
+    text.extend_from_slice(b"\n")
+}
+
+/// Appends a rank, or a dash where there is none.
+fn add_rank_or_dash(text: &mut Text, rank: Option<u64>) -> Result<(), Memory>
+    ensures { OnOk result (text.new ≡ text.old ++ slot_name rank) }
+{
+    match rank {
+        Some(rank) => add_number(text, rank),
+        None => text.extend_from_slice(b"-"),
+    }
+}
+
+/// Appends the line of the unsound rows.
+#[tactic(auto, unfolding(crate::specs::Checking::unsound_line))]
+fn add_unsound(text: &mut Text, unsound: u64, tested: u64) -> Result<(), Memory>
+    ensures { OnOk result (text.new ≡ text.old ++ unsound_line unsound tested) }
+{
+    text.extend_from_slice(b"unsound ")?;
+    add_number(text, unsound)?;
+    text.extend_from_slice(b" of ")?;
+    add_number(text, tested)?;
+    text.extend_from_slice(b"\n")
+}
+
+/// Appends the line of the verdict on so many unsound rows, where so many may be.
+fn add_verdict(text: &mut Text, unsound: u64, allowed: u64) -> Result<(), Memory>
+    ensures { OnOk result (text.new ≡ text.old ++ verdict_line unsound allowed) }
+{
+    text.extend_from_slice(verdict(unsound, allowed).as_bytes())
+}
+
+/// The line of the verdict.
+#[tactic(auto, unfolding(crate::specs::Checking::verdict_line))]
+fn verdict(unsound: u64, allowed: u64) -> &'static str
+    ensures { result.now ≡ verdict_line unsound allowed }
+{
+    if unsound <= allowed {
+        "pass\n"
+    } else {
+        "fail\n"
+    }
+}

@@ -1,0 +1,109 @@
+-- A command's job, as the reading of the words says it.
+use Rattle.std.proofs.Common.{◌≡◌, ℕ, ◌≤◌, ◌+◌, ◌*◌, List, [], None, Some, Option, Result, Ok, Err, IfSome, IfErr, OnOk, IsErrOf, refl, sym, ap, ◌∙◌, subst, arith, inl, inr, false, length}
+use Rattle.std.specs.Io.KnownBytes.{Appends, Keeps}
+use Rattle.image_source.specs.Attached.{told_all}
+use Rattle.image_source.specs.Causes.{Rose}
+use Rattle.image_source.specs.Seen.{Image, Seen}
+use Rattle.image_source.specs.Streams.{AppendsFront}
+use Rattle.raid_params.specs.declared.types.Geometry.{Geometry}
+use Rattle.plan_text.specs.declared.plan.Plan.{Plan}
+use Rattle.command_words.specs.declared.command.Command.{Command}
+use Rattle.command_words.specs.declared.command.Command.TheVariants.{List as ListCommand, Check as CheckCommand, Map as MapCommand, Write as WriteCommand, Rebuild as RebuildCommand}
+use Rattle.command_jobs.specs.Checking.{check_output, check_refusal, rows_tested}
+use Rattle.command_jobs.specs.Jobs.{Counts, Ends, Leaves, MayHavePut, MayHaveRead}
+use Rattle.command_jobs.specs.Listing.{list_output, list_refusal}
+use Rattle.command_jobs.specs.Mapping.{map_refusal, map_text}
+use Rattle.command_jobs.specs.Plans.{IsTextOf}
+use Rattle.command_jobs.specs.declared.stop.Stop.{Stop}
+use Rattle.command_jobs.specs.declared.stop.Stop.TheVariants.{ImageFault, PlanFault, OutFault, NotBuilt}
+use Rattle.command_jobs.proofs.Printed.{front_of_nothing, keeps_itself}
+use Rattle.reraid_cli.specs.Answers.{Reading, check_reads, command_output, command_reads, command_refusal, most_reads, output, refusal}
+use Rattle.reraid_cli.specs.Asked.{IsAsked}
+
+-- the refusal and the output of a command are those of the reading that says it
+ends_as : (command : Command) (reading : Reading) (attached : List Image) (old new : Option (List ℕ)) (r : Result (Unit {0}) Stop) → reading.command ≡ Some command →
+    Ends (command_refusal (Some command) reading attached) (command_output (Some command) reading attached) old new r → Ends (refusal reading attached) (output reading attached) old new r
+unfolding refusal output
+ends_as command reading attached old new r is ends =
+    let P : Option Command → Type 0 = λ c. Ends (command_refusal c reading attached) (command_output c reading attached) old new r in
+    subst P (sym is) ends
+
+reads_as : (command : Command) (reading : Reading) (before after : ℕ) → reading.command ≡ Some command → IfSome (command_reads (Some command) reading) (λ n. after ≤ before + n) → IfSome (most_reads reading) (λ n. after ≤ before + n)
+unfolding most_reads
+reads_as command reading before after is few = subst (λ (c : Option Command). IfSome (command_reads c reading) (λ n. after ≤ before + n)) (sym is) few
+
+pub list_asked : (from size span n names : ℕ) (left : Option (List ℕ)) (reading : Reading) (attached : List Image) (old new : Option (List ℕ)) (r : Result (Unit {0}) Stop) → IsAsked (ListCommand from size span n) names left reading →
+    IfSome left (λ text. (read : Option Plan) → IsTextOf text read → Ends (list_refusal from text read names attached) (list_output from size span read (told_all attached)) old new r) →
+    Ends (refusal reading attached) (output reading attached) old new r
+list_asked from size span n names left reading attached old new r asked ends =
+    let P : Option (List ℕ) → Type 0 = λ l. IfSome l (λ text. (read : Option Plan) → IsTextOf text read → Ends (list_refusal from text read names attached) (list_output from size span read (told_all attached)) old new r) in
+    let here : Ends (list_refusal from reading.text reading.plan names attached) (list_output from size span reading.plan (told_all attached)) old new r = subst P (asked.text tt) ends reading.plan (asked.plan tt) in
+    let Q : ℕ → Type 0 = λ k. Ends (list_refusal from reading.text reading.plan k attached) (list_output from size span reading.plan (told_all attached)) old new r in
+    ends_as (ListCommand from size span n) reading attached old new r asked.command_is (subst Q (sym asked.names_are) here)
+
+pub check_asked : (set : Geometry) (n names : ℕ) (left : Option (List ℕ)) (reading : Reading) (attached : List Image) (old new : Option (List ℕ)) (r : Result (Unit {0}) Stop) → IsAsked (CheckCommand set n) names left reading →
+    IfSome left (λ text. (read : Option Plan) → IsTextOf text read → Ends (check_refusal set text read names attached) (check_output set read (told_all attached)) old new r) →
+    Ends (refusal reading attached) (output reading attached) old new r
+check_asked set n names left reading attached old new r asked ends =
+    let P : Option (List ℕ) → Type 0 = λ l. IfSome l (λ text. (read : Option Plan) → IsTextOf text read → Ends (check_refusal set text read names attached) (check_output set read (told_all attached)) old new r) in
+    let here : Ends (check_refusal set reading.text reading.plan names attached) (check_output set reading.plan (told_all attached)) old new r = subst P (asked.text tt) ends reading.plan (asked.plan tt) in
+    let Q : ℕ → Type 0 = λ k. Ends (check_refusal set reading.text reading.plan k attached) (check_output set reading.plan (told_all attached)) old new r in
+    ends_as (CheckCommand set n) reading attached old new r asked.command_is (subst Q (sym asked.names_are) here)
+
+pub map_asked : (set : Geometry) (sector : ℕ) (end : Option ℕ) (n names : ℕ) (left : Option (List ℕ)) (reading : Reading) (attached : List Image) (old new : Option (List ℕ)) (r : Result (Unit {0}) Stop) → IsAsked (MapCommand set sector end n) names left reading →
+    Ends (map_refusal set sector end names attached) (Some (map_text set sector)) old new r → Ends (refusal reading attached) (output reading attached) old new r
+map_asked set sector end n names left reading attached old new r asked ends =
+    let Q : ℕ → Type 0 = λ k. Ends (map_refusal set sector end k attached) (Some (map_text set sector)) old new r in
+    ends_as (MapCommand set sector end n) reading attached old new r asked.command_is (subst Q (sym asked.names_are) ends)
+
+-- a command that is not built
+not_built : (printed : Option (List ℕ)) (old : Option (List ℕ)) → Ends {T = Unit {0}} (Some NotBuilt) printed old old (Err NotBuilt)
+not_built printed old = record { ends = inr refl; passes = tt; puts = tt; front = front_if printed }
+  where
+    front_if : (p : Option (List ℕ)) → IfSome p (λ text. AppendsFront old old text)
+    front_if None = tt
+    front_if (Some text) = front_of_nothing old text
+
+pub write_asked : (set : Geometry) (end : Option ℕ) (n names : ℕ) (left : Option (List ℕ)) (reading : Reading) (attached : List Image) (old : Option (List ℕ)) → IsAsked (WriteCommand set end n) names left reading →
+    Ends {T = Unit {0}} (refusal reading attached) (output reading attached) old old (Err NotBuilt)
+write_asked set end n names left reading attached old asked = ends_as (WriteCommand set end n) reading attached old old (Err NotBuilt) asked.command_is (not_built None old)
+
+pub rebuild_asked : (set : Geometry) (slot : ℕ) (end : Option ℕ) (n names : ℕ) (left : Option (List ℕ)) (reading : Reading) (attached : List Image) (old : Option (List ℕ)) → IsAsked (RebuildCommand set slot end n) names left reading →
+    Ends {T = Unit {0}} (refusal reading attached) (output reading attached) old old (Err NotBuilt)
+rebuild_asked set slot end n names left reading attached old asked = ends_as (RebuildCommand set slot end n) reading attached old old (Err NotBuilt) asked.command_is (not_built None old)
+
+pub nothing_left : (counts : Counts) (old : Option (List ℕ)) → Leaves {T = Unit {0}} false counts counts old old (Err NotBuilt)
+nothing_left counts old = record {
+  image_fault = λ e. absurd (cc);
+  plan_fault = λ e. absurd (cc);
+  out_fault = λ e. absurd (cc);
+  images_later = omega arith;
+  plan_later = omega arith;
+  out_later = omega arith;
+  nothing = λ h. keeps_itself old;
+  unread = λ h. refl;
+}
+
+-- what is read of the images
+pub list_reads : (from size span n names before after : ℕ) (left : Option (List ℕ)) (reading : Reading) → IsAsked (ListCommand from size span n) names left reading → IfSome (most_reads reading) (λ k. after ≤ before + k)
+list_reads from size span n names before after left reading asked = reads_as (ListCommand from size span n) reading before after asked.command_is tt
+
+check_known : (set : Geometry) (before after : ℕ) (text : List ℕ) (read : Option Plan) → IsTextOf text read → ((plan : Plan) → IsTextOf text (Some plan) → after ≤ before + length set.slots.items * rows_tested plan set) →
+    IfSome (check_reads set read) (λ k. after ≤ before + k)
+check_known set before after text None is few = tt
+check_known set before after text (Some plan) is few = few plan is
+
+pub check_read : (set : Geometry) (n names before after : ℕ) (left : Option (List ℕ)) (reading : Reading) → IsAsked (CheckCommand set n) names left reading →
+    IfSome left (λ text. (plan : Plan) → IsTextOf text (Some plan) → after ≤ before + length set.slots.items * rows_tested plan set) → IfSome (most_reads reading) (λ k. after ≤ before + k)
+check_read set n names before after left reading asked few =
+    let P : Option (List ℕ) → Type 0 = λ l. IfSome l (λ text. (plan : Plan) → IsTextOf text (Some plan) → after ≤ before + length set.slots.items * rows_tested plan set) in
+    reads_as (CheckCommand set n) reading before after asked.command_is (check_known set before after reading.text reading.plan (asked.plan tt) (subst P (asked.text tt) few))
+
+pub map_reads : (set : Geometry) (sector : ℕ) (end : Option ℕ) (n names before : ℕ) (left : Option (List ℕ)) (reading : Reading) → IsAsked (MapCommand set sector end n) names left reading → IfSome (most_reads reading) (λ k. before ≤ before + k)
+map_reads set sector end n names before left reading asked = reads_as (MapCommand set sector end n) reading before before asked.command_is (omega arith)
+
+pub write_reads : (set : Geometry) (end : Option ℕ) (n names before : ℕ) (left : Option (List ℕ)) (reading : Reading) → IsAsked (WriteCommand set end n) names left reading → IfSome (most_reads reading) (λ k. before ≤ before + k)
+write_reads set end n names before left reading asked = reads_as (WriteCommand set end n) reading before before asked.command_is (omega arith)
+
+pub rebuild_reads : (set : Geometry) (slot : ℕ) (end : Option ℕ) (n names before : ℕ) (left : Option (List ℕ)) (reading : Reading) → IsAsked (RebuildCommand set slot end n) names left reading → IfSome (most_reads reading) (λ k. before ≤ before + k)
+rebuild_reads set slot end n names before left reading asked = reads_as (RebuildCommand set slot end n) reading before before asked.command_is (omega arith)

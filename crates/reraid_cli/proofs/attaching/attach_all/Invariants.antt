@@ -1,5 +1,0 @@
-use Rattle.reraid_cli.proofs.OneByOne.{AttachedSoFar}
-use Rattle.reraid_cli.proofs.attaching.attach_all.Given as goal
-
-abbrev pub invariant-loop-name : goal.invariant-loop-name
-invariant-loop-name g l = AttachedSoFar (g.I.Images.seen l.fn.images) (g.I.Images.seen l.images) l.names l.name-index

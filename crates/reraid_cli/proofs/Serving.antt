@@ -72,6 +72,20 @@ pub rebuild_asked : (set : Geometry) (slot : ℕ) (end : Option ℕ) (n names : 
     Ends {T = Unit {0}} (refusal reading attached) (output reading attached) old old (Err NotBuilt)
 rebuild_asked set slot end n names left reading attached old asked = ends_as (RebuildCommand set slot end n) reading attached old old (Err NotBuilt) asked.command_is (not_built None old)
 
+-- a command that is not built, whichever it is
+abbrev pub IsUnbuilt : Command → Type 0
+IsUnbuilt (WriteCommand set end n) = Unit {0}
+IsUnbuilt (RebuildCommand set slot end n) = Unit {0}
+IsUnbuilt _ = ⊥
+
+pub unbuilt_asked : (command : Command) (names : ℕ) (left : Option (List ℕ)) (reading : Reading) (attached : List Image) (old : Option (List ℕ)) → IsUnbuilt command → IsAsked command names left reading →
+    Ends {T = Unit {0}} (refusal reading attached) (output reading attached) old old (Err NotBuilt)
+unbuilt_asked (ListCommand from size span n) names left reading attached old is asked = absurd is
+unbuilt_asked (CheckCommand set n) names left reading attached old is asked = absurd is
+unbuilt_asked (MapCommand set sector end n) names left reading attached old is asked = absurd is
+unbuilt_asked (WriteCommand set end n) names left reading attached old is asked = write_asked set end n names left reading attached old asked
+unbuilt_asked (RebuildCommand set slot end n) names left reading attached old is asked = rebuild_asked set slot end n names left reading attached old asked
+
 pub nothing_left : (counts : Counts) (old : Option (List ℕ)) → Leaves {T = Unit {0}} false counts counts old old (Err NotBuilt)
 nothing_left counts old = record {
   image_fault = λ e. absurd (cc);

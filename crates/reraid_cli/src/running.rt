@@ -91,6 +91,7 @@ fn serve<S: Source, I: Images, K: Sink>(
             end,
             ..
         } => map(alloc, images, names, set, *sector, *end, out),
-        Command::Write { .. } | Command::Rebuild { .. } => Err(Stop::NotBuilt),
+        Command::Write { .. } => Err(Stop::NotBuilt),
+        Command::Rebuild { .. } => Err(Stop::NotBuilt),
     }
 }

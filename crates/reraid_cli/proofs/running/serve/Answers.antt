@@ -1,37 +1,46 @@
-use Rattle.std.proofs.Common.{rules, ◌≡◌, ◌≤◌, ◌+◌, ◌^◌, ◌<◌, [], All, IfErr, IfSome, IsErrOf, IsTrue, None, OnOk, Option, Some, false, length, min, ℕ, ◌-◌, ◌*◌, ◌/◌, ◌%◌, Bool, true, nat_eq, nat_lt, List, ◌∷◌, ◌++◌, slice_index_or, slice_set, bit_and, bit_or, Fits, w8, w32, w64, Bor, MutBor}
-use Rattle.image_source.specs.Attached.{AreImagesOf}
-use Rattle.command_jobs.specs.Jobs.{Ends, Leaves}
-use Rattle.command_words.specs.Commands.{AreRead, IsCommandLine, IsWithin, names_after}
-use Rattle.command_words.specs.Commands.{names_of as names_of_command}
-use Rattle.command_words.specs.declared.command.Command.{Command as CommandOf}
-use Rattle.reraid_cli.specs.Answers.{Reading, Says, most_reads, output, refusal}
-use Rattle.reraid_cli.specs.Asked.{IsAsked, counts_of}
+use Rattle.std.proofs.Common.{◌≡◌, subst, sym}
+use Rattle.command_words.specs.declared.command.Command.{Command}
+use Rattle.reraid_cli.specs.Asked.{IsAsked}
+use Rattle.reraid_cli.proofs.Serving.{IsUnbuilt, check_asked, check_read, list_asked, list_reads, map_asked, unbuilt_asked}
 use Rattle.reraid_cli.proofs.running.serve.Goals as goal
 
--- src/running.rt:61:1
 pub returns-in-List-clause-ends : goal.returns-in-List-clause-ends
-returns-in-List-clause-ends g c = ?
+returns-in-List-clause-ends g c reading asked =
+    let left = g.S.Source.left c.args.plan.now in
+    let P : Command → Type 0 = λ k. IsAsked k c.args.names left reading in
+    list_asked c.in-List.from c.in-List.size c.in-List.span c.in-List.names c.args.names left reading (g.I.Images.seen c.args.images.now).attached (g.K.Sink.gained c.args.out.now) (g.K.Sink.gained c.list.new.out) c.list.result
+    (subst P c.in-List.is asked) c.list.ensures.ends
 
--- src/running.rt:61:1
 pub returns-in-List-clause-reads : goal.returns-in-List-clause-reads
-returns-in-List-clause-reads g c = ?
+returns-in-List-clause-reads g c reading asked =
+    let left = g.S.Source.left c.args.plan.now in
+    let P : Command → Type 0 = λ k. IsAsked k c.args.names left reading in
+    list_reads c.in-List.from c.in-List.size c.in-List.span c.in-List.names c.args.names (g.I.Images.seen c.args.images.now).sectors_read (g.I.Images.seen c.list.new.images).sectors_read left reading (subst P c.in-List.is asked)
 
--- src/running.rt:61:1
 pub returns-in-Check-clause-ends : goal.returns-in-Check-clause-ends
-returns-in-Check-clause-ends g c = ?
+returns-in-Check-clause-ends g c reading asked =
+    let left = g.S.Source.left c.args.plan.now in
+    let P : Command → Type 0 = λ k. IsAsked k c.args.names left reading in
+    check_asked c.in-Check.set c.in-Check.names c.args.names left reading (g.I.Images.seen c.args.images.now).attached (g.K.Sink.gained c.args.out.now) (g.K.Sink.gained c.check.new.out) c.check.result
+    (subst P c.in-Check.is asked) c.check.ensures.ends
 
--- src/running.rt:61:1
 pub returns-in-Check-clause-reads : goal.returns-in-Check-clause-reads
-returns-in-Check-clause-reads g c = ?
+returns-in-Check-clause-reads g c reading asked =
+    let left = g.S.Source.left c.args.plan.now in
+    let P : Command → Type 0 = λ k. IsAsked k c.args.names left reading in
+    check_read c.in-Check.set c.in-Check.names c.args.names (g.I.Images.seen c.args.images.now).sectors_read (g.I.Images.seen c.check.new.images).sectors_read left reading (subst P c.in-Check.is asked) c.check.ensures.reads
 
--- src/running.rt:61:1
 pub returns-in-Map-clause-ends : goal.returns-in-Map-clause-ends
-returns-in-Map-clause-ends g c = ?
+returns-in-Map-clause-ends g c reading asked =
+    let left = g.S.Source.left c.args.plan.now in
+    let P : Command → Type 0 = λ k. IsAsked k c.args.names left reading in
+    map_asked c.in-Map.set c.in-Map.sector c.in-Map.end c.in-Map.names c.args.names left reading (g.I.Images.seen c.args.images.now).attached (g.K.Sink.gained c.args.out.now) (g.K.Sink.gained c.map.new.out) c.map.result
+    (subst P c.in-Map.is asked) c.map.ensures.ends
 
--- src/running.rt:61:1
 pub returns-in-Write-clause-ends : goal.returns-in-Write-clause-ends
-returns-in-Write-clause-ends g c = ?
+returns-in-Write-clause-ends g c reading asked =
+    unbuilt_asked c.args.command.now c.args.names (g.S.Source.left c.args.plan.now) reading (g.I.Images.seen c.args.images.now).attached (g.K.Sink.gained c.args.out.now) (subst IsUnbuilt (sym c.in-Write.is) tt) asked
 
--- src/running.rt:61:1
-pub returns-in-Write-2-clause-ends : goal.returns-in-Write-2-clause-ends
-returns-in-Write-2-clause-ends g c = ?
+pub returns-in-Rebuild-clause-ends : goal.returns-in-Rebuild-clause-ends
+returns-in-Rebuild-clause-ends g c reading asked =
+    unbuilt_asked c.args.command.now c.args.names (g.S.Source.left c.args.plan.now) reading (g.I.Images.seen c.args.images.now).attached (g.K.Sink.gained c.args.out.now) (subst IsUnbuilt (sym c.in-Rebuild.is) tt) asked

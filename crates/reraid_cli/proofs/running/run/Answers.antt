@@ -1,0 +1,33 @@
+use Rattle.std.proofs.Common.{◌≡◌, ℕ, ◌<◌, ◌≤◌, ◌-◌, ◌^◌, ◌++◌, List, All, length, length-drop, drop, take, arith, sym, ap, ◌∙◌, subst, Some, None}
+use Rattle.std.proofs.lemmas.List.{take_all}
+use Rattle.command_words.specs.Commands.{names_after}
+use Rattle.image_source.specs.Seen.{Image}
+use Rattle.command_jobs.specs.Jobs.{Ends}
+use Rattle.reraid_cli.specs.Answers.{output, refusal}
+use Rattle.reraid_cli.proofs.Runs.{asked_of, images_small, words_end}
+use Rattle.reraid_cli.proofs.running.run.Goals as goal
+
+pub serve-requires-clause-small : goal.serve-requires-clause-small
+serve-requires-clause-small g c =
+    let some = c.attach_front.ensures.some in
+    let P : List Image → Type 0 = λ images. All (λ image. image.sectors < 2 ^ 55) images in
+    subst P (sym (some.attached.2 ∙ ap (λ (images : List Image). images ++ some.attached.0) c.requires.fresh))
+    (images_small (g.I.Images.seen c.args.images.now).world _ some.attached.0 some.attached.1)
+
+pub returns-in-None-clause-ends : goal.returns-in-None-clause-ends
+returns-in-None-clause-ends g c reading says =
+    words_end c.args.words.now (g.S.Source.left c.args.plan.now) (g.I.Images.seen c.args.images.now).attached (g.K.Sink.gained c.args.out.now) reading c.in-None.ensures.reads says
+
+pub returns-in-None-clause-all : goal.returns-in-None-clause-all
+returns-in-None-clause-all g c command line other = absurd (let e = c.in-None.ensures.reads.whole command line in cc)
+
+pub returns-in-Ok-clause-ends : goal.returns-in-Ok-clause-ends
+returns-in-Ok-clause-ends g c reading says =
+    let words = c.args.words.now in
+    let r = c.names_of.result in
+    let long = length-drop r words in
+    let count : length (take (length words - r) (drop r words)) ≡ length (names_after words) =
+        ap length (take_all (length words - r) (drop r words) (omega arith)) ∙ ap (λ (n : ℕ). length (drop n words)) c.names_of.ensures ∙ ap length (sym c.in-Some.ensures.names.1) in
+    let P : List Image → Type 0 = λ attached. Ends (refusal reading attached) (output reading attached) (g.K.Sink.gained c.args.out.now) (g.K.Sink.gained c.serve.new.out) c.serve.result in
+    subst P (sym c.serve.ensures.kept)
+    (c.serve.ensures.ends reading (asked_of words (g.S.Source.left c.args.plan.now) c.in-Some.command _ reading c.in-Some.ensures.reads count says))

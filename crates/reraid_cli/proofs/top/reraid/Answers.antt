@@ -1,0 +1,47 @@
+use Rattle.std.proofs.Common.{◌≡◌, ap, ◌∙◌, subst, ℕ, List}
+use Rattle.command_jobs.specs.Stops.{note_of, status_of}
+use Rattle.command_jobs.specs.declared.stop.Stop.TheVariants.{ImageFault, NotBuilt}
+use Rattle.reraid_cli.specs.Answers.{IsNoted, refusal}
+use Rattle.reraid_cli.proofs.Statuses.{status_known, by_refusal, noted, noted_for, noted_numbers, put_nothing, read_nothing}
+use Rattle.reraid_cli.proofs.top.reraid.Goals as goal
+
+pub returns-in-Ok-clause-words : goal.returns-in-Ok-clause-words
+returns-in-Ok-clause-words g c none = absurd (let e = c.in-Ok.ensures.words none in cc)
+
+pub returns-in-Ok-clause-all : goal.returns-in-Ok-clause-all
+returns-in-Ok-clause-all g c command line other = c.in-Ok.ensures.all command line (λ is. absurd (cc))
+
+pub returns-in-Err-clause-statuses : goal.returns-in-Err-clause-statuses
+returns-in-Err-clause-statuses g c = rw c.status.ensures (status_known c.in-Err.stop)
+
+pub returns-in-Err-clause-exact : goal.returns-in-Err-clause-exact
+returns-in-Err-clause-exact g c ten eleven twelve twenty reading says =
+    by_refusal (refusal reading (g.I.Images.seen c.run.new.images).attached) c.in-Err.stop c.status.result c.status.ensures ten eleven twelve twenty (c.in-Err.ensures.ends reading says).ends
+
+pub returns-in-Err-clause-words : goal.returns-in-Err-clause-words
+returns-in-Err-clause-words g c none = let e = c.in-Err.ensures.words none in let stop : c.in-Err.stop ≡ NotBuilt = cc in c.status.ensures ∙ ap status_of stop
+
+pub returns-in-Err-clause-nothing : goal.returns-in-Err-clause-nothing
+returns-in-Err-clause-nothing g c zero twelve = c.in-Err.ensures.leaves.nothing (put_nothing c.in-Err.stop c.status.result c.status.ensures twelve)
+
+pub returns-in-Err-clause-note : goal.returns-in-Err-clause-note
+returns-in-Err-clause-note g c other =
+    let line : c.as_bytes.result.now ≡ note_of c.in-Err.stop = c.as_bytes.ensures.value ∙ (c.deref.ensures.0 ∙ c.line.ensures) in
+    let P : List ℕ → Type 0 = λ xs. IsNoted (g.N.Sink.faults c.put.new.self) (g.N.Sink.gained c.args.notes.now) (g.N.Sink.gained c.put.new.self) xs in
+    noted_for (g.N.Sink.faults c.put.new.self) (g.N.Sink.gained c.args.notes.now) (g.N.Sink.gained c.put.new.self) c.in-Err.stop c.status.result c.status.ensures other
+    (subst P line (noted (g.N.Sink.gained c.args.notes.now) (g.N.Sink.gained c.put.new.self) (g.N.Sink.faults c.args.notes.now) (g.N.Sink.faults c.put.new.self) c.put.result c.as_bytes.result.now c.put.ensures.bytes c.put.ensures.cause c.requires.notes))
+
+pub returns-in-Err-clause-numbers : goal.returns-in-Err-clause-numbers
+returns-in-Err-clause-numbers g c has reading says =
+    let line : c.as_bytes.result.now ≡ note_of c.in-Err.stop = c.as_bytes.ensures.value ∙ (c.deref.ensures.0 ∙ c.line.ensures) in
+    let P : List ℕ → Type 0 = λ xs. IsNoted (g.N.Sink.faults c.put.new.self) (g.N.Sink.gained c.args.notes.now) (g.N.Sink.gained c.put.new.self) xs in
+    noted_numbers (refusal reading (g.I.Images.seen c.run.new.images).attached) (g.N.Sink.faults c.put.new.self) (g.N.Sink.gained c.args.notes.now) (g.N.Sink.gained c.put.new.self) c.in-Err.stop c.status.result c.status.ensures has
+    (subst P line (noted (g.N.Sink.gained c.args.notes.now) (g.N.Sink.gained c.put.new.self) (g.N.Sink.faults c.args.notes.now) (g.N.Sink.faults c.put.new.self) c.put.result c.as_bytes.result.now c.put.ensures.bytes c.put.ensures.cause c.requires.notes))
+    (c.in-Err.ensures.ends reading says).ends
+
+pub returns-in-Err-clause-unread : goal.returns-in-Err-clause-unread
+returns-in-Err-clause-unread g c zero ten twelve twenty = c.in-Err.ensures.leaves.unread (read_nothing c.in-Err.stop c.status.result c.status.ensures ten twelve twenty)
+
+pub returns-in-Err-clause-all : goal.returns-in-Err-clause-all
+returns-in-Err-clause-all g c command line other =
+    c.in-Err.ensures.all command line (λ is. other (let stop : c.in-Err.stop ≡ ImageFault = cc in c.status.ensures ∙ ap status_of stop))

@@ -1,7 +1,9 @@
-//! Runs of the whole program over objects in memory: listings whose answers were worked out by
-//! hand, refusals, and faults in mid-stream.
+//! Runs of the whole program over objects in memory: answers that were worked out by hand,
+//! refusals, and faults in mid-stream.
 #![tactic(auto)]
 
+#[cfg(test)]
+mod commands;
 #[cfg(test)]
 mod faults;
 #[cfg(test)]

@@ -1,7 +1,9 @@
 // Objects in memory, and a run over them.
-ghost use Rattle.std.specs.Prelude.{◌≡◌, [], ◌∷◌, ◌++◌, codes, IfOk, OnOk};
-ghost use Rattle.reraid_cli.specs.Words.{names_after};
+ghost use Rattle.std.specs.Prelude.{◌≡◌, [], ◌∷◌, ◌++◌, codes, IfOk, IsTrue, OnOk};
+ghost use Rattle.command_words.specs.Commands.{names_after};
+ghost use Rattle.reraid_rows.specs.Named.{AreReadyFor, image_names};
 ghost use Rattle.reraid_rows.specs.Ready.{AreReady};
+ghost use Rattle.image_source.specs.Memory.{seen_of};
 
 use crate::pieces::Pieces;
 use image_source::{MemImages, MemSink, MemSource, Memory};
@@ -37,6 +39,157 @@ pub struct Outside {
     pub plan: MemSource,
     pub out: MemSink,
     pub notes: MemSink,
+}
+
+/// How many images a run names: of a, b, c and d the first so many.
+#[derive(Clone, Copy)]
+pub enum Count {
+    Two,
+    Three,
+    Four,
+}
+
+/// Objects for a run over so many images, each of some sectors of one repeated byte.
+pub fn images_of(
+    alloc: Global,
+    count: Count,
+    sectors: [&[u8]; 4],
+    plan: &[u8],
+) -> Result<Outside, Memory>
+    ensures { IfOk result (λ o. AreReadyFor count o.images o.plan o.out o.notes) }
+{
+    let mut images = MemImages::new(alloc)?;
+    images.add("a", &filled(alloc, sectors[0])?)?;
+    images.add("b", &filled(alloc, sectors[1])?)?;
+    images.add("c", &filled(alloc, sectors[2])?)?;
+    images.add("d", &filled(alloc, sectors[3])?)?;
+    ready(alloc, count, images, plan)
+}
+
+/// Objects for a run over the first of these four images.
+#[tactic(auto, using(crate::proofs::Named::all_named))]
+fn ready(alloc: Global, count: Count, images: MemImages, plan: &[u8]) -> Result<Outside, Memory>
+    requires fresh { images.attached ≡ [] }
+    requires faults { images.faults ≡ 0 }
+    requires a { IsTrue ((seen_of images).world.may_attach (codes "a")) }
+    requires b { IsTrue ((seen_of images).world.may_attach (codes "b")) }
+    requires c { IsTrue ((seen_of images).world.may_attach (codes "c")) }
+    requires d { IsTrue ((seen_of images).world.may_attach (codes "d")) }
+    ensures { IfOk result (λ o. AreReadyFor count o.images o.plan o.out o.notes) }
+{
+    Ok(Outside {
+        images,
+        plan: MemSource::new(alloc, plan)?,
+        out: MemSink::new(alloc, 1000)?,
+        notes: MemSink::new(alloc, 1000)?,
+    })
+}
+
+/// A sector of each of these bytes, one after the other.
+fn filled(alloc: Global, sectors: &[u8]) -> Result<Vec<u8>, Memory> {
+    let mut bytes = Vec::new(alloc);
+    for byte in sectors {
+        bytes.extend_from_slice(&[*byte; 512]).map_err(|_| Memory)?;
+    }
+    Ok(bytes)
+}
+
+/// A command, with the operands that are given.
+#[derive(Clone, Copy)]
+pub enum Command<'a> {
+    /// A page from a rank on, of so many lines.
+    List(u64, u64),
+    /// The tests of a set.
+    Check(&'a str),
+    /// The place of a sector of the volume of a set.
+    Map(&'a str, u64),
+}
+
+/// A run of a command over so many images, and its status.
+pub(crate) fn run_command<R: Threads + Sync>(
+    rt: &R,
+    alloc: Global,
+    command: &Command,
+    count: Count,
+    outside: &mut Outside,
+) -> Result<u8, Memory>
+    requires { AreReadyFor count outside.old.images outside.old.plan outside.old.out outside.old.notes }
+{
+    let words = command_words(alloc, command, count)?;
+    Ok(reraid(
+        rt,
+        alloc,
+        &words,
+        &mut outside.plan,
+        &mut outside.images,
+        &mut outside.out,
+        &mut outside.notes,
+    ))
+}
+
+/// The words of a command over so many images.
+fn command_words(alloc: Global, command: &Command, count: Count) -> Result<Vec<Word>, Memory>
+    ensures { IfOk result (λ words. names_after words.items ≡ image_names count) }
+{
+    match command {
+        Command::List(from, size) => list_words(alloc, *from, *size, count),
+        Command::Check(set) => check_words(alloc, set, count),
+        Command::Map(set, sector) => map_words(alloc, set, *sector, count),
+    }
+}
+
+fn list_words(alloc: Global, from: u64, size: u64, count: Count) -> Result<Vec<Word>, Memory>
+    ensures { IfOk result (λ words. names_after words.items ≡ image_names count) }
+{
+    let from = format!(in alloc; "from={}", from).map_err(|_| Memory)?;
+    let size = format!(in alloc; "size={}", size).map_err(|_| Memory)?;
+    let mut words = Vec::new(alloc);
+    push_word(alloc, &mut words, "list")?;
+    push_word(alloc, &mut words, from.as_str())?;
+    push_word(alloc, &mut words, size.as_str())?;
+    push_so_many(alloc, &mut words, count)?;
+    Ok(words)
+}
+
+fn check_words(alloc: Global, set: &str, count: Count) -> Result<Vec<Word>, Memory>
+    ensures { IfOk result (λ words. names_after words.items ≡ image_names count) }
+{
+    let set = format!(in alloc; "set={}", set).map_err(|_| Memory)?;
+    let mut words = Vec::new(alloc);
+    push_word(alloc, &mut words, "check")?;
+    push_word(alloc, &mut words, set.as_str())?;
+    push_so_many(alloc, &mut words, count)?;
+    Ok(words)
+}
+
+fn map_words(alloc: Global, set: &str, sector: u64, count: Count) -> Result<Vec<Word>, Memory>
+    ensures { IfOk result (λ words. names_after words.items ≡ image_names count) }
+{
+    let set = format!(in alloc; "set={}", set).map_err(|_| Memory)?;
+    let sector = format!(in alloc; "sector={}", sector).map_err(|_| Memory)?;
+    let mut words = Vec::new(alloc);
+    push_word(alloc, &mut words, "map")?;
+    push_word(alloc, &mut words, set.as_str())?;
+    push_word(alloc, &mut words, sector.as_str())?;
+    push_so_many(alloc, &mut words, count)?;
+    Ok(words)
+}
+
+/// Appends `--` and the names of so many images.
+fn push_so_many(alloc: Global, words: &mut Vec<Word>, count: Count) -> Result<(), Memory>
+    ensures { OnOk result (words.new.items ≡ words.old.items ++ codes "--" ∷ image_names count) }
+{
+    push_word(alloc, words, "--")?;
+    push_word(alloc, words, "a")?;
+    push_word(alloc, words, "b")?;
+    match count {
+        Count::Two => Ok(()),
+        Count::Three => push_word(alloc, words, "c"),
+        Count::Four => {
+            push_word(alloc, words, "c")?;
+            push_word(alloc, words, "d")
+        }
+    }
 }
 
 /// Three images of two sectors, each of one repeated byte: 1 and 2, 3 and 4, 2 and `last`.

@@ -27,7 +27,7 @@ returns-in-Ok-clause-ends g c reading says =
     let r = c.names_of.result in
     let long = length-drop r words in
     let count : length (take (length words - r) (drop r words)) ≡ length (names_after words) =
-        ap length (take_all (length words - r) (drop r words) (omega arith)) ∙ ap (λ (n : ℕ). length (drop n words)) c.names_of.ensures ∙ ap length (sym c.in-Some.ensures.names.1) in
+    ap length (take_all (length words - r) (drop r words) (omega arith)) ∙ ap (λ (n : ℕ). length (drop n words)) c.names_of.ensures ∙ ap length (sym c.in-Some.ensures.names.1) in
     let P : List Image → Type 0 = λ attached. Ends (refusal reading attached) (output reading attached) (g.K.Sink.gained c.args.out.now) (g.K.Sink.gained c.serve.new.out) c.serve.result in
     subst P (sym c.serve.ensures.kept)
     (c.serve.ensures.ends reading (asked_of words (g.S.Source.left c.args.plan.now) c.in-Some.command _ reading c.in-Some.ensures.reads count says))

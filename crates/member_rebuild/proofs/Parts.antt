@@ -1,0 +1,81 @@
+-- Sectors of a member, part by part.
+use Rattle.std.proofs.Common.{◌≡◌, ℕ, ◌+◌, ◌-◌, ◌*◌, ◌≤◌, List, [], ◌++◌, length, take, drop, Option, Result, Ok, Err, All, refl, sym, ap, ◌∙◌, subst, arith}
+use Rattle.std.specs.Io.KnownBytes.{Appends}
+use Rattle.std.specs.Prelude.{MatchResult, slice_range}
+use Rattle.std.specs.Result.{IsErrAnd}
+use Rattle.image_source.specs.Seen.{Image}
+use Rattle.image_source.specs.Streams.{AppendsFront, Puts}
+use Rattle.raid_params.specs.Size.{area}
+use Rattle.raid_params.specs.declared.types.Geometry.{Geometry}
+use Rattle.raid_terms.specs.Volume.{member, member_sector}
+use Rattle.row_scan.proofs.Sets.{reaches_less}
+use Rattle.row_scan.specs.Block.{Reaches}
+use Rattle.virtual_volume.specs.Regions.{HoldSlot}
+use Rattle.virtual_volume.proofs.Blocks.{region_sectors}
+use Rattle.virtual_volume.proofs.Fronts.{appends_join, appends_none, front_after, front_more}
+use Rattle.virtual_volume.proofs.Ranges.{flat_same, flat_shift, flat_split}
+use Rattle.member_rebuild.specs.Sectors.{sectors_of}
+
+-- the region of a slot holds its sectors
+pub part_is : (images : List (List ℕ)) (geo : Geometry) (stride first count slot : ℕ) (sectors part : List ℕ) → HoldSlot images geo stride first count slot sectors →
+    stride * slot + 512 * count ≤ length sectors → part ≡ slice_range sectors (stride * slot) (stride * slot + 512 * count) → part ≡ sectors_of images geo slot first count
+unfolding sectors_of
+part_is images geo stride first count slot sectors part hold within is =
+    let long : stride * slot + 512 * count - stride * slot ≡ 512 * count = omega arith in
+    let from : stride * slot ≡ stride * slot + 512 * 0 = omega arith in
+    region_sectors images geo stride first count slot 0 count sectors part hold (omega arith) (omega arith)
+    (is ∙ ap (λ (n : ℕ). take n (drop (stride * slot) sectors)) long ∙ ap (λ (n : ℕ). take (512 * count) (drop n sectors)) from)
+    ∙ flat_same (λ j. member_sector images geo slot (first + (0 + j))) (λ j. member_sector images geo slot (first + j)) 0 count
+    (λ j low high. let e : first + (0 + j) ≡ first + j = omega arith in ap (λ (t : ℕ). member_sector images geo slot t) e)
+    ∙ sym (flat_shift (member_sector images geo slot) first 0 count first (omega arith))
+
+pub sectors_none : (images : List (List ℕ)) (geo : Geometry) (slot first : ℕ) → sectors_of images geo slot first 0 ≡ []
+unfolding sectors_of
+sectors_none images geo slot first = refl
+
+pub sectors_join : (images : List (List ℕ)) (geo : Geometry) (slot first n m k next : ℕ) → k ≡ n + m → next ≡ first + n →
+    sectors_of images geo slot first k ≡ sectors_of images geo slot first n ++ sectors_of images geo slot next m
+unfolding sectors_of
+sectors_join images geo slot first n m k next e f = flat_split (member_sector images geo slot) first n m k next e f
+
+-- all of them are the member
+pub sectors_whole : (images : List (List ℕ)) (geo : Geometry) (end slot n : ℕ) → n ≡ area geo.head end → sectors_of images geo slot 0 n ≡ member images geo end slot
+unfolding sectors_of
+sectors_whole images geo end slot n e = ap (λ (t : ℕ). sectors_of images geo slot 0 t) e
+
+-- nothing was put yet
+pub sectors_start : (images : List (List ℕ)) (geo : Geometry) (slot : ℕ) (old : Option (List ℕ)) → Appends old old (sectors_of images geo slot 0 0)
+sectors_start images geo slot old = subst (λ (l : List ℕ). Appends old old l) (sym (sectors_none images geo slot 0)) (appends_none old)
+
+-- more sectors were put
+pub sectors_on : (images : List (List ℕ)) (geo : Geometry) (slot first count : ℕ) (a b c : Option (List ℕ)) →
+    Appends a b (sectors_of images geo slot 0 first) → Appends b c (sectors_of images geo slot first count) → Appends a c (sectors_of images geo slot 0 (first + count))
+sectors_on images geo slot first count a b c p q =
+    subst (λ (l : List ℕ). Appends a c l) (sym (sectors_join images geo slot 0 first count (first + count) first refl (omega arith)))
+    (appends_join a b c (sectors_of images geo slot 0 first) (sectors_of images geo slot first count) p q)
+
+-- putting more of them failed
+pub sectors_cut : (images : List (List ℕ)) (geo : Geometry) (slot first count n : ℕ) (a b c : Option (List ℕ)) → first + count ≤ n →
+    Appends a b (sectors_of images geo slot 0 first) → AppendsFront b c (sectors_of images geo slot first count) → AppendsFront a c (sectors_of images geo slot 0 n)
+sectors_cut images geo slot first count n a b c few p q =
+    front_after a b c (sectors_of images geo slot 0 first) (sectors_of images geo slot first (n - first)) (sectors_of images geo slot 0 n)
+    (sectors_join images geo slot 0 first (n - first) n first (omega arith) (omega arith)) p
+    (front_more b c (sectors_of images geo slot first count) (sectors_of images geo slot (first + count) (n - (first + count))) (sectors_of images geo slot first (n - first))
+    (sectors_join images geo slot first count (n - (first + count)) (n - first) (first + count) (omega arith) refl) q)
+
+-- what is known of a put whose error was turned into another, by the other's result
+pub put_err : {T E F : Type 0} (P : E → Type 0) (old new : Option (List ℕ)) (bytes : List ℕ) (r : Result T E) (m : Result T F) (e : F) →
+    MatchResult r (λ x. m ≡ Ok x) P → m ≡ Err e → Puts old new r bytes → AppendsFront old new bytes
+put_err P old new bytes (Ok x) m e is err p = absurd (cc)
+put_err P old new bytes (Err x) m e is err p = p
+
+pub put_ok : {T E F : Type 0} (Q : E → F → Type 0) (old new : Option (List ℕ)) (bytes : List ℕ) (r : Result T E) (m : Result T F) (v : T) →
+    MatchResult r (λ x. m ≡ Ok x) (λ e. IsErrAnd m (Q e)) → m ≡ Ok v → Puts old new r bytes → Appends old new bytes
+put_ok Q old new bytes (Ok x) m v is ok p = p
+put_ok {T} {E} {F} Q old new bytes (Err x) m v is ok p = absurd (subst (λ (o : Result T F). IsErrAnd o (Q x)) ok is)
+
+-- the members reach to the end of a block
+pub block_held : (attached now : List Image) (offset first count sectors : ℕ) (slots : List (Option ℕ)) → now ≡ attached → first + count ≤ sectors →
+    All (Reaches attached (offset + sectors)) slots → All (Reaches now (offset + (first + count))) slots
+block_held attached now offset first count sectors slots same few all =
+    rw same (reaches_less attached (offset + sectors) (offset + (first + count)) slots all (omega arith))

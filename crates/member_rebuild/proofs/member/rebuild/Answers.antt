@@ -1,0 +1,35 @@
+use Rattle.std.proofs.Common.{◌+◌, List, ℕ, subst, arith}
+use Rattle.image_source.specs.Attached.{told_all}
+use Rattle.image_source.specs.Streams.{Puts}
+use Rattle.raid_terms.specs.Volume.{member}
+use Rattle.row_scan.proofs.Sets.{testable_chunk}
+use Rattle.virtual_volume.proofs.Fronts.{puts_front, puts_written}
+use Rattle.virtual_volume.proofs.IfTold.{if_told}
+use Rattle.virtual_volume.proofs.Sets.{served_end, served_held, served_testable}
+use Rattle.member_rebuild.specs.Sectors.{sectors_of}
+use Rattle.member_rebuild.proofs.Parts.{sectors_whole}
+use Rattle.member_rebuild.proofs.member.rebuild.Goals as goal
+
+pub write_sectors-requires-clause-held : goal.write_sectors-requires-clause-held
+write_sectors-requires-clause-held g c =
+    let some = testable_chunk c.args.geo.now (served_testable c.args.geo.now c.args.end (g.I.Images.seen c.args.images.now).attached c.requires.set) in
+    let near = served_end c.args.geo.now c.args.end (g.I.Images.seen c.args.images.now).attached c.requires.set some in
+    served_held c.args.geo.now c.args.end (c.args.geo.now.head.offset + c.area-sectors.result) (g.I.Images.seen c.args.images.now).attached c.requires.set (omega (arith, c.area-sectors.ensures))
+
+pub returns-clause-written : goal.returns-clause-written
+returns-clause-written g c =
+    puts_written (told_all (g.I.Images.seen c.args.images.now).attached) (λ bytes. member bytes c.args.geo.now c.args.end c.args.slot) (g.K.Sink.gained c.args.sink.now) (g.K.Sink.gained c.write_sectors.new.sink) c.write_sectors.result
+    (if_told (told_all (g.I.Images.seen c.args.images.now).attached)
+    (λ bytes. Puts (g.K.Sink.gained c.args.sink.now) (g.K.Sink.gained c.write_sectors.new.sink) c.write_sectors.result (sectors_of bytes c.args.geo.now c.args.slot 0 c.area-sectors.result))
+    (λ bytes. Puts (g.K.Sink.gained c.args.sink.now) (g.K.Sink.gained c.write_sectors.new.sink) c.write_sectors.result (member bytes c.args.geo.now c.args.end c.args.slot))
+    (λ bytes p. subst (λ (l : List ℕ). Puts (g.K.Sink.gained c.args.sink.now) (g.K.Sink.gained c.write_sectors.new.sink) c.write_sectors.result l) (sectors_whole bytes c.args.geo.now c.args.end c.args.slot c.area-sectors.result c.area-sectors.ensures) p)
+    c.write_sectors.ensures.put)
+
+pub returns-clause-front : goal.returns-clause-front
+returns-clause-front g c =
+    puts_front (told_all (g.I.Images.seen c.args.images.now).attached) (λ bytes. member bytes c.args.geo.now c.args.end c.args.slot) (g.K.Sink.gained c.args.sink.now) (g.K.Sink.gained c.write_sectors.new.sink) c.write_sectors.result
+    (if_told (told_all (g.I.Images.seen c.args.images.now).attached)
+    (λ bytes. Puts (g.K.Sink.gained c.args.sink.now) (g.K.Sink.gained c.write_sectors.new.sink) c.write_sectors.result (sectors_of bytes c.args.geo.now c.args.slot 0 c.area-sectors.result))
+    (λ bytes. Puts (g.K.Sink.gained c.args.sink.now) (g.K.Sink.gained c.write_sectors.new.sink) c.write_sectors.result (member bytes c.args.geo.now c.args.end c.args.slot))
+    (λ bytes p. subst (λ (l : List ℕ). Puts (g.K.Sink.gained c.args.sink.now) (g.K.Sink.gained c.write_sectors.new.sink) c.write_sectors.result l) (sectors_whole bytes c.args.geo.now c.args.end c.args.slot c.area-sectors.result c.area-sectors.ensures) p)
+    c.write_sectors.ensures.put)

@@ -1,0 +1,69 @@
+use Rattle.std.proofs.Common.{◌+◌, ◌≤◌, length, refl, ◌∙◌, arith}
+use Rattle.std.specs.Io.KnownBytes.{Appends}
+use Rattle.image_source.specs.Attached.{told_all}
+use Rattle.image_source.specs.Streams.{AppendsFront, Puts}
+use Rattle.image_source.proofs.Reading.{reads_none, reads_up}
+use Rattle.row_scan.proofs.Parity.{reads_on}
+use Rattle.virtual_volume.proofs.Fronts.{puts_err}
+use Rattle.virtual_volume.proofs.IfTold.{if_any, if_both}
+use Rattle.member_rebuild.specs.Sectors.{sectors_of}
+use Rattle.member_rebuild.proofs.Parts.{block_held, sectors_cut, sectors_on, sectors_start}
+use Rattle.member_rebuild.proofs.member.write_sectors.Goals as goal
+
+pub loop-first-init : goal.loop-first-init
+loop-first-init g c = record {
+  put =
+      if_any (told_all (g.I.Images.seen c.args.images.now).attached)
+      (λ bytes. Appends (g.K.Sink.gained c.args.sink.now) (g.K.Sink.gained c.args.sink.now) (sectors_of bytes c.args.geo.now c.args.slot 0 0))
+      (λ bytes. sectors_start bytes c.args.geo.now c.args.slot (g.K.Sink.gained c.args.sink.now));
+  reads = reads_up (g.I.Images.seen c.args.images.now) (g.I.Images.seen c.args.images.now) (reads_none (g.I.Images.seen c.args.images.now)) (omega arith);
+  later = omega arith;
+  within = omega arith;
+  room = c.requires.room;
+  stride = refl;
+}
+
+pub write_block-requires-clause-held : goal.write_block-requires-clause-held
+write_block-requires-clause-held g c =
+    let few : c.loop-first.first + c.min-count.result ≤ c.args.sectors = omega arith in
+    block_held (g.I.Images.seen c.args.images.now).attached (g.I.Images.seen c.loop-first.images).attached c.args.geo.now.head.offset c.loop-first.first c.min-count.result c.args.sectors c.args.geo.now.slots.items
+    c.loop-first.invariant.reads.attached few c.requires.held
+
+pub returns-in_err-write_block-clause-put : goal.returns-in_err-write_block-clause-put
+returns-in_err-write_block-clause-put g c =
+    let few : c.loop-first.first + c.min-count.result ≤ c.args.sectors = omega arith in
+    if_both (told_all (g.I.Images.seen c.args.images.now).attached)
+    (λ bytes. Appends (g.K.Sink.gained c.args.sink.now) (g.K.Sink.gained c.loop-first.sink) (sectors_of bytes c.args.geo.now c.args.slot 0 c.loop-first.first))
+    (λ bytes. AppendsFront (g.K.Sink.gained c.loop-first.sink) (g.K.Sink.gained c.write_block.new.sink) (sectors_of bytes c.args.geo.now c.args.slot c.loop-first.first c.min-count.result))
+    (λ bytes. Puts (g.K.Sink.gained c.args.sink.now) (g.K.Sink.gained c.write_block.new.sink) c.from_residual.result (sectors_of bytes c.args.geo.now c.args.slot 0 c.args.sectors))
+    (λ bytes p q.
+    puts_err (g.K.Sink.gained c.args.sink.now) (g.K.Sink.gained c.write_block.new.sink) (sectors_of bytes c.args.geo.now c.args.slot 0 c.args.sectors) c.from_residual.result c.from_residual.ensures.0
+    (sectors_cut bytes c.args.geo.now c.args.slot c.loop-first.first c.min-count.result c.args.sectors (g.K.Sink.gained c.args.sink.now) (g.K.Sink.gained c.loop-first.sink) (g.K.Sink.gained c.write_block.new.sink) few p q))
+    c.loop-first.invariant.put
+    (rw (← c.loop-first.invariant.reads.attached) c.in_err-write_block.ensures.put)
+
+pub returns-in_err-write_block-clause-reads : goal.returns-in_err-write_block-clause-reads
+returns-in_err-write_block-clause-reads g c =
+    let few : c.loop-first.first + c.min-count.result ≤ c.args.sectors = omega arith in
+    reads_on (g.I.Images.seen c.args.images.now) (g.I.Images.seen c.loop-first.images) (g.I.Images.seen c.write_block.new.images) (length c.args.geo.now.slots.items)
+    c.loop-first.first c.min-count.result c.args.sectors c.loop-first.invariant.reads c.write_block.ensures.reads few
+
+pub loop-first-preserved : goal.loop-first-preserved
+loop-first-preserved g c = record {
+  put =
+      if_both (told_all (g.I.Images.seen c.args.images.now).attached)
+      (λ bytes. Appends (g.K.Sink.gained c.args.sink.now) (g.K.Sink.gained c.loop-first.sink) (sectors_of bytes c.args.geo.now c.args.slot 0 c.loop-first.first))
+      (λ bytes. Appends (g.K.Sink.gained c.loop-first.sink) (g.K.Sink.gained c.write_block.new.sink) (sectors_of bytes c.args.geo.now c.args.slot c.loop-first.first c.min-count.result))
+      (λ bytes. Appends (g.K.Sink.gained c.args.sink.now) (g.K.Sink.gained c.write_block.new.sink) (sectors_of bytes c.args.geo.now c.args.slot 0 (c.loop-first.first + c.min-count.result)))
+      (λ bytes p q.
+      sectors_on bytes c.args.geo.now c.args.slot c.loop-first.first c.min-count.result (g.K.Sink.gained c.args.sink.now) (g.K.Sink.gained c.loop-first.sink) (g.K.Sink.gained c.write_block.new.sink) p q)
+      c.loop-first.invariant.put
+      (rw (← c.loop-first.invariant.reads.attached) c.in_ok-write_block.ensures.put);
+  reads =
+      reads_on (g.I.Images.seen c.args.images.now) (g.I.Images.seen c.loop-first.images) (g.I.Images.seen c.write_block.new.images) (length c.args.geo.now.slots.items)
+      c.loop-first.first c.min-count.result (c.loop-first.first + c.min-count.result) c.loop-first.invariant.reads c.write_block.ensures.reads (omega arith);
+  later = omega (arith, c.write_block.ensures.later);
+  within = omega arith;
+  room = c.write_block.ensures.room;
+  stride = c.write_block.ensures.stride ∙ c.loop-first.invariant.stride;
+}

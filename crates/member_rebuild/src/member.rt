@@ -1,0 +1,125 @@
+// A missing member, written out.
+ghost use Rattle.std.specs.Prelude.{◌≡◌, ◌+◌, ◌*◌, ◌^◌, ◌<◌, ◌≤◌, length, slice_index_or, None, All, IfErr, IfSome, OnOk};
+ghost use Rattle.std.specs.Io.KnownBytes.{Appends};
+ghost use Rattle.std.specs.Result.{IsErrOf};
+ghost use Rattle.image_source.specs.Attached.{told_all};
+ghost use Rattle.image_source.specs.Causes.{Rose};
+ghost use Rattle.image_source.specs.Seen.{OnlyReads};
+ghost use Rattle.image_source.specs.Streams.{AppendsFront, Puts};
+ghost use Rattle.raid_params.specs.Size.{area as area_of};
+ghost use Rattle.raid_terms.specs.Volume.{member};
+ghost use Rattle.row_scan.specs.Block.{IsTestable, Reaches};
+ghost use Rattle.virtual_volume.specs.Regions.{IsRoom};
+ghost use Rattle.virtual_volume.specs.Served.{Ends, IsServed};
+ghost use Rattle.member_rebuild.specs.Sectors.{sectors_of};
+
+use address_map::area;
+use image_source::{Images, Sink};
+use raid_params::Geometry;
+use std::alloc::Global;
+use virtual_volume::{Room, VolumeFault};
+
+/// The sectors that are read of each member at a time, 128 KiB.
+const BLOCK: u64 = 256;
+
+/// Writes the `count` sectors of the missing member of a slot from sector `first` on.
+#[tactic(auto, using(virtual_volume::proofs::Places::region_inside))]
+fn write_block<I: Images, K: Sink>(
+    images: &mut I,
+    sink: &mut K,
+    room: &mut Room,
+    geo: &Geometry,
+    slot: usize,
+    first: u64,
+    count: usize,
+) -> Result<(), VolumeFault>
+    requires set { IsTestable geo.now }
+    requires held { All (Reaches (I.seen images.old).attached (geo.now.head.offset + (first + count)))
+        geo.now.slots.items }
+    requires near { geo.now.head.offset + (first + count) < 2 ^ 55 }
+    requires some { 1 ≤ count }
+    requires room { IsRoom (length geo.now.slots.items) room.old }
+    requires fits { 512 * count ≤ room.old.stride }
+    requires slot { slot < length geo.now.slots.items }
+    requires missing { slice_index_or geo.now.slots.items slot None ≡ None }
+    ensures put { IfSome (told_all (I.seen images.old).attached)
+        (λ bytes. Puts (K.gained sink.old) (K.gained sink.new) result (sectors_of bytes geo.now slot first count)) }
+    ensures reads { OnlyReads (I.seen images.old) (I.seen images.new) (length geo.now.slots.items * count) }
+    ensures later { K.faults sink.old ≤ K.faults sink.new }
+    ensures ends { IfErr result (Ends (I.seen images.old).faults (I.seen images.new).faults (K.faults sink.old) (K.faults sink.new)) }
+    ensures room { IsRoom (length geo.now.slots.items) room.new }
+    ensures stride { room.new.stride ≡ room.old.stride }
+{
+    room.read(images, geo, first, count)
+        .map_err(|_| VolumeFault::ReadFault)?;
+    room.solve(geo, first, count, slot);
+    sink.put(room.region(slot, count))
+        .map_err(|_| VolumeFault::WriteFault)?;
+    Ok(())
+}
+
+/// Writes the first `sectors` sectors of the missing member of a slot, in blocks.
+fn write_sectors<I: Images, K: Sink>(
+    images: &mut I,
+    sink: &mut K,
+    room: &mut Room,
+    geo: &Geometry,
+    slot: usize,
+    sectors: u64,
+) -> Result<(), VolumeFault>
+    requires set { IsTestable geo.now }
+    requires held { All (Reaches (I.seen images.old).attached (geo.now.head.offset + sectors)) geo.now.slots.items }
+    requires near { geo.now.head.offset + sectors < 2 ^ 55 }
+    requires room { IsRoom (length geo.now.slots.items) room.old }
+    requires fits { 512 * BLOCK ≤ room.old.stride }
+    requires slot { slot < length geo.now.slots.items }
+    requires missing { slice_index_or geo.now.slots.items slot None ≡ None }
+    ensures put { IfSome (told_all (I.seen images.old).attached)
+        (λ bytes. Puts (K.gained sink.old) (K.gained sink.new) result (sectors_of bytes geo.now slot 0 sectors)) }
+    ensures reads { OnlyReads (I.seen images.old) (I.seen images.new) (length geo.now.slots.items * sectors) }
+    ensures later { K.faults sink.old ≤ K.faults sink.new }
+    ensures ends { IfErr result (Ends (I.seen images.old).faults (I.seen images.new).faults (K.faults sink.old) (K.faults sink.new)) }
+{
+    let mut first = 0;
+    while first < sectors {
+        let count = BLOCK.min(sectors - first);
+        write_block(images, sink, room, geo, slot, first, count as usize)?;
+        first += count;
+    }
+    Ok(())
+}
+
+/// Writes a missing member of a set of parameters over the attached images: the member of an empty
+/// slot, from its data offset on, to the end of the whole rows before the image sector `end`.
+///
+/// It fails for want of memory before anything is read or written, and after that only by a fault
+/// of the images or of the sink: then a front of the member was written. Each member sector is read
+/// at most once.
+#[tactic(auto, using(virtual_volume::proofs::Sets::served_head, virtual_volume::proofs::Sets::served_slots, virtual_volume::proofs::Sets::served_testable))]
+pub fn rebuild<I: Images, K: Sink>(
+    alloc: Global,
+    images: &mut I,
+    geo: &Geometry,
+    end: u64,
+    slot: u8,
+    sink: &mut K,
+) -> Result<(), VolumeFault>
+    requires set { IsServed geo.now end (I.seen images.old).attached }
+    requires slot { slot < geo.now.head.members }
+    requires missing { slice_index_or geo.now.slots.items slot None ≡ None }
+    ensures written { OnOk result (IfSome (told_all (I.seen images.old).attached)
+        (λ bytes. Appends (K.gained sink.old) (K.gained sink.new) (member bytes geo.now end slot))) }
+    ensures front { IfErr result (λ _. IfSome (told_all (I.seen images.old).attached)
+        (λ bytes. AppendsFront (K.gained sink.old) (K.gained sink.new) (member bytes geo.now end slot))) }
+    ensures memory { IsErrOf result VolumeFault.Memory →
+        (K.gained sink.new ≡ K.gained sink.old) × (I.seen images.new ≡ I.seen images.old) }
+    ensures read_fault { IsErrOf result VolumeFault.ReadFault →
+        Rose (I.seen images.old).faults (I.seen images.new).faults }
+    ensures write_fault { IsErrOf result VolumeFault.WriteFault → Rose (K.faults sink.old) (K.faults sink.new) }
+    ensures reads { OnlyReads (I.seen images.old) (I.seen images.new) (geo.now.head.members * area_of geo.now.head end) }
+    ensures later { K.faults sink.old ≤ K.faults sink.new }
+{
+    let sectors = area(&geo.head, end);
+    let mut room = Room::new(alloc, geo.head.members, BLOCK).map_err(|_| VolumeFault::Memory)?;
+    write_sectors(images, sink, &mut room, geo, slot as usize, sectors)
+}

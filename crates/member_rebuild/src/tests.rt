@@ -1,0 +1,116 @@
+// Members that were worked out by hand, over images in memory.
+ghost use Rattle.std.specs.Prelude.{◌≡◌, ◌≤◌, ◌^◌, ◌<◌, length, All, IsSomeAnd, IsTrue, slice_get, slice_index_or, None};
+ghost use Rattle.image_source.specs.Memory.{seen_of};
+
+use crate::rebuild;
+use image_source::{Images, MemImages, MemSink};
+use raid_params::{Geometry, Head, Level, Pattern, Slots, Syndrome};
+use std::alloc::Global;
+use std::process::Abort;
+use std::test::Fail;
+use virtual_volume::VolumeFault;
+
+fn reaches(images: &MemImages, image: u32, end: u64) -> bool
+    ensures { IsTrue result → IsSomeAnd (slice_get (seen_of images.now).attached image) (λ a. end ≤ a.sectors) }
+{
+    match images.length(image) {
+        Some(sectors) => end <= sectors,
+        None => false,
+    }
+}
+
+// Whether two images are attached, and each reaches to the end.
+fn two_reach(images: &MemImages, end: u64) -> bool
+    ensures { IsTrue result → (length (seen_of images.now).attached ≡ 2) × All (λ a. end ≤ a.sectors) (seen_of images.now).attached }
+{
+    for i in 0..2u32 {
+        if !reaches(images, i, end) {
+            return false;
+        }
+    }
+    images.length(2).is_none()
+}
+
+// Writes the member of slot 0, over two images.
+#[tactic(auto, using(virtual_volume::proofs::TestSets::long_served))]
+fn write<R: Abort>(
+    rt: &R,
+    alloc: Global,
+    images: &mut MemImages,
+    geo: &Geometry,
+    end: u64,
+    sink: &mut MemSink,
+) -> Result<(), VolumeFault>
+    requires offset { geo.now.head.offset < 2 ^ 55 }
+    requires some { 1 ≤ geo.now.head.members }
+    requires missing { slice_index_or geo.now.slots.items 0 None ≡ None }
+    requires end { end < 2 ^ 55 }
+{
+    assert!(rt; geo.validate(2, end).is_ok());
+    assert!(rt; two_reach(images, end));
+    rebuild(alloc, images, geo, end, 0, sink)
+}
+
+// Left-symmetric, with slot 0 empty.
+fn three() -> Geometry
+    ensures offset { result.head.offset ≡ 0 }
+    ensures members { result.head.members ≡ 3 }
+    ensures missing { slice_index_or result.slots.items 0 None ≡ None }
+{
+    let mut slots = Slots::new();
+    slots.push(None);
+    slots.push(Some(0));
+    slots.push(Some(1));
+    let head = Head {
+        level: Level::Raid5,
+        members: 3,
+        pattern: Pattern::Ls,
+        syndrome: Syndrome::NoQ,
+        chunk: 1,
+        offset: 0,
+    };
+    Geometry { head, slots }
+}
+
+// Two images of two sectors each: 3 and 4, 2 and 6.
+fn two_images(alloc: Global) -> Result<MemImages, Fail> {
+    let (mut a, mut b) = ([3; 1024], [2; 1024]);
+    a[512..].fill(4);
+    b[512..].fill(6);
+    let mut images = MemImages::new(alloc)?;
+    images.add("a", &a)?;
+    images.add("b", &b)?;
+    images.attach("a")?;
+    images.attach("b")?;
+    Ok(images)
+}
+
+// 3 + 2 = 1 and 4 + 6 = 2, bit by bit.
+#[test]
+fn first_member(rt: HostRuntime) -> Result<(), Fail> {
+    let alloc = rt.alloc();
+    let mut images = two_images(alloc)?;
+    let mut sink = MemSink::new(alloc, 2048)?;
+    assert!(rt; write(&rt, alloc, &mut images, &three(), 2, &mut sink).is_ok());
+    let mut member = [1; 1024];
+    member[512..].fill(2);
+    assert_eq!(rt; sink.bytes(), member.as_slice());
+    Ok(())
+}
+
+// Two images are attached by the first two calls.
+#[test]
+fn faults(rt: HostRuntime) -> Result<(), Fail> {
+    let alloc = rt.alloc();
+    let mut images = two_images(alloc)?;
+    images.fail_call(4)?;
+    let mut sink = MemSink::new(alloc, 2048)?;
+    let cut = write(&rt, alloc, &mut images, &three(), 2, &mut sink);
+    assert!(rt; matches!(&cut, Err(VolumeFault::ReadFault)));
+    assert_eq!(rt; sink.bytes().len(), 0);
+    sink.fail_call(1, 100)?;
+    let cut = write(&rt, alloc, &mut images, &three(), 2, &mut sink);
+    assert!(rt; matches!(&cut, Err(VolumeFault::WriteFault)));
+    assert_eq!(rt; sink.bytes(), [1; 100].as_slice());
+    Ok(())
+}

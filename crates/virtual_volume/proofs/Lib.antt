@@ -1,0 +1,10 @@
+pub mod Places
+pub mod Ranges
+pub mod Fronts
+pub mod IfTold
+pub mod Solved
+pub mod Blocks
+pub mod Sets
+pub mod Whole
+pub mod Puts
+pub mod TestSets

@@ -1,0 +1,110 @@
+-- What is known of sets whose volume is written.
+use Rattle.std.proofs.Common.{◌≡◌, ℕ, ◌+◌, ◌*◌, ◌/◌, ◌<◌, ◌≤◌, List, length, All, Option, None, Some, Bool, true, false, refl, arith}
+use Rattle.std.specs.Option.{is_none}
+use Rattle.std.specs.Prelude.{IsTrue, nat_eq, if◌then◌else◌}
+use Rattle.std.proofs.lemmas.Nat.{mul-le}
+use Rattle.std.proofs.lemmas.Bool.Decides.{nat_tests}
+use Rattle.image_source.specs.Seen.{Image}
+use Rattle.address_map.proofs.Heads.{some_chunk}
+use Rattle.address_map.proofs.Lies.{inside_back, slot_in}
+use Rattle.raid_layouts.proofs.Levels.{at_most}
+use Rattle.raid_terms.specs.Address.{LiesAt}
+use Rattle.raid_params.specs.Size.{rows, volume_sectors}
+use Rattle.raid_params.specs.Validity.{is_shaped, is_valid_head, row_fault, shape_fault}
+use Rattle.raid_params.specs.declared.types.GeoFault.{GeoFault}
+use Rattle.raid_params.specs.declared.types.GeoFault.TheVariants.{NoRow}
+use Rattle.raid_params.specs.declared.types.Geometry.{Geometry}
+use Rattle.raid_layouts.proofs.Shapes.{shaped_head, shaped_slots}
+use Rattle.row_scan.proofs.Sets.{area_below, reaches_less, scannable_held}
+use Rattle.row_scan.specs.Block.{IsTestable, Reaches}
+use Rattle.virtual_volume.specs.Served.{IsServed}
+
+ruled_shape : (r : Option GeoFault) (geo : Geometry) (end : ℕ) → row_fault geo end r ≡ None → is_none r ≡ true
+ruled_shape None geo end h = refl
+ruled_shape (Some fault) geo end h = absurd (cc)
+
+-- its shape is sensible
+pub served_shape : (geo : Geometry) (end : ℕ) (attached : List Image) → IsServed geo end attached → is_shaped geo (length attached) ≡ true
+served_shape geo end attached s = ruled_shape (shape_fault geo (length attached)) geo end s.ruled
+
+pub served_testable : (geo : Geometry) (end : ℕ) (attached : List Image) → IsServed geo end attached → IsTestable geo
+served_testable geo end attached s = record { images = length attached; shaped = served_shape geo end attached s }
+
+pub served_head : (geo : Geometry) (end : ℕ) (attached : List Image) → IsServed geo end attached → IsTrue (is_valid_head geo.head)
+served_head geo end attached s = shaped_head geo (length attached) (served_shape geo end attached s)
+
+pub served_slots : (geo : Geometry) (end : ℕ) (attached : List Image) → IsServed geo end attached → length geo.slots.items ≡ geo.head.members
+served_slots geo end attached s = shaped_slots geo (length attached) (served_shape geo end attached s)
+
+some_row : (b : Bool) (fault : GeoFault) → (if b then Some fault else None) ≡ None → b ≡ false
+some_row true fault h = absurd (cc)
+some_row false fault h = refl
+
+ruled_rows : (r : Option GeoFault) (geo : Geometry) (end : ℕ) → row_fault geo end r ≡ None → nat_eq (rows geo.head end) 0 ≡ false
+ruled_rows None geo end h = some_row (nat_eq (rows geo.head end) 0) (NoRow geo.head.offset) h
+ruled_rows (Some fault) geo end h = absurd (cc)
+
+positive : (n : ℕ) → nat_eq n 0 ≡ false → 1 ≤ n
+positive n h = grind (arith, nat_tests)
+
+nothing_over : (n : ℕ) → 0 / n ≡ 0
+nothing_over n = grind arith
+
+-- it has a whole row, and its rows end before the end
+pub served_rows : (geo : Geometry) (end : ℕ) (attached : List Image) → IsServed geo end attached → 1 ≤ rows geo.head end
+served_rows geo end attached s = positive (rows geo.head end) (ruled_rows (shape_fault geo (length attached)) geo end s.ruled)
+
+pub served_end : (geo : Geometry) (end : ℕ) (attached : List Image) → IsServed geo end attached → 1 ≤ geo.head.chunk → geo.head.offset + rows geo.head end * geo.head.chunk ≤ end
+served_end geo end attached s some =
+    let below = area_below geo.head end in
+    let one = served_rows geo end attached s in
+    let wide : 1 * 1 ≤ rows geo.head end * geo.head.chunk = mul-le 1 1 (rows geo.head end) geo.head.chunk one some in
+    omega arith
+
+pub served_held : (geo : Geometry) (end m : ℕ) (attached : List Image) → IsServed geo end attached → m ≤ end → All (Reaches attached m) geo.slots.items
+served_held geo end m attached s le =
+    scannable_held geo end m attached (record { shaped = served_shape geo end attached s; offset = s.offset; near = s.near; long = s.long }) le
+
+-- a batch of rows lies in the rows
+pub batch_inside : (first count rows chunk : ℕ) → first + count ≤ rows → first * chunk + count * chunk ≤ rows * chunk
+batch_inside first count rows chunk h =
+    let most : (first + count) * chunk ≤ rows * chunk = mul-le (first + count) chunk rows chunk h (omega arith) in
+    let parts : (first + count) * chunk ≡ first * chunk + count * chunk = grind arith in
+    omega arith
+
+-- its members reach to its end
+pub batch_held : (attached now : List Image) (offset first count rows chunk : ℕ) (slots : List (Option ℕ)) → now ≡ attached → first + count ≤ rows →
+    All (Reaches attached (offset + rows * chunk)) slots → All (Reaches now (offset + (first * chunk + count * chunk))) slots
+batch_held attached now offset first count rows chunk slots same few all =
+    let inside = batch_inside first count rows chunk few in
+    rw same (reaches_less attached (offset + rows * chunk) (offset + (first * chunk + count * chunk)) slots all (omega arith))
+
+-- at least a sector
+pub some_sectors : (rows chunk : ℕ) → 1 ≤ rows → 0 < chunk → 1 ≤ rows * chunk
+some_sectors rows chunk h k = let most : 1 * 1 ≤ rows * chunk = mul-le 1 1 rows chunk h k in omega arith
+
+pub few_rows : (first rows chunk : ℕ) → 0 < chunk → first + rows ≤ first * chunk + rows * chunk
+few_rows first rows chunk h =
+    let a : first * 1 ≤ first * chunk = mul-le first 1 first chunk (omega arith) h in
+    let b : rows * 1 ≤ rows * chunk = mul-le rows 1 rows chunk (omega arith) h in
+    omega arith
+
+-- no more than 16 slots
+pub few_slots : (geo : Geometry) → IsTestable geo → length geo.slots.items ≤ 16
+few_slots geo t =
+    let most = at_most geo.head (shaped_head geo t.images t.shaped) in
+    let slots = shaped_slots geo t.images t.shaped in
+    omega arith
+
+-- a sector of the volume lies within the members
+pub home_near : (geo : Geometry) (end v : ℕ) (attached : List Image) (slot sector : ℕ) → IsServed geo end attached → LiesAt geo.head slot sector v → v < volume_sectors geo.head end → geo.head.offset + (sector + 1) ≤ end
+home_near geo end v attached slot sector s lies below =
+    let within = inside_back geo.head end slot sector v (served_head geo end attached s) lies below in
+    let near = served_end geo end attached s (some_chunk geo.head (served_head geo end attached s)) in
+    omega arith
+
+pub home_slot_in : (geo : Geometry) (end v : ℕ) (attached : List Image) (slot sector : ℕ) → IsServed geo end attached → LiesAt geo.head slot sector v → slot < length geo.slots.items
+home_slot_in geo end v attached slot sector s lies =
+    let within = slot_in geo.head slot sector v (served_head geo end attached s) lies in
+    let slots = served_slots geo end attached s in
+    omega arith

@@ -1,0 +1,82 @@
+use Rattle.std.proofs.Common.{◌+◌, ◌*◌, ◌≤◌, ◌++◌, length, refl, ◌∙◌, arith}
+use Rattle.image_source.specs.Attached.{told_all}
+use Rattle.image_source.specs.Streams.{AppendsFront}
+use Rattle.image_source.proofs.Reading.{reads_none, reads_up}
+use Rattle.row_scan.proofs.Parity.{reads_on}
+use Rattle.virtual_volume.specs.Parts.{rows_of}
+use Rattle.virtual_volume.specs.Waiting.{Passed, Passes}
+use Rattle.virtual_volume.proofs.Fronts.{passed_err, passes_join}
+use Rattle.virtual_volume.proofs.IfTold.{if_any, if_both}
+use Rattle.virtual_volume.proofs.Puts.{rows_cut, rows_start}
+use Rattle.virtual_volume.proofs.Sets.{batch_held, batch_inside}
+use Rattle.virtual_volume.proofs.Whole.{rows_join}
+use Rattle.virtual_volume.proofs.volume.write_rows.Goals as goal
+
+pub loop-first-init : goal.loop-first-init
+loop-first-init g c = record {
+  passes =
+      if_any (told_all (g.I.Images.seen c.args.images.now).attached)
+      (λ bytes. Passes (g.K.Sink.gained c.args.sink.now) (g.K.Sink.gained c.args.sink.now) c.args.pending.now c.args.pending.now (rows_of bytes c.args.geo.now 0 0))
+      (λ bytes. rows_start bytes c.args.geo.now 0 (g.K.Sink.gained c.args.sink.now) c.args.pending.now);
+  reads = reads_up (g.I.Images.seen c.args.images.now) (g.I.Images.seen c.args.images.now) (reads_none (g.I.Images.seen c.args.images.now)) (omega arith);
+  later = omega arith;
+  within = omega arith;
+  room = c.requires.room;
+  stride = refl;
+}
+
+pub write_batch-requires-clause-held : goal.write_batch-requires-clause-held
+write_batch-requires-clause-held g c =
+    let few : c.loop-first.first + c.min-count.result ≤ c.args.rows = omega arith in
+    batch_held (g.I.Images.seen c.args.images.now).attached (g.I.Images.seen c.loop-first.images).attached c.args.geo.now.head.offset c.loop-first.first c.min-count.result c.args.rows c.args.geo.now.head.chunk c.args.geo.now.slots.items
+    c.loop-first.invariant.reads.attached few c.requires.held
+
+pub write_batch-requires-clause-near : goal.write_batch-requires-clause-near
+write_batch-requires-clause-near g c =
+    let few : c.loop-first.first + c.min-count.result ≤ c.args.rows = omega arith in
+    let inside = batch_inside c.loop-first.first c.min-count.result c.args.rows c.args.geo.now.head.chunk few in
+    omega arith
+
+pub returns-in_err-write_batch-clause-passed : goal.returns-in_err-write_batch-clause-passed
+returns-in_err-write_batch-clause-passed g c =
+    let few : c.loop-first.first + c.min-count.result ≤ c.args.rows = omega arith in
+    if_both (told_all (g.I.Images.seen c.args.images.now).attached)
+    (λ bytes. Passes (g.K.Sink.gained c.args.sink.now) (g.K.Sink.gained c.loop-first.sink) c.args.pending.now c.loop-first.pending (rows_of bytes c.args.geo.now 0 c.loop-first.first))
+    (λ bytes. AppendsFront (g.K.Sink.gained c.loop-first.sink) (g.K.Sink.gained c.write_batch.new.sink) (c.loop-first.pending ++ rows_of bytes c.args.geo.now c.loop-first.first c.min-count.result))
+    (λ bytes. Passed (g.K.Sink.gained c.args.sink.now) (g.K.Sink.gained c.write_batch.new.sink) c.args.pending.now c.write_batch.new.pending c.from_residual.result (rows_of bytes c.args.geo.now 0 c.args.rows))
+    (λ bytes p q.
+    passed_err (g.K.Sink.gained c.args.sink.now) (g.K.Sink.gained c.write_batch.new.sink) c.args.pending.now c.write_batch.new.pending (rows_of bytes c.args.geo.now 0 c.args.rows) c.from_residual.result c.from_residual.ensures.0
+    (rows_cut bytes c.args.geo.now 0 c.loop-first.first c.min-count.result c.args.rows c.loop-first.first (g.K.Sink.gained c.args.sink.now) (g.K.Sink.gained c.loop-first.sink) (g.K.Sink.gained c.write_batch.new.sink) c.args.pending.now c.loop-first.pending
+    few (omega arith) p q))
+    c.loop-first.invariant.passes
+    (rw (← c.loop-first.invariant.reads.attached) c.in_err-write_batch.ensures.passed)
+
+pub returns-in_err-write_batch-clause-reads : goal.returns-in_err-write_batch-clause-reads
+returns-in_err-write_batch-clause-reads g c =
+    let few : c.loop-first.first + c.min-count.result ≤ c.args.rows = omega arith in
+    reads_on (g.I.Images.seen c.args.images.now) (g.I.Images.seen c.loop-first.images) (g.I.Images.seen c.write_batch.new.images) (length c.args.geo.now.slots.items)
+    (c.loop-first.first * c.args.geo.now.head.chunk) (c.min-count.result * c.args.geo.now.head.chunk) (c.args.rows * c.args.geo.now.head.chunk) c.loop-first.invariant.reads c.write_batch.ensures.reads
+    (batch_inside c.loop-first.first c.min-count.result c.args.rows c.args.geo.now.head.chunk few)
+
+pub loop-first-preserved : goal.loop-first-preserved
+loop-first-preserved g c = record {
+  passes =
+      if_both (told_all (g.I.Images.seen c.args.images.now).attached)
+      (λ bytes. Passes (g.K.Sink.gained c.args.sink.now) (g.K.Sink.gained c.loop-first.sink) c.args.pending.now c.loop-first.pending (rows_of bytes c.args.geo.now 0 c.loop-first.first))
+      (λ bytes. Passes (g.K.Sink.gained c.loop-first.sink) (g.K.Sink.gained c.write_batch.new.sink) c.loop-first.pending c.write_batch.new.pending (rows_of bytes c.args.geo.now c.loop-first.first c.min-count.result))
+      (λ bytes. Passes (g.K.Sink.gained c.args.sink.now) (g.K.Sink.gained c.write_batch.new.sink) c.args.pending.now c.write_batch.new.pending (rows_of bytes c.args.geo.now 0 (c.loop-first.first + c.min-count.result)))
+      (λ bytes p q.
+      passes_join (g.K.Sink.gained c.args.sink.now) (g.K.Sink.gained c.loop-first.sink) (g.K.Sink.gained c.write_batch.new.sink) c.args.pending.now c.loop-first.pending c.write_batch.new.pending
+      (rows_of bytes c.args.geo.now 0 c.loop-first.first) (rows_of bytes c.args.geo.now c.loop-first.first c.min-count.result) (rows_of bytes c.args.geo.now 0 (c.loop-first.first + c.min-count.result))
+      (rows_join bytes c.args.geo.now 0 c.loop-first.first c.min-count.result (c.loop-first.first + c.min-count.result) c.loop-first.first refl (omega arith)) p q)
+      c.loop-first.invariant.passes
+      (rw (← c.loop-first.invariant.reads.attached) c.in_ok-write_batch.ensures.passed);
+  reads =
+      reads_on (g.I.Images.seen c.args.images.now) (g.I.Images.seen c.loop-first.images) (g.I.Images.seen c.write_batch.new.images) (length c.args.geo.now.slots.items)
+      (c.loop-first.first * c.args.geo.now.head.chunk) (c.min-count.result * c.args.geo.now.head.chunk) ((c.loop-first.first + c.min-count.result) * c.args.geo.now.head.chunk) c.loop-first.invariant.reads c.write_batch.ensures.reads
+      (batch_inside c.loop-first.first c.min-count.result (c.loop-first.first + c.min-count.result) c.args.geo.now.head.chunk (omega arith));
+  later = omega (arith, c.write_batch.ensures.later);
+  within = omega arith;
+  room = c.write_batch.ensures.room;
+  stride = c.write_batch.ensures.stride ∙ c.loop-first.invariant.stride;
+}

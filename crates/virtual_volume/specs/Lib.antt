@@ -1,0 +1,4 @@
+pub mod Regions
+pub mod Waiting
+pub mod Parts
+pub mod Served

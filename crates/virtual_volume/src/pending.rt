@@ -1,0 +1,94 @@
+// Small pieces are put many at once.
+ghost use Rattle.std.specs.Prelude.{◌≡◌, [], ◌++◌, ◌+◌, ◌≤◌, length, IfOk, OnOk};
+ghost use Rattle.image_source.specs.Causes.{HasCause};
+ghost use Rattle.virtual_volume.specs.Waiting.{Passed};
+
+use crate::room::zeros;
+use image_source::{Failed, Memory, Sink};
+use std::alloc::Global;
+use std::marker::Model;
+
+/// The bytes that wait at most.
+const PENDING: usize = 131_072;
+
+/// Bytes that wait to be put. Contracts see them.
+#[derive(Drop)]
+pub(crate) struct Pending {
+    room: Vec<u8>,
+    filled: usize,
+}
+
+impl Model for Pending {
+    ghost use Rattle.std.specs.Prelude.{ℕ, List, ◌≡◌, ◌≤◌, length, take};
+    ghost use Rattle.virtual_volume.specs.declared.pending.TheConstants.{PENDING};
+
+    ghost Value = { List ℕ };
+
+    ghost view = { λ p. take p.filled p.room.items };
+
+    ghost invariant = { λ p. (length p.room.items ≡ PENDING) × (p.filled ≤ PENDING) };
+}
+
+impl Pending {
+    /// Room with no byte in it.
+    pub(crate) fn new(alloc: Global) -> Result<Pending, Memory>
+        ensures { IfOk result (λ pending. pending ≡ []) }
+    {
+        let room = zeros(alloc, PENDING)?;
+        Ok(Pending { room, filled: 0 })
+    }
+
+    /// Puts what waits.
+    pub(crate) fn flush<K: Sink>(&mut self, sink: &mut K) -> Result<(), Failed>
+        ensures passed { Passed (K.gained sink.old) (K.gained sink.new) self.old self.new result [] }
+        ensures none { OnOk result (self.new ≡ []) }
+        ensures cause { HasCause (K.faults sink.old) (K.faults sink.new) result }
+    {
+        sink.put(&self.room[..self.filled])?;
+        self.filled = 0;
+        Ok(())
+    }
+
+    /// How many more bytes may wait.
+    fn left(&self) -> usize
+        ensures { length self.now + result ≡ PENDING }
+    {
+        PENDING - self.filled
+    }
+
+    /// Lets bytes wait.
+    fn push(&mut self, bytes: &[u8])
+        requires { length self.old + length bytes.now ≤ PENDING }
+        ensures { self.new ≡ self.old ++ bytes.now }
+    {
+        let end = self.filled + bytes.len();
+        self.room[self.filled..end].copy_from_slice(bytes);
+        self.filled = end;
+    }
+
+    /// Makes room for so many more bytes, where there is room for them at all.
+    fn make_room<K: Sink>(&mut self, sink: &mut K, bytes: usize) -> Result<(), Failed>
+        ensures passed { Passed (K.gained sink.old) (K.gained sink.new) self.old self.new result [] }
+        ensures room { OnOk result (bytes ≤ PENDING → length self.new + bytes ≤ PENDING) }
+        ensures large { OnOk result (PENDING ≤ bytes → self.new ≡ []) }
+        ensures cause { HasCause (K.faults sink.old) (K.faults sink.new) result }
+    {
+        if bytes <= self.left() {
+            return Ok(());
+        }
+        self.flush(sink)
+    }
+
+    /// Appends bytes: they wait, or are put after all that waits.
+    pub(crate) fn put<K: Sink>(&mut self, sink: &mut K, bytes: &[u8]) -> Result<(), Failed>
+        ensures passed { Passed (K.gained sink.old) (K.gained sink.new) self.old self.new result bytes.now }
+        ensures cause { HasCause (K.faults sink.old) (K.faults sink.new) result }
+    {
+        self.make_room(sink, bytes.len())?;
+        if bytes.len() >= PENDING {
+            return sink.put(bytes);
+        }
+        self.push(bytes);
+        Ok(())
+    }
+}

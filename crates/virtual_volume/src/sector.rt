@@ -1,0 +1,100 @@
+// One sector of the volume.
+ghost use Rattle.std.specs.Prelude.{◌≡◌, ◌+◌, ◌^◌, ◌<◌, length, slice_index_or, None, All, IfSome, OnOk};
+ghost use Rattle.image_source.specs.Attached.{told_all};
+ghost use Rattle.image_source.specs.Causes.{HasCause};
+ghost use Rattle.image_source.specs.Seen.{OnlyReads};
+ghost use Rattle.raid_params.specs.Size.{volume_sectors};
+ghost use Rattle.raid_terms.specs.Volume.{member_sector, volume_sector};
+ghost use Rattle.row_scan.specs.Block.{IsTestable, Reaches};
+ghost use Rattle.virtual_volume.specs.Served.{IsServed};
+
+use crate::lost::solve_slot;
+use crate::read::{read_member, read_members};
+use address_map::locate;
+use image_source::{Failed, Images, SECTOR};
+use raid_params::{Geometry, MOST};
+
+/// The bytes of a sector of each member, at most.
+const ROW: usize = SECTOR * MOST;
+
+/// Reads a sector of the volume of a set of parameters into `to`, which holds 512 bytes. Only whole
+/// rows before the image sector `end` count.
+///
+/// It takes no memory, and fails only by a fault of the images.
+#[tactic(auto, using(crate::proofs::Sets::served_head, crate::proofs::Sets::served_slots, crate::proofs::Sets::served_testable))]
+pub fn read_volume<I: Images>(
+    images: &mut I,
+    geo: &Geometry,
+    end: u64,
+    sector: u64,
+    to: &mut [u8],
+) -> Result<(), Failed>
+    requires set { IsServed geo.now end (I.seen images.old).attached }
+    requires sector { sector < volume_sectors geo.now.head end }
+    requires to { length to.old ≡ 512 }
+    ensures told { OnOk result (IfSome (told_all (I.seen images.old).attached)
+        (λ bytes. to.new ≡ volume_sector bytes geo.now sector)) }
+    ensures reads { OnlyReads (I.seen images.old) (I.seen images.new) geo.now.head.members }
+    ensures cause { HasCause (I.seen images.old).faults (I.seen images.new).faults result }
+{
+    match locate(&geo.head, end, sector) {
+        Some(home) => read_sector(images, geo, home.slot as usize, home.sector, to),
+        None => Ok(()),
+    }
+}
+
+/// Reads a sector of the member of a slot, or finds it where the member is missing.
+fn read_sector<I: Images>(
+    images: &mut I,
+    geo: &Geometry,
+    slot: usize,
+    sector: u64,
+    to: &mut [u8],
+) -> Result<(), Failed>
+    requires set { IsTestable geo.now }
+    requires held { All (Reaches (I.seen images.old).attached (geo.now.head.offset + (sector + 1)))
+        geo.now.slots.items }
+    requires near { geo.now.head.offset + (sector + 1) < 2 ^ 55 }
+    requires slot { slot < length geo.now.slots.items }
+    requires to { length to.old ≡ 512 }
+    ensures told { OnOk result (IfSome (told_all (I.seen images.old).attached)
+        (λ bytes. to.new ≡ member_sector bytes geo.now slot sector)) }
+    ensures reads { OnlyReads (I.seen images.old) (I.seen images.new) (length geo.now.slots.items) }
+    ensures cause { HasCause (I.seen images.old).faults (I.seen images.new).faults result }
+{
+    let held = geo.slots[slot];
+    match held {
+        Some(_) => read_member(images, held, geo.head.offset, sector, to),
+        None => find_sector(images, geo, slot, sector, to),
+    }
+}
+
+/// Finds a sector of the missing member of a slot.
+#[tactic(auto, using(crate::proofs::Sets::few_slots))]
+fn find_sector<I: Images>(
+    images: &mut I,
+    geo: &Geometry,
+    slot: usize,
+    sector: u64,
+    to: &mut [u8],
+) -> Result<(), Failed>
+    requires set { IsTestable geo.now }
+    requires held { All (Reaches (I.seen images.old).attached (geo.now.head.offset + (sector + 1)))
+        geo.now.slots.items }
+    requires near { geo.now.head.offset + (sector + 1) < 2 ^ 55 }
+    requires slot { slot < length geo.now.slots.items }
+    requires missing { slice_index_or geo.now.slots.items slot None ≡ None }
+    requires to { length to.old ≡ 512 }
+    ensures told { OnOk result (IfSome (told_all (I.seen images.old).attached)
+        (λ bytes. to.new ≡ member_sector bytes geo.now slot sector)) }
+    ensures reads { OnlyReads (I.seen images.old) (I.seen images.new) (length geo.now.slots.items) }
+    ensures cause { HasCause (I.seen images.old).faults (I.seen images.new).faults result }
+{
+    let mut sectors = [0u8; ROW];
+    let mut row = [0u8; ROW];
+    let room = &mut row[..SECTOR * geo.slots.len()];
+    read_members(images, &mut sectors, geo, SECTOR, sector, 1)?;
+    solve_slot(geo, &mut sectors, room, SECTOR, sector, 1, slot);
+    to.copy_from_slice(&sectors[SECTOR * slot..SECTOR * slot + SECTOR]);
+    Ok(())
+}

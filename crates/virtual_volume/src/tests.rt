@@ -1,0 +1,201 @@
+// Volumes that were worked out by hand, over images in memory.
+ghost use Rattle.std.specs.Prelude.{◌≡◌, ◌≤◌, ◌^◌, ◌<◌, length, All, IsSomeAnd, IsTrue, slice_get};
+ghost use Rattle.image_source.specs.Memory.{seen_of};
+
+use crate::{VolumeFault, read_volume, write_volume};
+use address_map::volume_sectors;
+use image_source::{Failed, Images, MemImages, MemSink};
+use raid_params::{Geometry, Head, Level, Pattern, Slots, Syndrome};
+use std::alloc::Global;
+use std::process::Abort;
+use std::test::Fail;
+
+// An empty slot.
+const NO: Option<u8> = None;
+
+fn reaches(images: &MemImages, image: u32, end: u64) -> bool
+    ensures { IsTrue result → IsSomeAnd (slice_get (seen_of images.now).attached image) (λ a. end ≤ a.sectors) }
+{
+    match images.length(image) {
+        Some(sectors) => end <= sectors,
+        None => false,
+    }
+}
+
+// Whether so many images are attached, and each reaches to the end.
+fn all_reach(images: &MemImages, count: u8, end: u64) -> bool
+    ensures { IsTrue result → (length (seen_of images.now).attached ≡ count) × All (λ a. end ≤ a.sectors) (seen_of images.now).attached }
+{
+    for i in 0..count {
+        if !reaches(images, i as u32, end) {
+            return false;
+        }
+    }
+    images.length(count as u32).is_none()
+}
+
+// Writes the volume, over so many images.
+#[tactic(auto, using(crate::proofs::TestSets::long_served))]
+fn write<R: Abort>(
+    rt: &R,
+    alloc: Global,
+    images: &mut MemImages,
+    count: u8,
+    geo: &Geometry,
+    end: u64,
+    sink: &mut MemSink,
+) -> Result<(), VolumeFault>
+    requires offset { geo.now.head.offset < 2 ^ 55 }
+    requires end { end < 2 ^ 55 }
+{
+    assert!(rt; geo.validate(count, end).is_ok());
+    assert!(rt; all_reach(images, count, end));
+    write_volume(alloc, images, geo, end, sink)
+}
+
+// Reads a sector of the volume, over so many images.
+#[tactic(auto, using(crate::proofs::TestSets::long_served))]
+fn read<R: Abort>(
+    rt: &R,
+    images: &mut MemImages,
+    count: u8,
+    geo: &Geometry,
+    end: u64,
+    sector: u64,
+) -> Result<[u8; 512], Failed>
+    requires offset { geo.now.head.offset < 2 ^ 55 }
+    requires end { end < 2 ^ 55 }
+{
+    assert!(rt; geo.validate(count, end).is_ok());
+    assert!(rt; all_reach(images, count, end));
+    assert!(rt; geo.head.is_valid());
+    assert!(rt; sector < volume_sectors(&geo.head, end));
+    let mut to = [0; 512];
+    read_volume(images, geo, end, sector, &mut to)?;
+    Ok(to)
+}
+
+// Left-symmetric, in chunks of a sector.
+fn symmetric(level: Level, syndrome: Syndrome, members: u8, slots: Slots) -> Geometry
+    ensures { result.head.offset ≡ 0 }
+{
+    let head = Head {
+        level,
+        members,
+        pattern: Pattern::Ls,
+        syndrome,
+        chunk: 1,
+        offset: 0,
+    };
+    Geometry { head, slots }
+}
+
+fn three(first: Option<u8>) -> Geometry
+    ensures { result.head.offset ≡ 0 }
+{
+    let mut slots = Slots::new();
+    slots.push(first);
+    slots.push(Some(1));
+    slots.push(Some(2));
+    symmetric(Level::Raid5, Syndrome::NoQ, 3, slots)
+}
+
+fn four(known: [Option<u8>; 4]) -> Geometry
+    ensures { result.head.offset ≡ 0 }
+{
+    let mut slots = Slots::new();
+    slots.push(known[0]);
+    slots.push(known[1]);
+    slots.push(known[2]);
+    slots.push(known[3]);
+    symmetric(Level::Raid6, Syndrome::AfterQ, 4, slots)
+}
+
+// Images of two sectors each: 1 and 2, 3 and 4, 2 and 6.
+fn three_images(alloc: Global) -> Result<MemImages, Fail> {
+    let (mut a, mut b, mut c) = ([1; 1024], [3; 1024], [2; 1024]);
+    a[512..].fill(2);
+    b[512..].fill(4);
+    c[512..].fill(6);
+    let mut images = MemImages::new(alloc)?;
+    images.add("a", &a)?;
+    images.add("b", &b)?;
+    images.add("c", &c)?;
+    images.attach("a")?;
+    images.attach("b")?;
+    images.attach("c")?;
+    Ok(images)
+}
+
+// Images of one sector each: Q, two data blocks and P.
+fn four_images(alloc: Global) -> Result<MemImages, Fail> {
+    let mut images = MemImages::new(alloc)?;
+    images.add("q", &[0x1C; 512])?;
+    images.add("a", &[0x01; 512])?;
+    images.add("b", &[0x80; 512])?;
+    images.add("p", &[0x81; 512])?;
+    images.attach("q")?;
+    images.attach("a")?;
+    images.attach("b")?;
+    images.attach("p")?;
+    Ok(images)
+}
+
+// The second row begins on the third member, and 3 + 2 = 1 and 4 + 6 = 2, bit by bit.
+#[test]
+fn two_rows(rt: HostRuntime) -> Result<(), Fail> {
+    let alloc = rt.alloc();
+    let mut images = three_images(alloc)?;
+    let mut volume = [1; 2048];
+    volume[512..1024].fill(3);
+    volume[1024..1536].fill(6);
+    volume[1536..].fill(2);
+    for first in [Some(0), NO] {
+        let geo = three(first);
+        let mut sink = MemSink::new(alloc, 4096)?;
+        assert!(rt; write(&rt, alloc, &mut images, 3, &geo, 2, &mut sink).is_ok());
+        assert_eq!(rt; sink.bytes(), volume.as_slice());
+        let sector = read(&rt, &mut images, 3, &geo, 2, 3).ok();
+        assert_eq!(rt; sector, Some([2; 512]));
+    }
+    Ok(())
+}
+
+// 1 + 80 = 81, and 1 + 2 * 80 = 1C in the field of 256 elements.
+#[test]
+fn two_members_lost(rt: HostRuntime) -> Result<(), Fail> {
+    let alloc = rt.alloc();
+    let mut images = four_images(alloc)?;
+    let mut volume = [0x01; 1024];
+    volume[512..].fill(0x80);
+    for known in [
+        [Some(0), NO, NO, Some(3)],
+        [NO, NO, Some(2), Some(3)],
+        [NO, Some(1), Some(2), NO],
+        [Some(0), NO, Some(2), NO],
+    ] {
+        let geo = four(known);
+        let mut sink = MemSink::new(alloc, 1024)?;
+        assert!(rt; write(&rt, alloc, &mut images, 4, &geo, 1, &mut sink).is_ok());
+        assert_eq!(rt; sink.bytes(), volume.as_slice());
+    }
+    Ok(())
+}
+
+// Three images are attached by the first three calls.
+#[test]
+fn faults(rt: HostRuntime) -> Result<(), Fail> {
+    let alloc = rt.alloc();
+    let geo = three(Some(0));
+    let mut images = three_images(alloc)?;
+    images.fail_call(5)?;
+    let mut sink = MemSink::new(alloc, 4096)?;
+    let cut = write(&rt, alloc, &mut images, 3, &geo, 2, &mut sink);
+    assert!(rt; matches!(&cut, Err(VolumeFault::ReadFault)));
+    assert_eq!(rt; sink.bytes().len(), 0);
+    sink.fail_call(1, 100)?;
+    let cut = write(&rt, alloc, &mut images, 3, &geo, 2, &mut sink);
+    assert!(rt; matches!(&cut, Err(VolumeFault::WriteFault)));
+    assert_eq!(rt; sink.bytes(), [1; 100].as_slice());
+    Ok(())
+}

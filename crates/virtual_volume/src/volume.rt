@@ -1,0 +1,247 @@
+// The volume, written out.
+ghost use Rattle.std.specs.Prelude.{ℕ, List, [], ◌≡◌, ◌+◌, ◌*◌, ◌^◌, ◌<◌, ◌≤◌, length, All, IfErr, IfSome, OnOk, IsTrue};
+ghost use Rattle.std.specs.Io.KnownBytes.{Appends};
+ghost use Rattle.std.specs.Result.{IsErrOf};
+ghost use Rattle.image_source.specs.Attached.{told_all};
+ghost use Rattle.image_source.specs.Causes.{HasCause, Rose};
+ghost use Rattle.image_source.specs.Seen.{OnlyReads};
+ghost use Rattle.image_source.specs.Streams.{AppendsFront, Puts};
+ghost use Rattle.raid_params.specs.Size.{area, data_blocks as data_blocks_of};
+ghost use Rattle.raid_params.specs.Validity.{is_valid_head};
+ghost use Rattle.raid_terms.specs.Volume.{volume};
+ghost use Rattle.row_scan.specs.Block.{IsTestable, Reaches};
+ghost use Rattle.virtual_volume.specs.Parts.{items_of, rows_of};
+ghost use Rattle.virtual_volume.specs.Regions.{HoldAll, IsRoom};
+ghost use Rattle.virtual_volume.specs.Served.{Ends, IsServed};
+ghost use Rattle.virtual_volume.specs.Waiting.{Passed};
+
+use crate::pending::Pending;
+use crate::room::{Room, batch_rows};
+use address_map::rows;
+use image_source::{Failed, Images, SECTOR, Sink};
+use raid_layouts::slot_of_item;
+use raid_params::{Geometry, Head};
+use std::alloc::Global;
+use thiserror::Error;
+
+/// Why bytes were not written out.
+#[derive(Clone, Copy, Debug, Drop, Error)]
+pub enum VolumeFault {
+    /// The images failed.
+    #[error("an image cannot be read")]
+    ReadFault,
+    /// The sink failed.
+    #[error("the output cannot be written")]
+    WriteFault,
+    /// Want of memory.
+    #[error("not enough memory")]
+    Memory,
+}
+
+/// The data items of a row.
+#[tactic(auto, using(raid_layouts::proofs::Levels::enough))]
+fn data_blocks(head: &Head) -> u8
+    requires { IsTrue (is_valid_head head.now) }
+    ensures { result ≡ data_blocks_of head.now }
+{
+    head.members - head.level.redundancy()
+}
+
+/// Puts the data items of a row, whose chunks lie from sector `at` of each region on.
+#[tactic(auto, using(row_scan::proofs::Sets::testable_head, row_scan::proofs::Sets::testable_slots, crate::proofs::Places::region_inside))]
+fn put_row<K: Sink>(
+    pending: &mut Pending,
+    sink: &mut K,
+    geo: &Geometry,
+    sectors: &[u8],
+    stride: usize,
+    row: u64,
+    at: usize,
+) -> Result<(), Failed>
+    requires set { IsTestable geo.now }
+    requires sectors { stride * length geo.now.slots.items ≤ length sectors.now }
+    requires fits { 512 * (at + geo.now.head.chunk) ≤ stride }
+    ensures passed { (images : List (List ℕ)) (first count : ℕ) →
+        first + at ≡ row * geo.now.head.chunk → at + geo.now.head.chunk ≤ count →
+        HoldAll images geo.now stride first count sectors.now →
+        Passed (K.gained sink.old) (K.gained sink.new) pending.old pending.new result
+        (items_of images geo.now row (data_blocks_of geo.now.head)) }
+    ensures cause { HasCause (K.faults sink.old) (K.faults sink.new) result }
+{
+    let size = SECTOR * geo.head.chunk as usize;
+    for item in 0..data_blocks(&geo.head) {
+        let slot = slot_of_item(&geo.head, row, item) as usize;
+        let start = stride * slot + SECTOR * at;
+        pending.put(sink, &sectors[start..start + size])?;
+    }
+    Ok(())
+}
+
+/// Puts the data items of `rows` rows from row `first` on, of which the regions hold the chunks.
+#[tactic(auto, using(crate::proofs::Places::region_inside))]
+fn put_rows<K: Sink>(
+    pending: &mut Pending,
+    sink: &mut K,
+    geo: &Geometry,
+    sectors: &[u8],
+    stride: usize,
+    first: u64,
+    rows: usize,
+) -> Result<(), Failed>
+    requires set { IsTestable geo.now }
+    requires sectors { stride * length geo.now.slots.items ≤ length sectors.now }
+    requires fits { 512 * (rows * geo.now.head.chunk) ≤ stride }
+    requires first { first + rows < 2 ^ 55 }
+    ensures passed { (images : List (List ℕ)) →
+        HoldAll images geo.now stride (first * geo.now.head.chunk) (rows * geo.now.head.chunk) sectors.now →
+        Passed (K.gained sink.old) (K.gained sink.new) pending.old pending.new result
+        (rows_of images geo.now first rows) }
+    ensures cause { HasCause (K.faults sink.old) (K.faults sink.new) result }
+{
+    for r in 0..rows {
+        let at = r * geo.head.chunk as usize;
+        put_row(pending, sink, geo, sectors, stride, first + r as u64, at)?;
+    }
+    Ok(())
+}
+
+/// Writes the volume's part in `rows` rows from row `first` on: reads the members that are there,
+/// finds what the others held, and puts the data items.
+fn write_batch<I: Images, K: Sink>(
+    images: &mut I,
+    pending: &mut Pending,
+    sink: &mut K,
+    room: &mut Room,
+    geo: &Geometry,
+    first: u64,
+    rows: u64,
+) -> Result<(), VolumeFault>
+    requires set { IsTestable geo.now }
+    requires held { All (Reaches (I.seen images.old).attached
+        (geo.now.head.offset + (first * geo.now.head.chunk + rows * geo.now.head.chunk))) geo.now.slots.items }
+    requires near { geo.now.head.offset + (first * geo.now.head.chunk + rows * geo.now.head.chunk) < 2 ^ 55 }
+    requires some { 1 ≤ rows }
+    requires room { IsRoom (length geo.now.slots.items) room.old }
+    requires fits { 512 * (rows * geo.now.head.chunk) ≤ room.old.stride }
+    ensures passed { IfSome (told_all (I.seen images.old).attached) (λ bytes.
+        Passed (K.gained sink.old) (K.gained sink.new) pending.old pending.new result (rows_of bytes geo.now first rows)) }
+    ensures reads { OnlyReads (I.seen images.old) (I.seen images.new)
+        (length geo.now.slots.items * (rows * geo.now.head.chunk)) }
+    ensures later { K.faults sink.old ≤ K.faults sink.new }
+    ensures ends { IfErr result (Ends (I.seen images.old).faults (I.seen images.new).faults (K.faults sink.old) (K.faults sink.new)) }
+    ensures room { IsRoom (length geo.now.slots.items) room.new }
+    ensures stride { room.new.stride ≡ room.old.stride }
+{
+    let count = (rows * geo.head.chunk) as usize;
+    let from = first * geo.head.chunk;
+    room.read(images, geo, from, count)
+        .map_err(|_| VolumeFault::ReadFault)?;
+    room.solve_all(geo, from, count);
+    put_rows(
+        pending,
+        sink,
+        geo,
+        &room.sectors,
+        room.stride,
+        first,
+        rows as usize,
+    )
+    .map_err(|_| VolumeFault::WriteFault)?;
+    Ok(())
+}
+
+/// Writes the volume's part in the first `rows` rows, `batch` rows at a time.
+fn write_rows<I: Images, K: Sink>(
+    images: &mut I,
+    pending: &mut Pending,
+    sink: &mut K,
+    room: &mut Room,
+    geo: &Geometry,
+    rows: u64,
+    batch: u64,
+) -> Result<(), VolumeFault>
+    requires set { IsTestable geo.now }
+    requires held { All (Reaches (I.seen images.old).attached
+        (geo.now.head.offset + rows * geo.now.head.chunk)) geo.now.slots.items }
+    requires near { geo.now.head.offset + rows * geo.now.head.chunk < 2 ^ 55 }
+    requires room { IsRoom (length geo.now.slots.items) room.old }
+    requires batch { 1 ≤ batch }
+    requires fits { 512 * (batch * geo.now.head.chunk) ≤ room.old.stride }
+    ensures passed { IfSome (told_all (I.seen images.old).attached) (λ bytes.
+        Passed (K.gained sink.old) (K.gained sink.new) pending.old pending.new result (rows_of bytes geo.now 0 rows)) }
+    ensures reads { OnlyReads (I.seen images.old) (I.seen images.new)
+        (length geo.now.slots.items * (rows * geo.now.head.chunk)) }
+    ensures later { K.faults sink.old ≤ K.faults sink.new }
+    ensures ends { IfErr result (Ends (I.seen images.old).faults (I.seen images.new).faults (K.faults sink.old) (K.faults sink.new)) }
+{
+    let mut first = 0;
+    while first < rows {
+        let count = batch.min(rows - first);
+        write_batch(images, pending, sink, room, geo, first, count)?;
+        first += count;
+    }
+    Ok(())
+}
+
+/// Writes the volume, with room for `batch` rows and while nothing waits.
+#[tactic(auto, using(crate::proofs::Sets::served_head, crate::proofs::Sets::served_testable))]
+fn write_all<I: Images, K: Sink>(
+    images: &mut I,
+    pending: &mut Pending,
+    sink: &mut K,
+    room: &mut Room,
+    geo: &Geometry,
+    end: u64,
+    batch: u64,
+) -> Result<(), VolumeFault>
+    requires set { IsServed geo.now end (I.seen images.old).attached }
+    requires empty { pending.old ≡ [] }
+    requires room { IsRoom (length geo.now.slots.items) room.old }
+    requires batch { 1 ≤ batch }
+    requires fits { 512 * (batch * geo.now.head.chunk) ≤ room.old.stride }
+    ensures put { IfSome (told_all (I.seen images.old).attached)
+        (λ bytes. Puts (K.gained sink.old) (K.gained sink.new) result (volume bytes geo.now end)) }
+    ensures reads { OnlyReads (I.seen images.old) (I.seen images.new) (geo.now.head.members * area geo.now.head end) }
+    ensures later { K.faults sink.old ≤ K.faults sink.new }
+    ensures ends { IfErr result (Ends (I.seen images.old).faults (I.seen images.new).faults (K.faults sink.old) (K.faults sink.new)) }
+{
+    let rows = rows(&geo.head, end);
+    write_rows(images, pending, sink, room, geo, rows, batch)?;
+    pending.flush(sink).map_err(|_| VolumeFault::WriteFault)?;
+    Ok(())
+}
+
+/// Writes the volume of a set of parameters over the attached images: `volume_sectors` sectors, in
+/// their order. Only whole rows before the image sector `end` count.
+///
+/// It fails for want of memory before anything is read or written, and after that only by a fault
+/// of the images or of the sink: then a front of the volume was written. Each member sector is read
+/// at most once.
+#[tactic(auto, using(crate::proofs::Sets::served_head, crate::proofs::Sets::served_slots))]
+pub fn write_volume<I: Images, K: Sink>(
+    alloc: Global,
+    images: &mut I,
+    geo: &Geometry,
+    end: u64,
+    sink: &mut K,
+) -> Result<(), VolumeFault>
+    requires set { IsServed geo.now end (I.seen images.old).attached }
+    ensures written { OnOk result (IfSome (told_all (I.seen images.old).attached)
+        (λ bytes. Appends (K.gained sink.old) (K.gained sink.new) (volume bytes geo.now end))) }
+    ensures front { IfErr result (λ _. IfSome (told_all (I.seen images.old).attached)
+        (λ bytes. AppendsFront (K.gained sink.old) (K.gained sink.new) (volume bytes geo.now end))) }
+    ensures memory { IsErrOf result VolumeFault.Memory →
+        (K.gained sink.new ≡ K.gained sink.old) × (I.seen images.new ≡ I.seen images.old) }
+    ensures read_fault { IsErrOf result VolumeFault.ReadFault →
+        Rose (I.seen images.old).faults (I.seen images.new).faults }
+    ensures write_fault { IsErrOf result VolumeFault.WriteFault → Rose (K.faults sink.old) (K.faults sink.new) }
+    ensures reads { OnlyReads (I.seen images.old) (I.seen images.new) (geo.now.head.members * area geo.now.head end) }
+    ensures later { K.faults sink.old ≤ K.faults sink.new }
+{
+    let batch = batch_rows(&geo.head);
+    let mut room = Room::new(alloc, geo.head.members, batch * geo.head.chunk).map_err(
+        |_| VolumeFault::Memory,
+    )?;
+    let mut pending = Pending::new(alloc).map_err(|_| VolumeFault::Memory)?;
+    write_all(images, &mut pending, sink, &mut room, geo, end, batch)
+}

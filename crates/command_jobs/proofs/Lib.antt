@@ -8,3 +8,4 @@ pub mod Prepared
 pub mod Printed
 pub mod Refusals
 pub mod Taking
+pub mod Written

@@ -7,6 +7,8 @@ use Rattle.raid_params.specs.declared.types.GeoFault.TheVariants.{Members, Patte
 use Rattle.plan_text.specs.PlanText.{pattern_place, syndrome_place}
 use Rattle.page_engine.specs.declared.paging.PageFault.{PageFault}
 use Rattle.page_engine.specs.declared.paging.PageFault.TheVariants.{Many as PageMany, Cursor as PageCursor, ReadFault, Memory as PageMemory}
+use Rattle.virtual_volume.specs.declared.volume.VolumeFault.{VolumeFault}
+use Rattle.virtual_volume.specs.declared.volume.VolumeFault.TheVariants.{ReadFault as VolumeRead, WriteFault as VolumeWrite, Memory as VolumeMemory}
 use Rattle.plan_text.specs.declared.plan.PlanFault.{PlanFault as FaultOfPlan}
 use Rattle.plan_text.specs.declared.plan.PlanFault.TheVariants.{NotBuilt as PlanNotBuilt, Memory as PlanMemory}
 use Rattle.command_jobs.specs.declared.agreement.Kind.{Kind}
@@ -62,6 +64,12 @@ stop_of_page PageMany = Many
 stop_of_page (PageCursor fault) = Cursor fault
 stop_of_page ReadFault = ImageFault
 stop_of_page PageMemory = OutOfMemory
+
+-- the stop of a fault while a volume or a member is written
+abbrev pub stop_of_volume : VolumeFault → Stop
+stop_of_volume VolumeRead = ImageFault
+stop_of_volume VolumeWrite = OutFault
+stop_of_volume VolumeMemory = OutOfMemory
 
 -- what of the images disagrees, as it is printed
 abbrev pub kind_text : Kind → List ℕ

@@ -14,6 +14,7 @@ mod preparing;
 mod printing;
 mod reading;
 mod stop;
+mod writing;
 
 pub use agreement::{Disagreement, Kind};
 pub use attaching::attach_front;
@@ -22,3 +23,4 @@ pub use listing::list;
 pub use mapping::map;
 pub use reading::read_all;
 pub use stop::{SectorFault, Stop};
+pub use writing::{rebuild, write};

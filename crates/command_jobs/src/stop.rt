@@ -1,6 +1,6 @@
 // Why a run ends without its answer.
 ghost use Rattle.std.specs.Prelude.{◌≡◌, ◌≤◌, ◌+◌, ◌++◌, codes, decimal, length};
-ghost use Rattle.command_jobs.specs.Stops.{kind_text as kind_text_of, note_of, rule_of, status_of, stop_of_page, stop_of_plan, value_of};
+ghost use Rattle.command_jobs.specs.Stops.{kind_text as kind_text_of, note_of, rule_of, status_of, stop_of_page, stop_of_plan, stop_of_volume, value_of};
 ghost use Rattle.command_jobs.specs.declared.stop.Stop.TheVariants.{Images as ImagesOf, Cursor as CursorOf, OutOfMemory, Sector as SectorOf};
 ghost use Rattle.plan_text.specs.PlanText.{pattern_place as pattern_place_of, syndrome_place as syndrome_place_of};
 
@@ -11,6 +11,7 @@ use itoa::Buffer;
 use page_engine::{CursorFault, PageFault};
 use plan_text::PlanFault;
 use raid_params::{GeoFault, Pattern, Syndrome};
+use virtual_volume::VolumeFault;
 
 /// A sector asked for, which is past the end of the volume.
 #[derive(Clone, Copy)]
@@ -80,6 +81,18 @@ impl From<PageFault> for Stop {
             PageFault::Cursor(fault) => Stop::Cursor(fault),
             PageFault::ReadFault => Stop::ImageFault,
             PageFault::Memory => Stop::OutOfMemory,
+        }
+    }
+}
+
+impl From<VolumeFault> for Stop {
+    ghost from_gives = { λ fault stop. stop ≡ stop_of_volume fault };
+
+    fn from(fault: VolumeFault) -> Stop {
+        match fault {
+            VolumeFault::ReadFault => Stop::ImageFault,
+            VolumeFault::WriteFault => Stop::OutFault,
+            VolumeFault::Memory => Stop::OutOfMemory,
         }
     }
 }

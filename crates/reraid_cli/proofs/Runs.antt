@@ -1,5 +1,5 @@
 -- A run, as the reading of its words says it.
-use Rattle.std.proofs.Common.{◌≡◌, ℕ, ◌≤◌, ◌+◌, ◌<◌, ◌^◌, List, [], ◌∷◌, ◌++◌, None, Some, Option, Result, Ok, Err, All, IfSome, IfErr, OnOk, IsErrOf, refl, sym, ap, ◌∙◌, subst, arith, inl, inr, false, length, drop}
+use Rattle.std.proofs.Common.{◌≡◌, ℕ, ◌≤◌, ◌+◌, ◌<◌, ◌^◌, List, [], ◌∷◌, ◌++◌, None, Some, Option, Result, Ok, Err, All, IfSome, IfErr, OnOk, IsErrOf, refl, sym, ap, ◌∙◌, subst, arith, inl, inr, Bool, false, length, drop}
 use Rattle.image_source.specs.Attached.{AreImagesOf, AttachesSome}
 use Rattle.image_source.specs.Causes.{Rose}
 use Rattle.image_source.specs.Seen.{Image, IsImageOf, Seen, World}
@@ -40,17 +40,17 @@ words_end words left attached old reading reads says = record {
   front = front_if (command_output reading.command reading attached) old;
 }
 
-pub words_read : (words : List (List ℕ)) (left : Option (List ℕ)) (before : ℕ) (reading : Reading) → ReadsWords words None → Says words left reading → IfSome (most_reads reading) (λ n. before ≤ before + n)
+pub words_read : (words : List (List ℕ)) (left : Option (List ℕ)) (before : ℕ) (reading : Reading) (attached : List Image) → ReadsWords words None → Says words left reading → IfSome (most_reads reading attached) (λ n. before ≤ before + n)
 unfolding most_reads
-words_read words left before reading reads says =
-    subst (λ (c : Option Command). IfSome (command_reads c reading) (λ n. before ≤ before + n)) (sym (none_said words reading.command reads says.command)) (let h : before ≤ before + 0 = omega arith in h)
+words_read words left before reading attached reads says =
+    subst (λ (c : Option Command). IfSome (command_reads c reading attached) (λ n. before ≤ before + n)) (sym (none_said words reading.command reads says.command)) (let h : before ≤ before + 0 = omega arith in h)
 
 -- an image could not be attached
 pub attach_ends : (attached : List Image) (old : Option (List ℕ)) (reading : Reading) → Ends {T = Unit {0}} (refusal reading attached) (output reading attached) old old (Err ImageFault)
 attach_ends attached old reading = record { ends = inl tt; passes = tt; puts = tt; front = front_if (output reading attached) old }
 
-pub attach_leaves : (old new : Seen) (plan out : ℕ) (gained : Option (List ℕ)) → Rose old.faults new.faults → old.faults ≤ new.faults → Leaves {T = Unit {0}} false (counts_of old plan out) (counts_of new plan out) gained gained (Err ImageFault)
-attach_leaves old new plan out gained rose later = record {
+pub attach_leaves : (streams : Bool) (old new : Seen) (plan out : ℕ) (gained : Option (List ℕ)) → Rose old.faults new.faults → old.faults ≤ new.faults → Leaves {T = Unit {0}} streams (counts_of old plan out) (counts_of new plan out) gained gained (Err ImageFault)
+attach_leaves streams old new plan out gained rose later = record {
   image_fault = λ e. rose;
   plan_fault = λ e. absurd (cc);
   out_fault = λ e. absurd (cc);
@@ -65,8 +65,8 @@ any_reads : (few : Option ℕ) (before : ℕ) → IfSome few (λ n. before ≤ b
 any_reads None before = tt
 any_reads (Some n) before = omega arith
 
-pub attach_reads : (reading : Reading) (old new : Seen) → new.sectors_read ≡ old.sectors_read → IfSome (most_reads reading) (λ n. new.sectors_read ≤ old.sectors_read + n)
-attach_reads reading old new same = subst (λ (k : ℕ). IfSome (most_reads reading) (λ n. k ≤ old.sectors_read + n)) (sym same) (any_reads (most_reads reading) old.sectors_read)
+pub attach_reads : (reading : Reading) (old new : Seen) (attached : List Image) → new.sectors_read ≡ old.sectors_read → IfSome (most_reads reading attached) (λ n. new.sectors_read ≤ old.sectors_read + n)
+attach_reads reading old new attached same = subst (λ (k : ℕ). IfSome (most_reads reading attached) (λ n. k ≤ old.sectors_read + n)) (sym same) (any_reads (most_reads reading attached) old.sectors_read)
 
 -- what the words say is what the command is asked
 pub asked_of : (words : List (List ℕ)) (left : Option (List ℕ)) (command : Command) (names : ℕ) (reading : Reading) → ReadsWords words (Some command) → names ≡ length (names_after words) → Says words left reading → IsAsked command names left reading

@@ -1,5 +1,5 @@
 -- A command's job, as the reading of the words says it.
-use Rattle.std.proofs.Common.{◌≡◌, ℕ, ◌≤◌, ◌+◌, ◌*◌, List, [], None, Some, Option, Result, Ok, Err, IfSome, IfErr, OnOk, IsErrOf, refl, sym, ap, ◌∙◌, subst, arith, inl, inr, false, length}
+use Rattle.std.proofs.Common.{◌≡◌, ℕ, ◌≤◌, ◌+◌, ◌*◌, List, [], None, Some, Option, Result, Ok, Err, IfSome, IfErr, OnOk, IsErrOf, refl, sym, ap, ◌∙◌, subst, arith, inl, inr, Bool, false, length}
 use Rattle.std.specs.Io.KnownBytes.{Appends, Keeps}
 use Rattle.image_source.specs.Attached.{told_all}
 use Rattle.image_source.specs.Causes.{Rose}
@@ -12,12 +12,13 @@ use Rattle.command_words.specs.declared.command.Command.TheVariants.{List as Lis
 use Rattle.command_jobs.specs.Checking.{check_output, check_refusal, rows_tested}
 use Rattle.command_jobs.specs.Jobs.{Counts, Ends, Leaves, MayHavePut, MayHaveRead}
 use Rattle.command_jobs.specs.Listing.{list_output, list_refusal}
-use Rattle.command_jobs.specs.Mapping.{map_refusal, map_text}
+use Rattle.command_jobs.specs.Mapping.{map_refusal, map_text, set_refusal}
+use Rattle.command_jobs.specs.Writing.{rebuild_output, rebuild_refusal, write_output}
 use Rattle.command_jobs.specs.Plans.{IsTextOf}
 use Rattle.command_jobs.specs.declared.stop.Stop.{Stop}
 use Rattle.command_jobs.specs.declared.stop.Stop.TheVariants.{ImageFault, PlanFault, OutFault, NotBuilt}
 use Rattle.command_jobs.proofs.Printed.{front_of_nothing, keeps_itself}
-use Rattle.reraid_cli.specs.Answers.{Reading, check_reads, command_output, command_reads, command_refusal, most_reads, output, refusal}
+use Rattle.reraid_cli.specs.Answers.{Reading, check_reads, command_output, command_reads, command_refusal, members_reads, most_reads, output, refusal}
 use Rattle.reraid_cli.specs.Asked.{IsAsked}
 
 -- the refusal and the output of a command are those of the reading that says it
@@ -28,9 +29,9 @@ ends_as command reading attached old new r is ends =
     let P : Option Command → Type 0 = λ c. Ends (command_refusal c reading attached) (command_output c reading attached) old new r in
     subst P (sym is) ends
 
-reads_as : (command : Command) (reading : Reading) (before after : ℕ) → reading.command ≡ Some command → IfSome (command_reads (Some command) reading) (λ n. after ≤ before + n) → IfSome (most_reads reading) (λ n. after ≤ before + n)
+reads_as : (command : Command) (reading : Reading) (attached : List Image) (before after : ℕ) → reading.command ≡ Some command → IfSome (command_reads (Some command) reading attached) (λ n. after ≤ before + n) → IfSome (most_reads reading attached) (λ n. after ≤ before + n)
 unfolding most_reads
-reads_as command reading before after is few = subst (λ (c : Option Command). IfSome (command_reads c reading) (λ n. after ≤ before + n)) (sym is) few
+reads_as command reading attached before after is few = subst (λ (c : Option Command). IfSome (command_reads c reading attached) (λ n. after ≤ before + n)) (sym is) few
 
 pub list_asked : (from size span n names : ℕ) (left : Option (List ℕ)) (reading : Reading) (attached : List Image) (old new : Option (List ℕ)) (r : Result (Unit {0}) Stop) → IsAsked (ListCommand from size span n) names left reading →
     IfSome left (λ text. (read : Option Plan) → IsTextOf text read → Ends (list_refusal from text read names attached) (list_output from size span read (told_all attached)) old new r) →
@@ -56,38 +57,20 @@ map_asked set sector end n names left reading attached old new r asked ends =
     let Q : ℕ → Type 0 = λ k. Ends (map_refusal set sector end k attached) (Some (map_text set sector)) old new r in
     ends_as (MapCommand set sector end n) reading attached old new r asked.command_is (subst Q (sym asked.names_are) ends)
 
--- a command that is not built
-not_built : (printed : Option (List ℕ)) (old : Option (List ℕ)) → Ends {T = Unit {0}} (Some NotBuilt) printed old old (Err NotBuilt)
-not_built printed old = record { ends = inr refl; passes = tt; puts = tt; front = front_if printed }
-  where
-    front_if : (p : Option (List ℕ)) → IfSome p (λ text. AppendsFront old old text)
-    front_if None = tt
-    front_if (Some text) = front_of_nothing old text
+pub write_asked : (set : Geometry) (end : Option ℕ) (n names : ℕ) (left : Option (List ℕ)) (reading : Reading) (attached : List Image) (old new : Option (List ℕ)) (r : Result (Unit {0}) Stop) → IsAsked (WriteCommand set end n) names left reading →
+    Ends (set_refusal set end names attached) (write_output set end attached (told_all attached)) old new r → Ends (refusal reading attached) (output reading attached) old new r
+write_asked set end n names left reading attached old new r asked ends =
+    let Q : ℕ → Type 0 = λ k. Ends (set_refusal set end k attached) (write_output set end attached (told_all attached)) old new r in
+    ends_as (WriteCommand set end n) reading attached old new r asked.command_is (subst Q (sym asked.names_are) ends)
 
-pub write_asked : (set : Geometry) (end : Option ℕ) (n names : ℕ) (left : Option (List ℕ)) (reading : Reading) (attached : List Image) (old : Option (List ℕ)) → IsAsked (WriteCommand set end n) names left reading →
-    Ends {T = Unit {0}} (refusal reading attached) (output reading attached) old old (Err NotBuilt)
-write_asked set end n names left reading attached old asked = ends_as (WriteCommand set end n) reading attached old old (Err NotBuilt) asked.command_is (not_built None old)
+pub rebuild_asked : (set : Geometry) (slot : ℕ) (end : Option ℕ) (n names : ℕ) (left : Option (List ℕ)) (reading : Reading) (attached : List Image) (old new : Option (List ℕ)) (r : Result (Unit {0}) Stop) → IsAsked (RebuildCommand set slot end n) names left reading →
+    Ends (rebuild_refusal set slot end names attached) (rebuild_output set slot end attached (told_all attached)) old new r → Ends (refusal reading attached) (output reading attached) old new r
+rebuild_asked set slot end n names left reading attached old new r asked ends =
+    let Q : ℕ → Type 0 = λ k. Ends (rebuild_refusal set slot end k attached) (rebuild_output set slot end attached (told_all attached)) old new r in
+    ends_as (RebuildCommand set slot end n) reading attached old new r asked.command_is (subst Q (sym asked.names_are) ends)
 
-pub rebuild_asked : (set : Geometry) (slot : ℕ) (end : Option ℕ) (n names : ℕ) (left : Option (List ℕ)) (reading : Reading) (attached : List Image) (old : Option (List ℕ)) → IsAsked (RebuildCommand set slot end n) names left reading →
-    Ends {T = Unit {0}} (refusal reading attached) (output reading attached) old old (Err NotBuilt)
-rebuild_asked set slot end n names left reading attached old asked = ends_as (RebuildCommand set slot end n) reading attached old old (Err NotBuilt) asked.command_is (not_built None old)
-
--- a command that is not built, whichever it is
-abbrev pub IsUnbuilt : Command → Type 0
-IsUnbuilt (WriteCommand set end n) = Unit {0}
-IsUnbuilt (RebuildCommand set slot end n) = Unit {0}
-IsUnbuilt _ = ⊥
-
-pub unbuilt_asked : (command : Command) (names : ℕ) (left : Option (List ℕ)) (reading : Reading) (attached : List Image) (old : Option (List ℕ)) → IsUnbuilt command → IsAsked command names left reading →
-    Ends {T = Unit {0}} (refusal reading attached) (output reading attached) old old (Err NotBuilt)
-unbuilt_asked (ListCommand from size span n) names left reading attached old is asked = absurd is
-unbuilt_asked (CheckCommand set n) names left reading attached old is asked = absurd is
-unbuilt_asked (MapCommand set sector end n) names left reading attached old is asked = absurd is
-unbuilt_asked (WriteCommand set end n) names left reading attached old is asked = write_asked set end n names left reading attached old asked
-unbuilt_asked (RebuildCommand set slot end n) names left reading attached old is asked = rebuild_asked set slot end n names left reading attached old asked
-
-pub nothing_left : (counts : Counts) (old : Option (List ℕ)) → Leaves {T = Unit {0}} false counts counts old old (Err NotBuilt)
-nothing_left counts old = record {
+pub nothing_left : (streams : Bool) (counts : Counts) (old : Option (List ℕ)) → Leaves {T = Unit {0}} streams counts counts old old (Err NotBuilt)
+nothing_left streams counts old = record {
   image_fault = λ e. absurd (cc);
   plan_fault = λ e. absurd (cc);
   out_fault = λ e. absurd (cc);
@@ -98,26 +81,43 @@ nothing_left counts old = record {
   unread = λ h. refl;
 }
 
+-- a job that takes no plan leaves the counts of the plan as they are
+pub planless : {T : Type 0} (streams : Bool) (images later out after sectors read plan : ℕ) (gained now : Option (List ℕ)) (r : Result T Stop) →
+    Leaves streams (record { images = images; plan = 0; out = out; sectors = sectors }) (record { images = later; plan = 0; out = after; sectors = read }) gained now r →
+    Leaves streams (record { images = images; plan = plan; out = out; sectors = sectors }) (record { images = later; plan = plan; out = after; sectors = read }) gained now r
+planless streams images later out after sectors read plan gained now r leaves = record {
+  image_fault = leaves.image_fault;
+  plan_fault = λ e. absurd (let h : Rose 0 0 = leaves.plan_fault e in omega arith);
+  out_fault = leaves.out_fault;
+  images_later = leaves.images_later;
+  plan_later = omega arith;
+  out_later = leaves.out_later;
+  nothing = leaves.nothing;
+  unread = leaves.unread;
+}
+
 -- what is read of the images
-pub list_reads : (from size span n names before after : ℕ) (left : Option (List ℕ)) (reading : Reading) → IsAsked (ListCommand from size span n) names left reading → IfSome (most_reads reading) (λ k. after ≤ before + k)
-list_reads from size span n names before after left reading asked = reads_as (ListCommand from size span n) reading before after asked.command_is tt
+pub list_reads : (from size span n names before after : ℕ) (left : Option (List ℕ)) (reading : Reading) (attached : List Image) → IsAsked (ListCommand from size span n) names left reading → IfSome (most_reads reading attached) (λ k. after ≤ before + k)
+list_reads from size span n names before after left reading attached asked = reads_as (ListCommand from size span n) reading attached before after asked.command_is tt
 
 check_known : (set : Geometry) (before after : ℕ) (text : List ℕ) (read : Option Plan) → IsTextOf text read → ((plan : Plan) → IsTextOf text (Some plan) → after ≤ before + length set.slots.items * rows_tested plan set) →
     IfSome (check_reads set read) (λ k. after ≤ before + k)
 check_known set before after text None is few = tt
 check_known set before after text (Some plan) is few = few plan is
 
-pub check_read : (set : Geometry) (n names before after : ℕ) (left : Option (List ℕ)) (reading : Reading) → IsAsked (CheckCommand set n) names left reading →
-    IfSome left (λ text. (plan : Plan) → IsTextOf text (Some plan) → after ≤ before + length set.slots.items * rows_tested plan set) → IfSome (most_reads reading) (λ k. after ≤ before + k)
-check_read set n names before after left reading asked few =
+pub check_read : (set : Geometry) (n names before after : ℕ) (left : Option (List ℕ)) (reading : Reading) (attached : List Image) → IsAsked (CheckCommand set n) names left reading →
+    IfSome left (λ text. (plan : Plan) → IsTextOf text (Some plan) → after ≤ before + length set.slots.items * rows_tested plan set) → IfSome (most_reads reading attached) (λ k. after ≤ before + k)
+check_read set n names before after left reading attached asked few =
     let P : Option (List ℕ) → Type 0 = λ l. IfSome l (λ text. (plan : Plan) → IsTextOf text (Some plan) → after ≤ before + length set.slots.items * rows_tested plan set) in
-    reads_as (CheckCommand set n) reading before after asked.command_is (check_known set before after reading.text reading.plan (asked.plan tt) (subst P (asked.text tt) few))
+    reads_as (CheckCommand set n) reading attached before after asked.command_is (check_known set before after reading.text reading.plan (asked.plan tt) (subst P (asked.text tt) few))
 
-pub map_reads : (set : Geometry) (sector : ℕ) (end : Option ℕ) (n names before : ℕ) (left : Option (List ℕ)) (reading : Reading) → IsAsked (MapCommand set sector end n) names left reading → IfSome (most_reads reading) (λ k. before ≤ before + k)
-map_reads set sector end n names before left reading asked = reads_as (MapCommand set sector end n) reading before before asked.command_is (omega arith)
+pub map_reads : (set : Geometry) (sector : ℕ) (end : Option ℕ) (n names before : ℕ) (left : Option (List ℕ)) (reading : Reading) (attached : List Image) → IsAsked (MapCommand set sector end n) names left reading → IfSome (most_reads reading attached) (λ k. before ≤ before + k)
+map_reads set sector end n names before left reading attached asked = reads_as (MapCommand set sector end n) reading attached before before asked.command_is (let h : before ≤ before + 0 = omega arith in h)
 
-pub write_reads : (set : Geometry) (end : Option ℕ) (n names before : ℕ) (left : Option (List ℕ)) (reading : Reading) → IsAsked (WriteCommand set end n) names left reading → IfSome (most_reads reading) (λ k. before ≤ before + k)
-write_reads set end n names before left reading asked = reads_as (WriteCommand set end n) reading before before asked.command_is (omega arith)
+pub write_reads : (set : Geometry) (end : Option ℕ) (n names before after : ℕ) (left : Option (List ℕ)) (reading : Reading) (attached : List Image) → IsAsked (WriteCommand set end n) names left reading → after ≤ before + members_reads set end attached →
+    IfSome (most_reads reading attached) (λ k. after ≤ before + k)
+write_reads set end n names before after left reading attached asked few = reads_as (WriteCommand set end n) reading attached before after asked.command_is few
 
-pub rebuild_reads : (set : Geometry) (slot : ℕ) (end : Option ℕ) (n names before : ℕ) (left : Option (List ℕ)) (reading : Reading) → IsAsked (RebuildCommand set slot end n) names left reading → IfSome (most_reads reading) (λ k. before ≤ before + k)
-rebuild_reads set slot end n names before left reading asked = reads_as (RebuildCommand set slot end n) reading before before asked.command_is (omega arith)
+pub rebuild_reads : (set : Geometry) (slot : ℕ) (end : Option ℕ) (n names before after : ℕ) (left : Option (List ℕ)) (reading : Reading) (attached : List Image) → IsAsked (RebuildCommand set slot end n) names left reading → after ≤ before + members_reads set end attached →
+    IfSome (most_reads reading attached) (λ k. after ≤ before + k)
+rebuild_reads set slot end n names before after left reading attached asked few = reads_as (RebuildCommand set slot end n) reading attached before after asked.command_is few

@@ -117,19 +117,33 @@ noted_numbers refused now old new stop status is numbers done ends =
     subst P (ap note_by (sym (by_refusal_of refused stop ends (with_numbers stop (ap has_numbers (sym is) ∙ numbers))))) done
 
 -- a stop of another status has put nothing, and read nothing
-pub put_nothing : (stop : Stop) (status : ℕ) → status ≡ status_of stop → status ≢ 12 → MayHavePut false stop → ⊥
-put_nothing PlanIsLong status is other h = h
-put_nothing (Images fault) status is other h = h
-put_nothing Many status is other h = h
-put_nothing (Cursor fault) status is other h = h
-put_nothing (Set fault) status is other h = h
-put_nothing (Slot slot) status is other h = h
-put_nothing (Sector fault) status is other h = h
-put_nothing ImageFault status is other h = absurd (cc)
-put_nothing PlanFault status is other h = h
-put_nothing OutFault status is other h = other is
-put_nothing NotBuilt status is other h = h
-put_nothing OutOfMemory status is other h = h
+pub put_nothing : (streams : Bool) (stop : Stop) (status : ℕ) → status ≡ status_of stop → status ≢ 10 → status ≢ 12 → MayHavePut streams stop → ⊥
+put_nothing streams PlanIsLong status is ten twelve h = h
+put_nothing streams (Images fault) status is ten twelve h = h
+put_nothing streams Many status is ten twelve h = h
+put_nothing streams (Cursor fault) status is ten twelve h = h
+put_nothing streams (Set fault) status is ten twelve h = h
+put_nothing streams (Slot slot) status is ten twelve h = h
+put_nothing streams (Sector fault) status is ten twelve h = h
+put_nothing streams ImageFault status is ten twelve h = ten is
+put_nothing streams PlanFault status is ten twelve h = h
+put_nothing streams OutFault status is ten twelve h = twelve is
+put_nothing streams NotBuilt status is ten twelve h = h
+put_nothing streams OutOfMemory status is ten twelve h = h
+
+pub put_before : (stop : Stop) (status : ℕ) → status ≡ status_of stop → status ≡ 10 → MayHavePut false stop → ⊥
+put_before PlanIsLong status is ten h = h
+put_before (Images fault) status is ten h = h
+put_before Many status is ten h = h
+put_before (Cursor fault) status is ten h = h
+put_before (Set fault) status is ten h = h
+put_before (Slot slot) status is ten h = h
+put_before (Sector fault) status is ten h = h
+put_before ImageFault status is ten h = absurd (cc)
+put_before PlanFault status is ten h = h
+put_before OutFault status is ten h = absurd (omega arith)
+put_before NotBuilt status is ten h = h
+put_before OutOfMemory status is ten h = h
 
 pub read_nothing : (stop : Stop) (status : ℕ) → status ≡ status_of stop → status ≢ 10 → status ≢ 12 → status ≢ 20 → MayHaveRead stop → ⊥
 read_nothing PlanIsLong status is ten twelve twenty h = h

@@ -13,8 +13,11 @@ use Rattle.command_words.specs.declared.command.Command.{Command}
 use Rattle.command_words.specs.declared.command.Command.TheVariants.{List as ListCommand, Check as CheckCommand, Map as MapCommand, Write as WriteCommand, Rebuild as RebuildCommand}
 use Rattle.command_jobs.specs.Checking.{check_output, check_refusal, rows_tested}
 use Rattle.command_jobs.specs.Listing.{list_output, list_refusal}
-use Rattle.command_jobs.specs.Mapping.{map_refusal, map_text}
+use Rattle.command_jobs.specs.Mapping.{map_refusal, map_text, set_refusal}
+use Rattle.command_jobs.specs.Agreement.{end_of}
 use Rattle.command_jobs.specs.Plans.{IsTextOf}
+use Rattle.command_jobs.specs.Writing.{rebuild_output, rebuild_refusal, write_output}
+use Rattle.raid_params.specs.Size.{area}
 use Rattle.command_jobs.specs.Stops.{note_of, status_of}
 use Rattle.command_jobs.specs.declared.stop.Stop.{Stop}
 use Rattle.command_jobs.specs.declared.stop.Stop.TheVariants.{PlanIsLong, Many, ImageFault, PlanFault, OutFault, NotBuilt, OutOfMemory}
@@ -46,8 +49,8 @@ command_refusal None reading attached = Some NotBuilt
 command_refusal (Some (ListCommand from size span names)) reading attached = list_refusal from reading.text reading.plan reading.names attached
 command_refusal (Some (CheckCommand set names)) reading attached = check_refusal set reading.text reading.plan reading.names attached
 command_refusal (Some (MapCommand set sector end names)) reading attached = map_refusal set sector end reading.names attached
-command_refusal (Some (WriteCommand set end names)) reading attached = Some NotBuilt
-command_refusal (Some (RebuildCommand set slot end names)) reading attached = Some NotBuilt
+command_refusal (Some (WriteCommand set end names)) reading attached = set_refusal set end reading.names attached
+command_refusal (Some (RebuildCommand set slot end names)) reading attached = rebuild_refusal set slot end reading.names attached
 
 -- the first refusal of a run, in the order of work
 unfoldable pub refusal : Reading → List Image → Option Stop
@@ -59,8 +62,8 @@ command_output None reading attached = None
 command_output (Some (ListCommand from size span names)) reading attached = list_output from size span reading.plan (told_all attached)
 command_output (Some (CheckCommand set names)) reading attached = check_output set reading.plan (told_all attached)
 command_output (Some (MapCommand set sector end names)) reading attached = Some (map_text set sector)
-command_output (Some (WriteCommand set end names)) reading attached = None
-command_output (Some (RebuildCommand set slot end names)) reading attached = None
+command_output (Some (WriteCommand set end names)) reading attached = write_output set end attached (told_all attached)
+command_output (Some (RebuildCommand set slot end names)) reading attached = rebuild_output set slot end attached (told_all attached)
 
 -- what a run prints
 unfoldable pub output : Reading → List Image → Option (List ℕ)
@@ -71,15 +74,27 @@ abbrev pub check_reads : Geometry → Option Plan → Option ℕ
 check_reads set None = None
 check_reads set (Some plan) = Some (length set.slots.items * rows_tested plan set)
 
--- the most sectors that a command reads, where it is bounded: `check` reads at most the tested rows
--- of each member, `map` none
-abbrev pub command_reads : Option Command → Reading → Option ℕ
-command_reads (Some (CheckCommand set names)) reading = check_reads set reading.plan
-command_reads (Some (ListCommand from size span names)) reading = None
-command_reads _ reading = Some 0
+-- the sectors of all members of a set
+abbrev pub members_reads : Geometry → Option ℕ → List Image → ℕ
+members_reads set end attached = set.head.members * area set.head (end_of end attached)
 
-unfoldable pub most_reads : Reading → Option ℕ
-most_reads reading = command_reads reading.command reading
+-- the most sectors that a command reads, where it is bounded: `check` reads at most the tested rows
+-- of each member, `write` and `rebuild` at most each sector of each member, `map` none
+abbrev pub command_reads : Option Command → Reading → List Image → Option ℕ
+command_reads (Some (ListCommand from size span names)) reading attached = None
+command_reads (Some (CheckCommand set names)) reading attached = check_reads set reading.plan
+command_reads (Some (WriteCommand set end names)) reading attached = Some (members_reads set end attached)
+command_reads (Some (RebuildCommand set slot end names)) reading attached = Some (members_reads set end attached)
+command_reads _ reading attached = Some 0
+
+unfoldable pub most_reads : Reading → List Image → Option ℕ
+most_reads reading attached = command_reads reading.command reading attached
+
+-- the command puts as it reads
+abbrev pub streams : Option Command → Bool
+streams (Some (WriteCommand set end names)) = true
+streams (Some (RebuildCommand set slot end names)) = true
+streams _ = false
 
 -- the status where nothing outside is the cause
 abbrev pub status_by : Option Stop → ℕ

@@ -1,13 +1,13 @@
 // A run, up to why it ends.
-ghost use Rattle.std.specs.Prelude.{◌≡◌, ◌≤◌, ◌+◌, ◌^◌, ◌<◌, [], All, IfErr, IfSome, IsErrOf, IsTrue, None, OnOk, Option, Some, false, length, min};
+ghost use Rattle.std.specs.Prelude.{◌≡◌, ◌≤◌, ◌+◌, ◌^◌, ◌<◌, [], All, IfErr, IfSome, IsErrOf, IsTrue, None, OnOk, Option, Some, length, min};
 ghost use Rattle.image_source.specs.Attached.{AreImagesOf};
 ghost use Rattle.command_jobs.specs.Jobs.{Ends, Leaves};
-ghost use Rattle.command_words.specs.Commands.{AreRead, IsCommandLine, IsWithin, names_after, names_of as names_of_command};
+ghost use Rattle.command_words.specs.Commands.{AreRead, IsCommandLine, IsWithin, ReadsWords, names_after, names_of as names_of_command};
 ghost use Rattle.command_words.specs.declared.command.Command.{Command as CommandOf};
-ghost use Rattle.reraid_cli.specs.Answers.{Reading, Says, most_reads, output, refusal};
+ghost use Rattle.reraid_cli.specs.Answers.{Reading, Says, most_reads, output, refusal, streams};
 ghost use Rattle.reraid_cli.specs.Asked.{IsAsked, counts_of};
 
-use command_jobs::{Stop, attach_front, check, list, map};
+use command_jobs::{Stop, attach_front, check, list, map, rebuild, write};
 use command_words::{Command, Word, read_words};
 use image_source::{Images, Sink, Source};
 use std::alloc::Global;
@@ -24,9 +24,10 @@ pub fn run<S: Source, I: Images, K: Sink>(
     requires named { All (λ name. IsTrue ((I.seen images.old).world.may_attach name)) (names_after words.now) }
     ensures ends { (reading : Reading) → Says words.now (S.left plan.old) reading →
         Ends (refusal reading (I.seen images.new).attached) (output reading (I.seen images.new).attached) (K.gained out.old) (K.gained out.new) result }
-    ensures leaves { Leaves false (counts_of (I.seen images.old) (S.faults plan.old) (K.faults out.old)) (counts_of (I.seen images.new) (S.faults plan.new) (K.faults out.new)) (K.gained out.old) (K.gained out.new) result }
+    ensures leaves { (read : Option CommandOf) × ReadsWords words.now read ×
+        Leaves (streams read) (counts_of (I.seen images.old) (S.faults plan.old) (K.faults out.old)) (counts_of (I.seen images.new) (S.faults plan.new) (K.faults out.new)) (K.gained out.old) (K.gained out.new) result }
     ensures reads { (reading : Reading) → Says words.now (S.left plan.old) reading →
-        IfSome (most_reads reading) (λ n. (I.seen images.new).sectors_read ≤ (I.seen images.old).sectors_read + n) }
+        IfSome (most_reads reading (I.seen images.new).attached) (λ n. (I.seen images.new).sectors_read ≤ (I.seen images.old).sectors_read + n) }
     ensures words { AreRead words.now None → IsErrOf result Stop.NotBuilt }
     ensures attached { AreImagesOf (I.seen images.old).world (names_after words.now) (I.seen images.new).attached }
     ensures all { (command : CommandOf) → IsCommandLine words.now command → (IsErrOf result Stop.ImageFault → ⊥) → length (I.seen images.new).attached ≡ min (length (names_after words.now)) 65536 }
@@ -71,9 +72,9 @@ fn serve<S: Source, I: Images, K: Sink>(
     requires within { IsWithin command.now }
     ensures ends { (reading : Reading) → IsAsked command.now names (S.left plan.old) reading →
         Ends (refusal reading (I.seen images.old).attached) (output reading (I.seen images.old).attached) (K.gained out.old) (K.gained out.new) result }
-    ensures leaves { Leaves false (counts_of (I.seen images.old) (S.faults plan.old) (K.faults out.old)) (counts_of (I.seen images.new) (S.faults plan.new) (K.faults out.new)) (K.gained out.old) (K.gained out.new) result }
+    ensures leaves { Leaves (streams (Some command.now)) (counts_of (I.seen images.old) (S.faults plan.old) (K.faults out.old)) (counts_of (I.seen images.new) (S.faults plan.new) (K.faults out.new)) (K.gained out.old) (K.gained out.new) result }
     ensures reads { (reading : Reading) → IsAsked command.now names (S.left plan.old) reading →
-        IfSome (most_reads reading) (λ n. (I.seen images.new).sectors_read ≤ (I.seen images.old).sectors_read + n) }
+        IfSome (most_reads reading (I.seen images.old).attached) (λ n. (I.seen images.new).sectors_read ≤ (I.seen images.old).sectors_read + n) }
     ensures world { (I.seen images.new).world ≡ (I.seen images.old).world }
     ensures kept { (I.seen images.new).attached ≡ (I.seen images.old).attached }
 {
@@ -91,7 +92,9 @@ fn serve<S: Source, I: Images, K: Sink>(
             end,
             ..
         } => map(alloc, images, names, set, *sector, *end, out),
-        Command::Write { .. } => Err(Stop::NotBuilt),
-        Command::Rebuild { .. } => Err(Stop::NotBuilt),
+        Command::Write { set, end, .. } => write(alloc, images, names, set, *end, out),
+        Command::Rebuild { set, slot, end, .. } => rebuild(
+            alloc, images, names, set, *slot, *end, out,
+        ),
     }
 }

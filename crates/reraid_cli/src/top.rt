@@ -1,11 +1,11 @@
 // The top call.
-ghost use Rattle.std.specs.Prelude.{◌≡◌, ◌≢◌, ◌<◌, ◌≤◌, ◌+◌, ◌⊎◌, [], All, Contains, IsTrue, IfSome, None, false, length, min, true};
+ghost use Rattle.std.specs.Prelude.{◌≡◌, ◌≢◌, ◌<◌, ◌≤◌, ◌+◌, [], All, Contains, IsTrue, IfSome, None, Some, false, length, min, true};
 ghost use Rattle.std.specs.Io.KnownBytes.{Appends, Keeps};
 ghost use Rattle.image_source.specs.Attached.{AreImagesOf};
 ghost use Rattle.image_source.specs.Streams.{AppendsFront};
 ghost use Rattle.command_words.specs.Commands.{AreRead, IsCommandLine, names_after};
 ghost use Rattle.command_words.specs.declared.command.Command.{Command};
-ghost use Rattle.reraid_cli.specs.Answers.{IsNoted, Reading, Says, has_numbers, most_reads, note_by, note_for, output, refusal, status_by, statuses};
+ghost use Rattle.reraid_cli.specs.Answers.{IsNoted, Reading, Says, has_numbers, most_reads, note_by, note_for, output, refusal, status_by, statuses, streams};
 
 use crate::running::run;
 use command_words::Word;
@@ -56,10 +56,12 @@ pub fn reraid<R: Threads + Sync, S: Source, I: Images, K: Sink, N: Sink>(
     ensures plan_fault { result ≡ 11 → 0 < S.faults plan.new }
     ensures out_fault { result ≡ 12 → 0 < K.faults out.new }
 
-    // At status 12 `out` gained a front of the answer, and at every other but 0 nothing.
-    ensures front { result ≡ 12 → (reading : Reading) → Says words.now (S.left plan.old) reading →
+    // At every other status `out` gained a front of the answer: nothing but at 12, and at 10 where
+    // the command puts as it reads.
+    ensures front { result ≢ 0 → (reading : Reading) → Says words.now (S.left plan.old) reading →
         IfSome (output reading (I.seen images.new).attached) (λ text. AppendsFront (K.gained out.old) (K.gained out.new) text) }
-    ensures nothing { result ≢ 0 → result ≢ 12 → Keeps (K.gained out.old) (K.gained out.new) }
+    ensures nothing { result ≢ 0 → result ≢ 10 → result ≢ 12 → Keeps (K.gained out.old) (K.gained out.new) }
+    ensures unput { result ≡ 10 → (command : Command) → IsCommandLine words.now command → streams (Some command) ≡ false → Keeps (K.gained out.old) (K.gained out.new) }
 
     // The notes gained the line of the status, whole where they did not fail. Where the line holds
     // numbers they are those of the refusal.
@@ -76,7 +78,7 @@ pub fn reraid<R: Threads + Sync, S: Source, I: Images, K: Sink, N: Sink>(
     ensures world { (I.seen images.new).world ≡ (I.seen images.old).world }
     ensures unread { result ≢ 0 → result ≢ 10 → result ≢ 12 → result ≢ 20 → (I.seen images.new).sectors_read ≡ (I.seen images.old).sectors_read }
     ensures reads { (reading : Reading) → Says words.now (S.left plan.old) reading →
-        IfSome (most_reads reading) (λ n. (I.seen images.new).sectors_read ≤ (I.seen images.old).sectors_read + n) }
+        IfSome (most_reads reading (I.seen images.new).attached) (λ n. (I.seen images.new).sectors_read ≤ (I.seen images.old).sectors_read + n) }
 {
     match run(alloc, words, plan, images, out) {
         Ok(()) => 0,

@@ -2,8 +2,8 @@
 use Rattle.std.proofs.Common.{All, IsTrue, Bool, List, ℕ, [], ◌∷◌, codes}
 use Rattle.std.proofs.lemmas.List.Elements.{All-cons, All-nil}
 use Rattle.reraid_rows.specs.Named.{image_names}
-use Rattle.reraid_rows.specs.declared.outside.Count.{Count}
-use Rattle.reraid_rows.specs.declared.outside.Count.TheVariants.{Two, Three, Four}
+use Rattle.reraid_rows.specs.declared.counts.Count.{Count}
+use Rattle.reraid_rows.specs.declared.counts.Count.TheVariants.{Two, Three, Four}
 
 pub all_named : (may : List ℕ → Bool) (count : Count) → IsTrue (may (codes "a")) → IsTrue (may (codes "b")) → IsTrue (may (codes "c")) → IsTrue (may (codes "d")) → All (λ name. IsTrue (may name)) (image_names count)
 all_named may Two a b c d =

@@ -1,8 +1,8 @@
 -- Images by number, and objects in memory that a run over them may begin with.
 use Rattle.std.specs.Prelude.{ℕ, ◌≡◌, List, [], ◌∷◌, IsTrue, All, codes}
 use Rattle.image_source.specs.Memory.{Shelf, Tape, Tray, seen_of}
-use Rattle.reraid_rows.specs.declared.outside.Count.{Count}
-use Rattle.reraid_rows.specs.declared.outside.Count.TheVariants.{Two, Three, Four}
+use Rattle.reraid_rows.specs.declared.counts.Count.{Count}
+use Rattle.reraid_rows.specs.declared.counts.Count.TheVariants.{Two, Three, Four}
 
 -- the names of so many images
 abbrev pub image_names : Count → List (List ℕ)

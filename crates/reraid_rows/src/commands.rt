@@ -1,5 +1,6 @@
 // Runs of the commands whose answers were worked out by hand.
-use crate::outside::{Command, Count, images_of, run_command};
+use crate::counts::Count;
+use crate::outside::{Command, images_of, run_command};
 use std::alloc::Global;
 use std::process::Abort;
 use std::test::Fail;

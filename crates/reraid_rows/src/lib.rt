@@ -4,6 +4,7 @@
 
 #[cfg(test)]
 mod commands;
+mod counts;
 #[cfg(test)]
 mod faults;
 #[cfg(test)]
@@ -12,3 +13,5 @@ mod listings;
 mod outside;
 #[cfg(test)]
 mod pieces;
+
+pub use counts::Count;

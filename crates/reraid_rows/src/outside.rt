@@ -5,6 +5,7 @@ ghost use Rattle.reraid_rows.specs.Named.{AreReadyFor, image_names};
 ghost use Rattle.reraid_rows.specs.Ready.{AreReady};
 ghost use Rattle.image_source.specs.Memory.{seen_of};
 
+use crate::counts::Count;
 use crate::pieces::Pieces;
 use image_source::{MemImages, MemSink, MemSource, Memory};
 use reraid_cli::{Word, reraid};
@@ -39,14 +40,6 @@ pub struct Outside {
     pub plan: MemSource,
     pub out: MemSink,
     pub notes: MemSink,
-}
-
-/// How many images a run names: of a, b, c and d the first so many.
-#[derive(Clone, Copy)]
-pub enum Count {
-    Two,
-    Three,
-    Four,
 }
 
 /// Objects for a run over so many images, each of some sectors of one repeated byte.

@@ -1,9 +1,9 @@
-use Rattle.std.proofs.Common.{◌≡◌, ℕ, ◌<◌, ◌≤◌, ◌-◌, ◌^◌, ◌++◌, List, All, length, length-drop, drop, take, arith, sym, ap, ◌∙◌, subst, Some, None}
+use Rattle.std.proofs.Common.{◌≡◌, ℕ, ◌<◌, ◌≤◌, ◌+◌, ◌-◌, IfSome, ◌^◌, ◌++◌, List, All, length, length-drop, drop, take, arith, sym, ap, ◌∙◌, subst, Some, None}
 use Rattle.std.proofs.lemmas.List.{take_all}
 use Rattle.command_words.specs.Commands.{names_after}
 use Rattle.image_source.specs.Seen.{Image}
 use Rattle.command_jobs.specs.Jobs.{Ends}
-use Rattle.reraid_cli.specs.Answers.{output, refusal}
+use Rattle.reraid_cli.specs.Answers.{most_reads, output, refusal}
 use Rattle.reraid_cli.proofs.Runs.{asked_of, images_small, words_end}
 use Rattle.reraid_cli.proofs.running.run.Goals as goal
 
@@ -31,3 +31,16 @@ returns-in-Ok-clause-ends g c reading says =
     let P : List Image → Type 0 = λ attached. Ends (refusal reading attached) (output reading attached) (g.K.Sink.gained c.args.out.now) (g.K.Sink.gained c.serve.new.out) c.serve.result in
     subst P (sym c.serve.ensures.kept)
     (c.serve.ensures.ends reading (asked_of words (g.S.Source.left c.args.plan.now) c.in-Some.command _ reading c.in-Some.ensures.reads count says))
+
+pub returns-in-Ok-clause-reads : goal.returns-in-Ok-clause-reads
+returns-in-Ok-clause-reads g c reading says =
+    let words = c.args.words.now in
+    let r = c.names_of.result in
+    let long = length-drop r words in
+    let count : length (take (length words - r) (drop r words)) ≡ length (names_after words) =
+    ap length (take_all (length words - r) (drop r words) (omega arith)) ∙ ap (λ (n : ℕ). length (drop n words)) c.names_of.ensures ∙ ap length (sym c.in-Some.ensures.names.1) in
+    let read = (g.I.Images.seen c.serve.new.images).sectors_read in
+    let P : List Image → Type 0 = λ attached. IfSome (most_reads reading attached) (λ n. read ≤ (g.I.Images.seen c.args.images.now).sectors_read + n) in
+    let Q : ℕ → Type 0 = λ before. IfSome (most_reads reading (g.I.Images.seen c.attach_front.new.images).attached) (λ n. read ≤ before + n) in
+    subst P (sym c.serve.ensures.kept)
+    (subst Q c.attach_front.ensures.some.unread (c.serve.ensures.reads reading (asked_of words (g.S.Source.left c.args.plan.now) c.in-Some.command _ reading c.in-Some.ensures.reads count says)))

@@ -1,7 +1,7 @@
-use Rattle.std.proofs.Common.{◌≡◌, subst, sym}
+use Rattle.std.proofs.Common.{◌≡◌, subst}
 use Rattle.command_words.specs.declared.command.Command.{Command}
 use Rattle.reraid_cli.specs.Asked.{IsAsked}
-use Rattle.reraid_cli.proofs.Serving.{IsUnbuilt, check_asked, check_read, list_asked, list_reads, map_asked, unbuilt_asked}
+use Rattle.reraid_cli.proofs.Serving.{check_asked, check_read, list_asked, list_reads, map_asked, rebuild_asked, rebuild_reads, write_asked, write_reads}
 use Rattle.reraid_cli.proofs.running.serve.Goals as goal
 
 pub returns-in-List-clause-ends : goal.returns-in-List-clause-ends
@@ -15,7 +15,7 @@ pub returns-in-List-clause-reads : goal.returns-in-List-clause-reads
 returns-in-List-clause-reads g c reading asked =
     let left = g.S.Source.left c.args.plan.now in
     let P : Command → Type 0 = λ k. IsAsked k c.args.names left reading in
-    list_reads c.in-List.from c.in-List.size c.in-List.span c.in-List.names c.args.names (g.I.Images.seen c.args.images.now).sectors_read (g.I.Images.seen c.list.new.images).sectors_read left reading (subst P c.in-List.is asked)
+    list_reads c.in-List.from c.in-List.size c.in-List.span c.in-List.names c.args.names (g.I.Images.seen c.args.images.now).sectors_read (g.I.Images.seen c.list.new.images).sectors_read left reading (g.I.Images.seen c.args.images.now).attached (subst P c.in-List.is asked)
 
 pub returns-in-Check-clause-ends : goal.returns-in-Check-clause-ends
 returns-in-Check-clause-ends g c reading asked =
@@ -28,7 +28,7 @@ pub returns-in-Check-clause-reads : goal.returns-in-Check-clause-reads
 returns-in-Check-clause-reads g c reading asked =
     let left = g.S.Source.left c.args.plan.now in
     let P : Command → Type 0 = λ k. IsAsked k c.args.names left reading in
-    check_read c.in-Check.set c.in-Check.names c.args.names (g.I.Images.seen c.args.images.now).sectors_read (g.I.Images.seen c.check.new.images).sectors_read left reading (subst P c.in-Check.is asked) c.check.ensures.reads
+    check_read c.in-Check.set c.in-Check.names c.args.names (g.I.Images.seen c.args.images.now).sectors_read (g.I.Images.seen c.check.new.images).sectors_read left reading (g.I.Images.seen c.args.images.now).attached (subst P c.in-Check.is asked) c.check.ensures.reads
 
 pub returns-in-Map-clause-ends : goal.returns-in-Map-clause-ends
 returns-in-Map-clause-ends g c reading asked =
@@ -39,8 +39,28 @@ returns-in-Map-clause-ends g c reading asked =
 
 pub returns-in-Write-clause-ends : goal.returns-in-Write-clause-ends
 returns-in-Write-clause-ends g c reading asked =
-    unbuilt_asked c.args.command.now c.args.names (g.S.Source.left c.args.plan.now) reading (g.I.Images.seen c.args.images.now).attached (g.K.Sink.gained c.args.out.now) (subst IsUnbuilt (sym c.in-Write.is) tt) asked
+    let left = g.S.Source.left c.args.plan.now in
+    let P : Command → Type 0 = λ k. IsAsked k c.args.names left reading in
+    write_asked c.in-Write.set c.in-Write.end c.in-Write.names c.args.names left reading (g.I.Images.seen c.args.images.now).attached (g.K.Sink.gained c.args.out.now) (g.K.Sink.gained c.write.new.out) c.write.result
+    (subst P c.in-Write.is asked) c.write.ensures.ends
+
+pub returns-in-Write-clause-reads : goal.returns-in-Write-clause-reads
+returns-in-Write-clause-reads g c reading asked =
+    let left = g.S.Source.left c.args.plan.now in
+    let P : Command → Type 0 = λ k. IsAsked k c.args.names left reading in
+    write_reads c.in-Write.set c.in-Write.end c.in-Write.names c.args.names (g.I.Images.seen c.args.images.now).sectors_read (g.I.Images.seen c.write.new.images).sectors_read left reading (g.I.Images.seen c.args.images.now).attached
+    (subst P c.in-Write.is asked) c.write.ensures.reads
 
 pub returns-in-Rebuild-clause-ends : goal.returns-in-Rebuild-clause-ends
 returns-in-Rebuild-clause-ends g c reading asked =
-    unbuilt_asked c.args.command.now c.args.names (g.S.Source.left c.args.plan.now) reading (g.I.Images.seen c.args.images.now).attached (g.K.Sink.gained c.args.out.now) (subst IsUnbuilt (sym c.in-Rebuild.is) tt) asked
+    let left = g.S.Source.left c.args.plan.now in
+    let P : Command → Type 0 = λ k. IsAsked k c.args.names left reading in
+    rebuild_asked c.in-Rebuild.set c.in-Rebuild.slot c.in-Rebuild.end c.in-Rebuild.names c.args.names left reading (g.I.Images.seen c.args.images.now).attached (g.K.Sink.gained c.args.out.now) (g.K.Sink.gained c.rebuild.new.out) c.rebuild.result
+    (subst P c.in-Rebuild.is asked) c.rebuild.ensures.ends
+
+pub returns-in-Rebuild-clause-reads : goal.returns-in-Rebuild-clause-reads
+returns-in-Rebuild-clause-reads g c reading asked =
+    let left = g.S.Source.left c.args.plan.now in
+    let P : Command → Type 0 = λ k. IsAsked k c.args.names left reading in
+    rebuild_reads c.in-Rebuild.set c.in-Rebuild.slot c.in-Rebuild.end c.in-Rebuild.names c.args.names (g.I.Images.seen c.args.images.now).sectors_read (g.I.Images.seen c.rebuild.new.images).sectors_read left reading (g.I.Images.seen c.args.images.now).attached
+    (subst P c.in-Rebuild.is asked) c.rebuild.ensures.reads

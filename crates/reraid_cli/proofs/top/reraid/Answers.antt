@@ -1,8 +1,9 @@
-use Rattle.std.proofs.Common.{◌≡◌, ap, ◌∙◌, subst, ℕ, List}
+use Rattle.std.proofs.Common.{◌≡◌, ap, ◌∙◌, subst, ℕ, List, Bool, Some}
+use Rattle.command_jobs.specs.Jobs.{MayHavePut}
 use Rattle.command_jobs.specs.Stops.{note_of, status_of}
 use Rattle.command_jobs.specs.declared.stop.Stop.TheVariants.{ImageFault, NotBuilt}
-use Rattle.reraid_cli.specs.Answers.{IsNoted, refusal}
-use Rattle.reraid_cli.proofs.Statuses.{status_known, by_refusal, noted, noted_for, noted_numbers, put_nothing, read_nothing}
+use Rattle.reraid_cli.specs.Answers.{IsNoted, refusal, streams}
+use Rattle.reraid_cli.proofs.Statuses.{status_known, by_refusal, noted, noted_for, noted_numbers, put_before, put_nothing, read_nothing}
 use Rattle.reraid_cli.proofs.top.reraid.Goals as goal
 
 pub returns-in-Ok-clause-words : goal.returns-in-Ok-clause-words
@@ -22,7 +23,15 @@ pub returns-in-Err-clause-words : goal.returns-in-Err-clause-words
 returns-in-Err-clause-words g c none = let e = c.in-Err.ensures.words none in let stop : c.in-Err.stop ≡ NotBuilt = cc in c.status.ensures ∙ ap status_of stop
 
 pub returns-in-Err-clause-nothing : goal.returns-in-Err-clause-nothing
-returns-in-Err-clause-nothing g c zero twelve = c.in-Err.ensures.leaves.nothing (put_nothing c.in-Err.stop c.status.result c.status.ensures twelve)
+returns-in-Err-clause-nothing g c zero ten twelve =
+    let leaves = c.in-Err.ensures.leaves in
+    leaves.2.nothing (put_nothing (streams leaves.0) c.in-Err.stop c.status.result c.status.ensures ten twelve)
+
+pub returns-in-Err-clause-unput : goal.returns-in-Err-clause-unput
+returns-in-Err-clause-unput g c ten command line still =
+    let leaves = c.in-Err.ensures.leaves in
+    let same : leaves.0 ≡ Some command = leaves.1.whole command line in
+    leaves.2.nothing (λ put. put_before c.in-Err.stop c.status.result c.status.ensures ten (subst (λ (b : Bool). MayHavePut b c.in-Err.stop) (ap streams same ∙ still) put))
 
 pub returns-in-Err-clause-note : goal.returns-in-Err-clause-note
 returns-in-Err-clause-note g c other =
@@ -40,7 +49,7 @@ returns-in-Err-clause-numbers g c has reading says =
     (c.in-Err.ensures.ends reading says).ends
 
 pub returns-in-Err-clause-unread : goal.returns-in-Err-clause-unread
-returns-in-Err-clause-unread g c zero ten twelve twenty = c.in-Err.ensures.leaves.unread (read_nothing c.in-Err.stop c.status.result c.status.ensures ten twelve twenty)
+returns-in-Err-clause-unread g c zero ten twelve twenty = c.in-Err.ensures.leaves.2.unread (read_nothing c.in-Err.stop c.status.result c.status.ensures ten twelve twenty)
 
 pub returns-in-Err-clause-all : goal.returns-in-Err-clause-all
 returns-in-Err-clause-all g c command line other =

@@ -1,6 +1,6 @@
 // Runs of the commands whose answers were worked out by hand.
 use crate::counts::Count;
-use crate::outside::{Command, images_of, run_command};
+use crate::outside::{Command, filled, images_of, run_command};
 use std::alloc::Global;
 use std::process::Abort;
 use std::test::Fail;
@@ -234,4 +234,90 @@ fn a_sector_is_found_on_its_member(rt: HostRuntime) -> Result<(), Fail> {
         check(&rt, alloc, row)?;
     }
     Ok(())
+}
+
+/// One run that writes: what it names, and the sectors that it must put.
+#[derive(Clone, Copy)]
+struct Written<'a> {
+    command: Command<'a>,
+    count: Count,
+    sectors: [&'a [u8]; 4],
+    out: &'a [u8],
+}
+
+fn writes<R: Threads + Sync + Abort>(rt: &R, alloc: Global, row: &Written) -> Result<(), Fail> {
+    let mut met = images_of(alloc, row.count, row.sectors, b"")?;
+    let status = run_command(rt, alloc, &row.command, row.count, &mut met)?;
+    let expected = filled(alloc, row.out)?;
+    assert_eq!(rt; status, 0);
+    assert_eq!(rt; met.out.bytes(), expected.as_slice());
+    assert_eq!(rt; met.notes.bytes().len(), 0);
+    Ok(())
+}
+
+// The rows 0 1 P and 3 P 2 hold 01 03 and 06 02, also with a member lost; with P and Q, 01 and 80
+// are found from any two of the four blocks, and by P where Q differs.
+#[test]
+fn volumes_and_members_are_written(rt: HostRuntime) -> Result<(), Fail> {
+    let alloc = rt.alloc();
+    let rows = [
+        Written {
+            command: Command::Write(SET),
+            count: Count::Three,
+            sectors: STRIPES,
+            out: &[1, 3, 6, 2],
+        },
+        Written {
+            command: Command::Write("5:ls:none:1:0:-,0,1"),
+            count: Count::Two,
+            sectors: [&[3, 4], &[2, 6], &[0], &[0]],
+            out: &[1, 3, 6, 2],
+        },
+        Written {
+            command: Command::Rebuild("5:ls:none:1:0:-,0,1", 0),
+            count: Count::Two,
+            sectors: [&[3, 4], &[2, 6], &[0], &[0]],
+            out: &[1, 2],
+        },
+        Written {
+            command: Command::Write("6:ls:after-q:1:0:0,-,-,1"),
+            count: Count::Two,
+            sectors: [&[0x1C], &[0x81], &[0], &[0]],
+            out: &[0x01, 0x80],
+        },
+        Written {
+            command: Command::Write("6:ls:after-q:1:0:0,-,1,-"),
+            count: Count::Two,
+            sectors: [&[0x1C], &[0x80], &[0], &[0]],
+            out: &[0x01, 0x80],
+        },
+        Written {
+            command: Command::Write("6:ls:after-q:1:0:0,-,1,2"),
+            count: Count::Three,
+            sectors: TORN,
+            out: &[0x01, 0x80],
+        },
+        Written {
+            command: Command::Rebuild("6:ls:after-q:1:0:-,0,1,2", 0),
+            count: Count::Three,
+            sectors: [&[0x01], &[0x80], &[0x81], &[0]],
+            out: &[0x1C],
+        },
+    ];
+    for row in &rows {
+        writes(&rt, alloc, row)?;
+    }
+    check(
+        &rt,
+        alloc,
+        &Row {
+            command: Command::Rebuild(SET, 0),
+            count: Count::Three,
+            sectors: STRIPES,
+            plan: "",
+            status: 7,
+            out: "",
+            notes: "reraid: set rule 9 value 0\n",
+        },
+    )
 }

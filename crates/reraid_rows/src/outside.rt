@@ -1,5 +1,6 @@
 // Objects in memory, and a run over them.
-ghost use Rattle.std.specs.Prelude.{◌≡◌, [], ◌∷◌, ◌++◌, codes, IfOk, IsTrue, OnOk};
+ghost use Rattle.std.specs.Prelude.{◌≡◌, [], ◌∷◌, ◌++◌, codes, false, IfOk, IsTrue, OnOk};
+ghost use Rattle.std.specs.Str.{bytes_eq};
 ghost use Rattle.command_words.specs.Commands.{names_after};
 ghost use Rattle.reraid_rows.specs.Named.{AreReadyFor, image_names};
 ghost use Rattle.reraid_rows.specs.Ready.{AreReady};
@@ -73,13 +74,13 @@ fn ready(alloc: Global, count: Count, images: MemImages, plan: &[u8]) -> Result<
     Ok(Outside {
         images,
         plan: MemSource::new(alloc, plan)?,
-        out: MemSink::new(alloc, 1000)?,
+        out: MemSink::new(alloc, 4096)?,
         notes: MemSink::new(alloc, 1000)?,
     })
 }
 
 /// A sector of each of these bytes, one after the other.
-fn filled(alloc: Global, sectors: &[u8]) -> Result<Vec<u8>, Memory> {
+pub(crate) fn filled(alloc: Global, sectors: &[u8]) -> Result<Vec<u8>, Memory> {
     let mut bytes = Vec::new(alloc);
     for byte in sectors {
         bytes.extend_from_slice(&[*byte; 512]).map_err(|_| Memory)?;
@@ -96,6 +97,10 @@ pub enum Command<'a> {
     Check(&'a str),
     /// The place of a sector of the volume of a set.
     Map(&'a str, u64),
+    /// The volume of a set.
+    Write(&'a str),
+    /// The member of a slot of a set.
+    Rebuild(&'a str, u8),
 }
 
 /// A run of a command over so many images, and its status.
@@ -126,8 +131,10 @@ fn command_words(alloc: Global, command: &Command, count: Count) -> Result<Vec<W
 {
     match command {
         Command::List(from, size) => list_words(alloc, *from, *size, count),
-        Command::Check(set) => check_words(alloc, set, count),
+        Command::Check(set) => set_words(alloc, "check", set, count),
         Command::Map(set, sector) => map_words(alloc, set, *sector, count),
+        Command::Write(set) => set_words(alloc, "write", set, count),
+        Command::Rebuild(set, slot) => rebuild_words(alloc, set, *slot, count),
     }
 }
 
@@ -144,13 +151,27 @@ fn list_words(alloc: Global, from: u64, size: u64, count: Count) -> Result<Vec<W
     Ok(words)
 }
 
-fn check_words(alloc: Global, set: &str, count: Count) -> Result<Vec<Word>, Memory>
+fn set_words(alloc: Global, command: &str, set: &str, count: Count) -> Result<Vec<Word>, Memory>
+    requires { bytes_eq command.now (codes "--") ≡ false }
     ensures { IfOk result (λ words. names_after words.items ≡ image_names count) }
 {
     let set = format!(in alloc; "set={}", set).map_err(|_| Memory)?;
     let mut words = Vec::new(alloc);
-    push_word(alloc, &mut words, "check")?;
+    push_word(alloc, &mut words, command)?;
     push_word(alloc, &mut words, set.as_str())?;
+    push_so_many(alloc, &mut words, count)?;
+    Ok(words)
+}
+
+fn rebuild_words(alloc: Global, set: &str, slot: u8, count: Count) -> Result<Vec<Word>, Memory>
+    ensures { IfOk result (λ words. names_after words.items ≡ image_names count) }
+{
+    let set = format!(in alloc; "set={}", set).map_err(|_| Memory)?;
+    let slot = format!(in alloc; "slot={}", slot).map_err(|_| Memory)?;
+    let mut words = Vec::new(alloc);
+    push_word(alloc, &mut words, "rebuild")?;
+    push_word(alloc, &mut words, set.as_str())?;
+    push_word(alloc, &mut words, slot.as_str())?;
     push_so_many(alloc, &mut words, count)?;
     Ok(words)
 }

@@ -1,6 +1,6 @@
 // Runs of the commands whose answers were worked out by hand.
 use crate::counts::Count;
-use crate::outside::{Command, filled, images_of, run_command};
+use crate::outside::{Command, PLAN, filled, images_of, run_command};
 use std::alloc::Global;
 use std::process::Abort;
 use std::test::Fail;
@@ -96,12 +96,12 @@ fn listings_over_missing_and_foreign_members(rt: HostRuntime) -> Result<(), Fail
         },
         Row {
             command: Command::List(0, 10),
-            count: Count::Three,
+            count: Count::Two,
             sectors: STRIPES,
-            plan: ONE_LOST,
+            plan: PLAN,
             status: 4,
             out: "",
-            notes: "reraid: images: count given 3 planned 2\n",
+            notes: "reraid: images: count given 2 planned 3\n",
         },
         Row {
             command: Command::List(0, 10),

@@ -4,12 +4,7 @@
 # for passes, and each image is read once, whole.
 # Usage: bench/list.sh [MEGABYTES] [FOLDER]
 set -eu
-megabytes=${1:-256}
-program=$(cd "$(dirname "$0")/../crates/reraid/out" && pwd)/reraid
-[ -x "$program" ] || { echo "there is no $program: see make build" >&2; exit 1; }
-folder=$(mktemp -d "${2:-${TMPDIR:-/tmp}}/reraid-bench.XXXXXX")
-trap 'rm -rf "$folder"' EXIT
-cd "$folder"
+. "$(dirname "$0")/folder.sh"
 
 head -c "${megabytes}M" /dev/urandom >a
 cp a b

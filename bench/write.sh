@@ -1,15 +1,9 @@
 #!/bin/sh
 # Times `write` and `rebuild` beside cat of the same bytes, best of three runs each. Four members of level 6, left-symmetric with
-# the order after Q: zeros for data, P and Q, which agree in every row, so members can be lost and found. The time of a run does
-# not hang on what the bytes are.
+# the order after Q: zeros for data, P and Q, which agree in every row, so members can be lost and found.
 # Usage: bench/write.sh [MEGABYTES] [FOLDER]
 set -eu
-megabytes=${1:-256}
-program=$(cd "$(dirname "$0")/../crates/reraid/out" && pwd)/reraid
-[ -x "$program" ] || { echo "there is no $program: see make build" >&2; exit 1; }
-folder=$(mktemp -d "${2:-${TMPDIR:-/tmp}}/reraid-bench.XXXXXX")
-trap 'rm -rf "$folder"' EXIT
-cd "$folder"
+. "$(dirname "$0")/folder.sh"
 
 for name in a b c d; do head -c "${megabytes}M" /dev/zero >"$name"; done
 
@@ -35,6 +29,8 @@ against() {
     }'
 }
 
+[ "$("$program" write set=6:ls:after-q:128:0:-,-,0,1 -- a b | cmp -n $((megabytes * 2097152)) - /dev/zero && echo same)" = same ] ||
+    { echo "the volume differs" >&2; exit 1; }
 uname -srm
 sed -n 's/^model name[^:]*: //p' /proc/cpuinfo | head -n 1
 echo "4 members of $megabytes MiB, chunks of 64 KiB, from the page cache; cat reads the images that are there"

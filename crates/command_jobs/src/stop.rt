@@ -2,15 +2,14 @@
 ghost use Rattle.std.specs.Prelude.{◌≡◌, ◌≤◌, ◌+◌, ◌++◌, codes, decimal, length};
 ghost use Rattle.command_jobs.specs.Stops.{kind_text as kind_text_of, note_of, rule_of, status_of, stop_of_page, stop_of_plan, stop_of_volume, value_of};
 ghost use Rattle.command_jobs.specs.declared.stop.Stop.TheVariants.{Images as ImagesOf, Cursor as CursorOf, OutOfMemory, Sector as SectorOf};
-ghost use Rattle.plan_text.specs.PlanText.{pattern_place as pattern_place_of, syndrome_place as syndrome_place_of};
 
 use crate::agreement::{Disagreement, Kind};
 use arrayvec::ArrayString;
 use image_source::Memory;
 use itoa::Buffer;
 use page_engine::{CursorFault, PageFault};
-use plan_text::PlanFault;
-use raid_params::{GeoFault, Pattern, Syndrome};
+use plan_text::{Placed, PlanFault};
+use raid_params::GeoFault;
 use virtual_volume::VolumeFault;
 
 /// A sector asked for, which is past the end of the volume.
@@ -254,40 +253,8 @@ fn value(fault: &GeoFault) -> u64
         | GeoFault::Image(number)
         | GeoFault::Repeat(number)
         | GeoFault::Missing(number) => *number as u64,
-        GeoFault::Pattern(pattern) => pattern_place(*pattern) as u64,
-        GeoFault::Syndrome(syndrome) => syndrome_place(*syndrome) as u64,
+        GeoFault::Pattern(pattern) => pattern.place(),
+        GeoFault::Syndrome(syndrome) => syndrome.place(),
         GeoFault::Chunk(number) | GeoFault::NoRow(number) => *number,
-    }
-}
-
-fn pattern_place(pattern: Pattern) -> u8
-    ensures { result ≡ pattern_place_of pattern }
-{
-    match pattern {
-        Pattern::Plain => 0,
-        Pattern::La => 1,
-        Pattern::Ra => 2,
-        Pattern::Ls => 3,
-        Pattern::Rs => 4,
-        Pattern::ParityFirst => 5,
-        Pattern::ParityLast => 6,
-        Pattern::NRestart => 7,
-        Pattern::NContinue => 8,
-        Pattern::La6 => 9,
-        Pattern::Ra6 => 10,
-        Pattern::Ls6 => 11,
-        Pattern::Rs6 => 12,
-        Pattern::ParityFirst6 => 13,
-    }
-}
-
-fn syndrome_place(syndrome: Syndrome) -> u8
-    ensures { result ≡ syndrome_place_of syndrome }
-{
-    match syndrome {
-        Syndrome::NoQ => 0,
-        Syndrome::AfterQ => 1,
-        Syndrome::ByData => 2,
-        Syndrome::BySlot => 3,
     }
 }

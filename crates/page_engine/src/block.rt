@@ -2,17 +2,15 @@
 ghost use Rattle.std.specs.Prelude.{◌≡◌, ◌<◌, ◌≤◌, ◌+◌, ◌*◌, ◌^◌, ◌==◌, IfSome, Some, length, filter, position, slice_get};
 ghost use Rattle.raid_params.specs.declared.limits.TheConstants.{MOST};
 ghost use Rattle.raid_params.specs.Validity.{has_syndrome};
-ghost use Rattle.plan_text.specs.PlanText.{IsPlan, pattern_place as place_of_pattern, syndrome_place as place_of_syndrome};
+ghost use Rattle.plan_text.specs.PlanText.{IsPlan};
 ghost use Rattle.page_engine.specs.Blocks.{heads_with, sets_with, suits as suits_level, IsBlock};
 ghost use Rattle.page_engine.specs.Pairs.{pairs};
 ghost use Rattle.page_engine.specs.Sets.{is_same_head, is_same_set};
 
 use crate::pairing::{pair_at, pair_rank, set_rank};
-use crate::same::{level_place, pattern_place, syndrome_place};
 use crate::slot_space::space_of;
-use crate::suits::{suits, suits_syndrome};
 use arrayvec::ArrayVec;
-use plan_text::Plan;
+use plan_text::{Placed, Plan};
 use raid_params::{Geometry, Head, Level, Pattern, Syndrome};
 use slot_math::Space;
 
@@ -25,6 +23,13 @@ pub(crate) struct Block {
     pub patterns: ArrayVec<Pattern, 14>,
     pub syndromes: ArrayVec<Syndrome, 4>,
     pub space: Space,
+}
+
+// Whether the level has arrays of so many members, and the pattern.
+fn suits(level: Level, members: u8, pattern: Pattern) -> bool
+    ensures { result ≡ suits_level level members pattern }
+{
+    level.has_members(members as usize) && level.has_pattern(pattern)
 }
 
 // The patterns of the plan that suit the level and the number of members.
@@ -46,38 +51,19 @@ fn syndromes_of(plan: &Plan, level: Level) -> ArrayVec<Syndrome, 4>
 {
     let mut kept = ArrayVec::new();
     for syndrome in plan.bounds.syndromes.as_slice() {
-        if suits_syndrome(level, *syndrome) {
+        if level.has_syndrome(*syndrome) {
             kept.push(*syndrome);
         }
     }
     kept
 }
 
-// The place of a pattern among some.
-fn pattern_rank(patterns: &[Pattern], pattern: Pattern) -> Option<usize>
-    ensures { result ≡ position (λ other. place_of_pattern pattern == place_of_pattern other) patterns.now }
+// The place of a value among some.
+fn place_among<T: Placed>(values: &[T], value: &T) -> Option<usize>
+    ensures { result ≡ position (λ other. T.place value.now == T.place other) values.now }
 {
-    let place = pattern_place(pattern);
-    patterns
-        .iter()
-        .position(|other| place == pattern_place(*other))
-}
-
-// The place of an order of Q among some.
-fn syndrome_rank(syndromes: &[Syndrome], syndrome: Syndrome) -> Option<usize>
-    ensures { result ≡ position (λ other. place_of_syndrome syndrome == place_of_syndrome other) syndromes.now }
-{
-    let place = syndrome_place(syndrome);
-    syndromes
-        .iter()
-        .position(|other| place == syndrome_place(*other))
-}
-
-// The place of a number among some.
-fn number_rank(numbers: &[u64], number: u64) -> Option<usize>
-    ensures { result ≡ position (λ other. number == other) numbers.now }
-{
-    numbers.iter().position(|other| number == *other)
+    let place = value.place();
+    values.iter().position(|other| place == other.place())
 }
 
 // The chunk and the offset of this rank among those of the plan.
@@ -155,14 +141,14 @@ impl Block {
         ensures place { result ≡ position (is_same_head head.now) (heads_with plan.now.bounds self.now.level self.now.members) }
         ensures few { IfSome result (λ place. place < 57344) }
     {
-        if level_place(head.level) != level_place(self.level) || head.members != self.members {
+        if head.level.place() != self.level.place() || head.members != self.members {
             return None;
         }
-        let pattern = pattern_rank(&self.patterns, head.pattern);
-        let syndrome = syndrome_rank(&self.syndromes, head.syndrome);
+        let pattern = place_among(&self.patterns, &head.pattern);
+        let syndrome = place_among(&self.syndromes, &head.syndrome);
         let start = pair_rank(pattern, syndrome, self.syndromes.len());
-        let chunk = number_rank(&plan.bounds.chunks, head.chunk);
-        let offset = number_rank(&plan.bounds.offsets, head.offset);
+        let chunk = place_among(&plan.bounds.chunks, &head.chunk);
+        let offset = place_among(&plan.bounds.offsets, &head.offset);
         let end = pair_rank(chunk, offset, plan.bounds.offsets.len());
         let ends = plan.bounds.chunks.len() * plan.bounds.offsets.len();
         pair_rank(start, end, ends)

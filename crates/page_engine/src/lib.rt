@@ -10,9 +10,7 @@ mod laws;
 mod paging;
 mod pairing;
 mod product;
-mod same;
 mod slot_space;
-mod suits;
 
 pub use laws::{ranks_and_sets_undo, same_sets_are_equal};
 pub use paging::{CursorFault, Line, Lines, ListPage, PageFault, page};

@@ -9,7 +9,7 @@ ghost use Rattle.plan_text.specs.PlanParts.{field as field_text, bounds_text, Ar
 
 use crate::fields::{at_most, rising};
 use arrayvec::ArrayVec;
-use raid_params::{Bounds, MOST, MOST_CHUNKS, MOST_LESS_ONE, MOST_OFFSETS, SECTORS_END};
+use raid_params::{Bounds, MOST, MOST_CHUNKS, MOST_LESS_ONE, MOST_OFFSETS, SECTORS_END, is_chunk};
 
 /// The most members that may be missing: so many a level survives.
 const MOST_MISSING: u8 = 2;
@@ -101,11 +101,4 @@ fn are_offsets(offsets: &[u64]) -> bool
     ensures { IsTrue result ↔ All (λ n. n < 2 ^ 55) offsets.now }
 {
     offsets.iter().all(|offset| *offset < SECTORS_END)
-}
-
-/// Whether it is a power of two up to `LARGEST_CHUNK`.
-fn is_chunk(chunk: u64) -> bool
-    ensures { result ≡ is_chunk_size chunk }
-{
-    (0..MOST_CHUNKS).any(|doublings| chunk == 1 << doublings)
 }

@@ -25,3 +25,4 @@ pub use number::{after, read_number};
 pub use plan::{Limits, Plan, PlanFault, read_plan};
 pub use set::{Text, set_line, write_set};
 pub use set_word::read_set;
+pub use spelled::{Placed, Spelled};

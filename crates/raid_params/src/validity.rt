@@ -21,14 +21,14 @@ impl Level {
     }
 
     /// Whether arrays of the level have so many members: from 2, 3 or 4 on, and up to `MOST`.
-    fn has_members(&self, members: usize) -> bool
+    pub fn has_members(&self, members: usize) -> bool
         ensures { result ≡ has_members_of self.now members }
     {
         self.redundancy() as usize + 2 <= members && members <= MOST
     }
 
     /// Whether the pattern is one of the level's.
-    fn has_pattern(&self, pattern: Pattern) -> bool
+    pub fn has_pattern(&self, pattern: Pattern) -> bool
         ensures { result ≡ has_pattern_of self.now pattern }
     {
         match self {
@@ -47,7 +47,7 @@ impl Level {
     }
 
     /// Whether the level has this order of Q: level 6 has one, the others none.
-    fn has_syndrome(&self, syndrome: Syndrome) -> bool
+    pub fn has_syndrome(&self, syndrome: Syndrome) -> bool
         ensures { result ≡ has_syndrome_of self.now syndrome }
     {
         match self {

@@ -107,7 +107,8 @@ one_bad_row : passing_ranks (a ∷ b ∷ c_changed ∷ []) (criteria_of three 1)
 unfolding a b c_changed sector passing_ranks criteria_of bounds_of three all_lists stands is_distinct empties is_chunk is_sound filled sum_of
 one_bad_row = refl
 
--- row 2 of left-asymmetric level 6 over four members is D0 P Q D1. The walk after Q meets D1 first
+-- row 2 of left-asymmetric level 6 over four members: the first block, P, Q, the second block. The walk
+-- after Q meets the second first
 four_parts : Syndrome → List Part
 four_parts order = map (part_of (record { level = Raid6; members = 4; pattern = La; syndrome = order; chunk = 1; offset = 0 }) 2) (0 ∷ 1 ∷ 2 ∷ 3 ∷ [])
 
@@ -123,7 +124,7 @@ by_slot : four_parts BySlot ≡ Block 0 ∷ P ∷ Q ∷ Block 3 ∷ []
 unfolding four_parts item_in
 by_slot = refl
 
--- Q D0 D1 P with D0 weighed by 1 and D1 by 2
+-- Q, two blocks and P, with the first block weighed by 1 and the second by 2
 cell : Part → Bool → Cell
 cell part missing = record { part = part; missing = missing }
 

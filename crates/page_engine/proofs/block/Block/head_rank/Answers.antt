@@ -9,19 +9,19 @@ use Rattle.page_engine.specs.Pairs.{joined}
 use Rattle.page_engine.specs.Sets.{is_same_head}
 use Rattle.page_engine.proofs.BlockRanks.{few_heads, head_place, heads_count, other_head, place_few}
 use Rattle.page_engine.proofs.block.Block.head_rank.Goals as goal
-use Rattle.page_engine.proofs.block.Block.head_rank.Goals.{then-level_place-via-then-level_place, then-level_place-via-else-level_place+then-head-self}
+use Rattle.page_engine.proofs.block.Block.head_rank.Goals.{then-place-via-then-place, then-place-via-else-place+then-head-self}
 
-pub returns-then-level_place-clause-place : goal.returns-then-level_place-clause-place
-returns-then-level_place-clause-place c =
+pub returns-then-place-clause-place : goal.returns-then-place-clause-place
+returns-then-place-clause-place c =
     let head = c.args.head.now in
     let block = c.args.self.now in
-    let given = c.level_place.ensures in
-    let own = c.level_place-2.ensures in
-    elim c.then-level_place.branch [
-      | then-level_place-via-then-level_place w ↦
+    let given = c.place.ensures in
+    let own = c.place-2.ensures in
+    elim c.then-place.branch [
+      | then-place-via-then-place w ↦
           sym (other_head c.args.plan.now block head c.requires.plan c.requires.block
-          (and_left (level_place head.level == level_place block.level) (head.members == block.members) (ne_eqb (level_place head.level) (level_place block.level) (λ e. w.if-level_place.true (given ∙ e ∙ sym own)))))
-      | then-level_place-via-else-level_place+then-head-self w ↦
+          (and_left (level_place head.level == level_place block.level) (head.members == block.members) (ne_eqb (level_place head.level) (level_place block.level) (λ e. w.if-place.true (given ∙ e ∙ sym own)))))
+      | then-place-via-else-place+then-head-self w ↦
           sym (other_head c.args.plan.now block head c.requires.plan c.requires.block
           (and_right (level_place head.level == level_place block.level) (head.members == block.members) (ne_eqb head.members block.members w.if-head-self.true)))
     ]
@@ -32,16 +32,16 @@ placed c =
     let block = c.args.self.now in
     let plan = c.args.plan.now in
     let same = and_from (level_place head.level == level_place block.level) (head.members == block.members)
-    (eq-eqb (level_place head.level) (level_place block.level) (sym c.level_place.ensures ∙ c.if-level_place.false ∙ c.level_place-2.ensures)) (eq-eqb head.members block.members c.if-head-self.false) in
+    (eq-eqb (level_place head.level) (level_place block.level) (sym c.place.ensures ∙ c.if-place.false ∙ c.place-2.ensures)) (eq-eqb head.members block.members c.if-head-self.false) in
     let place = head_place plan block head c.requires.plan c.requires.block same in
     let t : Pattern → Bool = λ p. pattern_place head.pattern == pattern_place p in
     let u : Syndrome → Bool = λ s. syndrome_place head.syndrome == syndrome_place s in
     let start = c.pair_rank-start.ensures
-    ∙ ap (λ (n : ℕ). joined n c.pattern_rank-pattern.result c.syndrome_rank-syndrome.result) c.len.ensures.value
-    ∙ ap₂ (joined (length block.syndromes.items)) (c.pattern_rank-pattern.ensures ∙ ap (position t) c.deref.ensures.0) (c.syndrome_rank-syndrome.ensures ∙ ap (position u) c.deref-2.ensures.0) in
+    ∙ ap (λ (n : ℕ). joined n c.place_among-pattern.result c.place_among-syndrome.result) c.len.ensures.value
+    ∙ ap₂ (joined (length block.syndromes.items)) (c.place_among-pattern.ensures ∙ ap (position t) c.deref.ensures.0) (c.place_among-syndrome.ensures ∙ ap (position u) c.deref-2.ensures.0) in
     let end = c.pair_rank-end.ensures
-    ∙ ap (λ (n : ℕ). joined n c.number_rank-chunk.result c.number_rank-offset.result) c.len-2.ensures.value
-    ∙ ap₂ (joined (length plan.bounds.offsets.items)) (c.number_rank-chunk.ensures ∙ ap (position (λ (n : ℕ). head.chunk == n)) c.deref-3.ensures.0) (c.number_rank-offset.ensures ∙ ap (position (λ (n : ℕ). head.offset == n)) c.deref-4.ensures.0) in
+    ∙ ap (λ (n : ℕ). joined n c.place_among-chunk.result c.place_among-offset.result) c.len-2.ensures.value
+    ∙ ap₂ (joined (length plan.bounds.offsets.items)) (c.place_among-chunk.ensures ∙ ap (position (λ (n : ℕ). head.chunk == n)) c.deref-3.ensures.0) (c.place_among-offset.ensures ∙ ap (position (λ (n : ℕ). head.offset == n)) c.deref-4.ensures.0) in
     c.pair_rank.ensures
     ∙ ap₂ (λ (a b : ℕ). joined (a * b) c.pair_rank-start.result c.pair_rank-end.result) c.len-3.ensures.value c.len-4.ensures.value
     ∙ ap₂ (joined (length plan.bounds.chunks.items * length plan.bounds.offsets.items)) start end

@@ -1,5 +1,5 @@
 -- Where sectors of the volume lie.
-use Rattle.std.proofs.Common.{◌≡◌, ℕ, ◌<◌, ◌≤◌, ◌-◌, ◌^◌, IsTrue, refl, arith}
+use Rattle.std.proofs.Common.{ℕ, ◌<◌, ◌-◌, ◌^◌, IsTrue, refl, arith}
 use Rattle.raid_params.specs.declared.types.Head.{Head}
 use Rattle.raid_params.specs.Size.{area, rows}
 use Rattle.raid_params.specs.Validity.{is_valid_head}

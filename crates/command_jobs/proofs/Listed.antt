@@ -1,24 +1,22 @@
 -- The bytes of a page are the listing.
-use Rattle.std.proofs.Common.{◌≡◌, ℕ, List, [], ◌∷◌, ◌++◌, map, refl, sym, ap, ◌∙◌, subst, Option, Some, None, All, IfSome, slice_get, Bool, cond, true, false, nat_le, nat_lt, ◌<◌, ◌≤◌, ◌^◌, ◌⊎◌, Result, Ok, Err, IfErr, IsErrOf, inl, inr, arith}
+use Rattle.std.proofs.Common.{◌≡◌, ℕ, List, [], ◌∷◌, ◌++◌, map, refl, sym, ap, ◌∙◌, Option, Some, None, All, IfSome, slice_get, Bool, cond, false, nat_le, ◌<◌, ◌≤◌, ◌^◌, ◌⊎◌, Ok, Err, IsErrOf, inl, inr, arith}
 use Rattle.std.specs.List.{flat_map}
 use Rattle.std.specs.Option.{option_map_or}
 use Rattle.std.proofs.lemmas.List.Elements.{All-head, All-tail}
-use Rattle.image_source.specs.Causes.{Rose}
 use Rattle.image_source.specs.Seen.{Seen}
 use Rattle.std.proofs.lemmas.Bool.{cases_lt, lt-ltb, le-ltb, le-leb}
 use Rattle.std.proofs.lemmas.Bool.Decides.{nat_tests}
 use Rattle.page_engine.specs.declared.paging.PageFault.{PageFault}
 use Rattle.page_engine.specs.declared.paging.PageFault.TheVariants.{Many as PageMany, Cursor as PageCursor, ReadFault, Memory as PageMemory}
 use Rattle.command_jobs.specs.Jobs.{HasCauses, Refuses}
-use Rattle.command_jobs.specs.Plans.{IsTextOf, many_refusal}
+use Rattle.command_jobs.specs.Plans.{many_refusal}
 use Rattle.command_jobs.specs.Stops.{first_of, stop_of_page}
-use Rattle.command_jobs.specs.declared.stop.Stop.{Stop}
-use Rattle.command_jobs.specs.declared.stop.Stop.TheVariants.{Many, Cursor, ImageFault, PlanFault, OutFault, OutOfMemory}
+use Rattle.command_jobs.specs.declared.stop.Stop.TheVariants.{Many, Cursor}
 use Rattle.raid_terms.specs.Page.{page_next, page_ranks}
 use Rattle.plan_text.specs.SetText.{set_line}
 use Rattle.plan_text.specs.declared.plan.Plan.{Plan}
-use Rattle.page_engine.specs.Sets.{AgreeWith, EndsPage, HoldsSet, IsPageOf, passes_at, sets_of, total_of}
-use Rattle.command_jobs.specs.Listing.{cursor_refusal, line_of, list_output, list_refusal, listing, next_line, page_text}
+use Rattle.page_engine.specs.Sets.{EndsPage, HoldsSet, IsPageOf, passes_at, sets_of, total_of}
+use Rattle.command_jobs.specs.Listing.{cursor_refusal, line_of, listing, next_line, page_text}
 use Rattle.page_engine.specs.declared.paging.Line.{Line}
 use Rattle.page_engine.specs.declared.paging.ListPage.{ListPage}
 

@@ -1,8 +1,7 @@
 -- A text that was read, and the plan that it says.
-use Rattle.std.proofs.Common.{◌≡◌, ℕ, ◌<◌, ◌≤◌, Bool, true, false, cond, nat_lt, List, [], ◌∷◌, length, None, Some, Option, Ok, Err, IfSome, refl, sym, ap, ◌∙◌, subst}
+use Rattle.std.proofs.Common.{◌≡◌, ℕ, ◌<◌, ◌≤◌, Bool, cond, List, [], ◌∷◌, length, None, Some, Option, Ok, Err, IfSome, refl, sym, ap, ◌∙◌, subst}
 use Rattle.std.specs.Option.{option_map}
 use Rattle.std.proofs.lemmas.Bool.{lt-ltb, le-ltb}
-use Rattle.image_source.specs.Causes.{Rose}
 use Rattle.image_source.specs.Seen.{Image}
 use Rattle.plan_text.specs.PlanText.{IsPlan, ReadsPlan}
 use Rattle.plan_text.specs.declared.plan.Plan.{Plan}
@@ -10,7 +9,7 @@ use Rattle.plan_text.specs.declared.plan.PlanFault.{PlanFault as PlanFaultOf}
 use Rattle.plan_text.specs.declared.plan.PlanFault.TheVariants.{NotBuilt as PlanNotBuilt, Memory}
 use Rattle.command_jobs.specs.Agreement.{plan_fault}
 use Rattle.command_jobs.specs.Jobs.{EndsPreparing, IsPrepared}
-use Rattle.command_jobs.specs.Plans.{IsTextOf, agreed_refusal, many_refusal, plan_refusal, read_refusal}
+use Rattle.command_jobs.specs.Plans.{IsTextOf, many_refusal, plan_refusal, read_refusal}
 use Rattle.command_jobs.specs.Source.{EndsReading}
 use Rattle.command_jobs.specs.Stops.{first_of, stop_of_plan}
 use Rattle.command_jobs.specs.declared.agreement.Disagreement.{Disagreement}

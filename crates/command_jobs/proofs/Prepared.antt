@@ -1,32 +1,19 @@
 -- What is known once a plan was read and compared with the images, or could not be.
-use Rattle.std.proofs.Common.{◌≡◌, ◌≢◌, ◌⊎◌, ℕ, zero, suc, ◌+◌, ◌*◌, ◌<◌, ◌≤◌, ◌^◌, min, Bool, true, false, not, cond, nat_eq, nat_le, nat_lt, List, [], ◌∷◌, ◌++◌, length, map, None, Some, Option, Result, Ok, Err, All, IfOk, IfErr, IfSome, OnOk, IsErrOf, IsTrue, refl, sym, ap, ◌∙◌, subst, arith, inl, inr, slice_index, get_or}
+use Rattle.std.proofs.Common.{◌≡◌, ℕ, zero, suc, ◌+◌, ◌<◌, ◌≤◌, min, Bool, true, false, not, cond, nat_eq, List, [], ◌∷◌, length, None, Some, Option, Result, Err, IfSome, refl, sym, subst, arith, inl, inr, slice_index}
 use Rattle.std.specs.List.{find, range_with_len}
 use Rattle.std.specs.Option.{option_map}
-use Rattle.std.proofs.lemmas.Bool.{le-leb, lt-ltb, le-ltb, leb-true, eqb-true}
+use Rattle.std.proofs.lemmas.Bool.{eqb-true}
 use Rattle.std.proofs.lemmas.Grind.{same_number_lists}
 use Rattle.std.proofs.lemmas.List.{length-map}
-use Rattle.std.proofs.lemmas.List.Elements.{All-head, All-tail, All-nil, All-cons}
-use Rattle.image_source.specs.Attached.{told_all}
 use Rattle.image_source.specs.Causes.{Rose}
-use Rattle.image_source.specs.Seen.{Image, OnlyReads, Seen}
-use Rattle.page_engine.specs.Sets.{AgreeWith, total_of}
+use Rattle.image_source.specs.Seen.{Image, Seen}
+use Rattle.page_engine.specs.Sets.{AgreeWith}
 use Rattle.plan_text.specs.PlanText.{IsPlan}
-use Rattle.plan_text.specs.SetText.{HasWord}
 use Rattle.plan_text.specs.declared.plan.Plan.{Plan}
-use Rattle.raid_params.specs.declared.limits.TheConstants.{MOST}
-use Rattle.raid_params.specs.declared.types.GeoFault.{GeoFault}
-use Rattle.raid_params.specs.declared.types.Geometry.{Geometry}
-use Rattle.raid_params.specs.Validity.{first_fault, is_shaped, is_valid_head}
-use Rattle.raid_layouts.proofs.Shapes.{shaped_head}
-use Rattle.row_scan.specs.Scan.{IsScannable}
-use Rattle.command_jobs.proofs.Printed.{ends_printed}
-use Rattle.command_jobs.proofs.Refusals.{refuses_first, refuses_none, ruled_shape}
 use Rattle.command_jobs.specs.Agreement.{count_fault, length_fault, lengths_of, other_length, plan_fault}
-use Rattle.command_jobs.specs.Checking.{check_output, check_refusal, check_text, rows_tested, rule_refusal}
-use Rattle.command_jobs.specs.Jobs.{Counts, Ends, EndsPreparing, HasCauses, IsPrepared, IsPrinted, MayHaveRead, Refuses}
+use Rattle.command_jobs.specs.Jobs.{Counts, EndsPreparing, HasCauses, IsPrepared, Refuses}
 use Rattle.command_jobs.specs.Plans.{IsTextOf, many_refusal, plan_refusal}
 use Rattle.command_jobs.specs.Stops.{EndsBy, IsExcused, IsRefusal, first_of}
-use Rattle.command_jobs.specs.declared.agreement.Disagreement.{Disagreement}
 use Rattle.command_jobs.specs.declared.stop.Stop.{Stop}
 use Rattle.command_jobs.specs.declared.stop.Stop.TheVariants.{PlanIsLong, Images, Many, Cursor, Set, Slot, Sector, ImageFault, PlanFault, OutFault, NotBuilt, OutOfMemory}
 

@@ -1,13 +1,12 @@
 -- How a job ends that finds its answer, and then puts it.
-use Rattle.std.proofs.Common.{◌≡◌, ◌≢◌, ℕ, ◌≤◌, List, [], ◌++◌, length, take, None, Some, Option, Result, Ok, Err, IfSome, IfErr, IfOk, OnOk, IsErrOf, refl, sym, ap, ◌∙◌, subst, arith, inl, inr, Bool}
+use Rattle.std.proofs.Common.{◌≡◌, ℕ, ◌≤◌, List, None, Some, Option, Result, Ok, Err, IfSome, IfOk, refl, sym, ap, subst, arith, inl, Bool}
 use Rattle.std.specs.Io.KnownBytes.{Appends, Keeps}
 use Rattle.std.proofs.lemmas.List.{append-nil}
-use Rattle.image_source.specs.Causes.{Rose}
 use Rattle.image_source.specs.Streams.{AppendsFront}
 use Rattle.command_jobs.specs.Jobs.{Counts, Ends, HasCauses, Refuses, IsPrinted, Leaves, MayHavePut, MayHaveRead}
 use Rattle.command_jobs.specs.Stops.{EndsBy, IsExcused}
 use Rattle.command_jobs.specs.declared.stop.Stop.{Stop}
-use Rattle.command_jobs.specs.declared.stop.Stop.TheVariants.{PlanIsLong, Images, Many, Cursor, Set, Slot, Sector, ImageFault, PlanFault, OutFault, NotBuilt, OutOfMemory}
+use Rattle.command_jobs.specs.declared.stop.Stop.TheVariants.{ImageFault, PlanFault, OutFault}
 
 -- what is kept has gained a front of anything
 pub front_of_nothing : (old : Option (List ℕ)) (text : List ℕ) → AppendsFront old old text

@@ -1,5 +1,5 @@
 -- The first of several refusals.
-use Rattle.std.proofs.Common.{◌≡◌, ◌≢◌, ◌⊎◌, List, [], ◌∷◌, ◌++◌, None, Some, Option, Result, Ok, Err, IfErr, OnOk, IsErrOf, refl, sym, ap, ◌∙◌, ℕ, arith, inl, inr, true, subst}
+use Rattle.std.proofs.Common.{◌≡◌, ◌⊎◌, List, [], ◌∷◌, None, Some, Option, Result, Ok, Err, IfErr, OnOk, refl, sym, ap, ◌∙◌, ℕ, arith, inl, inr, true, subst}
 use Rattle.std.specs.Option.{is_none, option_map}
 use Rattle.image_source.specs.Seen.{Image}
 use Rattle.raid_params.specs.declared.types.GeoFault.{GeoFault}
@@ -7,12 +7,12 @@ use Rattle.raid_params.specs.declared.types.Geometry.{Geometry}
 use Rattle.raid_params.specs.declared.types.Head.{Head}
 use Rattle.raid_params.specs.Validity.{first_fault, is_shaped, shape_fault, row_fault}
 use Rattle.command_jobs.specs.Agreement.{end_of, limits_fault}
-use Rattle.command_jobs.specs.Jobs.{Counts, HasCauses, MayHaveRead, Refuses}
+use Rattle.command_jobs.specs.Jobs.{Counts, HasCauses, Refuses}
 use Rattle.command_jobs.specs.Mapping.{map_refusal, sector_refusal, set_refusal}
-use Rattle.command_jobs.specs.Stops.{EndsBy, IsEarly, IsRefusal, first_of}
+use Rattle.command_jobs.specs.Stops.{IsEarly, IsRefusal, first_of}
 use Rattle.command_jobs.specs.declared.agreement.Disagreement.{Disagreement}
 use Rattle.command_jobs.specs.declared.stop.Stop.{Stop}
-use Rattle.command_jobs.specs.declared.stop.Stop.TheVariants.{PlanIsLong, Images, Many, Cursor, Set, Slot, Sector, ImageFault, PlanFault, OutFault, NotBuilt, OutOfMemory}
+use Rattle.command_jobs.specs.declared.stop.Stop.TheVariants.{Images, Set, ImageFault, PlanFault, OutFault, OutOfMemory}
 
 -- the images disagree
 pub images_refused : (set : Geometry) (end : Option ℕ) (names : ℕ) (attached : List Image) (fault : Disagreement) → limits_fault end names attached ≡ Some fault → set_refusal set end names attached ≡ Some (Images fault)

@@ -1,9 +1,9 @@
 -- How `write` and `rebuild` end, by what writing a volume or a member says.
-use Rattle.std.proofs.Common.{◌≡◌, ℕ, ◌<◌, ◌≤◌, ◌+◌, ◌*◌, ◌^◌, min, Bool, true, false, ◌&&◌, cond, nat_eq, nat_lt, List, [], ◌∷◌, length, map, fold, None, Some, Option, Result, Ok, Err, All, IfSome, IfErr, OnOk, IsErrOf, refl, sym, ap, ◌∙◌, subst, arith, inl, inr, slice_index_or, is_none}
+use Rattle.std.proofs.Common.{◌≡◌, ℕ, ◌<◌, ◌≤◌, ◌^◌, min, Bool, true, false, ◌&&◌, cond, nat_eq, nat_lt, List, [], ◌∷◌, length, fold, None, Some, Option, Ok, Err, All, IfSome, IsErrOf, refl, sym, ap, ◌∙◌, subst, arith, inl, inr, slice_index_or, is_none}
 use Rattle.std.specs.Option.{option_map}
 use Rattle.std.specs.Io.KnownBytes.{Appends, Keeps}
-use Rattle.std.proofs.lemmas.Bool.{eqb-true, cases_lt, lt-ltb, and_parts}
-use Rattle.std.proofs.lemmas.List.Elements.{All-head, All-tail, All-cons, All-nil}
+use Rattle.std.proofs.lemmas.Bool.{cases_lt, lt-ltb}
+use Rattle.std.proofs.lemmas.List.Elements.{All-cons, All-nil}
 use Rattle.image_source.specs.Causes.{Rose}
 use Rattle.image_source.specs.Seen.{Image, OnlyReads, Seen}
 use Rattle.image_source.specs.Streams.{AppendsFront}
@@ -16,14 +16,14 @@ use Rattle.virtual_volume.specs.Served.{IsServed}
 use Rattle.virtual_volume.specs.declared.volume.VolumeFault.{VolumeFault}
 use Rattle.virtual_volume.specs.declared.volume.VolumeFault.TheVariants.{ReadFault as VolumeRead, WriteFault as VolumeWrite, Memory as VolumeMemory}
 use Rattle.command_jobs.specs.Agreement.{count_fault, end_of, lengths_of, limits_fault, shortest}
-use Rattle.command_jobs.specs.Jobs.{Counts, Ends, Leaves, MayHavePut, MayHaveRead}
+use Rattle.command_jobs.specs.Jobs.{Ends, Leaves}
 use Rattle.command_jobs.specs.Mapping.{set_refusal}
-use Rattle.command_jobs.specs.Stops.{EndsBy, IsRefusal, first_of, stop_of_volume}
+use Rattle.command_jobs.specs.Stops.{IsRefusal, first_of, stop_of_volume}
 use Rattle.command_jobs.specs.Writing.{rebuild_refusal, slot_refusal}
 use Rattle.command_jobs.specs.declared.agreement.Disagreement.{Disagreement}
 use Rattle.command_jobs.specs.declared.agreement.Kind.TheVariants.{End}
 use Rattle.command_jobs.specs.declared.stop.Stop.{Stop}
-use Rattle.command_jobs.specs.declared.stop.Stop.TheVariants.{Images, Set, Slot, ImageFault, PlanFault, OutFault, OutOfMemory}
+use Rattle.command_jobs.specs.declared.stop.Stop.TheVariants.{Images, Set, Slot, ImageFault, PlanFault, OutFault}
 use Rattle.command_jobs.proofs.Lengths.{end_near}
 use Rattle.command_jobs.proofs.Printed.{front_of_nothing, keeps_itself}
 

@@ -1,7 +1,7 @@
 -- Whether the attached images are those that the plan or the command takes.
-use Rattle.std.specs.Prelude.{ℕ, ◌==◌, Bool, nat_eq, nat_lt, nat_le, not, if◌then◌else◌, min, List, [], ◌∷◌, length, map, fold, slice_index, unwrap_or}
+use Rattle.std.specs.Prelude.{ℕ, nat_eq, nat_lt, not, if◌then◌else◌, min, List, [], ◌∷◌, length, map, fold, slice_index, unwrap_or}
 use Rattle.std.specs.List.{find, range_with_len}
-use Rattle.std.specs.Option.{option_map, option_and_then}
+use Rattle.std.specs.Option.{option_map}
 use Rattle.std.specs.declared.option.Option.{Option}
 use Rattle.std.specs.declared.option.Option.TheVariants.{None, Some}
 use Rattle.image_source.specs.Seen.{Image}

@@ -47,7 +47,7 @@ pub fn check<S: Source, I: Images, K: Sink>(
         (record { images = (I.seen images.old).faults; plan = S.faults source.old; out = K.faults out.old; sectors = (I.seen images.old).sectors_read })
         (record { images = (I.seen images.new).faults; plan = S.faults source.new; out = K.faults out.new; sectors = (I.seen images.new).sectors_read })
         (K.gained out.old) (K.gained out.new) result }
-    ensures reads { IfSome (S.left source.old) (λ text. (plan : PlanOf) → IsTextOf text (Some plan) → (I.seen images.new).sectors_read ≤ (I.seen images.old).sectors_read + length set.now.slots.items * rows_tested plan set.now) }
+    ensures reads { IfSome (S.left source.old) (λ text. (plan : PlanOf) → IsTextOf text (Some plan) → (I.seen images.new).sectors_read ≤ (I.seen images.old).sectors_read + length (I.seen images.old).attached * rows_tested plan set.now) }
     ensures world { (I.seen images.new).world ≡ (I.seen images.old).world }
     ensures attached { (I.seen images.new).attached ≡ (I.seen images.old).attached }
 {
@@ -71,7 +71,7 @@ fn answer<S: Source, I: Images>(
         (record { images = (I.seen images.new).faults; plan = S.faults source.new; out = 0; sectors = (I.seen images.new).sectors_read }) result }
     ensures text { IfOk result (λ found. IfSome (S.left source.old) (λ text. (read : Option PlanOf) → IsTextOf text read →
         IfSome (check_output set.now read (told_all (I.seen images.old).attached)) (λ printed. found ≡ printed))) }
-    ensures reads { IfSome (S.left source.old) (λ text. (plan : PlanOf) → IsTextOf text (Some plan) → (I.seen images.new).sectors_read ≤ (I.seen images.old).sectors_read + length set.now.slots.items * rows_tested plan set.now) }
+    ensures reads { IfSome (S.left source.old) (λ text. (plan : PlanOf) → IsTextOf text (Some plan) → (I.seen images.new).sectors_read ≤ (I.seen images.old).sectors_read + length (I.seen images.old).attached * rows_tested plan set.now) }
     ensures world { (I.seen images.new).world ≡ (I.seen images.old).world }
     ensures attached { (I.seen images.new).attached ≡ (I.seen images.old).attached }
 {
@@ -99,7 +99,7 @@ fn checked<I: Images>(
     ensures causes { HasCauses
         (record { images = (I.seen images.old).faults; plan = 0; out = 0; sectors = (I.seen images.old).sectors_read })
         (record { images = (I.seen images.new).faults; plan = 0; out = 0; sectors = (I.seen images.new).sectors_read }) result }
-    ensures reads { OnlyReads (I.seen images.old) (I.seen images.new) (length set.now.slots.items * rows_tested plan.now set.now) }
+    ensures reads { OnlyReads (I.seen images.old) (I.seen images.new) (length (I.seen images.old).attached * rows_tested plan.now set.now) }
 {
     match allowed(names, set, plan) {
         Ok(()) => tested(alloc, images, set, plan),
@@ -138,7 +138,7 @@ fn tested<I: Images>(
     requires set { IsScannable set.now plan.now.end (I.seen images.old).attached }
     requires head { IsTrue (is_valid_head set.now.head) }
     ensures text { IfOk result (λ text. IfSome (told_all (I.seen images.old).attached) (λ bytes. text ≡ check_text_of bytes plan.now set.now)) }
-    ensures reads { OnlyReads (I.seen images.old) (I.seen images.new) (length set.now.slots.items * rows_tested plan.now set.now) }
+    ensures reads { OnlyReads (I.seen images.old) (I.seen images.new) (length (I.seen images.old).attached * rows_tested plan.now set.now) }
     ensures ends { IfErr result (λ stop. ((stop ≡ ImageFaultOf) × Rose (I.seen images.old).faults (I.seen images.new).faults) ⊎ (stop ≡ OutOfMemoryOf)) }
 {
     let rank = product_rank(plan, set);
@@ -158,7 +158,7 @@ fn unsound_rows<I: Images>(
 ) -> Result<u64, Stop>
     requires set { IsScannable set.now plan.now.end (I.seen images.old).attached }
     ensures told { IfOk result (λ n. IfSome (told_all (I.seen images.old).attached) (λ bytes. n ≡ unsound_rows_of bytes set.now (rows_tested plan.now set.now))) }
-    ensures reads { OnlyReads (I.seen images.old) (I.seen images.new) (length set.now.slots.items * rows_tested plan.now set.now) }
+    ensures reads { OnlyReads (I.seen images.old) (I.seen images.new) (length (I.seen images.old).attached * rows_tested plan.now set.now) }
     ensures ends { IfErr result (λ stop. ((stop ≡ ImageFaultOf) × Rose (I.seen images.old).faults (I.seen images.new).faults) ⊎ (stop ≡ OutOfMemoryOf)) }
 {
     let mut blocks = Blocks::new(alloc, set.slots.len())?;

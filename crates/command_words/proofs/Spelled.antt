@@ -1,12 +1,11 @@
 -- Operands by their names and values.
-use Rattle.std.proofs.Common.{◌≡◌, ◌≢◌, ℕ, ◌≤◌, ◌<◌, ◌^◌, Bool, true, false, not, ◌&&◌, ◌==◌, List, [], ◌∷◌, ◌++◌, Option, None, Some, refl, sym, ap, ap₂, ◌∙◌, subst, arith, All, codes, decimal, if◌then◌else◌, MatchOption}
+use Rattle.std.proofs.Common.{◌≡◌, ◌≢◌, ℕ, ◌≤◌, ◌<◌, ◌^◌, true, not, ◌==◌, List, [], ◌∷◌, ◌++◌, Option, None, Some, refl, sym, ap, ap₂, ◌∙◌, subst, arith, All, decimal, if◌then◌else◌, MatchOption}
 use Rattle.std.specs.List.{list_all}
 use Rattle.std.specs.Str.{bytes_eq}
 use Rattle.std.proofs.lemmas.Bool.{and_parts}
 use Rattle.std.proofs.lemmas.Fmt.{decimal_injective}
 use Rattle.std.proofs.lemmas.List.Elements.{All-head, All-tail, All-cons, All-nil}
 use Rattle.raid_params.specs.declared.types.Geometry.{Geometry}
-use Rattle.plan_text.specs.SetText.{HasWord, set_word}
 use Rattle.plan_text.proofs.SetWords.{one_spelling}
 use Rattle.command_words.specs.declared.operands.Name.{Name}
 use Rattle.command_words.specs.declared.operands.Name.TheVariants.{From as FromName, Size as SizeName, Span as SpanName, Set as SetName, Sector as SectorName, Slot as SlotName, End as EndName}

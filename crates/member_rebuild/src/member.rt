@@ -23,7 +23,7 @@ use virtual_volume::{Room, VolumeFault};
 const BLOCK: u64 = 256;
 
 /// Writes the `count` sectors of the missing member of a slot from sector `first` on.
-#[tactic(auto, using(virtual_volume::proofs::Places::region_inside))]
+#[tactic(auto, using(row_scan::proofs::Regions::region_inside))]
 fn write_block<I: Images, K: Sink>(
     images: &mut I,
     sink: &mut K,

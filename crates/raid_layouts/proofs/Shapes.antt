@@ -1,15 +1,14 @@
 -- What a sensible shape says of a parameter set.
-use Rattle.std.proofs.Common.{◌≡◌, ℕ, zero, suc, ◌+◌, ◌≤◌, ◌<◌, List, [], ◌∷◌, length, cond, ap, sym, ◌∙◌, refl, arith, Option, Some, None, true, false, Bool, All, IfSome, get_or, slice_index_or, subst, inl, inr}
+use Rattle.std.proofs.Common.{◌≡◌, ℕ, zero, suc, ◌+◌, ◌≤◌, ◌<◌, List, length, cond, ap, sym, ◌∙◌, refl, arith, Option, Some, None, true, false, Bool, All, IfSome, get_or, slice_index_or, subst, take, inl, inr}
 use Rattle.std.proofs.lemmas.Bool.{cases_lt, cases_Bool, eqb-true, leb-true}
 use Rattle.std.proofs.lemmas.List.{get_or_default}
 use Rattle.std.proofs.lemmas.Bool.Decides.{nat_tests}
-use Rattle.std.proofs.lemmas.List.Elements.{All-cons, All-nil}
 use Rattle.std.specs.List.{find, range_with_len}
 use Rattle.std.specs.Option.{is_none, option_map_or, option_and_then}
-use Rattle.std.specs.Prelude.{IsTrue, nat_eq, nat_le, nat_lt, ◌&&◌, not, if◌then◌else◌}
+use Rattle.std.specs.Prelude.{IsTrue, nat_eq, nat_le, ◌&&◌, not, if◌then◌else◌}
 use Rattle.raid_params.specs.Size.{redundancy}
-use Rattle.raid_params.specs.Slots.{empties}
-use Rattle.raid_params.specs.Validity.{is_shaped, is_valid_head, has_members, has_pattern, has_syndrome, is_chunk, slots_fault, first_absent, is_absent, first_repeat}
+use Rattle.raid_params.specs.Slots.{empties, stands}
+use Rattle.raid_params.specs.Validity.{is_shaped, is_valid_head, has_members, has_pattern, has_syndrome, is_chunk, slots_fault, first_absent, is_absent, first_repeat, is_met_again}
 use Rattle.raid_params.specs.declared.types.GeoFault.{GeoFault}
 use Rattle.raid_params.specs.declared.types.GeoFault.TheVariants.{Members, Pattern as BadPattern, Syndrome as BadSyndrome, Chunk, Missing}
 use Rattle.raid_params.specs.declared.types.Geometry.{Geometry}
@@ -135,3 +134,26 @@ pub shaped_images : (geo : Geometry) (images : ℕ) → is_shaped geo images ≡
 shaped_images geo images h =
     absent_below images geo.slots.items
     (slot_rules geo.head.level images geo.slots.items (first_absent images geo.slots.items) (first_repeat geo.slots.items) (rules_of geo images h).slots).there
+
+stood : (slots : List (Option ℕ)) (at i : ℕ) → slice_index_or slots at None ≡ Some i → is_met_again slots at ≡ stands i (take at slots)
+stood slots at i e = ap (λ (o : Option ℕ). option_map_or (λ (j : ℕ). stands j (take at slots)) o false) e
+
+met_some : (slots : List (Option ℕ)) (at : ℕ) (slot : Option ℕ) → option_map_or (λ i. stands i (take at slots)) slot false ≡ true → slot ≡ None → ⊥
+met_some slots at None h e = absurd (cc)
+met_some slots at (Some i) h e = absurd (cc)
+
+never_again : (slots : List (Option ℕ)) → first_repeat slots ≡ None → (at : ℕ) → at < length slots → is_met_again slots at ≡ false
+never_again slots h at lt = decided (find (is_met_again slots) (range_with_len 0 (length slots))) refl
+  where
+    decided : (r : Option ℕ) → find (is_met_again slots) (range_with_len 0 (length slots)) ≡ r → is_met_again slots at ≡ false
+    decided None e = found_none (is_met_again slots) 0 (length slots) at e (omega arith) (omega arith)
+    decided (Some k) e =
+        absurd (met_some slots k (slice_index_or slots k None) (found_passes (is_met_again slots) 0 (length slots) k e)
+        (sym (ap (option_and_then (λ at. slice_index_or slots at None)) e) ∙ h))
+
+-- no image stands before a slot that holds it
+pub shaped_once : (geo : Geometry) (images at i : ℕ) → is_shaped geo images ≡ true → at < length geo.slots.items → slice_index_or geo.slots.items at None ≡ Some i →
+    stands i (take at geo.slots.items) ≡ false
+shaped_once geo images at i h lt e =
+    let rules = slot_rules geo.head.level images geo.slots.items (first_absent images geo.slots.items) (first_repeat geo.slots.items) (rules_of geo images h).slots in
+    sym (stood geo.slots.items at i e) ∙ never_again geo.slots.items rules.once at lt

@@ -1,19 +1,17 @@
 -- A run, as the reading of its words says it.
-use Rattle.std.proofs.Common.{◌≡◌, ℕ, ◌≤◌, ◌+◌, ◌<◌, ◌^◌, List, [], ◌∷◌, ◌++◌, None, Some, Option, Result, Ok, Err, All, IfSome, IfErr, OnOk, IsErrOf, refl, sym, ap, ◌∙◌, subst, arith, inl, inr, Bool, false, length, drop}
-use Rattle.image_source.specs.Attached.{AreImagesOf, AttachesSome}
+use Rattle.std.proofs.Common.{◌≡◌, ℕ, ◌≤◌, ◌+◌, ◌<◌, ◌^◌, List, [], ◌∷◌, None, Some, Option, Err, All, IfSome, refl, sym, ap, ◌∙◌, subst, arith, inl, inr, Bool, length}
+use Rattle.image_source.specs.Attached.{AreImagesOf}
 use Rattle.image_source.specs.Causes.{Rose}
-use Rattle.image_source.specs.Seen.{Image, IsImageOf, Seen, World}
+use Rattle.image_source.specs.Seen.{Image, Seen, World}
 use Rattle.image_source.specs.Streams.{AppendsFront}
 use Rattle.std.proofs.lemmas.List.Elements.{All-cons, All-nil}
 use Rattle.command_words.specs.declared.command.Command.{Command}
-use Rattle.command_words.specs.Commands.{AreRead, EndsInNames, IsCommandLine, ReadsWords, names_after, names_of}
-use Rattle.command_jobs.specs.Jobs.{Counts, Ends, Leaves, MayHavePut, MayHaveRead}
-use Rattle.command_jobs.specs.declared.stop.Stop.{Stop}
-use Rattle.command_jobs.specs.declared.stop.Stop.TheVariants.{ImageFault, PlanFault, OutFault, NotBuilt}
+use Rattle.command_words.specs.Commands.{AreRead, ReadsWords, names_after}
+use Rattle.command_jobs.specs.Jobs.{Ends, Leaves}
+use Rattle.command_jobs.specs.declared.stop.Stop.TheVariants.{ImageFault, NotBuilt}
 use Rattle.command_jobs.proofs.Printed.{front_of_nothing, keeps_itself}
 use Rattle.reraid_cli.specs.Answers.{Reading, Says, IsPlanned, command_output, command_reads, command_refusal, most_reads, output, refusal}
 use Rattle.reraid_cli.specs.Asked.{IsAsked, counts_of}
-use Rattle.reraid_cli.proofs.Serving.{nothing_left}
 
 -- words that were read as none say none
 none_said : (words : List (List ℕ)) (read : Option Command) → ReadsWords words None → AreRead words read → read ≡ None

@@ -1,23 +1,21 @@
 -- A command's job, as the reading of the words says it.
-use Rattle.std.proofs.Common.{◌≡◌, ℕ, ◌≤◌, ◌+◌, ◌*◌, List, [], None, Some, Option, Result, Ok, Err, IfSome, IfErr, OnOk, IsErrOf, refl, sym, ap, ◌∙◌, subst, arith, inl, inr, Bool, false, length}
-use Rattle.std.specs.Io.KnownBytes.{Appends, Keeps}
+use Rattle.std.proofs.Common.{◌≡◌, ℕ, ◌≤◌, ◌+◌, ◌*◌, List, None, Some, Option, Result, Err, IfSome, refl, sym, subst, arith, Bool, length}
 use Rattle.image_source.specs.Attached.{told_all}
 use Rattle.image_source.specs.Causes.{Rose}
-use Rattle.image_source.specs.Seen.{Image, Seen}
-use Rattle.image_source.specs.Streams.{AppendsFront}
+use Rattle.image_source.specs.Seen.{Image}
 use Rattle.raid_params.specs.declared.types.Geometry.{Geometry}
 use Rattle.plan_text.specs.declared.plan.Plan.{Plan}
 use Rattle.command_words.specs.declared.command.Command.{Command}
 use Rattle.command_words.specs.declared.command.Command.TheVariants.{List as ListCommand, Check as CheckCommand, Map as MapCommand, Write as WriteCommand, Rebuild as RebuildCommand}
 use Rattle.command_jobs.specs.Checking.{check_output, check_refusal, rows_tested}
-use Rattle.command_jobs.specs.Jobs.{Counts, Ends, Leaves, MayHavePut, MayHaveRead}
+use Rattle.command_jobs.specs.Jobs.{Counts, Ends, Leaves}
 use Rattle.command_jobs.specs.Listing.{list_output, list_refusal}
 use Rattle.command_jobs.specs.Mapping.{map_refusal, map_text, set_refusal}
 use Rattle.command_jobs.specs.Writing.{rebuild_output, rebuild_refusal, write_output}
 use Rattle.command_jobs.specs.Plans.{IsTextOf}
 use Rattle.command_jobs.specs.declared.stop.Stop.{Stop}
-use Rattle.command_jobs.specs.declared.stop.Stop.TheVariants.{ImageFault, PlanFault, OutFault, NotBuilt}
-use Rattle.command_jobs.proofs.Printed.{front_of_nothing, keeps_itself}
+use Rattle.command_jobs.specs.declared.stop.Stop.TheVariants.{NotBuilt}
+use Rattle.command_jobs.proofs.Printed.{keeps_itself}
 use Rattle.reraid_cli.specs.Answers.{Reading, check_reads, command_output, command_reads, command_refusal, members_reads, most_reads, output, refusal}
 use Rattle.reraid_cli.specs.Asked.{IsAsked}
 
@@ -100,16 +98,16 @@ planless streams images later out after sectors read plan gained now r leaves = 
 pub list_reads : (from size span n names before after : ℕ) (left : Option (List ℕ)) (reading : Reading) (attached : List Image) → IsAsked (ListCommand from size span n) names left reading → IfSome (most_reads reading attached) (λ k. after ≤ before + k)
 list_reads from size span n names before after left reading attached asked = reads_as (ListCommand from size span n) reading attached before after asked.command_is tt
 
-check_known : (set : Geometry) (before after : ℕ) (text : List ℕ) (read : Option Plan) → IsTextOf text read → ((plan : Plan) → IsTextOf text (Some plan) → after ≤ before + length set.slots.items * rows_tested plan set) →
-    IfSome (check_reads set read) (λ k. after ≤ before + k)
-check_known set before after text None is few = tt
-check_known set before after text (Some plan) is few = few plan is
+check_known : (set : Geometry) (attached : List Image) (before after : ℕ) (text : List ℕ) (read : Option Plan) → IsTextOf text read → ((plan : Plan) → IsTextOf text (Some plan) → after ≤ before + length attached * rows_tested plan set) →
+    IfSome (check_reads set read attached) (λ k. after ≤ before + k)
+check_known set attached before after text None is few = tt
+check_known set attached before after text (Some plan) is few = few plan is
 
 pub check_read : (set : Geometry) (n names before after : ℕ) (left : Option (List ℕ)) (reading : Reading) (attached : List Image) → IsAsked (CheckCommand set n) names left reading →
-    IfSome left (λ text. (plan : Plan) → IsTextOf text (Some plan) → after ≤ before + length set.slots.items * rows_tested plan set) → IfSome (most_reads reading attached) (λ k. after ≤ before + k)
+    IfSome left (λ text. (plan : Plan) → IsTextOf text (Some plan) → after ≤ before + length attached * rows_tested plan set) → IfSome (most_reads reading attached) (λ k. after ≤ before + k)
 check_read set n names before after left reading attached asked few =
-    let P : Option (List ℕ) → Type 0 = λ l. IfSome l (λ text. (plan : Plan) → IsTextOf text (Some plan) → after ≤ before + length set.slots.items * rows_tested plan set) in
-    reads_as (CheckCommand set n) reading attached before after asked.command_is (check_known set before after reading.text reading.plan (asked.plan tt) (subst P (asked.text tt) few))
+    let P : Option (List ℕ) → Type 0 = λ l. IfSome l (λ text. (plan : Plan) → IsTextOf text (Some plan) → after ≤ before + length attached * rows_tested plan set) in
+    reads_as (CheckCommand set n) reading attached before after asked.command_is (check_known set attached before after reading.text reading.plan (asked.plan tt) (subst P (asked.text tt) few))
 
 pub map_reads : (set : Geometry) (sector : ℕ) (end : Option ℕ) (n names before : ℕ) (left : Option (List ℕ)) (reading : Reading) (attached : List Image) → IsAsked (MapCommand set sector end n) names left reading → IfSome (most_reads reading attached) (λ k. before ≤ before + k)
 map_reads set sector end n names before left reading attached asked = reads_as (MapCommand set sector end n) reading attached before before asked.command_is (let h : before ≤ before + 0 = omega arith in h)

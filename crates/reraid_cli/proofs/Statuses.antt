@@ -1,8 +1,7 @@
 -- Statuses, their lines and their causes.
-use Rattle.std.proofs.Common.{◌≡◌, ◌≢◌, ℕ, List, length, None, Some, Option, Result, Ok, Err, IfSome, refl, sym, ap, ◌∙◌, subst, arith, Contains, inl, inr, true, false, Bool}
+use Rattle.std.proofs.Common.{◌≡◌, ◌≢◌, ℕ, List, length, Some, Option, Result, Ok, Err, refl, sym, ap, ◌∙◌, subst, arith, Contains, inl, inr, true, false, Bool}
 use Rattle.std.proofs.lemmas.List.{take_all}
 use Rattle.image_source.specs.Causes.{HasCause}
-use Rattle.image_source.specs.Seen.{Image}
 use Rattle.image_source.specs.Streams.{Puts}
 use Rattle.command_jobs.specs.declared.stop.Stop.{Stop}
 use Rattle.command_jobs.specs.declared.stop.Stop.TheVariants.{PlanIsLong, Images, Many, Cursor, Set, Slot, Sector, ImageFault, PlanFault, OutFault, NotBuilt, OutOfMemory}

@@ -1,5 +1,5 @@
 -- What a run answers.
-use Rattle.std.specs.Prelude.{ℕ, ◌≡◌, ◌≤◌, ◌*◌, ◌+◌, ◌==◌, Bool, true, false, if◌then◌else◌, List, [], ◌∷◌, length, IfSome}
+use Rattle.std.specs.Prelude.{ℕ, ◌≡◌, ◌*◌, ◌==◌, Bool, true, false, if◌then◌else◌, List, [], ◌∷◌, length}
 use Rattle.std.specs.declared.option.Option.{Option}
 use Rattle.std.specs.declared.option.Option.TheVariants.{None, Some}
 use Rattle.std.specs.Io.KnownBytes.{Appends}
@@ -69,20 +69,20 @@ command_output (Some (RebuildCommand set slot end names)) reading attached = reb
 unfoldable pub output : Reading → List Image → Option (List ℕ)
 output reading attached = command_output reading.command reading attached
 
--- the tested rows of each member of a set
-abbrev pub check_reads : Geometry → Option Plan → Option ℕ
-check_reads set None = None
-check_reads set (Some plan) = Some (length set.slots.items * rows_tested plan set)
+-- the tested rows of a set on each image
+abbrev pub check_reads : Geometry → Option Plan → List Image → Option ℕ
+check_reads set None attached = None
+check_reads set (Some plan) attached = Some (length attached * rows_tested plan set)
 
 -- the sectors of all members of a set
 abbrev pub members_reads : Geometry → Option ℕ → List Image → ℕ
 members_reads set end attached = set.head.members * area set.head (end_of end attached)
 
 -- the most sectors that a command reads, where it is bounded: `check` reads at most the tested rows
--- of each member, `write` and `rebuild` at most each sector of each member, `map` none
+-- of each image, `write` and `rebuild` at most each sector of each member, `map` none
 abbrev pub command_reads : Option Command → Reading → List Image → Option ℕ
 command_reads (Some (ListCommand from size span names)) reading attached = None
-command_reads (Some (CheckCommand set names)) reading attached = check_reads set reading.plan
+command_reads (Some (CheckCommand set names)) reading attached = check_reads set reading.plan attached
 command_reads (Some (WriteCommand set end names)) reading attached = Some (members_reads set end attached)
 command_reads (Some (RebuildCommand set slot end names)) reading attached = Some (members_reads set end attached)
 command_reads _ reading attached = Some 0

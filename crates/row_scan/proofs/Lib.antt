@@ -1,4 +1,7 @@
 pub mod Sets
+pub mod Held
+pub mod IfTold
+pub mod Regions
 pub mod Counting
 pub mod Columns
 pub mod Members

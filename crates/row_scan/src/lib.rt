@@ -10,4 +10,6 @@ mod scan;
 mod tests;
 
 pub use blocks::Blocks;
+pub use read::{read_member, read_members};
+pub use rows::{gather, turn_to};
 pub use scan::{ScanFault, parity_holds, unsound};

@@ -1,37 +1,39 @@
-// Reads the members' blocks.
-ghost use Rattle.std.specs.Prelude.{ℕ, ◌≡◌, ◌+◌, ◌*◌, ◌%◌, ◌/◌, ◌^◌, ◌<◌, ◌≤◌, length, slice_index, false, All, OnOk, IfSome};
+// Reads the members' regions, one after the other.
+ghost use Rattle.std.specs.Prelude.{ℕ, ◌≡◌, if◌then◌else◌, ◌+◌, ◌*◌, ◌%◌, ◌/◌, ◌^◌, ◌<◌, ◌≤◌, length, slice_index, false, All, OnOk, IfSome};
 ghost use Rattle.std.specs.Option.{is_none};
 ghost use Rattle.image_source.specs.Attached.{told_all};
 ghost use Rattle.image_source.specs.Causes.{HasCause};
 ghost use Rattle.image_source.specs.Seen.{OnlyReads};
 ghost use Rattle.raid_terms.specs.Parity.{member_byte};
-ghost use Rattle.row_scan.specs.Block.{HoldMembers, Reaches};
+ghost use Rattle.row_scan.specs.Block.{HoldRead, Reaches, held as held_of};
 
-use crate::blocks::{BLOCK, BLOCK_BYTES};
 use image_source::{Failed, Images, SECTOR};
 use raid_params::Geometry;
 
-/// Reads `count` sectors of each member that is there into its block, from member sector `first` on.
-pub fn read_blocks<I: Images>(
+/// Reads `count` sectors of each member that is there into its region, from member sector `first`
+/// on. A region has `stride` bytes.
+#[tactic(auto, using(crate::proofs::Regions::region_inside))]
+pub fn read_members<I: Images>(
     images: &mut I,
     sectors: &mut [u8],
     geo: &Geometry,
+    stride: usize,
     first: u64,
     count: usize,
 ) -> Result<(), Failed>
     requires held { All (Reaches (I.seen images.old).attached (geo.now.head.offset + (first + count)))
         geo.now.slots.items }
     requires near { geo.now.head.offset + (first + count) < 2 ^ 55 }
-    requires sectors { BLOCK_BYTES * length geo.now.slots.items ≤ length sectors.old }
+    requires sectors { stride * length geo.now.slots.items ≤ length sectors.old }
     requires some { 1 ≤ count }
-    requires most { count ≤ BLOCK }
+    requires fits { 512 * count ≤ stride }
     ensures told { OnOk result (IfSome (told_all (I.seen images.old).attached)
-        (λ bytes. HoldMembers bytes geo.now first (512 * count) (length geo.now.slots.items) sectors.new)) }
-    ensures reads { OnlyReads (I.seen images.old) (I.seen images.new) (length geo.now.slots.items * count) }
+        (λ bytes. HoldRead bytes geo.now stride first (512 * count) (length geo.now.slots.items) sectors.new)) }
+    ensures reads { OnlyReads (I.seen images.old) (I.seen images.new) (held_of geo.now.slots.items * count) }
     ensures cause { HasCause (I.seen images.old).faults (I.seen images.new).faults result }
 {
     for (slot, held) in geo.slots.iter().enumerate() {
-        let at = BLOCK_BYTES * slot;
+        let at = stride * slot;
         let to = &mut sectors[at..at + SECTOR * count];
         read_member(images, *held, geo.head.offset, first, to)?;
     }
@@ -39,7 +41,7 @@ pub fn read_blocks<I: Images>(
 }
 
 /// Fills `to` with the sectors of the member in a slot from number `first` on, where there is one.
-fn read_member<I: Images>(
+pub fn read_member<I: Images>(
     images: &mut I,
     held: Option<u8>,
     offset: u64,
@@ -53,7 +55,7 @@ fn read_member<I: Images>(
     ensures told { OnOk result (IfSome (told_all (I.seen images.old).attached)
         (λ bytes. (y : ℕ) → y < length to.new → is_none held ≡ false →
         slice_index to.new y ≡ member_byte bytes offset first y held)) }
-    ensures reads { OnlyReads (I.seen images.old) (I.seen images.new) (length to.old / 512) }
+    ensures reads { OnlyReads (I.seen images.old) (I.seen images.new) (if is_none held then 0 else length to.old / 512) }
     ensures cause { HasCause (I.seen images.old).faults (I.seen images.new).faults result }
 {
     match held {

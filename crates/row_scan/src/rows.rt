@@ -48,7 +48,7 @@ pub fn rows_left(
 
 /// Makes the cells of one row those of another.
 #[tactic(auto, using(crate::proofs::Sets::testable_head, crate::proofs::Sets::testable_slots))]
-fn turn_to(geo: &Geometry, cells: &mut ArrayVec<Cell, MOST>, at: u64, row: u64)
+pub fn turn_to(geo: &Geometry, cells: &mut ArrayVec<Cell, MOST>, at: u64, row: u64)
     requires set { IsTestable geo.now }
     requires at { cells.old.items ≡ row_cells_of geo.now at }
     ensures { cells.new.items ≡ row_cells_of geo.now row }
@@ -67,20 +67,21 @@ fn is_row_sound(cells: &[Cell], sectors: &[u8], row: &mut [u8], j: usize) -> boo
     requires j { j < BLOCK }
     ensures { result ≡ is_sound cells.now (block_column (length cells.now) sectors.now j) }
 {
-    gather(sectors, row, j, cells.len());
+    gather(sectors, row, BLOCK_BYTES, j, cells.len());
     row_holds(cells, row)
 }
 
-/// Copies sector `j` of each of so many blocks into `row`.
-fn gather(sectors: &[u8], row: &mut [u8], j: usize, members: usize)
-    requires sectors { BLOCK_BYTES * members ≤ length sectors.now }
+/// Copies sector `j` of each of so many regions into `row`.
+#[tactic(auto, using(crate::proofs::Regions::region_inside))]
+pub fn gather(sectors: &[u8], row: &mut [u8], stride: usize, j: usize, members: usize)
+    requires sectors { stride * members ≤ length sectors.now }
     requires row { length row.old ≡ 512 * members }
-    requires j { j < BLOCK }
+    requires j { 512 * j + 512 ≤ stride }
     ensures { (i x : ℕ) → i < members → x < 512 →
-        slice_index row.new (512 * i + x) ≡ slice_index sectors.now (BLOCK_BYTES * i + (512 * j + x)) }
+        slice_index row.new (512 * i + x) ≡ slice_index sectors.now (stride * i + (512 * j + x)) }
 {
     for i in 0..members {
-        let at = BLOCK_BYTES * i + SECTOR * j;
+        let at = stride * i + SECTOR * j;
         row[SECTOR * i..SECTOR * i + SECTOR].copy_from_slice(&sectors[at..at + SECTOR]);
     }
 }

@@ -3,11 +3,11 @@ ghost use Rattle.std.specs.Prelude.{◌≡◌, ◌+◌, ◌-◌, ◌*◌, ◌^�
 ghost use Rattle.image_source.specs.Attached.{told_all};
 ghost use Rattle.image_source.specs.Seen.{OnlyReads};
 ghost use Rattle.raid_terms.specs.Parity.{passes_parity, tested_rows, unsound_rows};
-ghost use Rattle.row_scan.specs.Block.{IsLeft, IsRest, IsTestable, Reaches};
+ghost use Rattle.row_scan.specs.Block.{held, IsLeft, IsRest, IsTestable, Reaches};
 ghost use Rattle.row_scan.specs.Scan.{EndsScan, IsScannable};
 
 use crate::blocks::{BLOCK, BLOCK_BYTES, Blocks, FIRST_BLOCK};
-use crate::read::read_blocks;
+use crate::read::read_members;
 use crate::rows::rows_left;
 use address_map::area;
 use image_source::{Images, SECTOR};
@@ -42,7 +42,7 @@ pub fn parity_holds<I: Images>(
     ensures told { IfOk result (λ holds. IfSome (told_all (I.seen images.old).attached)
         (λ bytes. holds ≡ passes_parity bytes geo.now end limits.now.window limits.now.badrows)) }
     ensures reads { OnlyReads (I.seen images.old) (I.seen images.new)
-        (length geo.now.slots.items * tested_rows geo.now end limits.now.window) }
+        (length (I.seen images.old).attached * tested_rows geo.now end limits.now.window) }
     ensures ends { IfErr result (EndsScan (I.seen images.old) (I.seen images.new)) }
     ensures blocks { blocks.new ≡ blocks.old }
 {
@@ -64,7 +64,7 @@ pub fn unsound<I: Images>(
     ensures told { IfOk result (λ n. IfSome (told_all (I.seen images.old).attached)
         (λ bytes. n ≡ unsound_rows bytes geo.now (tested_rows geo.now end window))) }
     ensures reads { OnlyReads (I.seen images.old) (I.seen images.new)
-        (length geo.now.slots.items * tested_rows geo.now end window) }
+        (length (I.seen images.old).attached * tested_rows geo.now end window) }
     ensures ends { IfErr result (EndsScan (I.seen images.old) (I.seen images.new)) }
     ensures blocks { blocks.new ≡ blocks.old }
 {
@@ -87,7 +87,7 @@ fn test_rows<I: Images>(
     ensures told { IfOk result (λ rest. IfSome (told_all (I.seen images.old).attached)
         (λ bytes. IsRest bytes geo.now (tested_rows geo.now end window) left rest)) }
     ensures reads { OnlyReads (I.seen images.old) (I.seen images.new)
-        (length geo.now.slots.items * tested_rows geo.now end window) }
+        (length (I.seen images.old).attached * tested_rows geo.now end window) }
     ensures ends { IfErr result (EndsScan (I.seen images.old) (I.seen images.new)) }
     ensures blocks { blocks.new ≡ blocks.old }
 {
@@ -120,7 +120,7 @@ fn test_in<I: Images>(
     requires row { 512 * length geo.now.slots.items ≤ length row.old }
     ensures told { IfOk result (λ rest. IfSome (told_all (I.seen images.old).attached)
         (λ bytes. IsRest bytes geo.now rows left rest)) }
-    ensures reads { OnlyReads (I.seen images.old) (I.seen images.new) (length geo.now.slots.items * rows) }
+    ensures reads { OnlyReads (I.seen images.old) (I.seen images.new) (held geo.now.slots.items * rows) }
     ensures ends { IfErr result (EndsScan (I.seen images.old) (I.seen images.new)) }
 {
     let mut rest = left;
@@ -167,11 +167,13 @@ fn block_left<I: Images>(
     requires most { count ≤ BLOCK }
     ensures told { IfOk result (λ rest. IfSome (told_all (I.seen images.old).attached)
         (λ bytes. IsLeft bytes geo.now first count left rest)) }
-    ensures reads { OnlyReads (I.seen images.old) (I.seen images.new) (length geo.now.slots.items * count) }
+    ensures reads { OnlyReads (I.seen images.old) (I.seen images.new) (held geo.now.slots.items * count) }
     ensures ends { IfErr result (EndsScan (I.seen images.old) (I.seen images.new)) }
 {
     let count = count as usize;
-    read_blocks(images, sectors, geo, first, count).map_err(|_| ScanFault::ReadFault)?;
+    read_members(images, sectors, geo, BLOCK_BYTES, first, count).map_err(
+        |_| ScanFault::ReadFault,
+    )?;
     let row = &mut row[..SECTOR * geo.slots.len()];
     Ok(rows_left(geo, sectors, row, first, count, left))
 }

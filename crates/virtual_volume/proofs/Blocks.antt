@@ -11,7 +11,8 @@ use Rattle.raid_terms.specs.Parity.{member_byte}
 use Rattle.raid_terms.specs.Volume.{byte_in, member_sector}
 use Rattle.virtual_volume.proofs.Solved.{held_byte}
 use Rattle.virtual_volume.specs.Parts.{chunk_of}
-use Rattle.virtual_volume.specs.Regions.{HoldRead, HoldSlot}
+use Rattle.row_scan.specs.Block.{HoldRead}
+use Rattle.virtual_volume.specs.Regions.{HoldSlot}
 use Rattle.virtual_volume.proofs.Ranges.{flat_more, flat_same}
 
 -- one more block of a list

@@ -14,9 +14,9 @@ use Rattle.row_scan.proofs.Columns.{filled_alike}
 use Rattle.row_scan.proofs.Counting.{map_same}
 use Rattle.row_scan.proofs.Sets.{row_length}
 use Rattle.std.proofs.lemmas.Bool.{cases_lt}
-use borrow.Rule.Slice.PartMut.{put_mid}
-use Rattle.virtual_volume.proofs.Places.{mid_before, mid_inside, region_inside}
-use Rattle.virtual_volume.specs.Regions.{HoldRead, HoldSlot, KeepOthers, region_column}
+use Rattle.row_scan.proofs.Regions.{region_inside}
+use Rattle.row_scan.specs.Block.{HoldRead, region_column}
+use Rattle.virtual_volume.specs.Regions.{HoldSlot, KeepOthers}
 
 -- columns that are filled alike are solved alike
 pub solved_alike : (cells : List Cell) (f g : List ℕ) (place : ℕ) → filled cells f ≡ filled cells g → lost_byte cells f place ≡ lost_byte cells g place
@@ -106,22 +106,6 @@ pub read_slot : (images : List (List ℕ)) (geo : Geometry) (stride first count 
 read_slot images geo stride first count slot sectors within there hold =
     λ j x below inside. hold slot (512 * j + x) within (omega arith) there ∙ later_byte images geo.head.offset first j x (get_or geo.slots.items slot None)
     ∙ held_byte images geo (first + j) slot x (get_or geo.slots.items slot None) there
-
--- one more member that was read
-pub read_more : (images : List (List ℕ)) (geo : Geometry) (stride first bytes k slot : ℕ) (sectors to : List ℕ) → bytes ≤ stride → length to ≡ bytes → stride * slot ≤ length sectors →
-    HoldRead images geo stride first bytes slot sectors →
-    ((y : ℕ) → y < length to → is_none (slice_index_or geo.slots.items slot None) ≡ false → get_or to y 0 ≡ member_byte images geo.head.offset first y (slice_index_or geo.slots.items slot None)) →
-    HoldRead images geo stride first bytes (slot + 1) (put_mid (stride * slot) k sectors to)
-read_more images geo stride first bytes k slot sectors to fits long within hold here = λ i y below short there.
-    elim (cases_lt i slot) [
-      | inl less ↦ (let lies = region_inside stride i slot less in mid_before (stride * slot) k (stride * i + y) sectors to (omega arith) within ∙ hold i y less short there)
-      | inr same ↦ (let e : i ≡ slot = omega arith in
-          let at : stride * i + y ≡ stride * slot + y = ap (λ (t : ℕ). stride * t + y) e in
-          let same_held : get_or geo.slots.items slot None ≡ get_or geo.slots.items i None = ap (λ (t : ℕ). get_or geo.slots.items t None) (sym e) in
-          mid_inside (stride * slot) k (stride * i + y) y sectors to at (omega arith) within
-          ∙ here y (omega arith) (ap (λ (o : Option ℕ). is_none o) same_held ∙ there)
-          ∙ ap (λ (o : Option ℕ). member_byte images geo.head.offset first y o) same_held)
-    ]
 
 -- the regions of the slots so far, after that of one more
 pub all_more : (images : List (List ℕ)) (geo : Geometry) (stride first count slot : ℕ) (mid new : List ℕ) → 512 * count ≤ stride →

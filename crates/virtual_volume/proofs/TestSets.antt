@@ -1,5 +1,5 @@
 -- Images in memory, as the tests have them.
-use Rattle.std.proofs.Common.{Option, Bool, not, ◌≡◌, ℕ, zero, suc, ◌+◌, ◌≤◌, ◌<◌, ◌^◌, List, [], ◌∷◌, length, true, refl, ap, ◌∙◌, arith, Some, None, All, IsSomeAnd, slice_get}
+use Rattle.std.proofs.Common.{Option, Bool, not, ◌≡◌, ℕ, zero, suc, ◌≤◌, ◌<◌, ◌^◌, List, [], ◌∷◌, length, true, refl, ap, ◌∙◌, arith, Some, None, All, IsSomeAnd, slice_get}
 use Rattle.std.specs.Option.{is_some, option_map}
 use Rattle.std.proofs.lemmas.List.Elements.{All-cons, All-nil}
 use Rattle.image_source.specs.Seen.{Image}

@@ -1,10 +1,7 @@
 -- Regions of members' sectors, one after the other, each of `stride` bytes.
-use Rattle.std.specs.Prelude.{ℕ, ◌≡◌, ◌≢◌, ◌+◌, ◌*◌, ◌<◌, List, length, map, slice_index, slice_index_or, false}
-use Rattle.std.specs.List.{range_with_len}
-use Rattle.std.specs.Option.{is_none}
+use Rattle.std.specs.Prelude.{ℕ, ◌≡◌, ◌≢◌, ◌+◌, ◌*◌, ◌<◌, List, length, slice_index, slice_index_or}
 use Rattle.std.specs.declared.option.Option.TheVariants.{None}
 use Rattle.raid_params.specs.declared.types.Geometry.{Geometry}
-use Rattle.raid_terms.specs.Parity.{member_byte}
 use Rattle.raid_terms.specs.Volume.{byte_in}
 use Rattle.virtual_volume.specs.declared.room.Room.{Room}
 
@@ -12,16 +9,6 @@ use Rattle.virtual_volume.specs.declared.room.Room.{Room}
 pub record IsRoom (members : ℕ) (room : Room) : Type 0 where
   pub regions : length room.sectors.items ≡ room.stride * members
   pub row : length room.row.items ≡ 512 * members
-
--- column x of the sectors number j of so many regions
-abbrev pub region_column : ℕ → ℕ → List ℕ → ℕ → ℕ → List ℕ
-region_column members stride sectors j x = map (λ i. slice_index sectors (stride * i + (512 * j + x))) (range_with_len 0 members)
-
--- the regions of those of the first n slots that hold an image hold so many bytes of their members from sector `first` on
-abbrev pub HoldRead : List (List ℕ) → Geometry → ℕ → ℕ → ℕ → ℕ → List ℕ → Type 0
-HoldRead images geo stride first bytes n sectors =
-    (i y : ℕ) → i < n → y < bytes → is_none (slice_index_or geo.slots.items i None) ≡ false →
-    slice_index sectors (stride * i + y) ≡ member_byte images geo.head.offset first y (slice_index_or geo.slots.items i None)
 
 -- the region of a slot holds so many of its member sectors from sector `first` on
 abbrev pub HoldSlot : List (List ℕ) → Geometry → ℕ → ℕ → ℕ → ℕ → List ℕ → Type 0

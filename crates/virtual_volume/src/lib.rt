@@ -4,7 +4,6 @@
 
 mod lost;
 mod pending;
-mod read;
 mod room;
 mod sector;
 #[cfg(test)]

@@ -3,19 +3,19 @@ ghost use Rattle.std.specs.Prelude.{ℕ, List, ◌≡◌, ◌+◌, ◌*◌, ◌/
 ghost use Rattle.raid_terms.specs.Cells.{row_cells as row_cells_of};
 ghost use Rattle.raid_terms.specs.Parity.{IsRow};
 ghost use Rattle.raid_terms.specs.Solving.{lost_byte};
-ghost use Rattle.row_scan.specs.Block.{IsTestable};
-ghost use Rattle.virtual_volume.specs.Regions.{HoldAll, HoldRead, HoldSlot, KeepOthers, region_column};
+ghost use Rattle.row_scan.specs.Block.{HoldRead, IsTestable, region_column};
+ghost use Rattle.virtual_volume.specs.Regions.{HoldAll, HoldSlot, KeepOthers};
 
-use arrayvec::ArrayVec;
 use image_source::SECTOR;
 use pq_parity::solve;
 use raid_layouts::row_cells;
-use raid_params::{Cell, Geometry, MOST};
+use raid_params::{Cell, Geometry};
+use row_scan::{gather, turn_to};
 
 /// Finds the `count` sectors of the missing member of a slot, from member sector `first` on, and
 /// writes them into its region. The regions of the members that are there hold theirs. `row` is
 /// room for a sector of each member.
-#[tactic(auto, using(row_scan::proofs::Sets::testable_head, row_scan::proofs::Sets::testable_slots, row_scan::proofs::Sets::testable_chunk, row_scan::proofs::Sets::testable_row, row_scan::proofs::Sets::row_length, crate::proofs::Places::region_inside))]
+#[tactic(auto, using(row_scan::proofs::Sets::testable_head, row_scan::proofs::Sets::testable_slots, row_scan::proofs::Sets::testable_chunk, row_scan::proofs::Sets::testable_row, row_scan::proofs::Sets::row_length, row_scan::proofs::Regions::region_inside))]
 pub(crate) fn solve_slot(
     geo: &Geometry,
     sectors: &mut [u8],
@@ -100,20 +100,8 @@ fn fill_slot(
     }
 }
 
-/// Makes the cells of one row those of another.
-#[tactic(auto, using(row_scan::proofs::Sets::testable_head, row_scan::proofs::Sets::testable_slots))]
-fn turn_to(geo: &Geometry, cells: &mut ArrayVec<Cell, MOST>, at: u64, row: u64)
-    requires set { IsTestable geo.now }
-    requires at { cells.old.items ≡ row_cells_of geo.now at }
-    ensures { cells.new.items ≡ row_cells_of geo.now row }
-{
-    if at != row {
-        *cells = row_cells(geo, row);
-    }
-}
-
 /// Finds sector `j` of the region of a missing member.
-#[tactic(auto, using(crate::proofs::Places::region_inside))]
+#[tactic(auto, using(row_scan::proofs::Regions::region_inside))]
 fn solve_sector(
     cells: &[Cell],
     sectors: &mut [u8],
@@ -136,19 +124,4 @@ fn solve_sector(
     gather(sectors, row, stride, j, cells.len());
     let at = stride * slot + SECTOR * j;
     solve(cells, row, slot, &mut sectors[at..at + SECTOR]);
-}
-
-/// Copies sector `j` of each of so many regions into `row`.
-#[tactic(auto, using(crate::proofs::Places::region_inside))]
-fn gather(sectors: &[u8], row: &mut [u8], stride: usize, j: usize, members: usize)
-    requires sectors { stride * members ≤ length sectors.now }
-    requires row { length row.old ≡ 512 * members }
-    requires j { 512 * j + 512 ≤ stride }
-    ensures { (i x : ℕ) → i < members → x < 512 →
-        slice_index row.new (512 * i + x) ≡ slice_index sectors.now (stride * i + (512 * j + x)) }
-{
-    for i in 0..members {
-        let at = stride * i + SECTOR * j;
-        row[SECTOR * i..SECTOR * i + SECTOR].copy_from_slice(&sectors[at..at + SECTOR]);
-    }
 }

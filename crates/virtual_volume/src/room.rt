@@ -4,13 +4,13 @@ ghost use Rattle.image_source.specs.Attached.{told_all};
 ghost use Rattle.image_source.specs.Causes.{HasCause};
 ghost use Rattle.image_source.specs.Seen.{OnlyReads};
 ghost use Rattle.raid_params.specs.Validity.{is_valid_head};
-ghost use Rattle.row_scan.specs.Block.{IsTestable, Reaches};
-ghost use Rattle.virtual_volume.specs.Regions.{HoldAll, HoldRead, HoldSlot, IsRoom};
+ghost use Rattle.row_scan.specs.Block.{HoldRead, IsTestable, Reaches};
+ghost use Rattle.virtual_volume.specs.Regions.{HoldAll, HoldSlot, IsRoom};
 
 use crate::lost::{solve_lost, solve_slot};
-use crate::read::read_members;
 use image_source::{Failed, Images, Memory, SECTOR};
 use raid_params::{Geometry, Head};
+use row_scan::read_members;
 use std::alloc::Global;
 
 /// The sectors of a batch of small chunks, 128 KiB a member: a read then costs little beside the

@@ -9,10 +9,10 @@ ghost use Rattle.row_scan.specs.Block.{IsTestable, Reaches};
 ghost use Rattle.virtual_volume.specs.Served.{IsServed};
 
 use crate::lost::solve_slot;
-use crate::read::{read_member, read_members};
 use address_map::locate;
 use image_source::{Failed, Images, SECTOR};
 use raid_params::{Geometry, MOST};
+use row_scan::{read_member, read_members};
 
 /// The bytes of a sector of each member, at most.
 const ROW: usize = SECTOR * MOST;

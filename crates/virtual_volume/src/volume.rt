@@ -48,7 +48,7 @@ fn data_blocks(head: &Head) -> u8
 }
 
 /// Puts the data items of a row, whose chunks lie from sector `at` of each region on.
-#[tactic(auto, using(row_scan::proofs::Sets::testable_head, row_scan::proofs::Sets::testable_slots, crate::proofs::Places::region_inside))]
+#[tactic(auto, using(row_scan::proofs::Sets::testable_head, row_scan::proofs::Sets::testable_slots, row_scan::proofs::Regions::region_inside))]
 fn put_row<K: Sink>(
     pending: &mut Pending,
     sink: &mut K,
@@ -78,7 +78,7 @@ fn put_row<K: Sink>(
 }
 
 /// Puts the data items of `rows` rows from row `first` on, of which the regions hold the chunks.
-#[tactic(auto, using(crate::proofs::Places::region_inside))]
+#[tactic(auto, using(row_scan::proofs::Regions::region_inside))]
 fn put_rows<K: Sink>(
     pending: &mut Pending,
     sink: &mut K,

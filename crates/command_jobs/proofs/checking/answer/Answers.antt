@@ -24,7 +24,7 @@ returns-in-Ok-clause-text g c =
 pub returns-in-Ok-clause-reads : goal.returns-in-Ok-clause-reads
 returns-in-Ok-clause-reads g c =
     let seen = g.I.Images.seen c.args.images.now in
-    reads_prepared (g.S.Source.left c.args.source.now) c.args.set.now c.args.names seen.attached c.in-Ok.plan seen.sectors_read (g.I.Images.seen c.checked.new.images).sectors_read (length c.args.set.now.slots.items)
+    reads_prepared (g.S.Source.left c.args.source.now) c.args.set.now c.args.names seen.attached c.in-Ok.plan seen.sectors_read (g.I.Images.seen c.checked.new.images).sectors_read (length (g.I.Images.seen c.args.images.now).attached)
     c.in-Ok.ensures.prepared c.checked.ensures.reads.sectors_read
 
 pub returns-in-Err-clause-refuses : goal.returns-in-Err-clause-refuses
@@ -39,4 +39,4 @@ returns-in-Err-clause-causes g c =
 
 pub returns-in-Err-clause-reads : goal.returns-in-Err-clause-reads
 returns-in-Err-clause-reads g c =
-    reads_unprepared (g.S.Source.left c.args.source.now) c.args.set.now (g.I.Images.seen c.args.images.now).sectors_read (length c.args.set.now.slots.items)
+    reads_unprepared (g.S.Source.left c.args.source.now) c.args.set.now (g.I.Images.seen c.args.images.now).sectors_read (length (g.I.Images.seen c.args.images.now).attached)

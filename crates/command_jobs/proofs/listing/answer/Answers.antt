@@ -1,4 +1,3 @@
-use Rattle.std.proofs.Common.{◌≡◌}
 use Rattle.command_jobs.specs.Listing.{cursor_refusal}
 use Rattle.command_jobs.proofs.Prepared.{cause_unprepared, images_agree, refuses_unprepared}
 use Rattle.command_jobs.proofs.listing.answer.Goals as goal

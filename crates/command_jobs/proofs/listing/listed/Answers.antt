@@ -1,4 +1,3 @@
-use Rattle.std.proofs.Common.{◌≡◌}
 use Rattle.image_source.specs.Attached.{told_all}
 use Rattle.command_jobs.proofs.Listed.{page_printed}
 use Rattle.command_jobs.proofs.listing.listed.Goals as goal

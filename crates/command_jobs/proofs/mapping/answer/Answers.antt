@@ -1,4 +1,3 @@
-use Rattle.std.proofs.Common.{◌≡◌}
 use Rattle.command_jobs.proofs.Refusals.{early_of, early_refusal, map_answered, map_set_refused}
 use Rattle.command_jobs.proofs.mapping.answer.Goals as goal
 

@@ -1,4 +1,4 @@
-use Rattle.std.proofs.Common.{◌≡◌, false}
+use Rattle.std.proofs.Common.{false}
 use Rattle.command_jobs.specs.Jobs.{Counts}
 use Rattle.command_jobs.proofs.Printed.{leaves_printed}
 use Rattle.command_jobs.proofs.Refusals.{nothing_touched}

@@ -1,4 +1,4 @@
-use Rattle.std.proofs.Common.{◌≡◌, ◌<◌, ◌≤◌, ◌^◌, arith, rules}
+use Rattle.std.proofs.Common.{arith, rules}
 use Rattle.command_words.proofs.Spelled.{out_of_bounds}
 use Rattle.command_words.proofs.operands.number_within.Goals as goal
 

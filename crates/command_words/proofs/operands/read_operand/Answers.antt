@@ -1,4 +1,3 @@
-use Rattle.std.proofs.Common.{◌≡◌, refl}
 use Rattle.command_words.proofs.Spelled.{another_name, name_and_value, without_equals}
 use Rattle.command_words.proofs.operands.read_operand.Goals as goal
 

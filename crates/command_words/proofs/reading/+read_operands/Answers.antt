@@ -1,4 +1,4 @@
-use Rattle.std.proofs.Common.{◌≡◌, ◌-◌, List, ℕ, length, take, drop, sym, ap, ◌∙◌, true, false, codes}
+use Rattle.std.proofs.Common.{◌≡◌, ◌-◌, List, ℕ, length, take, drop, sym, ap, ◌∙◌, false, codes}
 use Rattle.std.specs.Str.{bytes_eq}
 use Rattle.command_words.proofs.Going.{split_first, names_come, no_operand, given_twice, one_more}
 use Rattle.command_words.proofs.reading.+read_operands.Goals as goal

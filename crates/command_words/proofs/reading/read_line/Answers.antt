@@ -1,4 +1,4 @@
-use Rattle.std.proofs.Common.{◌≡◌, ◌-◌, length, take, drop, refl, subst}
+use Rattle.std.proofs.Common.{◌-◌, length, take, drop, refl, subst}
 use Rattle.command_words.specs.Commands.{ReadsOn}
 use Rattle.command_words.specs.declared.operands.Given.{Given}
 use Rattle.command_words.proofs.Going.{command_words, split_first}

@@ -2,10 +2,10 @@ use Rattle.std.proofs.Common.{ℕ, ◌*◌, List, length, IfSome, rules, subst, 
 use Rattle.std.specs.Io.KnownBytes.{Appends}
 use Rattle.image_source.specs.Attached.{told_all}
 use Rattle.image_source.specs.Streams.{AppendsFront, Puts}
-use Rattle.virtual_volume.specs.Regions.{HoldRead}
+use Rattle.row_scan.specs.Block.{HoldRead}
 use Rattle.virtual_volume.proofs.Fronts.{front_none, puts_err}
-use Rattle.virtual_volume.proofs.IfTold.{if_any, if_told}
-use Rattle.virtual_volume.proofs.Places.{region_inside}
+use Rattle.row_scan.proofs.IfTold.{if_any, if_told}
+use Rattle.row_scan.proofs.Regions.{region_inside}
 use Rattle.member_rebuild.specs.Sectors.{sectors_of}
 use Rattle.member_rebuild.proofs.Parts.{part_is, put_err, put_ok}
 use Rattle.member_rebuild.proofs.member.write_block.Goals as goal

@@ -5,7 +5,7 @@ use Rattle.image_source.specs.Streams.{AppendsFront, Puts}
 use Rattle.image_source.proofs.Reading.{reads_none, reads_up}
 use Rattle.row_scan.proofs.Parity.{reads_on}
 use Rattle.virtual_volume.proofs.Fronts.{puts_err}
-use Rattle.virtual_volume.proofs.IfTold.{if_any, if_both}
+use Rattle.row_scan.proofs.IfTold.{if_any, if_both}
 use Rattle.member_rebuild.specs.Sectors.{sectors_of}
 use Rattle.member_rebuild.proofs.Parts.{block_held, sectors_cut, sectors_on, sectors_start}
 use Rattle.member_rebuild.proofs.member.write_sectors.Goals as goal

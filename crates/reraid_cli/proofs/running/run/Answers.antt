@@ -1,4 +1,4 @@
-use Rattle.std.proofs.Common.{◌≡◌, ℕ, ◌<◌, ◌≤◌, ◌+◌, ◌-◌, IfSome, ◌^◌, ◌++◌, List, All, length, length-drop, drop, take, arith, sym, ap, ◌∙◌, subst, Some, None}
+use Rattle.std.proofs.Common.{◌≡◌, ℕ, ◌<◌, ◌≤◌, ◌+◌, ◌-◌, IfSome, ◌^◌, ◌++◌, List, All, length, length-drop, drop, take, arith, sym, ap, ◌∙◌, subst}
 use Rattle.std.proofs.lemmas.List.{take_all}
 use Rattle.command_words.specs.Commands.{names_after}
 use Rattle.image_source.specs.Seen.{Image}

@@ -1,4 +1,4 @@
-use Rattle.std.proofs.Common.{◌≡◌, subst}
+use Rattle.std.proofs.Common.{subst}
 use Rattle.command_words.specs.declared.command.Command.{Command}
 use Rattle.reraid_cli.specs.Asked.{IsAsked}
 use Rattle.reraid_cli.proofs.Serving.{check_asked, check_read, list_asked, list_reads, map_asked, rebuild_asked, rebuild_reads, write_asked, write_reads}

@@ -1,5 +1,6 @@
-use Rattle.std.proofs.Common.{◌≡◌, ℕ, ◌+◌, List, ◌++◌, length, take, drop, sym, ap, ◌∙◌, arith, length-append, length-drop}
+use Rattle.std.proofs.Common.{◌≡◌, ℕ, ◌+◌, List, ◌++◌, length, take, drop, sym, ap, ◌∙◌, arith, rules, length-append, length-drop}
 use Rattle.std.proofs.lemmas.List.{length-take}
+use Rattle.row_scan.proofs.Held.{reads_images}
 use Rattle.row_scan.proofs.Sets.{scannable_held}
 use Rattle.row_scan.proofs.scan.test_rows.Goals as goal
 
@@ -17,3 +18,7 @@ invariant_of-blocks g c =
 
 pub test_in-requires-clause-held : goal.test_in-requires-clause-held
 test_in-requires-clause-held g c = λ some. scannable_held c.args.geo.now c.args.end (c.args.geo.now.head.offset + c.rows_to_test-rows.result) (g.I.Images.seen c.args.images.now).attached c.requires.set (omega arith)
+
+pub returns-clause-reads : goal.returns-clause-reads
+returns-clause-reads g c =
+    reads_images (g.I.Images.seen c.args.images.now) (g.I.Images.seen c.test_in.new.images) c.args.geo.now (length (g.I.Images.seen c.args.images.now).attached) _ c.requires.set.shaped (search rules)

@@ -1,5 +1,6 @@
 use Rattle.std.proofs.Common.{ℕ, ◌*◌, ◌<◌, List, length}
-use Rattle.virtual_volume.specs.Regions.{HoldRead, HoldSlot}
+use Rattle.row_scan.specs.Block.{HoldRead}
+use Rattle.virtual_volume.specs.Regions.{HoldSlot}
 use Rattle.virtual_volume.proofs.lost.solve_lost.Given as goal
 
 abbrev pub invariant-loop-slot : goal.invariant-loop-slot

@@ -1,5 +1,5 @@
 use Rattle.std.proofs.Common.{◌+◌, ◌*◌, ◌≤◌, ◌∙◌, length, arith}
-use Rattle.virtual_volume.proofs.Places.{mid_after, mid_inside, region_inside}
+use Rattle.row_scan.proofs.Regions.{mid_after, mid_inside, region_inside}
 use Rattle.virtual_volume.proofs.Solved.{gathered_lost}
 use Rattle.virtual_volume.proofs.lost.solve_sector.Goals as goal
 

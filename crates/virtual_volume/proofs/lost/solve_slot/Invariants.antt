@@ -1,6 +1,7 @@
 use Rattle.std.proofs.Common.{◌≡◌, ℕ, ◌*◌, List, length}
 use Rattle.raid_terms.specs.Cells.{row_cells}
-use Rattle.virtual_volume.specs.Regions.{HoldRead, HoldSlot, KeepOthers}
+use Rattle.row_scan.specs.Block.{HoldRead}
+use Rattle.virtual_volume.specs.Regions.{HoldSlot, KeepOthers}
 use Rattle.virtual_volume.proofs.lost.solve_slot.Given as goal
 
 abbrev pub invariant-loop-j : goal.invariant-loop-j

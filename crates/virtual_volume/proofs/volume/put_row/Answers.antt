@@ -4,7 +4,7 @@ use Rattle.raid_params.specs.Size.{data_blocks}
 use Rattle.row_scan.proofs.Sets.{testable_slots}
 use Rattle.virtual_volume.specs.Parts.{items_of}
 use Rattle.virtual_volume.specs.Waiting.{Passes}
-use Rattle.virtual_volume.proofs.Places.{region_inside}
+use Rattle.row_scan.proofs.Regions.{region_inside}
 use Rattle.virtual_volume.proofs.Puts.{item_part, items_cut, items_on, items_start}
 use Rattle.virtual_volume.proofs.volume.put_row.Goals as goal
 

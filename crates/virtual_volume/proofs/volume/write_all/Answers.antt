@@ -7,7 +7,7 @@ use Rattle.row_scan.proofs.Sets.{testable_chunk}
 use Rattle.virtual_volume.specs.Parts.{rows_of}
 use Rattle.virtual_volume.specs.Waiting.{Passes}
 use Rattle.virtual_volume.proofs.Fronts.{puts_err, was_err, was_ok}
-use Rattle.virtual_volume.proofs.IfTold.{if_told}
+use Rattle.row_scan.proofs.IfTold.{if_told}
 use Rattle.virtual_volume.proofs.Puts.{rows_unflushed, rows_whole, rows_written}
 use Rattle.virtual_volume.proofs.Sets.{served_end, served_held, served_testable}
 use Rattle.virtual_volume.proofs.volume.write_all.Goals as goal

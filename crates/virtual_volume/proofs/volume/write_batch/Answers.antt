@@ -2,10 +2,11 @@ use Rattle.std.proofs.Common.{ℕ, ◌*◌, List, ◌++◌, length, IfSome, rule
 use Rattle.image_source.specs.Attached.{told_all}
 use Rattle.row_scan.proofs.Sets.{testable_chunk}
 use Rattle.virtual_volume.specs.Parts.{rows_of}
-use Rattle.virtual_volume.specs.Regions.{HoldAll, HoldRead}
+use Rattle.row_scan.specs.Block.{HoldRead}
+use Rattle.virtual_volume.specs.Regions.{HoldAll}
 use Rattle.virtual_volume.specs.Waiting.{Passed, Passes}
 use Rattle.virtual_volume.proofs.Fronts.{front_none, passed_err, was_err, was_ok}
-use Rattle.virtual_volume.proofs.IfTold.{if_any, if_told}
+use Rattle.row_scan.proofs.IfTold.{if_any, if_told}
 use Rattle.virtual_volume.proofs.Sets.{few_rows, some_sectors}
 use Rattle.virtual_volume.proofs.volume.write_batch.Goals as goal
 

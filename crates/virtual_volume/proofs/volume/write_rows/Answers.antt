@@ -6,7 +6,7 @@ use Rattle.row_scan.proofs.Parity.{reads_on}
 use Rattle.virtual_volume.specs.Parts.{rows_of}
 use Rattle.virtual_volume.specs.Waiting.{Passed, Passes}
 use Rattle.virtual_volume.proofs.Fronts.{passed_err, passes_join}
-use Rattle.virtual_volume.proofs.IfTold.{if_any, if_both}
+use Rattle.row_scan.proofs.IfTold.{if_any, if_both}
 use Rattle.virtual_volume.proofs.Puts.{rows_cut, rows_start}
 use Rattle.virtual_volume.proofs.Sets.{batch_held, batch_inside}
 use Rattle.virtual_volume.proofs.Whole.{rows_join}

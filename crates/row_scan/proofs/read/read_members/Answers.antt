@@ -1,13 +1,13 @@
-use Rattle.std.proofs.Common.{◌≡◌, ℕ, ◌+◌, ◌*◌, ◌<◌, ◌≤◌, IfSome, length, false, get_or, None, rules, arith, ap}
+use Rattle.std.proofs.Common.{◌≡◌, ℕ, ◌+◌, ◌*◌, ◌<◌, ◌≤◌, IfSome, length, false, get_or, None, rules, arith, ap, sym}
 use Rattle.std.specs.Option.{is_none}
 use Rattle.image_source.specs.Attached.{told_all}
 use Rattle.raid_terms.specs.Parity.{member_byte}
-use Rattle.virtual_volume.specs.Regions.{HoldRead}
-use Rattle.virtual_volume.proofs.IfTold.{if_both}
-use Rattle.virtual_volume.proofs.Places.{region_inside}
-use Rattle.virtual_volume.proofs.Solved.{read_more}
+use Rattle.row_scan.specs.Block.{HoldRead}
+use Rattle.row_scan.proofs.IfTold.{if_both}
+use Rattle.row_scan.proofs.Held.{reads_all, reads_member}
+use Rattle.row_scan.proofs.Regions.{read_more, region_inside}
 use borrow.Rule.Slice.PartMut.{put_mid}
-use Rattle.virtual_volume.proofs.read.read_members.Goals as goal
+use Rattle.row_scan.proofs.read.read_members.Goals as goal
 
 pub loop-slot-preserved : goal.loop-slot-preserved
 loop-slot-preserved g c =
@@ -18,7 +18,9 @@ loop-slot-preserved g c =
     let now : IfSome (told_all (g.I.Images.seen c.loop-slot.images).attached) (λ bytes. (y : ℕ) → y < length c.read_member.new.to → is_none (get_or c.args.geo.now.slots.items c.loop-slot.slot None) ≡ false →
     get_or c.read_member.new.to y 0 ≡ member_byte bytes c.args.geo.now.head.offset c.args.first y (get_or c.args.geo.now.slots.items c.loop-slot.slot None)) = search rules in
     record {
-      reads = search rules;
+      reads =
+          reads_member (g.I.Images.seen c.args.images.now) (g.I.Images.seen c.loop-slot.images) (g.I.Images.seen c.read_member.new.images) c.args.geo.now.slots.items c.loop-slot.slot c.args.count _ None _
+          c.loop-slot.invariant.reads c.read_member.ensures.reads (omega (arith, long)) (omega arith) (sym (ap (λ slots. get_or slots c.loop-slot.slot None) c.deref-held-items.ensures.0));
       told =
           if_both (told_all (g.I.Images.seen c.args.images.now).attached)
           (λ bytes. HoldRead bytes c.args.geo.now c.args.stride c.args.first (512 * c.args.count) c.loop-slot.slot c.loop-slot.sectors)
@@ -29,3 +31,12 @@ loop-slot-preserved g c =
           c.loop-slot.invariant.told
           (rw (← c.loop-slot.invariant.reads.attached) now);
     }
+
+pub returns-in_err-read_member-clause-reads : goal.returns-in_err-read_member-clause-reads
+returns-in_err-read_member-clause-reads g c =
+    let same : length c.deref-held-items.result.now ≡ length c.args.geo.now.slots.items = ap length c.deref-held-items.ensures.0 in
+    let lies = region_inside c.args.stride c.loop-slot.slot (length c.args.geo.now.slots.items) (omega arith) in
+    let long : length c.read_member.new.to ≡ 512 * c.args.count = omega arith in
+    reads_all (g.I.Images.seen c.args.images.now) (g.I.Images.seen c.read_member.new.images) c.args.geo.now.slots.items (c.loop-slot.slot + 1) c.args.count
+    (reads_member (g.I.Images.seen c.args.images.now) (g.I.Images.seen c.loop-slot.images) (g.I.Images.seen c.read_member.new.images) c.args.geo.now.slots.items c.loop-slot.slot c.args.count _ None _
+    c.loop-slot.invariant.reads c.read_member.ensures.reads (omega (arith, long)) (omega arith) (sym (ap (λ slots. get_or slots c.loop-slot.slot None) c.deref-held-items.ensures.0)))

@@ -26,7 +26,7 @@ use image_source::{Images, Memory, Sink, Source};
 use page_engine::{product_rank, product_total};
 use plan_text::{Limits, Plan, Text};
 use raid_params::Geometry;
-use row_scan::{Blocks, ScanFault, unsound};
+use row_scan::{ScanFault, unsound};
 use std::alloc::Global;
 
 /// Prints the tests of one set against a plan: its rank, how many tested rows are unsound, and the
@@ -161,8 +161,7 @@ fn unsound_rows<I: Images>(
     ensures reads { OnlyReads (I.seen images.old) (I.seen images.new) (length (I.seen images.old).attached * rows_tested plan.now set.now) }
     ensures ends { IfErr result (λ stop. ((stop ≡ ImageFaultOf) × Rose (I.seen images.old).faults (I.seen images.new).faults) ⊎ (stop ≡ OutOfMemoryOf)) }
 {
-    let mut blocks = Blocks::new(alloc, set.slots.len())?;
-    match unsound(images, &mut blocks, set, plan.end, plan.limits.window) {
+    match unsound(alloc, images, plan, set) {
         Ok(unsound) => Ok(unsound),
         Err(ScanFault::ReadFault) => Err(Stop::ImageFault),
         Err(ScanFault::Memory) => Err(Stop::OutOfMemory),

@@ -1,10 +1,11 @@
 // A run, up to why it ends.
 ghost use Rattle.std.specs.Prelude.{◌≡◌, ◌≤◌, ◌+◌, ◌^◌, ◌<◌, [], All, IfErr, IfSome, IsErrOf, IsTrue, None, OnOk, Option, Some, length, min};
+ghost use Rattle.std.specs.Io.KnownBytes.{Keeps};
 ghost use Rattle.image_source.specs.Attached.{AreImagesOf};
 ghost use Rattle.command_jobs.specs.Jobs.{Ends, Leaves};
 ghost use Rattle.command_words.specs.Commands.{AreRead, IsCommandLine, IsWithin, ReadsWords, names_after, names_of as names_of_command};
 ghost use Rattle.command_words.specs.declared.command.Command.{Command as CommandOf};
-ghost use Rattle.reraid_cli.specs.Answers.{Reading, Says, most_reads, output, refusal, streams};
+ghost use Rattle.reraid_cli.specs.Answers.{IsPlanned, Reading, Says, most_reads, output, refusal, streams};
 ghost use Rattle.reraid_cli.specs.Asked.{IsAsked, counts_of};
 
 use command_jobs::{Stop, attach_front, check, list, map, rebuild, write};
@@ -28,7 +29,11 @@ pub fn run<S: Source, I: Images, K: Sink>(
         Leaves (streams read) (counts_of (I.seen images.old) (S.faults plan.old) (K.faults out.old)) (counts_of (I.seen images.new) (S.faults plan.new) (K.faults out.new)) (K.gained out.old) (K.gained out.new) result }
     ensures reads { (reading : Reading) → Says words.now (S.left plan.old) reading →
         IfSome (most_reads reading (I.seen images.new).attached) (λ n. (I.seen images.new).sectors_read ≤ (I.seen images.old).sectors_read + n) }
-    ensures words { AreRead words.now None → IsErrOf result Stop.NotBuilt }
+    ensures words { AreRead words.now None → IsErrOf result Stop.NotBuilt × (I.seen images.new ≡ I.seen images.old) }
+    ensures unasked { (read : Option CommandOf) → AreRead words.now read → (IsPlanned read → ⊥) →
+        (S.left plan.new ≡ S.left plan.old) × (S.faults plan.new ≡ S.faults plan.old) }
+    ensures cut { length (I.seen images.new).attached < min (length (names_after words.now)) 65536 →
+        Keeps (K.gained out.old) (K.gained out.new) × ((I.seen images.new).sectors_read ≡ (I.seen images.old).sectors_read) }
     ensures attached { AreImagesOf (I.seen images.old).world (names_after words.now) (I.seen images.new).attached }
     ensures all { (command : CommandOf) → IsCommandLine words.now command → (IsErrOf result Stop.ImageFault → ⊥) → length (I.seen images.new).attached ≡ min (length (names_after words.now)) 65536 }
     ensures world { (I.seen images.new).world ≡ (I.seen images.old).world }
@@ -75,6 +80,7 @@ fn serve<S: Source, I: Images, K: Sink>(
     ensures leaves { Leaves (streams (Some command.now)) (counts_of (I.seen images.old) (S.faults plan.old) (K.faults out.old)) (counts_of (I.seen images.new) (S.faults plan.new) (K.faults out.new)) (K.gained out.old) (K.gained out.new) result }
     ensures reads { (reading : Reading) → IsAsked command.now names (S.left plan.old) reading →
         IfSome (most_reads reading (I.seen images.old).attached) (λ n. (I.seen images.new).sectors_read ≤ (I.seen images.old).sectors_read + n) }
+    ensures unasked { (IsPlanned (Some command.now) → ⊥) → (S.left plan.new ≡ S.left plan.old) × (S.faults plan.new ≡ S.faults plan.old) }
     ensures world { (I.seen images.new).world ≡ (I.seen images.old).world }
     ensures kept { (I.seen images.new).attached ≡ (I.seen images.old).attached }
 {

@@ -1,11 +1,11 @@
 // The top call.
-ghost use Rattle.std.specs.Prelude.{◌≡◌, ◌≢◌, ◌<◌, ◌≤◌, ◌+◌, [], All, Contains, IsTrue, IfSome, None, Some, false, length, min, true};
+ghost use Rattle.std.specs.Prelude.{◌≡◌, ◌≢◌, ◌<◌, ◌≤◌, ◌+◌, [], All, Contains, IsTrue, IfSome, None, Option, Some, false, length, min, true};
 ghost use Rattle.std.specs.Io.KnownBytes.{Appends, Keeps};
 ghost use Rattle.image_source.specs.Attached.{AreImagesOf};
 ghost use Rattle.image_source.specs.Streams.{AppendsFront};
 ghost use Rattle.command_words.specs.Commands.{AreRead, IsCommandLine, names_after};
 ghost use Rattle.command_words.specs.declared.command.Command.{Command};
-ghost use Rattle.reraid_cli.specs.Answers.{IsNoted, Reading, Says, has_numbers, most_reads, note_by, note_for, output, refusal, status_by, statuses, streams};
+ghost use Rattle.reraid_cli.specs.Answers.{IsNoted, IsPlanned, Reading, Says, has_numbers, most_reads, note_by, note_for, output, refusal, status_by, statuses, streams};
 
 use crate::running::run;
 use command_words::Word;
@@ -45,7 +45,11 @@ pub fn reraid<R: Threads + Sync, S: Source, I: Images, K: Sink, N: Sink>(
         (reading : Reading) → Says words.now (S.left plan.old) reading → result ≡ status_by (refusal reading (I.seen images.new).attached) }
 
     // Words that say nothing are refused before anything is touched.
-    ensures words { AreRead words.now None → result ≡ 19 }
+    ensures words { AreRead words.now None → (result ≡ 19) × (I.seen images.new ≡ I.seen images.old) }
+
+    // Only a command over a plan takes from the source.
+    ensures unasked { (read : Option Command) → AreRead words.now read → (IsPlanned read → ⊥) →
+        (S.left plan.new ≡ S.left plan.old) × (S.faults plan.new ≡ S.faults plan.old) }
 
     // Status 0: `out` gained the answer, and nothing else.
     ensures printed { result ≡ 0 → (reading : Reading) → Says words.now (S.left plan.old) reading →
@@ -62,6 +66,10 @@ pub fn reraid<R: Threads + Sync, S: Source, I: Images, K: Sink, N: Sink>(
         IfSome (output reading (I.seen images.new).attached) (λ text. AppendsFront (K.gained out.old) (K.gained out.new) text) }
     ensures nothing { result ≢ 0 → result ≢ 10 → result ≢ 12 → Keeps (K.gained out.old) (K.gained out.new) }
     ensures unput { result ≡ 10 → (command : Command) → IsCommandLine words.now command → streams (Some command) ≡ false → Keeps (K.gained out.old) (K.gained out.new) }
+
+    // Where an attachment failed nothing is put and no sector is read.
+    ensures cut { length (I.seen images.new).attached < min (length (names_after words.now)) MOST_ATTACHED →
+        Keeps (K.gained out.old) (K.gained out.new) × ((I.seen images.new).sectors_read ≡ (I.seen images.old).sectors_read) }
 
     // The notes gained the line of the status, whole where they did not fail. Where the line holds
     // numbers they are those of the refusal.

@@ -11,8 +11,9 @@ use crate::read::read_members;
 use crate::rows::rows_left;
 use address_map::area;
 use image_source::{Images, SECTOR};
-use plan_text::Limits;
+use plan_text::{Limits, Plan};
 use raid_params::Geometry;
+use std::alloc::Global;
 use thiserror::Error;
 
 /// Why a test has no answer.
@@ -50,9 +51,27 @@ pub fn parity_holds<I: Images>(
     Ok(left.is_some())
 }
 
-/// How many sector rows of a parameter set are unsound, of those below its area, whose whole rows
-/// end before the image sector `end`, and below `window`.
+/// How many of the tested sector rows of a parameter set are unsound: those below its area, whose
+/// whole rows end before the plan's `end`, and below the plan's `window`.
 pub fn unsound<I: Images>(
+    alloc: Global,
+    images: &mut I,
+    plan: &Plan,
+    geo: &Geometry,
+) -> Result<u64, ScanFault>
+    requires set { IsScannable geo.now plan.now.end (I.seen images.old).attached }
+    ensures told { IfOk result (λ n. IfSome (told_all (I.seen images.old).attached)
+        (λ bytes. n ≡ unsound_rows bytes geo.now (tested_rows geo.now plan.now.end plan.now.limits.window))) }
+    ensures reads { OnlyReads (I.seen images.old) (I.seen images.new)
+        (length (I.seen images.old).attached * tested_rows geo.now plan.now.end plan.now.limits.window) }
+    ensures ends { IfErr result (EndsScan (I.seen images.old) (I.seen images.new)) }
+{
+    let mut blocks = Blocks::new(alloc, geo.slots.len()).map_err(|_| ScanFault::Memory)?;
+    count_unsound(images, &mut blocks, geo, plan.end, plan.limits.window)
+}
+
+/// The same, with room for the members' blocks, before the image sector `end` and below `window`.
+pub(crate) fn count_unsound<I: Images>(
     images: &mut I,
     blocks: &mut Blocks,
     geo: &Geometry,

@@ -2,7 +2,8 @@
 ghost use Rattle.std.specs.Prelude.{◌≡◌, ◌≤◌, ◌^◌, ◌<◌, length, All, IsSomeAnd, IsTrue, slice_get};
 ghost use Rattle.image_source.specs.Memory.{seen_of};
 
-use crate::{Blocks, parity_holds, unsound};
+use crate::scan::count_unsound;
+use crate::{Blocks, parity_holds};
 use image_source::{Images, MemImages};
 use plan_text::Limits;
 use raid_params::{Geometry, Head, Level, Pattern, Slots, Syndrome};
@@ -78,7 +79,7 @@ fn count<R: Abort>(
 {
     assert!(rt; geo.is_shaped(3));
     assert!(rt; three_reach(images, end));
-    unsound(images, blocks, geo, end, window).ok()
+    count_unsound(images, blocks, geo, end, window).ok()
 }
 
 // Images 0, 1 and 2 in this order, left-symmetric at level 5.

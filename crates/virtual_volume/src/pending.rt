@@ -38,12 +38,15 @@ impl Pending {
         Ok(Pending { room, filled: 0 })
     }
 
-    /// Puts what waits.
+    /// Puts what waits, where anything does.
     pub(crate) fn flush<K: Sink>(&mut self, sink: &mut K) -> Result<(), Failed>
         ensures passed { Passed (K.gained sink.old) (K.gained sink.new) self.old self.new result [] }
         ensures none { OnOk result (self.new ≡ []) }
         ensures cause { HasCause (K.faults sink.old) (K.faults sink.new) result }
     {
+        if self.filled == 0 {
+            return Ok(());
+        }
         sink.put(&self.room[..self.filled])?;
         self.filled = 0;
         Ok(())

@@ -199,3 +199,44 @@ fn faults(rt: HostRuntime) -> Result<(), Fail> {
     assert_eq!(rt; sink.bytes(), [1; 100].as_slice());
     Ok(())
 }
+
+// Two members, striped in chunks of so many sectors.
+fn striped(chunk: u64) -> Geometry
+    ensures { result.head.offset ≡ 0 }
+{
+    let mut slots = Slots::new();
+    slots.push(Some(0));
+    slots.push(Some(1));
+    let head = Head {
+        level: Level::Raid0,
+        members: 2,
+        pattern: Pattern::Plain,
+        syndrome: Syndrome::NoQ,
+        chunk,
+        offset: 0,
+    };
+    Geometry { head, slots }
+}
+
+// A chunk of 512 sectors goes to the sink in one call, and is its first; two chunks of 256 sectors
+// are two calls, and there is no third.
+#[test]
+fn large_chunks_are_put_at_once(rt: HostRuntime) -> Result<(), Fail> {
+    let alloc = rt.alloc();
+    let ones = vec![in alloc; 1u8; 262_144]?;
+    let mut images = MemImages::new(alloc)?;
+    images.add("a", &ones)?;
+    images.add("b", &ones)?;
+    images.attach("a")?;
+    images.attach("b")?;
+    let mut sink = MemSink::new(alloc, 524_288)?;
+    sink.fail_call(1, 100)?;
+    let cut = write(&rt, alloc, &mut images, 2, &striped(512), 512, &mut sink);
+    assert!(rt; matches!(&cut, Err(VolumeFault::WriteFault)));
+    assert_eq!(rt; sink.bytes(), [1; 100].as_slice());
+    let mut sink = MemSink::new(alloc, 262_144)?;
+    sink.fail_call(3, 100)?;
+    assert!(rt; write(&rt, alloc, &mut images, 2, &striped(256), 256, &mut sink).is_ok());
+    assert_eq!(rt; sink.bytes(), ones.as_slice());
+    Ok(())
+}

@@ -7,7 +7,7 @@ use Rattle.reraid_cli.proofs.Statuses.{status_known, by_refusal, noted, noted_fo
 use Rattle.reraid_cli.proofs.top.reraid.Goals as goal
 
 pub returns-in-Ok-clause-words : goal.returns-in-Ok-clause-words
-returns-in-Ok-clause-words g c none = absurd (let e = c.in-Ok.ensures.words none in cc)
+returns-in-Ok-clause-words g c none = absurd (let e = (c.in-Ok.ensures.words none).0 in cc)
 
 pub returns-in-Ok-clause-all : goal.returns-in-Ok-clause-all
 returns-in-Ok-clause-all g c command line other = c.in-Ok.ensures.all command line (λ is. absurd (cc))
@@ -20,7 +20,10 @@ returns-in-Err-clause-exact g c ten eleven twelve twenty reading says =
     by_refusal (refusal reading (g.I.Images.seen c.run.new.images).attached) c.in-Err.stop c.status.result c.status.ensures ten eleven twelve twenty (c.in-Err.ensures.ends reading says).ends
 
 pub returns-in-Err-clause-words : goal.returns-in-Err-clause-words
-returns-in-Err-clause-words g c none = let e = c.in-Err.ensures.words none in let stop : c.in-Err.stop ≡ NotBuilt = cc in c.status.ensures ∙ ap status_of stop
+returns-in-Err-clause-words g c none =
+    let e = c.in-Err.ensures.words none in
+    let stop : c.in-Err.stop ≡ NotBuilt = cc in
+    (c.status.ensures ∙ ap status_of stop, e.1)
 
 pub returns-in-Err-clause-nothing : goal.returns-in-Err-clause-nothing
 returns-in-Err-clause-nothing g c zero ten twelve =

@@ -1,5 +1,10 @@
 // Faults in mid-stream: each call of each object made to fail in turn.
-use crate::outside::{Ask, Outside, PLAN, list, list_in_pieces, three_images};
+ghost use Rattle.std.specs.Prelude.{◌≡◌};
+
+use crate::outside::{Outside, first_names, images_of, run_command, run_in_pieces};
+use crate::plans::{LISTING, PLAN};
+use crate::rows::{SET, STRIPES};
+use crate::words::{Command, Operand};
 use image_source::Memory;
 use std::alloc::Global;
 use std::process::Abort;
@@ -7,20 +12,17 @@ use std::test::Fail;
 use std::thread::Threads;
 
 /// The first listing, and a cursor past the total.
-const FIRST: Ask = Ask {
-    from: 0,
-    size: 10,
-    span: 10,
-};
+const FIRST: Command<'static> = Command::List(&[
+    Operand::From(0),
+    Operand::Size(10),
+    Operand::Span(10),
+]);
 
-const PAST: Ask = Ask {
-    from: 7,
-    size: 10,
-    span: 10,
-};
-
-const LISTING: &str =
-    "0 5:ls:none:1:0:0,1,2\n1 5:ls:none:1:0:0,2,1\n2 5:ls:none:1:0:1,0,2\n3 5:ls:none:1:0:1,2,0\n4 5:ls:none:1:0:2,0,1\n5 5:ls:none:1:0:2,1,0\nnext 6 of 6\n";
+const PAST: Command<'static> = Command::List(&[
+    Operand::From(7),
+    Operand::Size(10),
+    Operand::Span(10),
+]);
 
 const CURSOR: &str = "reraid: cursor 7 is past 6\n";
 
@@ -36,26 +38,39 @@ enum Object {
     Notes,
 }
 
+/// Lists a call of an object to fail, of which a put takes five bytes.
+fn fail(outside: &mut Outside, object: Object, call: u64) -> Result<(), Memory>
+    ensures files { outside.new.images.files ≡ outside.old.images.files }
+    ensures attached { outside.new.images.attached ≡ outside.old.images.attached }
+    ensures images { outside.new.images.faults ≡ outside.old.images.faults }
+    ensures plan { outside.new.plan.faults ≡ outside.old.plan.faults }
+    ensures out { outside.new.out.faults ≡ outside.old.out.faults }
+    ensures notes { outside.new.notes.faults ≡ outside.old.notes.faults }
+{
+    match object {
+        Object::Images => outside.images.fail_call(call),
+        Object::Plan => outside.plan.fail_call(call),
+        Object::Out => outside.out.fail_call(call, 5),
+        Object::Notes => outside.notes.fail_call(call, 5),
+    }
+}
+
 /// A run, whole or with its plan in pieces.
 fn run<R: Threads + Sync>(
     rt: &R,
     alloc: Global,
-    ask: &Ask,
+    command: &Command,
     pieces: bool,
     object: Object,
     call: u64,
 ) -> Result<(u8, Outside), Memory> {
-    let mut met = three_images(alloc, 6, PLAN.as_bytes())?;
-    match object {
-        Object::Images => met.images.fail_call(call)?,
-        Object::Plan => met.plan.fail_call(call)?,
-        Object::Out => met.out.fail_call(call, 5)?,
-        Object::Notes => met.notes.fail_call(call, 5)?,
-    }
+    let names = first_names(STRIPES.len());
+    let mut met = images_of(alloc, names, STRIPES, PLAN.as_bytes())?;
+    fail(&mut met, object, call)?;
     let status = if pieces {
-        list_in_pieces(rt, alloc, ask, &mut met)?
+        run_in_pieces(rt, alloc, command, names, &mut met)?
     } else {
-        list(rt, alloc, ask, &mut met)?
+        run_command(rt, alloc, command, names, &mut met)?
     };
     Ok((status, met))
 }
@@ -66,7 +81,7 @@ fn run<R: Threads + Sync>(
 fn each_call<R: Threads + Sync + Abort>(
     rt: &R,
     alloc: Global,
-    ask: &Ask,
+    command: &Command,
     pieces: bool,
     object: Object,
 ) -> Result<u64, Fail> {
@@ -77,7 +92,7 @@ fn each_call<R: Threads + Sync + Abort>(
         Object::Notes => (6, "reraid: cursor 7 is past 6\n", ""),
     };
     for call in 1..MANY {
-        let (ended, met) = run(rt, alloc, ask, pieces, object, call)?;
+        let (ended, met) = run(rt, alloc, command, pieces, object, call)?;
         if ended == 0 {
             assert_eq!(rt; met.out.bytes(), LISTING.as_bytes());
             return Ok(call - 1);
@@ -105,14 +120,14 @@ struct Calls {
 fn each_object<R: Threads + Sync + Abort>(
     rt: &R,
     alloc: Global,
-    ask: &Ask,
+    command: &Command,
     pieces: bool,
 ) -> Result<Calls, Fail> {
     Ok(Calls {
-        images: each_call(rt, alloc, ask, pieces, Object::Images)?,
-        plan: each_call(rt, alloc, ask, pieces, Object::Plan)?,
-        out: each_call(rt, alloc, ask, pieces, Object::Out)?,
-        notes: each_call(rt, alloc, ask, pieces, Object::Notes)?,
+        images: each_call(rt, alloc, command, pieces, Object::Images)?,
+        plan: each_call(rt, alloc, command, pieces, Object::Plan)?,
+        out: each_call(rt, alloc, command, pieces, Object::Out)?,
+        notes: each_call(rt, alloc, command, pieces, Object::Notes)?,
     })
 }
 
@@ -149,5 +164,19 @@ fn each_fault_past_the_total_has_its_status(rt: HostRuntime) -> Result<(), Fail>
     assert!(rt; pieces.plan >= 28 && pieces.plan < MANY);
     assert_eq!(rt; pieces.out, 0);
     assert_eq!(rt; pieces.notes, 1);
+    Ok(())
+}
+
+// The first put of the volume begins with the sector of 01 of row 0.
+#[test]
+fn a_front_of_the_volume_may_be_written(rt: HostRuntime) -> Result<(), Fail> {
+    let alloc = rt.alloc();
+    let names = first_names(STRIPES.len());
+    let mut met = images_of(alloc, names, STRIPES, b"")?;
+    met.out.fail_call(1, 100)?;
+    let command = Command::Write(&[Operand::Set(SET)]);
+    assert_eq!(rt; run_command(&rt, alloc, &command, names, &mut met)?, 12);
+    assert_eq!(rt; met.out.bytes(), [1; 100].as_slice());
+    assert_eq!(rt; met.notes.bytes(), b"reraid: output fault\n".as_slice());
     Ok(())
 }

@@ -3,8 +3,7 @@
 #![tactic(auto)]
 
 #[cfg(test)]
-mod commands;
-mod counts;
+mod checks;
 #[cfg(test)]
 mod faults;
 #[cfg(test)]
@@ -13,5 +12,13 @@ mod listings;
 mod outside;
 #[cfg(test)]
 mod pieces;
-
-pub use counts::Count;
+#[cfg(test)]
+mod plans;
+#[cfg(test)]
+mod refusals;
+#[cfg(test)]
+mod rows;
+#[cfg(test)]
+mod volumes;
+#[cfg(test)]
+mod words;

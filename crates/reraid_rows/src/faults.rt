@@ -24,6 +24,11 @@ const PAST: Command<'static> = Command::List(&[
     Operand::Span(10),
 ]);
 
+/// The tests of the set of rank 0.
+const TESTS: Command<'static> = Command::Check(&[Operand::Set(SET)]);
+
+const TESTED: &str = "rank 0\nunsound 0 of 2\npass\n";
+
 const CURSOR: &str = "reraid: cursor 7 is past 6\n";
 
 /// More calls than a run makes of one object.
@@ -75,6 +80,14 @@ fn run<R: Threads + Sync>(
     Ok((status, met))
 }
 
+/// What a command prints where nothing fails, and the first five bytes of it.
+fn answer_of(command: &Command) -> (&'static str, &'static str) {
+    match command {
+        Command::Check(_) => (TESTED, "rank "),
+        _ => (LISTING, "0 5:l"),
+    }
+}
+
 /// Fails each call of an object in turn, until the run ends as without a fault, and gives how
 /// many runs met one. Each ends with the object's status and line, and leaves on the output
 /// nothing, or of a put that takes five bytes those.
@@ -85,16 +98,17 @@ fn each_call<R: Threads + Sync + Abort>(
     pieces: bool,
     object: Object,
 ) -> Result<u64, Fail> {
+    let (whole, front) = answer_of(command);
     let (status, line, left) = match object {
         Object::Images => (10, "reraid: image read fault\n", ""),
         Object::Plan => (11, "reraid: plan read fault\n", ""),
-        Object::Out => (12, "reraid: output fault\n", "0 5:l"),
+        Object::Out => (12, "reraid: output fault\n", front),
         Object::Notes => (6, "reraid: cursor 7 is past 6\n", ""),
     };
     for call in 1..MANY {
         let (ended, met) = run(rt, alloc, command, pieces, object, call)?;
         if ended == 0 {
-            assert_eq!(rt; met.out.bytes(), LISTING.as_bytes());
+            assert_eq!(rt; met.out.bytes(), whole.as_bytes());
             return Ok(call - 1);
         }
         if ended == 6 && met.notes.bytes() == CURSOR.as_bytes() {
@@ -147,6 +161,18 @@ fn each_fault_of_a_listing_has_its_status(rt: HostRuntime) -> Result<(), Fail> {
     assert!(rt; pieces.plan >= 28 && pieces.plan < MANY);
     assert_eq!(rt; pieces.out, 1);
     assert_eq!(rt; pieces.notes, 0);
+    Ok(())
+}
+
+// The tests of a set make three attachments, and at least one read of each image; their lines are
+// one put, and nothing is noted.
+#[test]
+fn each_fault_of_a_check_has_its_status(rt: HostRuntime) -> Result<(), Fail> {
+    let whole = each_object(&rt, rt.alloc(), &TESTS, false)?;
+    assert!(rt; whole.images >= 6 && whole.images < MANY);
+    assert!(rt; whole.plan >= 2 && whole.plan < MANY);
+    assert_eq!(rt; whole.out, 1);
+    assert_eq!(rt; whole.notes, 0);
     Ok(())
 }
 

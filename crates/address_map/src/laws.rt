@@ -1,4 +1,4 @@
-// Laws of the address map.
+//! Laws of the address map.
 ghost use Rattle.address_map.specs.Laws.{EachSectorHasOneHome, EachSectorHasOnePlace, PlacesAndHomesUndo};
 
 /// `place` and `locate` undo each other: `locate` of a volume sector gives a slot and a member

@@ -1,4 +1,4 @@
-// The map between the sectors of the volume and those of the members.
+//! The map between the sectors of the volume and those of the members.
 ghost use Rattle.std.specs.Prelude.{◌≡◌, ◌<◌, ◌+◌, ◌*◌, ◌^◌, IsTrue};
 ghost use Rattle.address_map.specs.Places.{IsHome, IsPlace};
 ghost use Rattle.raid_params.specs.Validity.{is_valid_head};

@@ -1,3 +1,4 @@
+//! Two rows of a small array, worked out by hand.
 ghost use Rattle.std.specs.Prelude.{◌≡◌};
 
 use crate::{Home, MemberPlace, locate, place, volume_sectors};

@@ -1,4 +1,4 @@
-// What a walk asks of a family of lists.
+//! What a walk asks of a family of lists.
 ghost use Rattle.std.specs.Prelude.{◌≡◌, ◌<◌, List, Option, Bool, ℕ, length, filter};
 ghost use Rattle.slot_math.specs.Space.{begins, lists_of};
 ghost use Rattle.slot_math.specs.declared.space.Space.{Space as SpaceOf};

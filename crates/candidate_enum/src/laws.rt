@@ -1,4 +1,4 @@
-// Laws of what a walk gives.
+//! Laws of what a walk gives.
 ghost use Rattle.candidate_enum.specs.Laws.{SurvivorsAreLists, SurvivorsByRank};
 
 /// The ranks of what a walk gives are the admitted ranks of its range, in order.

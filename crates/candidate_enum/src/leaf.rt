@@ -1,4 +1,4 @@
-// A list with its rank.
+//! A list with its rank.
 use raid_params::Slots;
 
 /// A slot list and its rank: its position among the lists of a space, counted from 0.

@@ -1,4 +1,4 @@
-// Where a walk stands.
+//! Where a walk stands.
 use crate::leaf::Leaf;
 use raid_params::Slots;
 

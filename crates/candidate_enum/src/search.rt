@@ -1,4 +1,4 @@
-// How a walk goes from one prefix to the next.
+//! How a walk goes from one prefix to the next.
 ghost use Rattle.std.specs.Prelude.{◌≡◌, ◌≤◌, ◌<◌, ◌+◌, ◌^◌, ◌++◌, ◌∷◌, [], ℕ, length, nat_lt, min, max};
 ghost use Rattle.slot_math.specs.Ways.{ends, IsStart, IsPlace};
 ghost use Rattle.candidate_enum.specs.Survivors.{question, survivors};

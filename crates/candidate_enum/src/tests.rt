@@ -1,3 +1,4 @@
+//! Walks whose leaves and asked prefixes are written out.
 ghost use Rattle.std.specs.Prelude.{◌≡◌, ◌<◌, ◌∷◌, [], Some, not};
 ghost use Rattle.std.specs.List.{starts_with};
 

@@ -1,4 +1,4 @@
-// Whether the attached images are those that the plan or the command takes.
+//! Whether the attached images are those that the plan or the command takes.
 ghost use Rattle.std.specs.Prelude.{◌≡◌, ◌≤◌, ◌<◌, IfSome, length, min, nat_eq, not, slice_index};
 ghost use Rattle.std.specs.Option.{option_map};
 ghost use Rattle.command_jobs.specs.Agreement.{count_fault as count_fault_of, end_of as end_of_images, length_fault as length_fault_of, lengths_of, other_length, limits_fault as limits_fault_of, plan_fault as plan_fault_of, shortest as shortest_of};

@@ -1,4 +1,4 @@
-// Attaching the images of the words.
+//! Attaching the images of the words.
 ghost use Rattle.std.specs.Prelude.{◌≡◌, ◌+◌, ◌≤◌, ◌<◌, length, All, IsTrue, OnOk, [], min};
 ghost use Rattle.image_source.specs.Attached.{AttachesSome};
 ghost use Rattle.image_source.specs.Causes.{HasCause};

@@ -1,4 +1,4 @@
-// The command `check`.
+//! The command `check`.
 ghost use Rattle.std.specs.Prelude.{[], ◌∷◌, ◌≡◌, ◌<◌, ◌≤◌, ◌*◌, ◌+◌, ◌++◌, ◌^◌, ◌⊎◌, IfErr, IfOk, IfSome, IsTrue, None, OnOk, Option, Some, false, length, min};
 ghost use Rattle.command_jobs.specs.Agreement.{plan_fault as plan_fault_of};
 ghost use Rattle.command_jobs.specs.Checking.{check_output, check_refusal, check_text as check_text_of, rank_line, rows_tested, rule_refusal, unsound_line, verdict_line};

@@ -3,6 +3,10 @@
 //! A job answers with its output on `out`, or with the [`Stop`] that says why there is none. Its
 //! contract holds the first refusal in the order of work, and the bytes of its output, each as a
 //! function of what the words, the plan and the images say.
+//!
+//! `reraid_cli` hands each command to its job. How a job ends stands in `specs/Jobs`, statuses and lines in
+//! `specs/Stops`, refusals and outputs in `specs/Listing`, `Checking`, `Mapping` and `Writing`. A new
+//! command is a module here, a file of specs, and a case in `reraid_cli`.
 #![tactic(auto)]
 
 mod agreement;

@@ -1,4 +1,4 @@
-// The command `list`.
+//! The command `list`.
 ghost use Rattle.std.specs.Prelude.{◌≡◌, ◌≤◌, ◌++◌, IfErr, IfOk, IfSome, None, OnOk, Option, Some, [], ◌∷◌, false, length, min};
 ghost use Rattle.image_source.specs.Attached.{told_all};
 ghost use Rattle.page_engine.specs.Sets.{AgreeWith, LeavesImages};

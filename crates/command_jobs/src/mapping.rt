@@ -1,4 +1,4 @@
-// The command `map`.
+//! The command `map`.
 ghost use Rattle.std.specs.Prelude.{◌≡◌, ◌<◌, ◌≤◌, ◌+◌, ◌++◌, ◌^◌, ◌⊎◌, All, IfErr, IfOk, IfSome, IsTrue, None, OnOk, Some, codes, decimal, false, length, min, slice_index_or, unwrap_or};
 ghost use Rattle.command_jobs.specs.Agreement.{end_of as end_of_images};
 ghost use Rattle.command_jobs.specs.Jobs.{Ends, Leaves, Refuses};

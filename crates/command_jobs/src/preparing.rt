@@ -1,4 +1,4 @@
-// Reading the plan, and comparing the images with it.
+//! Reading the plan, and comparing the images with it.
 ghost use Rattle.std.specs.Prelude.{◌≡◌, ◌≤◌, IfErr, IfOk, length, min};
 ghost use Rattle.command_jobs.specs.Agreement.{plan_fault as plan_fault_of};
 ghost use Rattle.command_jobs.specs.Jobs.{EndsPreparing, IsPrepared};

@@ -1,4 +1,4 @@
-// Putting an answer to the output, and the parts of its text.
+//! Putting an answer to the output, and the parts of its text.
 ghost use Rattle.std.specs.Prelude.{◌≡◌, ◌≤◌, ◌++◌, OnOk, decimal};
 ghost use Rattle.command_jobs.specs.Jobs.{IsPrinted};
 ghost use Rattle.command_jobs.specs.Mapping.{or_dash};

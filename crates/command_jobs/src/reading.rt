@@ -1,4 +1,4 @@
-// Reading a source to its end.
+//! Reading a source to its end.
 ghost use Rattle.std.specs.Prelude.{◌≡◌, ◌≤◌, length, IfOk, IfErr, IfSome};
 ghost use Rattle.command_jobs.specs.Source.{EndsReading};
 

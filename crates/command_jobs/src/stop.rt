@@ -1,4 +1,4 @@
-// Why a run ends without its answer.
+//! Why a run ends without its answer.
 ghost use Rattle.std.specs.Prelude.{◌≡◌, ◌≤◌, ◌+◌, ◌++◌, codes, decimal, length};
 ghost use Rattle.command_jobs.specs.Stops.{kind_text as kind_text_of, note_of, rule_of, status_of, stop_of_page, stop_of_plan, stop_of_volume, value_of};
 ghost use Rattle.command_jobs.specs.declared.stop.Stop.TheVariants.{Images as ImagesOf, Cursor as CursorOf, OutOfMemory, Sector as SectorOf};

@@ -1,4 +1,4 @@
-// The commands `write` and `rebuild`.
+//! The commands `write` and `rebuild`.
 ghost use Rattle.std.specs.Prelude.{◌≡◌, ◌≤◌, ◌<◌, ◌+◌, ◌*◌, ◌^◌, ◌&&◌, All, IfErr, IfOk, IfSome, None, OnOk, Some, is_none, length, min, nat_lt, slice_index_or, true};
 ghost use Rattle.image_source.specs.Attached.{told_all};
 ghost use Rattle.command_jobs.specs.Agreement.{end_of};

@@ -1,4 +1,4 @@
-// The commands.
+//! The commands.
 use raid_params::Geometry;
 
 /// The commands by their first word.

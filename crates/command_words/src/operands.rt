@@ -1,4 +1,4 @@
-// The operands of commands.
+//! The operands of commands.
 ghost use Rattle.std.specs.Prelude.{◌≡◌, ◌≢◌, ◌≤◌, ◌∷◌, ◌++◌, ℕ, All, MatchOption, decimal};
 ghost use Rattle.command_words.specs.Operands.{IsInLimits, ReadsOperand, name_of, operand_name, takes as takes_operand, value_text, with_operand};
 ghost use Rattle.command_words.specs.declared.operands.Name.{Name as NameOf};

@@ -1,4 +1,4 @@
-// Reading the words of a command line.
+//! Reading the words of a command line.
 ghost use Rattle.std.specs.Prelude.{◌≡◌, ◌<◌, ◌^◌, ◌+◌, length, ◌≢◌, IfSome, MatchOption};
 ghost use Rattle.command_words.specs.Commands.{EndsInNames, IsWithin, ReadsOn, ReadsWords, command_of, kind_word};
 ghost use Rattle.command_words.specs.declared.command.Kind.{Kind as KindOf};

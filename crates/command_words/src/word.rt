@@ -1,4 +1,4 @@
-// A word of the command line.
+//! A word of the command line.
 ghost use Rattle.std.specs.Prelude.{◌≡◌, IfOk};
 
 use image_source::Memory;

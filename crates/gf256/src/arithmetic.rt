@@ -1,4 +1,4 @@
-// The five operations.
+//! The five operations.
 
 ghost use Rattle.std.specs.Prelude.{ℕ, ◌≡◌, ◌≢◌, ◌<◌, ◌^◌, bit_xor};
 ghost use Rattle.gf256.specs.Field.{product, power_of};

@@ -5,6 +5,9 @@
 //! element 2 has order 255, so every byte but 0 is a power of it, and `mul` and `inverse` go by its logarithms.
 //!
 //! `laws` holds what callers may use of the field: functions that do nothing and whose clauses are the laws.
+//!
+//! `pq_parity` and `lane_kernels` compute in it, and the definitions of `raid_terms` cite it. The product
+//! and the powers stand in `specs/Field`.
 #![tactic(auto)]
 
 mod arithmetic;

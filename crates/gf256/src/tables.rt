@@ -1,4 +1,4 @@
-// Powers of 2 and logarithms to it.
+//! Powers of 2 and logarithms to it.
 
 // The powers of 2, from 2 ^ 0 to 2 ^ 254.
 pub const POWERS: [u8; 255] = [

@@ -1,4 +1,4 @@
-// That the calls which may want memory succeed, and what the adapters do over real files.
+//! That the calls which may want memory succeed, and what the adapters do over real files.
 use crate::{
     FileImages, Images, ListOf, MemImages, MemSink, MemSource, Sink, Source, StdSink, StdSource,
 };

@@ -1,4 +1,4 @@
-// What the kernels read from a list at once.
+//! What the kernels read from a list at once.
 
 ghost use Rattle.std.specs.Prelude.{ℕ, ◌≡◌, ◌+◌, ◌≤◌, ◌<◌, length};
 ghost use Rattle.std.specs.Simd.Lanes.{chunk, Each1};

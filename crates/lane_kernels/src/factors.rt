@@ -1,4 +1,4 @@
-// Products of a list by one factor.
+//! Products of a list by one factor.
 
 ghost use Rattle.std.specs.Prelude.{ℕ, ◌≡◌, ◌+◌, ◌≤◌, ◌<◌, ◌^◌, length, map};
 ghost use Rattle.std.specs.Simd.Lanes.{zip2, put_chunk, chunk, Each1};

@@ -1,4 +1,4 @@
-// Sums of two lists, place by place.
+//! Sums of two lists, place by place.
 
 ghost use Rattle.std.specs.Prelude.{◌≡◌, ◌+◌, ◌≤◌, length, bit_xor};
 ghost use Rattle.std.specs.Simd.Lanes.{zip2, put_chunk, chunk};

@@ -1,4 +1,4 @@
-// The kernels beside plain loops. The products here are by shifts and sums, and by no table.
+//! The kernels beside plain loops. The products here are by shifts and sums, and by no table.
 
 use crate::{double_xor, first_nonzero, scale, scale_xor, xor_into};
 

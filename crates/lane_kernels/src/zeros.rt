@@ -1,4 +1,4 @@
-// The first byte that is not 0.
+//! The first byte that is not 0.
 
 ghost use Rattle.std.specs.Prelude.{ℕ, ◌≡◌, ◌≢◌, ◌+◌, ◌≤◌, ◌<◌, length, slice_index, All, MatchOption, IsTrue, false};
 

@@ -1,4 +1,8 @@
-//! That a sector is of one kind at most: the law over the definitions of the readers.
+//! The law that a landmark sector is of one kind at most.
+//!
+//! It runs nothing. [`no_sector_is_of_two_kinds`] says it of the definitions of `gpt_marks`, `ntfs_marks`
+//! and `xfs_marks`: GPT header, NTFS boot sector and file record, XFS superblock, AGF and AGI. The law
+//! stands in `specs/Kinds`.
 #![tactic(auto)]
 
 ghost use Rattle.mark_kinds.specs.Kinds.{KindsExcludeEachOther};

@@ -1,4 +1,4 @@
-// Members that were worked out by hand, over images in memory.
+//! Members that were worked out by hand, over images in memory.
 ghost use Rattle.std.specs.Prelude.{◌≡◌, ◌≤◌, ◌^◌, ◌<◌, length, All, IsSomeAnd, IsTrue, slice_get, slice_index_or, None};
 ghost use Rattle.image_source.specs.Memory.{seen_of};
 

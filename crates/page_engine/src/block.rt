@@ -1,4 +1,4 @@
-// The sets of one level and one number of members.
+//! The sets of one level and one number of members.
 ghost use Rattle.std.specs.Prelude.{◌≡◌, ◌<◌, ◌≤◌, ◌+◌, ◌*◌, ◌^◌, ◌==◌, IfSome, Some, length, filter, position, slice_get};
 ghost use Rattle.raid_params.specs.declared.limits.TheConstants.{MOST};
 ghost use Rattle.raid_params.specs.Validity.{has_syndrome};

@@ -1,4 +1,4 @@
-// Laws of parameter sets and their ranks.
+//! Laws of parameter sets and their ranks.
 ghost use Rattle.page_engine.specs.Laws.{RanksAndSetsUndo, SameSetsAreEqual};
 
 /// Two parameter sets are the same, field by field and slot by slot, exactly where they are equal.

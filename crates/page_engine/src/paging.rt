@@ -1,4 +1,4 @@
-// A page of the sets that pass.
+//! A page of the sets that pass.
 ghost use Rattle.std.specs.Prelude.{◌≡◌, ◌<◌, ◌≤◌, ◌^◌, All, IfErr, IfOk, IfSome, IsErrOf, OnOk, Some, length, slice_get};
 ghost use Rattle.image_source.specs.Attached.{told_all};
 ghost use Rattle.plan_text.specs.PlanText.{IsPlan};

@@ -1,4 +1,4 @@
-// Pairs of two lists, by rank.
+//! Pairs of two lists, by rank.
 ghost use Rattle.std.specs.Prelude.{◌≡◌, ◌<◌, ◌≤◌, ◌+◌, ◌*◌, ◌^◌, IfSome, Some, length, slice_get};
 ghost use Rattle.raid_params.specs.declared.limits.TheConstants.{MOST};
 ghost use Rattle.page_engine.specs.Pairs.{joined, pairs};

@@ -1,4 +1,4 @@
-// The parameter sets of a plan, by rank.
+//! The parameter sets of a plan, by rank.
 ghost use Rattle.std.specs.Prelude.{◌≡◌, ◌<◌, ◌≤◌, ◌*◌, ◌^◌, MatchOption, Some, length, slice_get};
 ghost use Rattle.plan_text.specs.PlanText.{IsPlan};
 ghost use Rattle.page_engine.specs.Blocks.{IsBlock};

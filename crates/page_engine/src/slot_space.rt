@@ -1,4 +1,4 @@
-// The slot lists of a plan.
+//! The slot lists of a plan.
 ghost use Rattle.std.specs.Prelude.{◌≤◌};
 ghost use Rattle.raid_params.specs.declared.limits.TheConstants.{MOST};
 ghost use Rattle.plan_text.specs.PlanText.{IsPlan};

@@ -1,4 +1,4 @@
-// Small products whose sets are known, and a page over images in memory.
+//! Small products whose sets are known, and a page over images in memory.
 ghost use Rattle.std.specs.Prelude.{◌≡◌, ◌<◌, ◌≤◌, ◌^◌, IsTrue, length};
 ghost use Rattle.image_source.specs.Memory.{seen_of};
 ghost use Rattle.plan_text.specs.PlanText.{IsPlan};

@@ -1,4 +1,4 @@
-// The bounds of a plan's search, line by line.
+//! The bounds of a plan's search, line by line.
 ghost use Rattle.std.specs.Prelude.{◌≡◌, ◌≢◌, ◌<◌, ◌≤◌, ◌^◌, ◌↔◌, ℕ, List, All, IsTrue, codes, decimal, length, map, MatchOption};
 ghost use Rattle.raid_params.specs.declared.limits.TheConstants.{MOST as MOST_MEMBERS};
 ghost use Rattle.raid_params.specs.declared.types.Bounds.{Bounds as BoundsOf};

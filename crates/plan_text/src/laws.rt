@@ -1,4 +1,4 @@
-// What holds of the texts of all plans and of all parameter sets.
+//! What holds of the texts of all plans and of all parameter sets.
 ghost use Rattle.plan_text.specs.Laws.{PlansHaveOneSpelling, SetWordsHaveOneSpelling};
 
 /// Two plans with the same text are the same plan, field by field.

@@ -3,6 +3,10 @@
 //! A plan has one text, and a text is read as a plan exactly where it is that plan's text to its
 //! last byte: a list of lines, each ended by a line feed, with decimal numbers without sign or
 //! leading zero. A parameter set has one word in the same way.
+//!
+//! `command_jobs` reads the plan with it, `command_words` set words, and listings print [`set_line`]. The
+//! text of a plan stands in `specs/PlanText`, that of a set in `specs/SetText`; `docs/FORMATS.md` says the
+//! same for users. The laws: a plan has one spelling, and so has a set.
 #![tactic(auto)]
 
 mod bounds;

@@ -1,4 +1,4 @@
-// The images and the limits of a plan.
+//! The images and the limits of a plan.
 ghost use Rattle.std.specs.Prelude.{◌≡◌, ◌≢◌, ◌<◌, ◌≤◌, ◌^◌, ℕ, List, All, length, MatchOption};
 ghost use Rattle.plan_text.specs.declared.plan.Limits.{Limits as LimitsOf};
 ghost use Rattle.plan_text.specs.PlanParts.{lengths_text, images_text, limits_text, AreLengths, AreLimits};

@@ -1,4 +1,4 @@
-// The places of levels, patterns, syndromes and numbers in the lists of a plan.
+//! The places of levels, patterns, syndromes and numbers in the lists of a plan.
 ghost use Rattle.plan_text.specs.PlanText.{level_place, pattern_place, syndrome_place};
 
 use crate::spelled::Placed;

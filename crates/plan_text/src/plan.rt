@@ -1,4 +1,4 @@
-// The plan of a search.
+//! The plan of a search.
 ghost use Rattle.std.specs.Prelude.{◌≡◌, ◌≢◌, ◌≤◌, ◌↔◌, All, IsTrue, MatchOption};
 ghost use Rattle.plan_text.specs.PlanText.{ReadsPlan, IsPlan, plan_text};
 ghost use Rattle.plan_text.specs.declared.plan.Plan.{Plan as PlanOf};

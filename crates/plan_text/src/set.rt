@@ -1,4 +1,4 @@
-// The texts of a parameter set.
+//! The texts of a parameter set.
 ghost use Rattle.std.specs.Prelude.{◌≡◌, ◌∷◌, ◌++◌, IfOk, OnOk, decimal, map, []};
 ghost use Rattle.plan_text.specs.SetText.{set_line as set_line_text, set_word};
 ghost use Rattle.plan_text.specs.Spelling.{level_name as level_spelling, pattern_name as pattern_spelling, syndrome_name as syndrome_spelling, slot_name, commas};

@@ -1,4 +1,4 @@
-// The parameter set that a word spells.
+//! The parameter set that a word spells.
 ghost use Rattle.std.specs.Prelude.{◌≡◌, ◌≢◌, MatchOption};
 ghost use Rattle.raid_params.specs.declared.types.Geometry.{Geometry as GeometryOf};
 ghost use Rattle.plan_text.specs.SetText.{HasWord, set_word};

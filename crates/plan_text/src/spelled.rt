@@ -1,4 +1,4 @@
-// Values with a spelling of their own, and lists of them.
+//! Values with a spelling of their own, and lists of them.
 ghost use Rattle.std.specs.Prelude.{◌≡◌, ◌≢◌, ◌≤◌, ◌∷◌, ◌++◌, ℕ, List, All, length, map, MatchOption, IsTrue};
 ghost use Rattle.plan_text.specs.Spelling.{IsSpelling, commas, is_mark};
 

@@ -1,5 +1,5 @@
-// That plans and set words are read, that sets are written, and that texts one step off are
-// refused.
+//! That plans and set words are read, that sets are written, and that texts one step off are
+//! refused.
 use crate::{PlanFault, read_plan, read_set, set_line, write_set};
 use arrayvec::ArrayVec;
 use raid_params::{Geometry, Head, Level, Pattern, Syndrome};

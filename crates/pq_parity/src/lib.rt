@@ -4,6 +4,10 @@
 //! weighed by a power of 2. A sector row is sound where in each of its 512 columns there are
 //! bytes for the missing blocks with which both equations hold. `laws` says that lost bytes are
 //! found in one way only.
+//!
+//! `row_scan` tests rows with [`row_holds`], and `virtual_volume` finds lost sectors with [`solve`]. The
+//! equations stand in `Parity` of `raid_terms`, lost bytes in `Solving`, the two sums in
+//! `specs/Syndromes`.
 #![tactic(auto)]
 
 pub mod laws;

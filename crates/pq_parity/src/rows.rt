@@ -1,4 +1,4 @@
-// Whether a sector row is sound.
+//! Whether a sector row is sound.
 ghost use Rattle.std.specs.Prelude.{ℕ, ◌≡◌, ◌<◌, ◌*◌, length, slice_index, count_by, not};
 ghost use Rattle.std.specs.Bool.{Decides};
 ghost use Rattle.raid_terms.specs.Parity.{column_of, has_q, in_p, in_q, is_data, is_sound, IsRow};

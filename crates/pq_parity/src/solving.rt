@@ -1,4 +1,4 @@
-// The sector of a missing cell.
+//! The sector of a missing cell.
 ghost use Rattle.std.specs.Prelude.{ℕ, ◌≡◌, ◌<◌, ◌+◌, ◌*◌, IfSome, length, slice_get, slice_index, take, drop, true, bit_xor};
 ghost use Rattle.std.specs.Option.{option_or};
 ghost use Rattle.gf256.specs.Field.{product};

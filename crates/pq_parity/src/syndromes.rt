@@ -1,4 +1,4 @@
-// The sums of a sector row over the cells that are there, a byte for each column.
+//! The sums of a sector row over the cells that are there, a byte for each column.
 ghost use Rattle.std.specs.Prelude.{ℕ, ◌≡◌, ◌<◌, ◌≤◌, ◌+◌, ◌*◌, length, slice_index, bit_xor};
 ghost use Rattle.raid_terms.specs.Parity.{in_p, in_q};
 ghost use Rattle.pq_parity.specs.Syndromes.{IsSyndrome, known_in};

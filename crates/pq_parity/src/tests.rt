@@ -1,4 +1,4 @@
-// Rows worked out by hand: 01 + 80 = 81 and 01 + 2 * 80 = 01 + 1D = 1C, in the field.
+//! Rows worked out by hand: 01 + 80 = 81 and 01 + 2 * 80 = 01 + 1D = 1C, in the field.
 ghost use Rattle.std.specs.Prelude.{◌≡◌, ◌≢◌, ◌<◌, ◌≤◌, [], ◌∷◌, count_by};
 ghost use Rattle.raid_terms.specs.Parity.{IsRow};
 

@@ -1,4 +1,4 @@
-// By which weights the sums of what is known give a lost byte.
+//! By which weights the sums of what is known give a lost byte.
 ghost use Rattle.std.specs.Prelude.{◌≡◌, ◌≢◌, ◌<◌};
 ghost use Rattle.pq_parity.specs.LostBytes.{Apart, Finds};
 

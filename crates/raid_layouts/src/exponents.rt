@@ -1,4 +1,4 @@
-// The exponents of the data blocks of a row.
+//! The exponents of the data blocks of a row.
 ghost use Rattle.std.specs.Prelude.{◌≡◌, ◌≢◌, ◌<◌, ◌≤◌, IsTrue};
 ghost use Rattle.raid_params.specs.declared.types.Level.TheVariants.{Raid6};
 ghost use Rattle.raid_terms.specs.Exponent.{HoldsData, exponent_of, number_after_q as number_after_q_of};

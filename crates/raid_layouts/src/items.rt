@@ -1,4 +1,4 @@
-// The data item of a slot, by pattern: the way back.
+//! The data item of a slot, by pattern: the way back.
 ghost use Rattle.std.specs.Prelude.{◌≡◌, ◌≢◌, ◌<◌, ◌≤◌, ◌-◌, ◌+◌, ◌%◌};
 ghost use Rattle.raid_terms.specs.Role.{after, double_item as double_item_of, double_p as double_p_of, double_q as double_q_of, over_p, over_p_and_q, single_item as single_item_of, single_p as single_p_of};
 

@@ -1,4 +1,4 @@
-// Laws of the rows of an array.
+//! Laws of the rows of an array.
 ghost use Rattle.raid_layouts.specs.Laws.{EachRoleHasOneSlot, EachRowCanBeSolved, EachSlotHasOneRole, ExponentsAreBelowMembers, ExponentsDiffer};
 
 /// In every row of a valid head, each role of the level has one slot below the members.

@@ -4,6 +4,11 @@
 //! parity P, at level 6 two hold P and Q, and the pattern says how they move from row to row and
 //! where the data items lie beside them. The layouts are those of the Linux md driver, with its
 //! meaning of the three DDF layouts of RAID 6.
+//!
+//! `docs/LAYOUTS.md` draws them. `address_map` goes by [`role`] and [`slot_of_item`], `row_scan` and
+//! `virtual_volume` by [`row_cells`]. The layouts stand in `Role`, `Exponent` and `Cells` of `raid_terms`,
+//! the names in `specs/Names`. The laws: each role has one slot and each slot one role, the exponents of a
+//! row differ and are below the members, and each row can be solved for its missing blocks.
 #![tactic(auto)]
 
 mod exponents;

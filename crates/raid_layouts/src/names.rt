@@ -1,4 +1,4 @@
-// The names of layouts.
+//! The names of layouts.
 ghost use Rattle.std.specs.Prelude.{◌≡◌};
 ghost use Rattle.std.specs.Option.{option_map};
 ghost use Rattle.raid_layouts.specs.Names.{ddf_name as ddf_name_of, last_q_name as last_q_name_of, name_of, rotation_name as rotation_name_of, striping_name as striping_name_of};

@@ -1,4 +1,4 @@
-// The roles of slots.
+//! The roles of slots.
 ghost use Rattle.std.specs.Prelude.{◌≡◌, ◌≢◌, ◌<◌, IsTrue};
 ghost use Rattle.raid_layouts.specs.Roles.{meant};
 ghost use Rattle.raid_params.specs.Validity.{is_valid_head};

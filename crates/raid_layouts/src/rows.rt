@@ -1,4 +1,4 @@
-// The cells of a row.
+//! The cells of a row.
 ghost use Rattle.std.specs.Prelude.{◌≡◌, ◌<◌, length, IsTrue};
 ghost use Rattle.raid_terms.specs.Cells.{part_of as part_of_slot, row_cells as row_cells_of, weight_at};
 ghost use Rattle.raid_terms.specs.Exponent.{HoldsData};

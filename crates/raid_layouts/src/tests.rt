@@ -1,5 +1,5 @@
-// The first four rows of arrays of four members, as docs/LAYOUTS.md draws them. The drawings are
-// written out by hand there, and not made by this crate.
+//! The first four rows of arrays of four members, as docs/LAYOUTS.md draws them. The drawings are
+//! written out by hand there, and not made by this crate.
 ghost use Rattle.std.specs.Prelude.{◌≡◌, IsTrue};
 ghost use Rattle.raid_params.specs.Validity.{is_valid_head};
 

@@ -4,6 +4,10 @@
 //!
 //! The layouts are those of the Linux md driver for RAID 0, 4, 5 and 6 and the DDF layouts of
 //! RAID 6 as md has them. RAID 4 places its blocks as RAID 5 with the pattern `ParityLast`.
+//!
+//! The limits of the tool stand here, each by its name, and nearly every crate above uses these types. How
+//! large an array is stands in `specs/Size`, what slots hold in `specs/Slots`, and the rules that a set has
+//! to keep in `specs/Validity`. What the parameters mean for the sectors is in `raid_terms`.
 #![tactic(auto)]
 
 mod limits;

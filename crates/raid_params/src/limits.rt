@@ -1,4 +1,4 @@
-// The limits of the tool, each once.
+//! The limits of the tool, each once.
 
 /// The most images, members, slots, lengths and cells.
 pub const MOST: usize = 16;

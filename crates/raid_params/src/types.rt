@@ -1,4 +1,4 @@
-// The types of parameters.
+//! The types of parameters.
 use crate::limits::{MOST, MOST_CHUNKS, MOST_LESS_ONE, MOST_OFFSETS};
 use arrayvec::ArrayVec;
 

@@ -1,4 +1,4 @@
-// Which parameters make sense, and the first rule that a parameter set breaks.
+//! Which parameters make sense, and the first rule that a parameter set breaks.
 ghost use Rattle.std.specs.Prelude.{◌≡◌, ◌<◌, ◌≤◌, IfSome, MatchResult, Some, None, length, nat_eq};
 ghost use Rattle.std.specs.List.{find, range_with_len};
 ghost use Rattle.raid_params.specs.Size.{redundancy as redundancy_of, rows};

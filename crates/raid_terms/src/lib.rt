@@ -1,4 +1,9 @@
-//! The terms in which the contracts of the crates above speak, and the laws that hold of them.
+//! What an array is: the definitions in which the contracts of the crates above speak.
+//!
+//! It runs nothing. Read `specs/Role`, `Exponent` and `Cells` for the layouts, `Address` and `Volume` for
+//! where bytes lie, `Parity` and `Solving` for the equations of P and Q, `SlotLists`, `Product` and `Page`
+//! for what a listing goes through. `raid_layouts`, `address_map`, `pq_parity` and `page_engine` compute
+//! them. The laws here are [`joined_pages`] and [`pages_go_on`].
 #![tactic(auto)]
 
 ghost use Rattle.raid_terms.specs.Page.{JoinedPagesAreTheFilter, PagesGoOn};

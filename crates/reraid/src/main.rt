@@ -1,4 +1,7 @@
 //! The program: it makes the real files, streams and words, and calls the top call.
+//!
+//! What it answers is promised by `reraid_cli::reraid`. Before that call only two things end a run: a word
+//! that is not text, and want of memory. `docs/USING.md` shows how to use it.
 #![tactic(auto)]
 
 use image_source::{FileImages, Sink, StdSink, StdSource};

@@ -3,6 +3,10 @@
 //! `reraid` reads the words, attaches the images that they name, and has the command's job done.
 //! Every answer but success has its cause in the contract, and the line that goes with it on the
 //! notes.
+//!
+//! `reraid` calls it over real files, `reraid_rows` over objects in memory. Start at [`reraid()`]: its
+//! clauses are the promise, and `docs/PROMISES.md` says each in plain words. What a run answers stands in
+//! `specs/Answers`.
 #![tactic(auto)]
 
 mod running;

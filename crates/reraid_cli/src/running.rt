@@ -1,4 +1,4 @@
-// A run, up to why it ends.
+//! A run, up to why it ends.
 ghost use Rattle.std.specs.Prelude.{◌≡◌, ◌≤◌, ◌+◌, ◌^◌, ◌<◌, [], All, IfErr, IfSome, IsErrOf, IsTrue, None, OnOk, Option, Some, length, min};
 ghost use Rattle.std.specs.Io.KnownBytes.{Keeps};
 ghost use Rattle.image_source.specs.Attached.{AreImagesOf};

@@ -1,4 +1,4 @@
-// Listings and tests of sets with Q.
+//! Listings and tests of sets with Q.
 use crate::plans::{LEVEL_SIX, LEVEL_SIX_LOST, SIX_MEMBERS};
 use crate::rows::{DOUBLE, Row, TORN, check, check_all};
 use crate::words::{Command, Operand};

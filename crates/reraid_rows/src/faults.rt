@@ -1,4 +1,4 @@
-// Faults in mid-stream: each call of each object made to fail in turn.
+//! Faults in mid-stream: each call of each object made to fail in turn.
 ghost use Rattle.std.specs.Prelude.{◌≡◌};
 
 use crate::outside::{Outside, first_names, images_of, run_command, run_in_pieces};

@@ -1,5 +1,8 @@
-//! Runs of the whole program over objects in memory: answers that were worked out by hand,
-//! refusals, and faults in mid-stream.
+//! Tests that run the whole program over objects in memory.
+//!
+//! Each run has words, images and a plan, and a status, an output and a note that were worked out by hand.
+//! `listings`, `checks` and `volumes` have answers, `refusals` what is refused, `faults` each call of each
+//! object made to fail in turn. That objects are ready for a run stands in `specs/Named`.
 #![tactic(auto)]
 
 #[cfg(test)]

@@ -1,4 +1,4 @@
-// Listings whose answers were worked out by hand.
+//! Listings whose answers were worked out by hand.
 use crate::plans::{LISTING, ONE_FOREIGN, ONE_LOST, PLAN, PLAN_WITH_A_BAD_ROW, TWO_LEVELS};
 use crate::rows::{Row, STRIPES, check_all};
 use crate::words::{Command, Operand};

@@ -1,4 +1,4 @@
-// Objects in memory, and a run over them.
+//! Objects in memory, and a run over them.
 ghost use Rattle.std.specs.Prelude.{◌≡◌, All, IfOk, IsTrue, OnOk, length, map, min, replicate};
 ghost use Rattle.std.specs.List.{flat_map};
 ghost use Rattle.image_source.specs.Memory.{seen_of};

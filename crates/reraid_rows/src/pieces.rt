@@ -1,4 +1,4 @@
-// A source that gives few bytes at a time.
+//! A source that gives few bytes at a time.
 ghost use Rattle.std.specs.Prelude.{◌≡◌, Some};
 ghost use Rattle.image_source.specs.Memory.{Tape};
 

@@ -1,4 +1,4 @@
-// The texts of plans.
+//! The texts of plans.
 
 /// The plan of the first listing: three images of two sectors, RAID 5 left-symmetric, chunks of
 /// one sector.

@@ -1,4 +1,4 @@
-// Refusals of plans, images and sets.
+//! Refusals of plans, images and sets.
 use crate::plans::{PLAN, TOO_MANY_SETS, TORN_PLAN, TWO_LEVELS};
 use crate::rows::{Row, SET, STRIPES, STRIPES_LOST, check, check_all, run};
 use crate::words::{Command, Operand};

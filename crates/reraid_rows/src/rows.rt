@@ -1,4 +1,4 @@
-// Runs that leave what was worked out by hand, and images that several of them meet.
+//! Runs that leave what was worked out by hand, and images that several of them meet.
 use crate::outside::{Outside, filled, first_names, images_of, run_command};
 use crate::words::Command;
 use image_source::Memory;

@@ -1,4 +1,4 @@
-// Volumes and members whose sectors were worked out by hand.
+//! Volumes and members whose sectors were worked out by hand.
 use crate::rows::{Row, SET, STRIPES, STRIPES_LOST, TORN, Written, check_all, writes_all};
 use crate::words::{Command, Operand};
 use std::test::Fail;

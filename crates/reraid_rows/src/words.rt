@@ -1,4 +1,4 @@
-// Commands, and the words that say them.
+//! Commands, and the words that say them.
 ghost use Rattle.std.specs.Prelude.{◌≡◌, ◌∷◌, ◌++◌, [], All, IfOk, OnOk, codes, map};
 ghost use Rattle.command_words.specs.Commands.{names_after};
 ghost use Rattle.reraid_rows.specs.Named.{IsNoMark};

@@ -1,4 +1,4 @@
-// Room for blocks of sectors, one a member.
+//! Room for blocks of sectors, one a member.
 ghost use Rattle.std.specs.Prelude.{◌≡◌, ◌*◌, length, IfOk};
 
 use image_source::{Memory, SECTOR};

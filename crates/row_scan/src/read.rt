@@ -1,4 +1,4 @@
-// Reads the members' regions, one after the other.
+//! Reads the members' regions, one after the other.
 ghost use Rattle.std.specs.Prelude.{ℕ, ◌≡◌, if◌then◌else◌, ◌+◌, ◌*◌, ◌%◌, ◌/◌, ◌^◌, ◌<◌, ◌≤◌, length, slice_index, false, All, OnOk, IfSome};
 ghost use Rattle.std.specs.Option.{is_none};
 ghost use Rattle.image_source.specs.Attached.{told_all};

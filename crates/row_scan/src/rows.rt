@@ -1,4 +1,4 @@
-// The rows of a block.
+//! The rows of a block.
 ghost use Rattle.std.specs.Prelude.{ℕ, ◌≡◌, ◌+◌, ◌*◌, ◌^◌, ◌<◌, ◌≤◌, length, slice_index, MatchOption};
 ghost use Rattle.raid_terms.specs.Cells.{row_cells as row_cells_of};
 ghost use Rattle.raid_terms.specs.Parity.{is_sound, IsRow};

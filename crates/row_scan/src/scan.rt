@@ -1,4 +1,4 @@
-// The parity test of a parameter set, and the count of its unsound rows.
+//! The parity test of a parameter set, and the count of its unsound rows.
 ghost use Rattle.std.specs.Prelude.{◌≡◌, ◌+◌, ◌-◌, ◌*◌, ◌^◌, ◌<◌, ◌≤◌, length, All, IfErr, IfOk, IfSome};
 ghost use Rattle.image_source.specs.Attached.{told_all};
 ghost use Rattle.image_source.specs.Seen.{OnlyReads};

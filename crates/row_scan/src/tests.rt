@@ -1,4 +1,4 @@
-// That a test succeeds, over images in memory.
+//! That a test succeeds, over images in memory.
 ghost use Rattle.std.specs.Prelude.{◌≡◌, ◌≤◌, ◌^◌, ◌<◌, length, All, IsSomeAnd, IsTrue, slice_get};
 ghost use Rattle.image_source.specs.Memory.{seen_of};
 

@@ -1,4 +1,8 @@
-//! The fields of a 512-byte sector: one call for each width and byte order.
+//! The fields of a sector of 512 bytes: numbers by width and byte order, identifiers, and fixed bytes.
+//!
+//! `gpt_marks`, `ntfs_marks` and `xfs_marks` read their sectors with these calls. What a field is stands
+//! in `specs/Fields`, and each call gives just that. [`DISTANCE_LIMIT`] bounds the distances that a
+//! landmark may tell.
 #![tactic(auto)]
 
 ghost use Rattle.std.specs.Prelude.{◌≡◌, ◌+◌, ◌≤◌, length};

@@ -1,4 +1,4 @@
-// How many lists a space has, and how many of them begin with a prefix.
+//! How many lists a space has, and how many of them begin with a prefix.
 ghost use Rattle.std.specs.Prelude.{◌≡◌, ◌≤◌, ◌*◌, ◌<◌, ◌^◌, ◌+◌, ℕ, length, filter};
 ghost use Rattle.slot_math.specs.Space.{lists_of, begins};
 ghost use Rattle.slot_math.specs.Ways.{ways};

@@ -1,4 +1,4 @@
-// Laws of the ordered list of a space.
+//! Laws of the ordered list of a space.
 ghost use Rattle.slot_math.specs.Laws.{EachListIsShaped, EachListOnce, RanksAndListsUndo};
 
 /// No list stands at two places of a space.

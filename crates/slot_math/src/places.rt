@@ -1,4 +1,4 @@
-// What stands in the places of a list.
+//! What stands in the places of a list.
 ghost use Rattle.std.specs.Prelude.{◌≡◌, ◌≤◌, length};
 ghost use Rattle.raid_params.specs.Slots.{stands, is_distinct, empties};
 ghost use Rattle.slot_math.specs.Ways.{are_images};

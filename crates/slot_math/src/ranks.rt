@@ -1,4 +1,4 @@
-// The list of a rank, and the rank of a list.
+//! The list of a rank, and the rank of a list.
 ghost use Rattle.std.specs.Prelude.{◌≡◌, ◌≤◌, ◌<◌, ◌+◌, ◌++◌, ◌∷◌, [], None, Some, length, filter, slice_get};
 ghost use Rattle.raid_params.specs.Slots.{stands, empties};
 ghost use Rattle.slot_math.specs.Space.{begins, lists_of, rank_in};

@@ -1,4 +1,4 @@
-// A space of slot lists.
+//! A space of slot lists.
 
 /// All slot lists of `members` places over the images below `images`, in which no image stands
 /// twice and from `low` to `high` places are empty. Their order is lexicographic, with an empty

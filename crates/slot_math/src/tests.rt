@@ -1,3 +1,4 @@
+//! Small spaces whose lists are written out, and a large one whose length is worked out by hand.
 ghost use Rattle.std.specs.Prelude.{◌≡◌, ◌≤◌};
 
 use crate::Space;

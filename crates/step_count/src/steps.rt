@@ -1,4 +1,4 @@
-// A counter of steps, for contracts alone.
+//! A counter of steps, for contracts alone.
 ghost use Rattle.std.specs.Prelude.{◌≡◌, ℕ, ◌+◌, ◌<◌};
 
 use std::marker::Model;

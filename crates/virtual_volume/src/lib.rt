@@ -1,5 +1,9 @@
-//! The volume of an array, written out whole or read a sector at a time. The members are read in
-//! batches of whole rows, and what lost members held is found by parity.
+//! The volume of an array, written out whole or read a sector at a time.
+//!
+//! [`write_volume`] reads the members in batches of whole rows, finds by parity what lost members held, and
+//! puts the data in the volume's order. `command_jobs` has it do `write`, and `member_rebuild` shares its
+//! [`Room`]. The volume stands in `Volume` of `raid_terms`, what is asked of a set in `specs/Served`, the
+//! regions of a batch in `specs/Regions`, its parts in `specs/Parts` and `Waiting`.
 #![tactic(auto)]
 
 mod lost;

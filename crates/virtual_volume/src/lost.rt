@@ -1,4 +1,4 @@
-// What a lost member held.
+//! What a lost member held.
 ghost use Rattle.std.specs.Prelude.{ℕ, List, ◌≡◌, ◌+◌, ◌*◌, ◌/◌, ◌^◌, ◌<◌, ◌≤◌, length, slice_index, slice_index_or, slice_get, None, true, IfSome};
 ghost use Rattle.raid_terms.specs.Cells.{row_cells as row_cells_of};
 ghost use Rattle.raid_terms.specs.Parity.{IsRow};

@@ -1,4 +1,4 @@
-// Small pieces are put many at once.
+//! Small pieces are put many at once.
 ghost use Rattle.std.specs.Prelude.{◌≡◌, [], ◌++◌, ◌+◌, ◌≤◌, length, IfOk, OnOk};
 ghost use Rattle.image_source.specs.Causes.{HasCause};
 ghost use Rattle.virtual_volume.specs.Waiting.{Passed};

@@ -1,4 +1,4 @@
-// Room for a batch of rows.
+//! Room for a batch of rows.
 ghost use Rattle.std.specs.Prelude.{ℕ, List, ◌≡◌, ◌+◌, ◌*◌, ◌^◌, ◌<◌, ◌≤◌, length, slice_index_or, slice_range, None, All, IfOk, IfSome, OnOk, IsTrue};
 ghost use Rattle.image_source.specs.Attached.{told_all};
 ghost use Rattle.image_source.specs.Causes.{HasCause};

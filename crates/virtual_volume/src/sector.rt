@@ -1,4 +1,4 @@
-// One sector of the volume.
+//! One sector of the volume.
 ghost use Rattle.std.specs.Prelude.{◌≡◌, ◌+◌, ◌^◌, ◌<◌, length, slice_index_or, None, All, IfSome, OnOk};
 ghost use Rattle.image_source.specs.Attached.{told_all};
 ghost use Rattle.image_source.specs.Causes.{HasCause};

@@ -1,4 +1,4 @@
-// Volumes that were worked out by hand, over images in memory.
+//! Volumes that were worked out by hand, over images in memory.
 ghost use Rattle.std.specs.Prelude.{◌≡◌, ◌≤◌, ◌^◌, ◌<◌, length, All, IsSomeAnd, IsTrue, slice_get};
 ghost use Rattle.image_source.specs.Memory.{seen_of};
 

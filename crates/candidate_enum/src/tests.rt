@@ -11,20 +11,11 @@ use std::process::Abort;
 use std::sync::ledger::{Blank, Ledger};
 use step_count::Steps;
 
-// Three images in three places, without the lists that begin with image 1. It writes down the
-// prefixes that it is asked, in decimal: the digits of a prefix are its images, each one more, and
-// a 0 ends it.
+/// Three images in three places, without the lists that begin with image 1.
 #[derive(Drop)]
 struct NotOne {
-    asked: Cell<u128>,
-}
-
-impl NotOne {
-    fn note(&self, digit: u8) {
-        let before = self.asked.get();
-        self.asked
-            .set(before.wrapping_mul(10).wrapping_add(digit as u128));
-    }
+    /// How many prefixes it was asked, or none where they were not the first of `ASKED`.
+    asked: Cell<Option<usize>>,
 }
 
 impl Family for NotOne {
@@ -42,19 +33,27 @@ impl Family for NotOne {
     }
 
     fn may_pass(&self, prefix: &Slots) -> bool {
-        for place in prefix.as_slice() {
-            self.note(match place {
-                Some(image) => image.wrapping_add(1),
-                None => 9,
-            });
-        }
-        self.note(0);
+        self.asked.set(match self.asked.get() {
+            Some(count) if ASKED.get(count).is_some_and(|p| *p == prefix.as_slice()) => Some(
+                count + 1,
+            ),
+            _ => None,
+        });
         !prefix.as_slice().starts_with(&[Some(1)])
     }
 }
 
-// The prefixes that are asked: the empty one, `0`, `0,2`, `0,2,1`, `1`, `2`, `2,0` and `2,0,1`.
-const ASKED: u128 = 10_130_132_020_303_103_120;
+/// The prefixes that a walk from rank 1 to rank 5 asks, in their order.
+const ASKED: [&[Option<u8>]; 8] = [
+    &[],
+    &[Some(0)],
+    &[Some(0), Some(2)],
+    &[Some(0), Some(2), Some(1)],
+    &[Some(1)],
+    &[Some(2)],
+    &[Some(2), Some(0)],
+    &[Some(2), Some(0), Some(1)],
+];
 
 fn is_leaf(leaf: &Option<Leaf>, rank: u64, slots: &[Option<u8>]) -> bool {
     match leaf {
@@ -80,26 +79,26 @@ fn two_leaves<R: Abort, L: Ledger>(rt: &R, family: &NotOne, blank: Blank)
 #[test]
 fn advanced(rt: HostRuntime) {
     let family = NotOne {
-        asked: Cell::new(0),
+        asked: Cell::new(Some(0)),
     };
     two_leaves::<HostRuntime, Brand>(&rt, &family, Blank::new(1));
-    assert_eq!(rt; family.asked.get(), ASKED);
+    assert_eq!(rt; family.asked.get(), Some(ASKED.len()));
 }
 
 #[test]
 fn iterated(rt: HostRuntime) {
     let family = NotOne {
-        asked: Cell::new(0),
+        asked: Cell::new(Some(0)),
     };
     assert!(rt; family.space().total() == 6);
     let mut walk = Survivors::start(&family, 1, 5);
     assert!(rt; is_leaf(&walk.next(), 1, &[Some(0), Some(2), Some(1)]));
     assert!(rt; is_leaf(&walk.next(), 4, &[Some(2), Some(0), Some(1)]));
     assert!(rt; walk.next().is_none());
-    assert_eq!(rt; family.asked.get(), ASKED);
+    assert_eq!(rt; family.asked.get(), Some(ASKED.len()));
 }
 
-// Sixteen images in sixteen places, of which one list passes.
+/// Sixteen images in sixteen places, of which one list passes.
 #[derive(Drop)]
 struct OneList {
     wanted: Slots,
@@ -124,19 +123,40 @@ impl Family for OneList {
     }
 }
 
+/// The list of rank 12,345,678,901,234, as these lines of Python give it:
+///
+///     from math import factorial
+///     rank, left, wanted = 12_345_678_901_234, list(range(16)), []
+///     for after in reversed(range(16)):
+///         place, rank = divmod(rank, factorial(after))
+///         wanted.append(left.pop(place))
+///     assert wanted == [9, 6, 10, 8, 13, 3, 1, 7, 0, 11, 14, 4, 5, 15, 2, 12]
+const WANTED: [Option<u8>; 16] = [
+    Some(9),
+    Some(6),
+    Some(10),
+    Some(8),
+    Some(13),
+    Some(3),
+    Some(1),
+    Some(7),
+    Some(0),
+    Some(11),
+    Some(14),
+    Some(4),
+    Some(5),
+    Some(15),
+    Some(2),
+    Some(12),
+];
+
 #[test]
 fn one_of_many(rt: HostRuntime) {
-    let space = Space {
-        images: 16,
-        members: 16,
-        low: 0,
-        high: 0,
-    };
-    assert!(rt; space.total() == 20_922_789_888_000);
     let family = OneList {
-        wanted: space.unrank(12_345_678_901_234),
+        wanted: Slots::from(WANTED),
     };
+    assert!(rt; family.space().total() == 20_922_789_888_000);
     let mut walk = Survivors::start(&family, 0, 20_922_789_888_000);
-    assert!(rt; is_leaf(&walk.next(), 12_345_678_901_234, family.wanted.as_slice()));
+    assert!(rt; is_leaf(&walk.next(), 12_345_678_901_234, &WANTED));
     assert!(rt; walk.next().is_none());
 }

@@ -8,12 +8,12 @@ ghost use Rattle.raid_terms.specs.Role.{p_of, q_of, double_p as double_p_of, dou
 use crate::items::slots_between;
 use crate::parity::{double_p, double_q};
 use crate::roles::item_of_slot;
-use raid_params::{Head, Syndrome};
+use raid_params::{Head, MOST, Syndrome};
 
 /// How many data slots the walk from the slot after Q meets before a slot.
 #[tactic(auto, using(crate::proofs::Walks::number_past_p, crate::proofs::Walks::number_up_to_p))]
 fn number_after_q(slots: u8, p: u8, q: u8, slot: u8) -> u8
-    requires most { slots ≤ 16 }
+    requires most { slots ≤ MOST }
     requires slot { slot < slots }
     requires p { p < slots }
     requires q { q < slots }

@@ -3,7 +3,7 @@ ghost use Rattle.std.specs.Prelude.{◌≡◌, ◌≢◌, ◌<◌, ◌≤◌, �
 ghost use Rattle.raid_terms.specs.Role.{after, double_item as double_item_of, double_p as double_p_of, double_q as double_q_of, over_p, over_p_and_q, single_item as single_item_of, single_p as single_p_of};
 
 use crate::parity::{double_p, single_p};
-use raid_params::Pattern;
+use raid_params::{MOST, Pattern};
 
 /// The item of a slot where the items pass over P.
 #[tactic(auto, using(crate::proofs::Single::over_p_before, crate::proofs::Single::over_p_behind))]
@@ -20,7 +20,7 @@ fn item_beside_p(slots: u8, p: u8, slot: u8) -> u8
 /// How many slots lie between P and a slot, going round from P.
 #[tactic(auto, using(crate::proofs::Single::round_before, crate::proofs::Single::round_behind))]
 pub(crate) fn slots_between(slots: u8, p: u8, slot: u8) -> u8
-    requires most { slots ≤ 16 }
+    requires most { slots ≤ MOST }
     requires slot { slot < slots }
     requires p { p < slots }
     requires other { slot ≢ p }
@@ -58,7 +58,7 @@ fn item_beside_p_and_q(slots: u8, p: u8, slot: u8) -> u8
 #[tactic(auto, using(crate::proofs::Steps::second_before, crate::proofs::Steps::second_behind, crate::proofs::Double::two_on, crate::proofs::Double::two_round))]
 fn slots_past_q(slots: u8, p: u8, slot: u8) -> u8
     requires few { 2 < slots }
-    requires most { slots ≤ 16 }
+    requires most { slots ≤ MOST }
     requires slot { slot < slots }
     requires p { p < slots }
     requires other { slot ≢ p }
@@ -77,7 +77,7 @@ fn slots_past_q(slots: u8, p: u8, slot: u8) -> u8
 #[tactic(auto, using(crate::proofs::Single::round_before, crate::proofs::Single::round_behind, crate::proofs::Double::one_before, crate::proofs::Double::last_before))]
 fn slots_up_to_q(slots: u8, p: u8, slot: u8) -> u8
     requires few { 2 < slots }
-    requires most { slots ≤ 16 }
+    requires most { slots ≤ MOST }
     requires slot { slot < slots }
     requires p { p < slots }
     requires other { slot ≢ p }
@@ -95,7 +95,7 @@ fn slots_up_to_q(slots: u8, p: u8, slot: u8) -> u8
 /// The item of a slot at level 5.
 pub(crate) fn single_item_at(pattern: Pattern, slots: u8, row: u64, slot: u8) -> u8
     requires few { 1 < slots }
-    requires most { slots ≤ 16 }
+    requires most { slots ≤ MOST }
     requires slot { slot < slots }
     requires other { slot ≢ single_p_of pattern slots row }
     ensures there { slot ≡ single_item_of pattern slots row result }
@@ -113,7 +113,7 @@ pub(crate) fn single_item_at(pattern: Pattern, slots: u8, row: u64, slot: u8) ->
 /// The item of a slot at level 6.
 pub(crate) fn double_item_at(pattern: Pattern, slots: u8, row: u64, slot: u8) -> u8
     requires few { 2 < slots }
-    requires most { slots ≤ 16 }
+    requires most { slots ≤ MOST }
     requires slot { slot < slots }
     requires other { slot ≢ double_p_of pattern slots row }
     requires another { slot ≢ double_q_of pattern slots row }

@@ -2,7 +2,7 @@
 ghost use Rattle.std.specs.Prelude.{◌≡◌, ◌≢◌, ◌<◌, ◌≤◌, ◌-◌, ◌+◌};
 ghost use Rattle.raid_terms.specs.Role.{after as after_of, double_item as double_item_of, double_p as double_p_of, double_q as double_q_of, leftward as leftward_of, over_p as over_p_of, over_p_and_q as over_p_and_q_of, rightward as rightward_of, single_item as single_item_of, single_p as single_p_of};
 
-use raid_params::Pattern;
+use raid_params::{MOST, Pattern};
 
 /// From the last slot, one to the left each row.
 fn leftward(slots: u8, row: u64) -> u8
@@ -76,7 +76,7 @@ pub(crate) fn single_p(pattern: Pattern, slots: u8, row: u64) -> u8
 /// The slot of a data item at level 5.
 pub(crate) fn single_item(pattern: Pattern, slots: u8, row: u64, item: u8) -> u8
     requires few { 0 < slots }
-    requires most { slots ≤ 16 }
+    requires most { slots ≤ MOST }
     requires item { item < slots }
     ensures { result ≡ single_item_of pattern slots row item }
 {
@@ -108,7 +108,7 @@ pub(crate) fn double_p(pattern: Pattern, slots: u8, row: u64) -> u8
 /// The slot of Q at level 6.
 pub(crate) fn double_q(pattern: Pattern, slots: u8, row: u64) -> u8
     requires few { 2 < slots }
-    requires most { slots ≤ 16 }
+    requires most { slots ≤ MOST }
     ensures { result ≡ double_q_of pattern slots row }
 {
     let p = double_p(pattern, slots, row);
@@ -124,7 +124,7 @@ pub(crate) fn double_q(pattern: Pattern, slots: u8, row: u64) -> u8
 /// The slot of a data item at level 6.
 pub(crate) fn double_item(pattern: Pattern, slots: u8, row: u64, item: u8) -> u8
     requires few { 2 < slots }
-    requires most { slots ≤ 16 }
+    requires most { slots ≤ MOST }
     requires item { item < slots - 2 }
     ensures { result ≡ double_item_of pattern slots row item }
 {

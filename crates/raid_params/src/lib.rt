@@ -11,9 +11,11 @@
 #![tactic(auto)]
 
 mod limits;
+mod slots;
 mod types;
 mod validity;
 
 pub use limits::{LARGEST_CHUNK, MOST, MOST_CHUNKS, MOST_LESS_ONE, MOST_OFFSETS, SECTORS_END};
+pub use slots::{count_empty, stands_among};
 pub use types::{Bounds, Cell, GeoFault, Geometry, Head, Level, Part, Pattern, Slots, Syndrome};
 pub use validity::is_chunk;

@@ -64,15 +64,20 @@ pub enum Syndrome {
     BySlot,
 }
 
-/// The parameters of an array but for its slots. `chunk` is in sectors. `offset` is the image
-/// sector at which the data of each member begin.
+/// The parameters of an array but for its slots.
 #[derive(Clone, Copy)]
 pub struct Head {
+    /// The RAID level.
     pub level: Level,
+    /// The number of members: of slots, empty ones too.
     pub members: u8,
+    /// How the parity rotates.
     pub pattern: Pattern,
+    /// In what order Q counts the data blocks.
     pub syndrome: Syndrome,
+    /// The chunk, in sectors.
     pub chunk: u64,
+    /// The image sector at which the data of each member begin.
     pub offset: u64,
 }
 
@@ -82,7 +87,9 @@ pub type Slots = ArrayVec<Option<u8>, MOST>;
 /// The parameter set of an array.
 #[derive(Drop)]
 pub struct Geometry {
+    /// What does not depend on the images.
     pub head: Head,
+    /// What each slot holds, the first slot first.
     pub slots: Slots,
 }
 
@@ -101,7 +108,9 @@ pub enum Part {
 /// A block of a row, and whether its member is missing.
 #[derive(Clone, Copy, Default)]
 pub struct Cell {
+    /// What the block is for the equations.
     pub part: Part,
+    /// Whether its member is missing, so that the block cannot be read.
     pub missing: bool,
 }
 
@@ -109,13 +118,21 @@ pub struct Cell {
 /// sense, with at most `missing` empty slots and at most `foreign` images in no slot.
 #[derive(Drop)]
 pub struct Bounds {
+    /// The levels to try: there are three.
     pub levels: ArrayVec<Level, 3>,
+    /// The numbers of members to try.
     pub members: ArrayVec<u8, MOST_LESS_ONE>,
+    /// The patterns to try: there are fourteen.
     pub patterns: ArrayVec<Pattern, 14>,
+    /// The orders of Q to try: there are four.
     pub syndromes: ArrayVec<Syndrome, 4>,
+    /// The chunks to try, in sectors.
     pub chunks: ArrayVec<u64, MOST_CHUNKS>,
+    /// The image sectors to try at which the data of each member may begin.
     pub offsets: ArrayVec<u64, MOST_OFFSETS>,
+    /// The most empty slots.
     pub missing: u8,
+    /// The most images that stand in no slot.
     pub foreign: u8,
 }
 

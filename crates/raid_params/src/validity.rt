@@ -2,10 +2,10 @@
 ghost use Rattle.std.specs.Prelude.{◌≡◌, ◌<◌, ◌≤◌, IfSome, MatchResult, Some, None, length, nat_eq};
 ghost use Rattle.std.specs.List.{find, range_with_len};
 ghost use Rattle.raid_params.specs.Size.{redundancy as redundancy_of, rows};
-ghost use Rattle.raid_params.specs.Slots.{empties, stands as stands_among};
 ghost use Rattle.raid_params.specs.Validity.{first_absent as first_absent_of, first_fault, first_repeat as first_repeat_of, has_members as has_members_of, has_pattern as has_pattern_of, has_syndrome as has_syndrome_of, is_absent as is_absent_at, is_chunk as is_chunk_size, is_met_again as is_met_again_at, is_shaped as is_shaped_over, is_valid_head, shape_fault, slots_fault};
 
 use crate::limits::{MOST, MOST_CHUNKS};
+use crate::slots::{count_empty, stands_among};
 use crate::types::{GeoFault, Geometry, Head, Level, Pattern, Syndrome};
 
 impl Level {
@@ -130,14 +130,14 @@ impl Geometry {
 
 /// The first broken rule on what the slots hold.
 fn broken_slots(level: Level, images: u8, slots: &[Option<u8>]) -> Option<GeoFault>
-    requires { length slots.now ≤ 16 }
+    requires { length slots.now ≤ MOST }
     ensures { result ≡ slots_fault level images slots.now (first_absent_of images slots.now) (first_repeat_of slots.now) }
 {
     match (first_absent(slots, images), first_repeat(slots)) {
         (Some(image), _) => Some(GeoFault::Image(image)),
         (None, Some(image)) => Some(GeoFault::Repeat(image)),
         (None, None) => {
-            let empty = count_empty(slots);
+            let empty = count_empty(slots) as u8;
             if empty <= level.redundancy() {
                 None
             } else {
@@ -200,33 +200,7 @@ fn is_met_again(slots: &[Option<u8>], at: usize) -> bool
     ensures { result ≡ is_met_again_at slots.now at }
 {
     match slots[at] {
-        Some(image) => stands(image, &slots[..at]),
+        Some(image) => stands_among(image, &slots[..at]),
         None => false,
-    }
-}
-
-/// Whether the image stands in one of the slots.
-#[tactic(auto, unfolding(crate::specs::Slots::stands))]
-fn stands(image: u8, slots: &[Option<u8>]) -> bool
-    ensures { result ≡ stands_among image slots.now }
-{
-    match slots {
-        [] => false,
-        [None, rest @ ..] => stands(image, rest),
-        [Some(other), rest @ ..] => image == *other || stands(image, rest),
-    }
-}
-
-/// How many slots are empty.
-#[tactic(auto, unfolding(crate::specs::Slots::empties))]
-fn count_empty(slots: &[Option<u8>]) -> u8
-    requires few { length slots.now ≤ 16 }
-    ensures count { result ≡ empties slots.now }
-    ensures within { result ≤ length slots.now }
-{
-    match slots {
-        [] => 0,
-        [None, rest @ ..] => 1 + count_empty(rest),
-        [Some(_), rest @ ..] => count_empty(rest),
     }
 }

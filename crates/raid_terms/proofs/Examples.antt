@@ -10,7 +10,6 @@ use Rattle.raid_params.specs.declared.types.Pattern.TheVariants.{Plain, La, Ls}
 use Rattle.raid_params.specs.declared.types.Syndrome.{Syndrome}
 use Rattle.raid_params.specs.declared.types.Syndrome.TheVariants.{NoQ, AfterQ, ByData, BySlot}
 use Rattle.raid_params.specs.declared.types.Cell.{Cell}
-use Rattle.raid_params.specs.declared.types.Head.{Head}
 use Rattle.raid_params.specs.declared.types.Part.{Part}
 use Rattle.raid_params.specs.declared.types.Part.TheVariants.{Block, P, Q}
 use Rattle.gf256.specs.Field.{power_of, times}

@@ -1,5 +1,5 @@
 -- The product: every parameter set of the bounds, in its order, and those that pass.
-use Rattle.std.specs.Prelude.{ℕ, ◌-◌, min, Bool, false, nat_le, ◌&&◌, List, length, map, filter, slice_get}
+use Rattle.std.specs.Prelude.{ℕ, ◌-◌, min, Bool, false, nat_le, ◌&&◌, List, map, filter, slice_get}
 use Rattle.std.specs.List.{flat_map}
 use Rattle.std.specs.Option.{option_map_or}
 use Rattle.std.specs.declared.option.Option.{Option}

@@ -3,9 +3,9 @@ ghost use Rattle.std.specs.Prelude.{◌≡◌, ◌≤◌, ◌*◌, ◌<◌, ◌^
 ghost use Rattle.slot_math.specs.Space.{lists_of, begins};
 ghost use Rattle.slot_math.specs.Ways.{ways};
 
-use crate::places::{all_different, all_images, empty_count};
+use crate::places::{all_different, all_images};
 use crate::space::Space;
-use raid_params::{MOST, Slots};
+use raid_params::{MOST, Slots, count_empty};
 
 // One way, where no place is left and as many are empty as may be.
 #[tactic(auto, using(crate::proofs::Bound::ways_zero))]
@@ -75,7 +75,7 @@ impl Space {
         {
             return 0;
         }
-        let empty = empty_count(places);
+        let empty = count_empty(places);
         let free = (self.images as usize).saturating_sub(count - empty);
         let left = self.members as usize - count;
         ways_of(self.low, self.high, free as u8, left as u8, empty as u8)

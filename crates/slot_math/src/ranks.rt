@@ -5,9 +5,9 @@ ghost use Rattle.slot_math.specs.Space.{begins, lists_of, rank_in};
 ghost use Rattle.slot_math.specs.Ways.{ends, images_before, before, is_listed, IsImageWays, IsPlace, IsStart};
 
 use crate::counts::ways_of;
-use crate::places::{all_different, all_images, empty_count, holds_image};
+use crate::places::{all_different, all_images};
 use crate::space::Space;
-use raid_params::{MOST, Slots};
+use raid_params::{MOST, Slots, count_empty, stands_among};
 
 impl Space {
     // How many lists go on from these places with one image that is not among them: as many for
@@ -20,7 +20,7 @@ impl Space {
         requires start { IsStart self.now prefix.now }
         ensures { IsImageWays self.now prefix.now result }
     {
-        let empty = empty_count(prefix);
+        let empty = count_empty(prefix);
         let used = prefix.len() + 1 - empty;
         let free = (self.images as usize).saturating_sub(used);
         let left = self.members as usize - (prefix.len() + 1);
@@ -35,7 +35,7 @@ impl Space {
         requires ways { IsImageWays self.now prefix.now ways }
         ensures { result ≡ length (ends self.now (prefix.now ++ Some image ∷ [])) }
     {
-        if holds_image(prefix, image) { 0 } else { ways }
+        if stands_among(image, prefix) { 0 } else { ways }
     }
 
     // How many lists go on from these places with an empty one.
@@ -47,7 +47,7 @@ impl Space {
         requires start { IsStart self.now prefix.now }
         ensures { result ≡ length (ends self.now (prefix.now ++ None ∷ [])) }
     {
-        let empty = empty_count(prefix);
+        let empty = count_empty(prefix);
         let free = (self.images as usize).saturating_sub(prefix.len() - empty);
         let left = self.members as usize - (prefix.len() + 1);
         ways_of(
@@ -74,7 +74,7 @@ impl Space {
         match place {
             None => self.empty_ways(prefix),
             Some(image) => {
-                if holds_image(prefix, image) {
+                if stands_among(image, prefix) {
                     0
                 } else {
                     self.image_ways(prefix)
@@ -150,7 +150,7 @@ impl Space {
     fn holds(&self, list: &[Option<u8>]) -> bool
         ensures { result ≡ is_listed self.now list.now }
     {
-        let empty = empty_count(list);
+        let empty = count_empty(list);
         list.len() == self.members as usize
             && all_images(list, self.images)
             && all_different(list)

@@ -9,8 +9,10 @@ ghost use Rattle.std.specs.Prelude.{◌≡◌, length};
 
 use std::{env, io};
 
+/// The bytes of a list: both lists stay in the first cache.
 const LENGTH: usize = 4096;
 
+/// The factor of the products. Every factor takes the same steps.
 const FACTOR: u8 = 0x8E;
 
 const USAGE: &str =

@@ -3,7 +3,7 @@
 ghost use Rattle.std.specs.Prelude.{ℕ, ◌≡◌, ◌≢◌, ◌<◌, ◌^◌, bit_xor};
 ghost use Rattle.gf256.specs.Field.{product, power_of};
 
-use crate::tables::{LOGARITHMS, POWERS};
+use crate::tables::{LOGARITHMS, PERIOD, POWERS};
 
 /// The sum of two bytes, which is their difference too.
 pub fn add(a: u8, b: u8) -> u8
@@ -21,7 +21,7 @@ pub fn mul(a: u8, b: u8) -> u8
         0
     } else {
         let sum = LOGARITHMS[a as usize] as usize + LOGARITHMS[b as usize] as usize;
-        POWERS[sum % 255]
+        POWERS[sum % PERIOD]
     }
 }
 
@@ -30,7 +30,7 @@ pub fn mul(a: u8, b: u8) -> u8
 pub fn power(k: u8) -> u8
     ensures { result ≡ power_of k }
 {
-    POWERS[k as usize % 255]
+    POWERS[k as usize % PERIOD]
 }
 
 /// The one byte whose product with a is 1. 0 has none, so a is not 0.
@@ -41,7 +41,7 @@ pub fn inverse(a: u8) -> u8
     ensures only { (x : ℕ) → x < 2 ^ 8 → product a x ≡ 1 → x ≡ result }
 {
     let logarithm = LOGARITHMS[a as usize] as usize;
-    POWERS[(255 - logarithm) % 255]
+    POWERS[(PERIOD - logarithm) % PERIOD]
 }
 
 /// The one byte whose product with b is a. b is not 0.

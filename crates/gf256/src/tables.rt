@@ -1,7 +1,10 @@
 //! Powers of 2 and logarithms to it.
 
-// The powers of 2, from 2 ^ 0 to 2 ^ 254.
-pub const POWERS: [u8; 255] = [
+/// How often 2 is multiplied until it is 1 again. Its powers are all bytes but 0.
+pub const PERIOD: usize = 255;
+
+/// The powers of 2, from 2 ^ 0 to 2 ^ 254.
+pub const POWERS: [u8; PERIOD] = [
     1, 2, 4, 8, 16, 32, 64, 128, 29, 58, 116, 232, 205, 135, 19, 38, 76, 152, 45, 90, 180, 117,
     234, 201, 143, 3, 6, 12, 24, 48, 96, 192, 157, 39, 78, 156, 37, 74, 148, 53, 106, 212, 181,
     119, 238, 193, 159, 35, 70, 140, 5, 10, 20, 40, 80, 160, 93, 186, 105, 210, 185, 111, 222, 161,
@@ -17,7 +20,7 @@ pub const POWERS: [u8; 255] = [
     131, 27, 54, 108, 216, 173, 71, 142,
 ];
 
-// The logarithm of each byte: the power of 2 that it is. 0 has none, and its place is not used.
+/// The logarithm of each byte: the power of 2 that it is. 0 has none, and its place is not used.
 pub const LOGARITHMS: [u8; 256] = [
     0, 0, 1, 25, 2, 50, 26, 198, 3, 223, 51, 238, 27, 104, 199, 75, 4, 100, 224, 14, 52, 141, 239,
     129, 28, 193, 105, 248, 200, 8, 76, 113, 5, 138, 101, 47, 225, 36, 15, 33, 53, 147, 142, 218,

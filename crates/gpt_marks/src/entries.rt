@@ -3,27 +3,30 @@
 ghost use Rattle.std.specs.Prelude.{◌≡◌, ◌+◌, ◌≤◌, ◌<◌, All, IfSome};
 ghost use Rattle.gpt_marks.specs.Entry.{first_lba, first_lbas, is_used_entry};
 
-use sector_fields::{DISTANCE_LIMIT, has_bytes, u64_le};
+use sector_fields::{DISTANCE_LIMIT, SECTOR, has_bytes, u64_le};
+
+/// The bytes of an entry: a sector has four.
+const ENTRY: usize = 128;
 
 /// The first block of each of the four entries of a sector of a table whose other header lies in
 /// block `alternate`. None for an entry that is unused, that ends before it begins or past
 /// `alternate`, or that begins at 2^55 or later.
 #[tactic(auto, unfolding(crate::specs::Entry::first_lbas))]
-pub fn read_entries(sector: &[u8; 512], alternate: u64) -> [Option<u64>; 4]
+pub fn read_entries(sector: &[u8; SECTOR], alternate: u64) -> [Option<u64>; 4]
     ensures firsts { result ≡ first_lbas sector.now alternate }
     ensures within { All (λ o. IfSome o (λ first. first < DISTANCE_LIMIT)) result }
 {
     [
         read_entry(sector, alternate, 0),
-        read_entry(sector, alternate, 128),
-        read_entry(sector, alternate, 256),
-        read_entry(sector, alternate, 384),
+        read_entry(sector, alternate, ENTRY),
+        read_entry(sector, alternate, 2 * ENTRY),
+        read_entry(sector, alternate, 3 * ENTRY),
     ]
 }
 
 #[tactic(auto, unfolding(crate::specs::Entry::first_lba), using(crate::proofs::Limits::first_within))]
-fn read_entry(sector: &[u8; 512], alternate: u64, at: usize) -> Option<u64>
-    requires { at + 128 ≤ 512 }
+fn read_entry(sector: &[u8; SECTOR], alternate: u64, at: usize) -> Option<u64>
+    requires { at + ENTRY ≤ SECTOR }
     ensures first { result ≡ first_lba sector.now alternate at }
     ensures within { IfSome result (λ first. first < DISTANCE_LIMIT) }
 {
@@ -35,8 +38,8 @@ fn read_entry(sector: &[u8; 512], alternate: u64, at: usize) -> Option<u64>
 }
 
 #[tactic(auto, unfolding(crate::specs::Entry::is_used_entry))]
-fn is_used(sector: &[u8; 512], alternate: u64, at: usize) -> bool
-    requires { at + 128 ≤ 512 }
+fn is_used(sector: &[u8; SECTOR], alternate: u64, at: usize) -> bool
+    requires { at + ENTRY ≤ SECTOR }
     ensures { result ≡ is_used_entry sector.now alternate at }
 {
     let first = u64_le(sector, at + 32);

@@ -6,8 +6,11 @@ ghost use Rattle.gpt_marks.specs.Crc.{crc_32};
 ghost use Rattle.gpt_marks.specs.Header.{covered_bytes, gpt_header, gpt_header_of, is_gpt_header, is_own_table, with_zero_checksum};
 
 use crate::crc::crc32;
-use sector_fields::{DISTANCE_LIMIT, has_bytes, u32_le, u64_le, uuid_at};
+use sector_fields::{DISTANCE_LIMIT, SECTOR, has_bytes, u32_le, u64_le, uuid_at};
 use uuid::Uuid;
+
+/// The bytes that a header has at least: those of its fields. It has no more than its block.
+const SMALLEST_HEADER: u32 = 92;
 
 /// What a header says. A block has 512 bytes.
 #[derive(Clone, Copy, PartialEq, Eq)]
@@ -29,7 +32,7 @@ pub struct GptHeader {
 /// The header in a sector. None where the sector is no header: another signature, a header size that
 /// is not 92 to 512, a checksum that does not agree, or a MyLBA of 2^55 or more.
 #[tactic(auto, unfolding(crate::specs::Header::gpt_header), using(crate::proofs::Limits::my_lba_within))]
-pub fn read_header(sector: &[u8; 512]) -> Option<GptHeader>
+pub fn read_header(sector: &[u8; SECTOR]) -> Option<GptHeader>
     ensures header { result ≡ gpt_header sector.now }
     ensures within { IfSome result (λ h. h.my_lba < DISTANCE_LIMIT) }
 {
@@ -41,22 +44,22 @@ pub fn read_header(sector: &[u8; 512]) -> Option<GptHeader>
 }
 
 #[tactic(auto, unfolding(crate::specs::Header::is_gpt_header))]
-fn is_header(sector: &[u8; 512]) -> bool
+fn is_header(sector: &[u8; SECTOR]) -> bool
     ensures { result ≡ is_gpt_header sector.now }
 {
     let size = u32_le(sector, 12);
     has_bytes(sector, 0, b"EFI PART")
-        && 92 <= size
-        && size <= 512
+        && SMALLEST_HEADER <= size
+        && size <= SECTOR as u32
         && checksum(sector, size as usize) == u32_le(sector, 16)
         && u64_le(sector, 24) < DISTANCE_LIMIT
 }
 
 // The checksum of the first `size` bytes, its own four bytes taken as zero.
 #[tactic(auto, unfolding(crate::specs::Header::covered_bytes))]
-fn checksum(sector: &[u8; 512], size: usize) -> u32
+fn checksum(sector: &[u8; SECTOR], size: usize) -> u32
     requires size { size ≡ u32_le sector.now 12 }
-    requires within { size ≤ 512 }
+    requires within { size ≤ SECTOR }
     ensures { result ≡ crc_32 (covered_bytes sector.now) }
 {
     let covered = with_zero_checksum(sector);
@@ -64,7 +67,7 @@ fn checksum(sector: &[u8; 512], size: usize) -> u32
 }
 
 #[tactic(auto, unfolding(crate::specs::Header::with_zero_checksum))]
-fn with_zero_checksum(sector: &[u8; 512]) -> [u8; 512]
+fn with_zero_checksum(sector: &[u8; SECTOR]) -> [u8; SECTOR]
     ensures { result ≡ with_zero_checksum sector.now }
 {
     let mut bytes = *sector;
@@ -73,7 +76,7 @@ fn with_zero_checksum(sector: &[u8; 512]) -> [u8; 512]
 }
 
 #[tactic(auto, unfolding(crate::specs::Header::gpt_header_of))]
-fn fields_of(sector: &[u8; 512]) -> GptHeader
+fn fields_of(sector: &[u8; SECTOR]) -> GptHeader
     ensures { result ≡ gpt_header_of sector.now }
 {
     GptHeader {

@@ -5,7 +5,13 @@ ghost use Rattle.ntfs_marks.specs.Boot.{has_boot_form, is_within_limit, ntfs_boo
 ghost use Rattle.ntfs_marks.specs.RecordSize.{allowed_size, is_record_size};
 
 use crate::record_size::record_size;
-use sector_fields::{DISTANCE_LIMIT, has_bytes, u16_le, u64_le};
+use sector_fields::{DISTANCE_LIMIT, SECTOR, has_bytes, u16_le, u64_le};
+
+/// The most sectors of a cluster.
+const LARGEST_CLUSTER: u8 = 128;
+
+/// The last of the file records that `read_record` reads: those of the volume's own files.
+pub(crate) const LAST_RECORD: u32 = 15;
 
 /// What a boot sector says of its volume. A sector has 512 bytes.
 #[derive(Clone, Copy, PartialEq, Eq)]
@@ -30,7 +36,7 @@ pub struct NtfsBoot {
 /// record 15, of the table or of its copy, at sector 2^55 or later, records 0 to 15 taken to stand in
 /// one run.
 #[tactic(auto, using(crate::proofs::Sizes::no_boot, crate::proofs::Sizes::size_is, crate::proofs::Sizes::size_allowed, crate::proofs::Limits::boot_within))]
-pub fn read_boot(sector: &[u8; 512]) -> Option<NtfsBoot>
+pub fn read_boot(sector: &[u8; SECTOR]) -> Option<NtfsBoot>
     ensures boot { result ≡ ntfs_boot sector.now }
     ensures within { IfSome result (λ b. IsTrue (is_within_limit b)) }
 {
@@ -41,7 +47,7 @@ pub fn read_boot(sector: &[u8; 512]) -> Option<NtfsBoot>
 }
 
 #[tactic(auto, unfolding(crate::specs::Boot::ntfs_boot, crate::specs::Boot::is_ntfs_boot))]
-fn boot_by_size(sector: &[u8; 512], bytes: u32) -> Option<NtfsBoot>
+fn boot_by_size(sector: &[u8; SECTOR], bytes: u32) -> Option<NtfsBoot>
     requires size { bytes ≡ record_bytes sector.now }
     requires allowed { IsTrue (is_record_size (record_bytes sector.now)) }
     ensures { result ≡ ntfs_boot sector.now }
@@ -55,22 +61,22 @@ fn boot_by_size(sector: &[u8; 512], bytes: u32) -> Option<NtfsBoot>
 }
 
 #[tactic(auto, unfolding(crate::specs::Boot::record_bytes))]
-fn record_bytes(sector: &[u8; 512]) -> Option<u32>
+fn record_bytes(sector: &[u8; SECTOR]) -> Option<u32>
     ensures { result ≡ allowed_size (record_bytes sector.now) }
 {
     record_size(sector[64].cast_signed(), sector[13])
 }
 
 #[tactic(auto, unfolding(crate::specs::Boot::has_boot_form))]
-fn has_boot_form(sector: &[u8; 512]) -> bool
+fn has_boot_form(sector: &[u8; SECTOR]) -> bool
     ensures { result ≡ has_boot_form sector.now }
 {
     let cluster = sector[13];
     has_bytes(sector, 3, b"NTFS    ")
         && has_bytes(sector, 510, &[0x55, 0xAA])
-        && u16_le(sector, 11) == 512
+        && u16_le(sector, 11) == SECTOR as u16
         && cluster.is_power_of_two()
-        && cluster <= 128
+        && cluster <= LARGEST_CLUSTER
 }
 
 #[tactic(auto, unfolding(crate::specs::Boot::is_within_limit))]
@@ -84,16 +90,17 @@ fn is_within_limit(boot: &NtfsBoot) -> bool
         && last_record_sector(boot, boot.mirror) < limit
 }
 
-// The sector of file record 15, which may pass 64 bits.
+// The sector of the last file record, which may pass 64 bits.
 #[tactic(auto, unfolding(crate::specs::Boot::record_sector))]
 fn last_record_sector(boot: &NtfsBoot, first_cluster: u64) -> u128
     ensures { result ≡ record_sector boot.now first_cluster 15 }
 {
-    first_cluster as u128 * boot.cluster as u128 + 15 * (boot.record_bytes / 512) as u128
+    let record_sectors = boot.record_bytes / SECTOR as u32;
+    first_cluster as u128 * boot.cluster as u128 + LAST_RECORD as u128 * record_sectors as u128
 }
 
 #[tactic(auto, unfolding(crate::specs::Boot::ntfs_boot_of))]
-fn fields_of(sector: &[u8; 512], bytes: u32) -> NtfsBoot
+fn fields_of(sector: &[u8; SECTOR], bytes: u32) -> NtfsBoot
     requires { bytes ≡ record_bytes sector.now }
     ensures { result ≡ ntfs_boot_of sector.now }
 {

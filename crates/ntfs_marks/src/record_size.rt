@@ -3,6 +3,11 @@
 ghost use Rattle.std.specs.Prelude.{◌≡◌, ◌^◌};
 ghost use Rattle.ntfs_marks.specs.RecordSize.{allowed_size, coded_bytes};
 
+use sector_fields::SECTOR;
+
+/// The most bytes of a file record.
+const LARGEST_RECORD: u32 = 65_536;
+
 /// The bytes of a file record by the boot sector's code for them and by the sectors of a cluster.
 /// None where they are not 512 to 65,536 in whole sectors.
 #[tactic(auto, unfolding(crate::specs::RecordSize::coded_bytes))]
@@ -13,7 +18,7 @@ pub fn record_size(code: i8, cluster: u8) -> Option<u32>
     if code < 0 {
         power_size(size)
     } else {
-        allowed_size(size as u32 * cluster as u32 * 512)
+        allowed_size(size as u32 * cluster as u32 * SECTOR as u32)
     }
 }
 
@@ -31,7 +36,7 @@ fn power_size(power: u8) -> Option<u32>
 fn allowed_size(bytes: u32) -> Option<u32>
     ensures { result ≡ allowed_size bytes }
 {
-    if 512 <= bytes && bytes <= 65536 && bytes % 512 == 0 {
+    if SECTOR as u32 <= bytes && bytes <= LARGEST_RECORD && bytes % SECTOR as u32 == 0 {
         Some(bytes)
     } else {
         None

@@ -11,14 +11,17 @@ ghost use Rattle.sector_fields.specs.Fields.{u16_le, u32_le, u64_le, u16_be, u32
 use byteorder::{BigEndian, ByteOrder, LittleEndian};
 use uuid::Uuid;
 
+/// The bytes of a sector. A file system may speak of other sectors: these are the disk's.
+pub const SECTOR: usize = 512;
+
 /// Sector distances that a landmark tells stay below this, so that sums of a few of them fit a
 /// `u64`. A landmark that tells a longer one is none.
 pub const DISTANCE_LIMIT: u64 = 1 << 55;
 
 /// The number in the two bytes from `at` on, the lowest first.
 #[tactic(auto, unfolding(crate::specs::Fields::u16_le))]
-pub fn u16_le(sector: &[u8; 512], at: usize) -> u16
-    requires { at + 2 ≤ 512 }
+pub fn u16_le(sector: &[u8; SECTOR], at: usize) -> u16
+    requires { at + 2 ≤ SECTOR }
     ensures { result ≡ u16_le sector.now at }
 {
     LittleEndian::read_u16(&sector[at..])
@@ -26,8 +29,8 @@ pub fn u16_le(sector: &[u8; 512], at: usize) -> u16
 
 /// The number in the four bytes from `at` on, the lowest first.
 #[tactic(auto, unfolding(crate::specs::Fields::u32_le))]
-pub fn u32_le(sector: &[u8; 512], at: usize) -> u32
-    requires { at + 4 ≤ 512 }
+pub fn u32_le(sector: &[u8; SECTOR], at: usize) -> u32
+    requires { at + 4 ≤ SECTOR }
     ensures { result ≡ u32_le sector.now at }
 {
     LittleEndian::read_u32(&sector[at..])
@@ -35,8 +38,8 @@ pub fn u32_le(sector: &[u8; 512], at: usize) -> u32
 
 /// The number in the eight bytes from `at` on, the lowest first.
 #[tactic(auto, unfolding(crate::specs::Fields::u64_le))]
-pub fn u64_le(sector: &[u8; 512], at: usize) -> u64
-    requires { at + 8 ≤ 512 }
+pub fn u64_le(sector: &[u8; SECTOR], at: usize) -> u64
+    requires { at + 8 ≤ SECTOR }
     ensures { result ≡ u64_le sector.now at }
 {
     LittleEndian::read_u64(&sector[at..])
@@ -44,8 +47,8 @@ pub fn u64_le(sector: &[u8; 512], at: usize) -> u64
 
 /// The number in the two bytes from `at` on, the highest first.
 #[tactic(auto, unfolding(crate::specs::Fields::u16_be))]
-pub fn u16_be(sector: &[u8; 512], at: usize) -> u16
-    requires { at + 2 ≤ 512 }
+pub fn u16_be(sector: &[u8; SECTOR], at: usize) -> u16
+    requires { at + 2 ≤ SECTOR }
     ensures { result ≡ u16_be sector.now at }
 {
     BigEndian::read_u16(&sector[at..])
@@ -53,8 +56,8 @@ pub fn u16_be(sector: &[u8; 512], at: usize) -> u16
 
 /// The number in the four bytes from `at` on, the highest first.
 #[tactic(auto, unfolding(crate::specs::Fields::u32_be))]
-pub fn u32_be(sector: &[u8; 512], at: usize) -> u32
-    requires { at + 4 ≤ 512 }
+pub fn u32_be(sector: &[u8; SECTOR], at: usize) -> u32
+    requires { at + 4 ≤ SECTOR }
     ensures { result ≡ u32_be sector.now at }
 {
     BigEndian::read_u32(&sector[at..])
@@ -62,8 +65,8 @@ pub fn u32_be(sector: &[u8; 512], at: usize) -> u32
 
 /// The sixteen bytes from `at` on, in the order in which they stand.
 #[tactic(auto, unfolding(crate::specs::Fields::uuid_at))]
-pub fn uuid_at(sector: &[u8; 512], at: usize) -> Uuid
-    requires { at + 16 ≤ 512 }
+pub fn uuid_at(sector: &[u8; SECTOR], at: usize) -> Uuid
+    requires { at + 16 ≤ SECTOR }
     ensures { result ≡ uuid_at sector.now at }
 {
     let mut bytes = [0u8; 16];
@@ -73,8 +76,8 @@ pub fn uuid_at(sector: &[u8; 512], at: usize) -> Uuid
 
 /// Whether `bytes` stand from byte `at` on.
 #[tactic(auto, unfolding(crate::specs::Fields::has_bytes))]
-pub fn has_bytes(sector: &[u8; 512], at: usize, bytes: &[u8]) -> bool
-    requires { at ≤ 512 }
+pub fn has_bytes(sector: &[u8; SECTOR], at: usize, bytes: &[u8]) -> bool
+    requires { at ≤ SECTOR }
     ensures { result ≡ has_bytes sector.now at bytes.now }
 {
     sector[at..].starts_with(bytes)

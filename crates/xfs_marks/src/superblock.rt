@@ -3,8 +3,14 @@
 ghost use Rattle.std.specs.Prelude.{◌≡◌, IfSome, IsTrue};
 ghost use Rattle.xfs_marks.specs.Superblock.{end_sector, is_sound, xfs_super, xfs_super_of};
 
-use sector_fields::{DISTANCE_LIMIT, has_bytes, u16_be, u32_be, uuid_at};
+use sector_fields::{DISTANCE_LIMIT, SECTOR, has_bytes, u16_be, u32_be, uuid_at};
 use uuid::Uuid;
+
+/// The most bytes of a block.
+const LARGEST_BLOCK: u32 = 65_536;
+
+/// The most bytes of a sector of the file system.
+const LARGEST_SECTOR: u32 = 32_768;
 
 /// What a superblock says of its file system.
 #[derive(Clone, Copy, PartialEq, Eq)]
@@ -26,7 +32,7 @@ pub struct XfsSuper {
 /// no power of two from 512 to 32,768 or above the block size, or an end at sector 2^55 or
 /// later, the end being where the AGI of one more group would lie.
 #[tactic(auto, unfolding(crate::specs::Superblock::xfs_super, crate::specs::Superblock::is_xfs_super), using(crate::proofs::Limits::super_sound))]
-pub fn read_super(sector: &[u8; 512]) -> Option<XfsSuper>
+pub fn read_super(sector: &[u8; SECTOR]) -> Option<XfsSuper>
     ensures superblock { result ≡ xfs_super sector.now }
     ensures within { IfSome result (λ x. IsTrue (is_sound x)) }
 {
@@ -43,13 +49,13 @@ fn is_sound(found: &XfsSuper) -> bool
     ensures { result ≡ is_sound found.now }
 {
     found.block.is_power_of_two()
-        && 512 <= found.block
-        && found.block <= 65536
+        && SECTOR as u32 <= found.block
+        && found.block <= LARGEST_BLOCK
         && 1 <= found.ag_blocks
         && 1 <= found.ag_count
         && found.sector.is_power_of_two()
-        && 512 <= found.sector
-        && found.sector <= 32768
+        && SECTOR as u32 <= found.sector
+        && found.sector <= LARGEST_SECTOR
         && found.sector <= found.block
         && end_sector(found) < DISTANCE_LIMIT as u128
 }
@@ -59,12 +65,12 @@ fn is_sound(found: &XfsSuper) -> bool
 fn end_sector(found: &XfsSuper) -> u128
     ensures { result ≡ end_sector found.now }
 {
-    let group = found.ag_blocks as u128 * found.block as u128 / 512;
-    group * found.ag_count as u128 + 2 * (found.sector / 512) as u128
+    let group = found.ag_blocks as u128 * found.block as u128 / SECTOR as u128;
+    group * found.ag_count as u128 + 2 * (found.sector / SECTOR as u32) as u128
 }
 
 #[tactic(auto, unfolding(crate::specs::Superblock::xfs_super_of))]
-fn fields_of(sector: &[u8; 512]) -> XfsSuper
+fn fields_of(sector: &[u8; SECTOR]) -> XfsSuper
     ensures { result ≡ xfs_super_of sector.now }
 {
     XfsSuper {

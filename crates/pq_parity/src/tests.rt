@@ -156,7 +156,16 @@ fn changed(row: [u8; 3072], place: usize) -> [u8; 3072]
     other
 }
 
-// The sums are those of another program.
+// P and Q as these lines of Python give them, where Q takes each byte doubled as many times as its
+// exponent says:
+//
+//     def doubled(byte, times):
+//         for _ in range(times):
+//             byte = byte << 1 ^ 0x11D * (byte >> 7)
+//         return byte
+//
+//     assert 0x12 ^ 0x9F ^ 0x47 ^ 0xE3 == 0x29
+//     assert doubled(0x12, 7) ^ doubled(0x9F, 200) ^ doubled(0x47, 31) ^ doubled(0xE3, 254) == 0xF5
 #[test]
 fn six_members(rt: HostRuntime) {
     let cells = six();

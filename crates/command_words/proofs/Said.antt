@@ -8,12 +8,12 @@ use Rattle.raid_params.specs.declared.types.Geometry.{Geometry}
 use Rattle.plan_text.specs.SetText.{HasWord}
 use Rattle.command_words.specs.declared.command.Command.{Command}
 use Rattle.command_words.specs.declared.command.Command.TheVariants.{List as ListCommand, Check as CheckCommand, Map as MapCommand, Write as WriteCommand, Rebuild as RebuildCommand}
-use Rattle.command_words.specs.declared.command.Kind.{Kind}
-use Rattle.command_words.specs.declared.command.Kind.TheVariants.{List as ListKind, Check, Map, Write, Rebuild}
+use Rattle.command_words.specs.declared.command.Verb.{Verb}
+use Rattle.command_words.specs.declared.command.Verb.TheVariants.{List as ListVerb, Check, Map, Write, Rebuild}
 use Rattle.command_words.specs.declared.operands.Given.{Given}
 use Rattle.command_words.specs.declared.operands.Operand.{Operand}
 use Rattle.command_words.specs.declared.operands.Operand.TheVariants.{From, Size, Span, Set, Sector, Slot, End}
-use Rattle.command_words.specs.Commands.{EndsInNames, IsCommandLine, IsWithin, ReadsWords, command_of, kind_word, names_after, names_of}
+use Rattle.command_words.specs.Commands.{EndsInNames, IsCommandLine, IsWithin, ReadsWords, command_of, verb_word, names_after, names_of}
 use Rattle.command_words.specs.Operands.{IsInLimits, all_given, nothing_given, operand_word}
 use Rattle.command_words.proofs.Going.{not_dashes}
 
@@ -77,8 +77,8 @@ more_end : (set : Option Geometry) (end : Option ℕ) → IfSome set HasWord →
 more_end None end is near = tt
 more_end (Some g) end is near = λ v. (is, near)
 
-command_within : (kind : Kind) (all : Given) (n : ℕ) (command : Command) → command_of kind all n ≡ Some command → AreWithin all → IsWithin command
-command_within ListKind all n command e is =
+command_within : (verb : Verb) (all : Given) (n : ℕ) (command : Command) → command_of verb all n ≡ Some command → AreWithin all → IsWithin command
+command_within ListVerb all n command e is =
     let same : ListCommand (unwrap_or all.from 0) (unwrap_or all.size 100) (unwrap_or all.span (2 ^ 64 - 1)) n ≡ command = cc in subst IsWithin same (or_hundred all.size is.size)
 command_within Check all n command e is = one_set all.set (λ set. CheckCommand set n) IsWithin command e is.set
 command_within Map all n command e is = one_more all.set all.sector (λ set sector. MapCommand set sector all.end n) IsWithin command e (more_end all.set all.end is.set is.end)
@@ -94,8 +94,8 @@ any_more None n = tt
 any_more (Some g) n = λ v. refl
 
 -- and its number of words up to the names
-count_said : (kind : Kind) (all : Given) (n : ℕ) (command : Command) → command_of kind all n ≡ Some command → names_of command ≡ n
-count_said ListKind all n command e =
+count_said : (verb : Verb) (all : Given) (n : ℕ) (command : Command) → command_of verb all n ≡ Some command → names_of command ≡ n
+count_said ListVerb all n command e =
     let same : ListCommand (unwrap_or all.from 0) (unwrap_or all.size 100) (unwrap_or all.span (2 ^ 64 - 1)) n ≡ command = cc in subst (λ c. names_of c ≡ n) same refl
 count_said Check all n command e = one_set all.set (λ set. CheckCommand set n) (λ c. names_of c ≡ n) command e (any_set all.set n)
 count_said Map all n command e = one_more all.set all.sector (λ set sector. MapCommand set sector all.end n) (λ c. names_of c ≡ n) command e (any_more all.set n)
@@ -115,22 +115,22 @@ past (operand ∷ operands) names =
     let e : length (operand ∷ operands) + 1 ≡ suc (length operands + 1) = omega arith in
     ap (λ (k : ℕ). drop k (map operand_word (operand ∷ operands) ++ codes "--" ∷ names)) e ∙ past operands names
 
-kind_no_dashes : (kind : Kind) → bytes_eq (kind_word kind) (codes "--") ≡ false
-kind_no_dashes ListKind = refl
-kind_no_dashes Check = refl
-kind_no_dashes Map = refl
-kind_no_dashes Write = refl
-kind_no_dashes Rebuild = refl
+verb_no_dashes : (verb : Verb) → bytes_eq (verb_word verb) (codes "--") ≡ false
+verb_no_dashes ListVerb = refl
+verb_no_dashes Check = refl
+verb_no_dashes Map = refl
+verb_no_dashes Write = refl
+verb_no_dashes Rebuild = refl
 
 line_names : (words : List (List ℕ)) (command : Command) → IsCommandLine words command → EndsInNames words command
 line_names words command line =
     let on = line.onward in
-    let count : names_of command ≡ 1 + length on.operands + 1 = count_said line.kind on.all (1 + length on.operands + 1) command on.says in
-    let whole : words ≡ kind_word line.kind ∷ (map operand_word on.operands ++ codes "--" ∷ on.names) = line.first ∙ ap (λ ws. kind_word line.kind ∷ ws) on.spelled in
+    let count : names_of command ≡ 1 + length on.operands + 1 = count_said line.verb on.all (1 + length on.operands + 1) command on.says in
+    let whole : words ≡ verb_word line.verb ∷ (map operand_word on.operands ++ codes "--" ∷ on.names) = line.first ∙ ap (λ ws. verb_word line.verb ∷ ws) on.spelled in
     let k : 1 + length on.operands + 1 ≡ suc (length on.operands + 1) = omega arith in
     let after : names_after words ≡ on.names =
     ap names_after whole
-    ∙ ap (λ (b : Bool). cond b (map operand_word on.operands ++ codes "--" ∷ on.names) (names_after (map operand_word on.operands ++ codes "--" ∷ on.names))) (kind_no_dashes line.kind)
+    ∙ ap (λ (b : Bool). cond b (map operand_word on.operands ++ codes "--" ∷ on.names) (names_after (map operand_word on.operands ++ codes "--" ∷ on.names))) (verb_no_dashes line.verb)
     ∙ names_past on.operands on.names in
     let dropped : drop (names_of command) words ≡ on.names =
     ap (λ (n : ℕ). drop n words) (count ∙ k) ∙ ap (drop (suc (length on.operands + 1))) whole ∙ past on.operands on.names in
@@ -144,7 +144,7 @@ nothing_within = record { size = tt; set = tt; end = tt }
 line_within : (words : List (List ℕ)) (command : Command) → IsCommandLine words command → IsWithin command
 line_within words command line =
     let on = line.onward in
-    command_within line.kind on.all (1 + length on.operands + 1) command on.says (given_within nothing_given on.all on.operands on.limits on.once nothing_within)
+    command_within line.verb on.all (1 + length on.operands + 1) command on.says (given_within nothing_given on.all on.operands on.limits on.once nothing_within)
 
 -- so it is with what was read
 pub all_within : (words : List (List ℕ)) (r : Option Command) → ReadsWords words r → IfSome r IsWithin

@@ -6,8 +6,8 @@ use Rattle.std.specs.Str.{bytes_eq}
 use Rattle.plan_text.specs.SetText.{HasWord}
 use Rattle.command_words.specs.declared.command.Command.{Command}
 use Rattle.command_words.specs.declared.command.Command.TheVariants.{List as ListCommand, Check as CheckCommand, Map as MapCommand, Write as WriteCommand, Rebuild as RebuildCommand}
-use Rattle.command_words.specs.declared.command.Kind.{Kind}
-use Rattle.command_words.specs.declared.command.Kind.TheVariants.{List as ListKind, Check, Map, Write, Rebuild}
+use Rattle.command_words.specs.declared.command.Verb.{Verb}
+use Rattle.command_words.specs.declared.command.Verb.TheVariants.{List as ListVerb, Check, Map, Write, Rebuild}
 use Rattle.command_words.specs.declared.operands.Given.{Given}
 use Rattle.command_words.specs.declared.operands.Operand.{Operand}
 use Rattle.command_words.specs.Operands.{IsInLimits, all_given, name_of, nothing_given, operand_word, takes}
@@ -18,18 +18,18 @@ names_after [] = []
 names_after (word ∷ words) = if bytes_eq word (codes "--") then words else names_after words
 
 -- the word of a command
-abbrev pub kind_word : Kind → List ℕ
-kind_word ListKind = codes "list"
-kind_word Check = codes "check"
-kind_word Map = codes "map"
-kind_word Write = codes "write"
-kind_word Rebuild = codes "rebuild"
+abbrev pub verb_word : Verb → List ℕ
+verb_word ListVerb = codes "list"
+verb_word Check = codes "check"
+verb_word Map = codes "map"
+verb_word Write = codes "write"
+verb_word Rebuild = codes "rebuild"
 
 -- the command with these operands and so many words up to the names, unless an operand is missing
 -- that it asks for. Where they were not given, a listing goes from rank 0 on, over all ranks, in
 -- pages of 100 lines, and the members end with the shortest image
-abbrev pub command_of : Kind → Given → ℕ → Option Command
-command_of ListKind given names = Some (ListCommand (unwrap_or given.from 0) (unwrap_or given.size 100) (unwrap_or given.span (2 ^ 64 - 1)) names)
+abbrev pub command_of : Verb → Given → ℕ → Option Command
+command_of ListVerb given names = Some (ListCommand (unwrap_or given.from 0) (unwrap_or given.size 100) (unwrap_or given.span (2 ^ 64 - 1)) names)
 command_of Check given names = option_map (λ set. CheckCommand set names) given.set
 command_of Map given names = option_and_then (λ set. option_map (λ sector. MapCommand set sector given.end names) given.sector) given.set
 command_of Write given names = option_map (λ set. WriteCommand set given.end names) given.set
@@ -37,22 +37,22 @@ command_of Rebuild given names = option_and_then (λ set. option_map (λ slot. R
 
 -- the words go on with operands that the command takes, in any order, none of them given before or
 -- twice, then `--` and the names of the images. They begin at word `place`, counted from 0
-pub record GoOn (kind : Kind) (given : Given) (place : ℕ) (words : List (List ℕ)) (command : Command) : Type 0 where
+pub record GoOn (verb : Verb) (given : Given) (place : ℕ) (words : List (List ℕ)) (command : Command) : Type 0 where
   pub operands : List Operand
   pub names : List (List ℕ)
   pub all : Given
   pub limits : All IsInLimits operands
-  pub taken : All (λ operand. takes kind (name_of operand) ≡ true) operands
+  pub taken : All (λ operand. takes verb (name_of operand) ≡ true) operands
   pub once : all_given given operands ≡ Some all
   pub spelled : words ≡ map operand_word operands ++ codes "--" ∷ names
-  pub says : command_of kind all (place + length operands + 1) ≡ Some command
+  pub says : command_of verb all (place + length operands + 1) ≡ Some command
 
 -- the words are a command with its operands, `--` and the names of the images
 pub record IsCommandLine (words : List (List ℕ)) (command : Command) : Type 0 where
-  pub kind : Kind
+  pub verb : Verb
   pub rest : List (List ℕ)
-  pub first : words ≡ kind_word kind ∷ rest
-  pub onward : GoOn kind nothing_given 1 rest command
+  pub first : words ≡ verb_word verb ∷ rest
+  pub onward : GoOn verb nothing_given 1 rest command
 
 -- what the words are: a command, or none
 abbrev pub AreRead : List (List ℕ) → Option Command → Type 0
@@ -65,9 +65,9 @@ pub record ReadsWords (words : List (List ℕ)) (result : Option Command) : Type
   pub whole : (command : Command) → IsCommandLine words command → result ≡ Some command
 
 -- a reading of the words from `place` on finds what they say, and just that
-pub record ReadsOn (kind : Kind) (given : Given) (place : ℕ) (words : List (List ℕ)) (result : Option Command) : Type 0 where
-  pub sound : IfSome result (GoOn kind given place words)
-  pub whole : (command : Command) → GoOn kind given place words command → result ≡ Some command
+pub record ReadsOn (verb : Verb) (given : Given) (place : ℕ) (words : List (List ℕ)) (result : Option Command) : Type 0 where
+  pub sound : IfSome result (GoOn verb given place words)
+  pub whole : (command : Command) → GoOn verb given place words command → result ≡ Some command
 
 -- how many words a command has up to the names of its images
 abbrev pub names_of : Command → ℕ

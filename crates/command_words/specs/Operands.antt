@@ -4,8 +4,8 @@ use Rattle.std.specs.declared.option.Option.{Option}
 use Rattle.std.specs.declared.option.Option.TheVariants.{None, Some}
 use Rattle.raid_params.specs.declared.limits.TheConstants.{MOST}
 use Rattle.plan_text.specs.SetText.{HasWord, set_word}
-use Rattle.command_words.specs.declared.command.Kind.{Kind}
-use Rattle.command_words.specs.declared.command.Kind.TheVariants.{List as ListKind, Check, Map, Write, Rebuild}
+use Rattle.command_words.specs.declared.command.Verb.{Verb}
+use Rattle.command_words.specs.declared.command.Verb.TheVariants.{List as ListVerb, Check, Map, Write, Rebuild}
 use Rattle.command_words.specs.declared.operands.Given.{Given}
 use Rattle.command_words.specs.declared.operands.Name.{Name}
 use Rattle.command_words.specs.declared.operands.Name.TheVariants.{From as FromName, Size as SizeName, Span as SpanName, Set as SetName, Sector as SectorName, Slot as SlotName, End as EndName}
@@ -61,11 +61,11 @@ ReadsOperand word result = MatchOption result
     (λ operand. IsInLimits operand × (word ≡ operand_word operand))
 
 -- the operands that a command takes
-abbrev pub takes : Kind → Name → Bool
-takes ListKind FromName = true
-takes ListKind SizeName = true
-takes ListKind SpanName = true
-takes ListKind _ = false
+abbrev pub takes : Verb → Name → Bool
+takes ListVerb FromName = true
+takes ListVerb SizeName = true
+takes ListVerb SpanName = true
+takes ListVerb _ = false
 takes Check SetName = true
 takes Check _ = false
 takes Map SetName = true
@@ -81,10 +81,10 @@ takes Rebuild EndName = true
 takes Rebuild _ = false
 
 -- what a word is: an operand that the command takes, or none
-abbrev pub ReadsTaken : Kind → List ℕ → Option Operand → Type 0
-ReadsTaken kind word result = MatchOption result
-    ((operand : Operand) → IsInLimits operand → takes kind (name_of operand) ≡ true → word ≢ operand_word operand)
-    (λ operand. IsInLimits operand × (takes kind (name_of operand) ≡ true) × (word ≡ operand_word operand))
+abbrev pub ReadsTaken : Verb → List ℕ → Option Operand → Type 0
+ReadsTaken verb word result = MatchOption result
+    ((operand : Operand) → IsInLimits operand → takes verb (name_of operand) ≡ true → word ≢ operand_word operand)
+    (λ operand. IsInLimits operand × (takes verb (name_of operand) ≡ true) × (word ≡ operand_word operand))
 
 -- no operand was given
 abbrev pub nothing_given : Given

@@ -12,7 +12,6 @@ mod operands;
 mod reading;
 mod word;
 
-pub use command::{Command, Kind};
-pub use operands::{Given, Name, Operand, read_operand};
+pub use command::Command;
 pub use reading::read_words;
 pub use word::Word;

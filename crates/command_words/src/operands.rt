@@ -1,25 +1,35 @@
 //! The operands of commands.
-ghost use Rattle.std.specs.Prelude.{◌≡◌, ◌≢◌, ◌≤◌, ◌∷◌, ◌++◌, ℕ, All, MatchOption, decimal};
+ghost use Rattle.std.specs.Prelude.{◌≡◌, ◌≢◌, ◌≤◌, ℕ, MatchOption, decimal};
 ghost use Rattle.command_words.specs.Operands.{IsInLimits, ReadsOperand, name_of, operand_name, takes as takes_operand, value_text, with_operand};
 ghost use Rattle.command_words.specs.declared.operands.Name.{Name as NameOf};
 ghost use Rattle.command_words.specs.declared.operands.Operand.{Operand as OperandOf};
 
-use crate::command::Kind;
-use plan_text::{read_number, read_set};
+use crate::command::Verb;
+use plan_text::{cut, read_number, read_set};
 use raid_params::{Geometry, MOST, SECTORS_END};
 
 /// The most lines of a page.
 pub const LARGEST_PAGE: u64 = 1_000_000;
 
+/// The most lines of a page where `size` is not given: few enough to look through.
+pub const DEFAULT_PAGE: u64 = 100;
+
 /// The names of operands.
 #[derive(Clone, Copy)]
 pub enum Name {
+    /// `from`, of the first rank of a page.
     From,
+    /// `size`, of the most lines of a page.
     Size,
+    /// `span`, of the number of ranks that a page goes through.
     Span,
+    /// `set`, of a parameter set.
     Set,
+    /// `sector`, of a sector of the volume.
     Sector,
+    /// `slot`, of a slot of the array.
     Slot,
+    /// `end`, of the image sector with which the members end.
     End,
 }
 
@@ -45,12 +55,19 @@ pub enum Operand {
 /// The operands that were given.
 #[derive(Drop)]
 pub struct Given {
+    /// The first rank.
     pub from: Option<u64>,
+    /// The most lines.
     pub size: Option<u64>,
+    /// The most ranks.
     pub span: Option<u64>,
+    /// The parameter set.
     pub set: Option<Geometry>,
+    /// The sector of the volume.
     pub sector: Option<u64>,
+    /// The slot, counted from 0.
     pub slot: Option<u8>,
+    /// The image sector after the last one that may belong to the array.
     pub end: Option<u64>,
 }
 
@@ -58,18 +75,8 @@ pub struct Given {
 pub fn read_operand(word: &[u8]) -> Option<Operand>
     ensures { ReadsOperand word.now result }
 {
-    let (name, value) = split_name(word)?;
+    let (name, value) = cut(word, b'=')?;
     read_value(read_name(name)?, value)
-}
-
-/// What stands before the first `=`, and what stands after it.
-fn split_name(word: &[u8]) -> Option<(&[u8], &[u8])>
-    ensures { MatchOption result
-        (All (λ byte. byte ≢ 61) word.entry.now)
-        (λ r. All (λ byte. byte ≢ 61) r.0.now × (word.entry.now ≡ r.0.now ++ 61 ∷ r.1.now)) }
-{
-    let at = word.iter().position(|byte| *byte == b'=')?;
-    Some((&word[..at], &word[at + 1..]))
 }
 
 /// The operand of this name.

@@ -1,11 +1,11 @@
 //! Reading the words of a command line.
 ghost use Rattle.std.specs.Prelude.{◌≡◌, ◌<◌, ◌^◌, ◌+◌, length, ◌≢◌, IfSome, MatchOption};
-ghost use Rattle.command_words.specs.Commands.{EndsInNames, IsWithin, ReadsOn, ReadsWords, command_of, kind_word};
-ghost use Rattle.command_words.specs.declared.command.Kind.{Kind as KindOf};
+ghost use Rattle.command_words.specs.Commands.{EndsInNames, IsWithin, ReadsOn, ReadsWords, command_of, verb_word};
+ghost use Rattle.command_words.specs.declared.command.Verb.{Verb as VerbOf};
 ghost use Rattle.command_words.specs.Operands.{ReadsTaken, nothing_given as nothing, takes as takes_operand, with_operand, name_of as name_of_operand};
 
-use crate::command::{Command, Kind};
-use crate::operands::{Given, Name, Operand, read_operand};
+use crate::command::{Command, Verb};
+use crate::operands::{DEFAULT_PAGE, Given, Name, Operand, read_operand};
 use crate::word::Word;
 
 /// Reads the words: a command, its operands in any order, each at most once, then `--` and the
@@ -24,21 +24,21 @@ fn read_line(words: &[Word]) -> Option<Command>
     ensures { ReadsWords words.now result }
 {
     match words {
-        [first, rest @ ..] => read_operands(read_kind(first)?, rest, nothing_given(), 1),
+        [first, rest @ ..] => read_operands(read_verb(first)?, rest, nothing_given(), 1),
         [] => None,
     }
 }
 
 /// The command that the first word names.
-fn read_kind(word: &Word) -> Option<Kind>
-    ensures { MatchOption result ((k : KindOf) → word.now ≢ kind_word k) (λ k. word.now ≡ kind_word k) }
+fn read_verb(word: &Word) -> Option<Verb>
+    ensures { MatchOption result ((k : VerbOf) → word.now ≢ verb_word k) (λ k. word.now ≡ verb_word k) }
 {
     match word.as_str() {
-        "list" => Some(Kind::List),
-        "check" => Some(Kind::Check),
-        "map" => Some(Kind::Map),
-        "write" => Some(Kind::Write),
-        "rebuild" => Some(Kind::Rebuild),
+        "list" => Some(Verb::List),
+        "check" => Some(Verb::Check),
+        "map" => Some(Verb::Map),
+        "write" => Some(Verb::Write),
+        "rebuild" => Some(Verb::Rebuild),
         _ => None,
     }
 }
@@ -59,30 +59,30 @@ fn nothing_given() -> Given
 }
 
 /// Reads operands up to `--`, after those that were given. `place` is the number of words before.
-fn read_operands(kind: Kind, words: &[Word], given: Given, place: usize) -> Option<Command>
+fn read_operands(verb: Verb, words: &[Word], given: Given, place: usize) -> Option<Command>
     requires { place + length words.now < 2 ^ 63 }
-    ensures { ReadsOn kind given place words.now result }
+    ensures { ReadsOn verb given place words.now result }
 {
     match words {
         [] => None,
         [word, rest @ ..] => {
             let text = word.as_str();
             if text == "--" {
-                return command(kind, given, place + 1);
+                return command(verb, given, place + 1);
             }
-            let operand = read_operand_of(kind, text.as_bytes())?;
+            let operand = read_operand_of(verb, text.as_bytes())?;
             let more = add_operand(given, operand)?;
-            read_operands(kind, rest, more, place + 1)
+            read_operands(verb, rest, more, place + 1)
         }
     }
 }
 
 /// Reads an operand that the command takes.
-fn read_operand_of(kind: Kind, word: &[u8]) -> Option<Operand>
-    ensures { ReadsTaken kind word.now result }
+fn read_operand_of(verb: Verb, word: &[u8]) -> Option<Operand>
+    ensures { ReadsTaken verb word.now result }
 {
     let operand = read_operand(word)?;
-    if takes(kind, name_of(&operand)) {
+    if takes(verb, name_of(&operand)) {
         Some(operand)
     } else {
         None
@@ -105,15 +105,15 @@ fn name_of(operand: &Operand) -> Name
 }
 
 /// Whether the command takes an operand of this name.
-fn takes(kind: Kind, name: Name) -> bool
-    ensures { result ≡ takes_operand kind name }
+fn takes(verb: Verb, name: Name) -> bool
+    ensures { result ≡ takes_operand verb name }
 {
-    match kind {
-        Kind::List => matches!(name, Name::From | Name::Size | Name::Span),
-        Kind::Check => matches!(name, Name::Set),
-        Kind::Map => matches!(name, Name::Set | Name::Sector | Name::End),
-        Kind::Write => matches!(name, Name::Set | Name::End),
-        Kind::Rebuild => matches!(name, Name::Set | Name::Slot | Name::End),
+    match verb {
+        Verb::List => matches!(name, Name::From | Name::Size | Name::Span),
+        Verb::Check => matches!(name, Name::Set),
+        Verb::Map => matches!(name, Name::Set | Name::Sector | Name::End),
+        Verb::Write => matches!(name, Name::Set | Name::End),
+        Verb::Rebuild => matches!(name, Name::Set | Name::Slot | Name::End),
     }
 }
 
@@ -155,32 +155,32 @@ fn add_operand(given: Given, operand: Operand) -> Option<Given>
 }
 
 /// The command with these operands, or their defaults, unless one is missing that it asks for.
-fn command(kind: Kind, given: Given, names: usize) -> Option<Command>
-    ensures { result ≡ command_of kind given names }
+fn command(verb: Verb, given: Given, names: usize) -> Option<Command>
+    ensures { result ≡ command_of verb given names }
 {
-    match kind {
-        Kind::List => Some(Command::List {
+    match verb {
+        Verb::List => Some(Command::List {
             from: given.from.unwrap_or(0),
-            size: given.size.unwrap_or(100),
+            size: given.size.unwrap_or(DEFAULT_PAGE),
             span: given.span.unwrap_or(u64::MAX),
             names,
         }),
-        Kind::Check => Some(Command::Check {
+        Verb::Check => Some(Command::Check {
             set: given.set?,
             names,
         }),
-        Kind::Map => Some(Command::Map {
+        Verb::Map => Some(Command::Map {
             set: given.set?,
             sector: given.sector?,
             end: given.end,
             names,
         }),
-        Kind::Write => Some(Command::Write {
+        Verb::Write => Some(Command::Write {
             set: given.set?,
             end: given.end,
             names,
         }),
-        Kind::Rebuild => Some(Command::Rebuild {
+        Verb::Rebuild => Some(Command::Rebuild {
             set: given.set?,
             slot: given.slot?,
             end: given.end,

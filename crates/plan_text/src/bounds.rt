@@ -1,6 +1,5 @@
 //! The bounds of a plan's search, line by line.
 ghost use Rattle.std.specs.Prelude.{◌≡◌, ◌≢◌, ◌<◌, ◌≤◌, ◌^◌, ◌↔◌, ℕ, List, All, IsTrue, codes, decimal, length, map, MatchOption};
-ghost use Rattle.raid_params.specs.declared.limits.TheConstants.{MOST as MOST_MEMBERS};
 ghost use Rattle.raid_params.specs.declared.types.Bounds.{Bounds as BoundsOf};
 ghost use Rattle.raid_params.specs.Validity.{is_chunk as is_chunk_size};
 ghost use Rattle.plan_text.specs.Spelling.{commas};
@@ -10,6 +9,9 @@ ghost use Rattle.plan_text.specs.PlanParts.{field as field_text, bounds_text, Ar
 use crate::fields::{at_most, rising};
 use arrayvec::ArrayVec;
 use raid_params::{Bounds, MOST, MOST_CHUNKS, MOST_LESS_ONE, MOST_OFFSETS, SECTORS_END, is_chunk};
+
+/// The fewest members of an array: at level 0 two.
+const FEWEST_MEMBERS: u8 = 2;
 
 /// The most members that may be missing: so many a level survives.
 const MOST_MISSING: u8 = 2;
@@ -44,8 +46,8 @@ pub fn read_bounds(text: &[u8]) -> Option<(Bounds, &[u8])>
 /// The numbers of members, and what follows.
 fn read_members(text: &[u8]) -> Option<(ArrayVec<u8, MOST_LESS_ONE>, &[u8])>
     ensures { MatchOption result
-        ((ns : List ℕ) (rest : List ℕ) → AreRising ns → All (λ n. (2 ≤ n) × (n ≤ MOST_MEMBERS)) ns → text.entry.now ≢ field_text (codes "members ") (commas (map decimal ns)) rest)
-        (λ r. AreRising r.0.items × All (λ n. (2 ≤ n) × (n ≤ MOST_MEMBERS)) r.0.items × (text.entry.now ≡ field_text (codes "members ") (commas (map decimal r.0.items)) r.1.now)) }
+        ((ns : List ℕ) (rest : List ℕ) → AreRising ns → All (λ n. (2 ≤ n) × (n ≤ MOST)) ns → text.entry.now ≢ field_text (codes "members ") (commas (map decimal ns)) rest)
+        (λ r. AreRising r.0.items × All (λ n. (2 ≤ n) × (n ≤ MOST)) r.0.items × (text.entry.now ≡ field_text (codes "members ") (commas (map decimal r.0.items)) r.1.now)) }
 {
     let (members, rest) = rising(text, b"members ")?;
     if are_members(&members) {
@@ -84,11 +86,9 @@ fn read_offsets(text: &[u8]) -> Option<(ArrayVec<u64, MOST_OFFSETS>, &[u8])>
 }
 
 fn are_members(members: &[u8]) -> bool
-    ensures { IsTrue result ↔ All (λ n. (2 ≤ n) × (n ≤ MOST_MEMBERS)) members.now }
+    ensures { IsTrue result ↔ All (λ n. (2 ≤ n) × (n ≤ MOST)) members.now }
 {
-    members
-        .iter()
-        .all(|count| 2 <= *count && usize::from(*count) <= MOST)
+    members.iter().all(|count| FEWEST_MEMBERS <= *count && usize::from(*count) <= MOST)
 }
 
 fn are_chunks(chunks: &[u64]) -> bool

@@ -5,7 +5,7 @@ ghost use Rattle.plan_text.specs.Spelling.{commas};
 ghost use Rattle.plan_text.specs.PlanText.{AreRising};
 ghost use Rattle.plan_text.specs.PlanParts.{field as field_text};
 
-use crate::cut::cut;
+use crate::front::cut;
 use crate::number::after;
 use crate::spelled::{Placed, Spelled, list, value_until};
 use arrayvec::ArrayVec;

@@ -10,8 +10,8 @@
 #![tactic(auto)]
 
 mod bounds;
-mod cut;
 mod fields;
+mod front;
 mod laws;
 mod names;
 mod number;
@@ -24,6 +24,7 @@ mod spelled;
 #[cfg(test)]
 mod tests;
 
+pub use front::cut;
 pub use laws::{one_spelling, set_words_have_one_spelling};
 pub use number::{after, read_number};
 pub use plan::{Limits, Plan, PlanFault, read_plan};

@@ -24,7 +24,7 @@ pub fn read_images(text: &[u8]) -> Option<(ArrayVec<u64, MOST>, &[u8])>
 
 /// So many lengths, and what follows.
 fn read_lengths(text: &[u8], count: usize) -> Option<(ArrayVec<u64, MOST>, &[u8])>
-    requires { count ≤ 16 }
+    requires { count ≤ MOST }
     ensures { MatchOption result
         ((ns : List ℕ) (rest : List ℕ) → length ns ≡ count → All (λ n. n < 2 ^ 55) ns → text.entry.now ≢ lengths_text ns rest)
         (λ r. (length r.0.items ≡ count) × All (λ n. n < 2 ^ 55) r.0.items × (text.entry.now ≡ lengths_text r.0.items r.1.now)) }

@@ -16,18 +16,20 @@ use thiserror::Error;
 pub struct Limits {
     /// The most tested sector rows that may be unsound.
     pub badrows: u64,
-    /// Only member sectors below this are tested.
+    /// The member sector from which on none is tested.
     pub window: u64,
 }
 
-/// What a search goes through: images by their lengths in sectors, the image sector `end` after
-/// the last one that may belong to the array, the bounds of its parameters, and the limits of
-/// the test.
+/// What a search goes through.
 #[derive(Drop)]
 pub struct Plan {
+    /// The lengths of the images, in sectors.
     pub lengths: ArrayVec<u64, MOST>,
+    /// The image sector after the last one that may belong to the array.
     pub end: u64,
+    /// The parameters to try.
     pub bounds: Bounds,
+    /// How the rows are tested.
     pub limits: Limits,
 }
 

@@ -2,7 +2,7 @@
 ghost use Rattle.std.specs.Prelude.{◌≡◌, ◌≢◌, ◌≤◌, ◌∷◌, ◌++◌, ℕ, List, All, length, map, MatchOption, IsTrue};
 ghost use Rattle.plan_text.specs.Spelling.{IsSpelling, commas, is_mark};
 
-use crate::cut::cut;
+use crate::front::cut;
 use arrayvec::ArrayVec;
 
 /// A value that a text spells, in one way alone, without a mark that ends values.

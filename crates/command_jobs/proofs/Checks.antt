@@ -1,8 +1,8 @@
 -- A set that is tested against a plan: its rows can be tested, and how the command ends.
-use Rattle.std.proofs.Common.{◌≡◌, ℕ, ◌+◌, ◌*◌, ◌<◌, ◌≤◌, ◌^◌, min, Bool, if◌then◌else◌, List, [], ◌∷◌, length, None, Some, Option, Result, Ok, Err, All, IfOk, IfSome, sym, ap, ◌∙◌, subst, arith}
+use Rattle.std.proofs.Common.{◌≡◌, ℕ, ◌≤◌, ◌^◌, min, Bool, if◌then◌else◌, List, [], ◌∷◌, length, None, Some, Option, Result, Ok, Err, All, IfOk, IfSome, sym, ap, ◌∙◌, subst, arith}
 use Rattle.std.proofs.lemmas.Bool.{le-leb}
-use Rattle.std.proofs.lemmas.List.Elements.{All-head, All-tail, All-nil, All-cons}
 use Rattle.image_source.specs.Seen.{Image}
+use Rattle.page_engine.proofs.SetTests.{all_reach, end_near}
 use Rattle.page_engine.specs.Sets.{total_of}
 use Rattle.plan_text.specs.PlanText.{IsPlan}
 use Rattle.plan_text.specs.SetText.{HasWord}
@@ -10,30 +10,16 @@ use Rattle.plan_text.specs.declared.plan.Plan.{Plan}
 use Rattle.raid_params.specs.declared.types.Geometry.{Geometry}
 use Rattle.raid_params.specs.Validity.{first_fault, is_shaped}
 use Rattle.row_scan.specs.Scan.{IsScannable}
-use Rattle.command_jobs.proofs.Prepared.{SaysPlan, any_text, if_some, images_agree, names_agree}
+use Rattle.command_jobs.proofs.Prepared.{SaysPlan, if_some, images_agree, names_agree}
 use Rattle.command_jobs.proofs.Printed.{ends_printed}
 use Rattle.command_jobs.proofs.Refusals.{ruled_shape}
 use Rattle.command_jobs.specs.Agreement.{lengths_of, plan_fault}
-use Rattle.command_jobs.specs.Checking.{check_output, check_refusal, check_text, rows_tested}
+use Rattle.command_jobs.specs.Checking.{check_output, check_refusal, check_text}
 use Rattle.command_jobs.specs.Jobs.{Ends, IsPrepared, IsPrinted, Refuses}
 use Rattle.command_jobs.specs.Plans.{IsTextOf, many_refusal}
 use Rattle.command_jobs.specs.Stops.{first_of}
 use Rattle.command_jobs.specs.declared.stop.Stop.{Stop}
 use Rattle.command_jobs.specs.declared.stop.Stop.TheVariants.{Many}
-
-all_reach : (attached : List Image) (end : ℕ) → All (λ n. end ≤ n) (lengths_of attached) → All (λ image. end ≤ image.sectors) attached
-all_reach [] end all = All-nil (λ (image : Image). end ≤ image.sectors)
-all_reach (image ∷ images) end all =
-    All-cons (λ (one : Image). end ≤ one.sectors) image images
-    (All-head (λ n. end ≤ n) image.sectors (lengths_of images) all)
-    (all_reach images end (All-tail (λ n. end ≤ n) image.sectors (lengths_of images) all))
-
-end_near : (lengths : List ℕ) (end : ℕ) → 1 ≤ length lengths → All (λ n. n < 2 ^ 55) lengths → All (λ n. end ≤ n) lengths → end < 2 ^ 55
-end_near [] end some small ends = absurd (omega arith)
-end_near (n ∷ ns) end some small ends =
-    let a = All-head (λ k. k < 2 ^ 55) n ns small in
-    let b = All-head (λ k. end ≤ k) n ns ends in
-    omega arith
 
 -- the rows of a set that breaks no rule can be tested
 pub scannable : (plan : Plan) (set : Geometry) (names : ℕ) (attached : List Image) → IsPlan plan → HasWord set → length attached ≡ min names 65536 → plan_fault plan names attached ≡ None → first_fault set names plan.end ≡ None →
@@ -70,18 +56,6 @@ text_prepared left set names attached plan told (Ok found) prepared h =
     (λ text. (read : Option Plan) → IsTextOf text read → IfSome (check_output set read told) (λ printed. found ≡ printed))
     (λ text says read is. says_text set plan read told found (says read is).0 h)
     prepared
-
--- no more is read than the tested rows of the plan that is read
-pub reads_prepared : (left : Option (List ℕ)) (set : Geometry) (names : ℕ) (attached : List Image) (plan : Plan) (before now n : ℕ) → IsPrepared left names attached plan → now ≤ before + n * rows_tested plan set →
-    IfSome left (λ text. (p : Plan) → IsTextOf text (Some p) → now ≤ before + n * rows_tested p set)
-reads_prepared left set names attached plan before now n prepared few =
-    if_some left (SaysPlan names attached plan)
-    (λ text. (p : Plan) → IsTextOf text (Some p) → now ≤ before + n * rows_tested p set)
-    (λ text says p is. let e : Some p ≡ Some plan = (says (Some p) is).0 in let same : plan ≡ p = cc in subst (λ (q : Plan). now ≤ before + n * rows_tested q set) same few)
-    prepared
-
-pub reads_unprepared : (left : Option (List ℕ)) (set : Geometry) (before n : ℕ) → IfSome left (λ text. (p : Plan) → IsTextOf text (Some p) → before ≤ before + n * rows_tested p set)
-reads_unprepared left set before n = any_text left (λ text. (p : Plan) → IsTextOf text (Some p) → before ≤ before + n * rows_tested p set) (λ text p is. omega arith)
 
 -- `check` prints its answer
 pub check_ends : {T : Type 0} (left : Option (List ℕ)) (set : Geometry) (names : ℕ) (attached : List Image) (told : Option (List (List ℕ))) (old new : Option (List ℕ)) (before after : ℕ) (answer : Result (List ℕ) Stop) (result : Result T Stop) →

@@ -6,9 +6,10 @@ use Rattle.std.proofs.lemmas.List.Elements.{All-head, All-tail}
 use Rattle.image_source.specs.Seen.{Seen}
 use Rattle.std.proofs.lemmas.Bool.{cases_lt, lt-ltb, le-ltb, le-leb}
 use Rattle.std.proofs.lemmas.Bool.Decides.{nat_tests}
+use Rattle.page_engine.specs.declared.paging.CursorFault.{CursorFault}
 use Rattle.page_engine.specs.declared.paging.PageFault.{PageFault}
 use Rattle.page_engine.specs.declared.paging.PageFault.TheVariants.{Many as PageMany, Cursor as PageCursor, ReadFault, Memory as PageMemory}
-use Rattle.command_jobs.specs.Jobs.{HasCauses, Refuses}
+use Rattle.command_jobs.specs.Jobs.{HasCauses, IsUnreached, Orders, Refuses}
 use Rattle.command_jobs.specs.Plans.{many_refusal}
 use Rattle.command_jobs.specs.Stops.{first_of, stop_of_page}
 use Rattle.command_jobs.specs.declared.stop.Stop.TheVariants.{Many, Cursor}
@@ -123,5 +124,30 @@ page_causes plan from old new PageMemory ends later = record {
   out_fault = λ f. absurd (cc);
   images_later = later;
   plan_later = omega arith;
-  unread = λ h. absurd (h tt);
+  unread = λ h. absurd (h refl);
 }
+
+-- a refused page is not looked for
+pub page_order : {T : Type 0} (plan : Plan) (from : ℕ) (old new : Seen) (fault : PageFault) → (2 ^ 64 ≤ total_of plan → IsErrOf {T = ListPage} (Err fault) PageMany) →
+    (total_of plan < 2 ^ 64 → total_of plan < from → IsErrOf {T = ListPage} (Err fault) (PageCursor (record { from = from; total = total_of plan }))) → EndsPage plan from old new fault →
+    Orders {T = T} (first_of (many_refusal plan ∷ cursor_refusal from plan ∷ [])) old.sectors_read new.sectors_read None None (Err (stop_of_page fault))
+page_order {T} plan from old new fault many cursor ends stop e =
+    elim (cases_lt (total_of plan) (2 ^ 64)) [
+      | inl low ↦ elim (cases_lt (total_of plan) from) [
+        | inl past ↦ (let is : fault ≡ PageCursor (record { from = from; total = total_of plan }) = (let f = cursor low past in cc) in cursor_order fault (record { from = from; total = total_of plan }) is ends)
+        | inr in_range ↦ absurd (let none = allowed plan from low in_range in cc)
+      ]
+      | inr high ↦ (let is : fault ≡ PageMany = (let f = many high in cc) in many_order fault is ends)
+    ]
+  where
+    many_order : (fault : PageFault) → fault ≡ PageMany → EndsPage plan from old new fault → IsUnreached {T = T} old.sectors_read new.sectors_read None None (Err (stop_of_page fault))
+    many_order PageMany is ends = record { unread = ap (λ (s : Seen). s.sectors_read) ends.1; unput = tt; no_image_fault = λ f. absurd (let g = f in cc); no_out_fault = λ f. absurd (let g = f in cc) }
+    many_order (PageCursor c) is ends = absurd (cc)
+    many_order ReadFault is ends = absurd (cc)
+    many_order PageMemory is ends = absurd (cc)
+
+    cursor_order : (fault : PageFault) (cursor : CursorFault) → fault ≡ PageCursor cursor → EndsPage plan from old new fault → IsUnreached {T = T} old.sectors_read new.sectors_read None None (Err (stop_of_page fault))
+    cursor_order (PageCursor c) cursor is ends = record { unread = ap (λ (s : Seen). s.sectors_read) ends.2; unput = tt; no_image_fault = λ f. absurd (let g = f in cc); no_out_fault = λ f. absurd (let g = f in cc) }
+    cursor_order PageMany cursor is ends = absurd (cc)
+    cursor_order ReadFault cursor is ends = absurd (cc)
+    cursor_order PageMemory cursor is ends = absurd (cc)

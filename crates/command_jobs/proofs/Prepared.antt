@@ -11,7 +11,7 @@ use Rattle.page_engine.specs.Sets.{AgreeWith}
 use Rattle.plan_text.specs.PlanText.{IsPlan}
 use Rattle.plan_text.specs.declared.plan.Plan.{Plan}
 use Rattle.command_jobs.specs.Agreement.{count_fault, length_fault, lengths_of, other_length, plan_fault}
-use Rattle.command_jobs.specs.Jobs.{Counts, EndsPreparing, HasCauses, IsPrepared, Refuses}
+use Rattle.command_jobs.specs.Jobs.{Counts, EndsPreparing, HasCauses, IsPrepared, Orders, Refuses}
 use Rattle.command_jobs.specs.Plans.{IsTextOf, many_refusal, plan_refusal}
 use Rattle.command_jobs.specs.Stops.{EndsBy, IsExcused, IsRefusal, first_of}
 use Rattle.command_jobs.specs.declared.stop.Stop.{Stop}
@@ -74,8 +74,7 @@ refusal_causes before after stop is images plan sectors = record {
   unread = λ h. sectors;
 }
 
--- the plan or the set is refused
-
+-- what holds of a text, where it is told
 pub if_some : (left : Option (List ℕ)) (P Q : List ℕ → Type 0) → ((text : List ℕ) → P text → Q text) → IfSome left P → IfSome left Q
 if_some None P Q h p = tt
 if_some (Some text) P Q h p = h text p
@@ -174,4 +173,39 @@ pub prints_prepared : (left : Option (List ℕ)) (names : ℕ) (attached : List 
 prints_prepared left names attached plan output found prepared h =
     if_some left (SaysPlan names attached plan) (λ text. (read : Option Plan) → IsTextOf text read → IfSome (output read) (λ printed. found ≡ printed))
     (λ text says read is. subst (λ (r : Option Plan). IfSome (output r) (λ printed. found ≡ printed)) (sym (says read is).0) h)
+    prepared
+
+-- no more is read than the plan that is read allows
+pub reads_prepared : (left : Option (List ℕ)) (names : ℕ) (attached : List Image) (plan : Plan) (few : Plan → ℕ) (before now : ℕ) → IsPrepared left names attached plan → now ≤ before + few plan →
+    IfSome left (λ text. (p : Plan) → IsTextOf text (Some p) → now ≤ before + few p)
+reads_prepared left names attached plan few before now prepared within =
+    if_some left (SaysPlan names attached plan)
+    (λ text. (p : Plan) → IsTextOf text (Some p) → now ≤ before + few p)
+    (λ text says p is. let e : Some p ≡ Some plan = (says (Some p) is).0 in let same : plan ≡ p = cc in subst (λ (q : Plan). now ≤ before + few q) same within)
+    prepared
+
+-- nor where there is none
+pub reads_unprepared : (left : Option (List ℕ)) (few : Plan → ℕ) (before : ℕ) → IfSome left (λ text. (p : Plan) → IsTextOf text (Some p) → before ≤ before + few p)
+reads_unprepared left few before = any_text left (λ text. (p : Plan) → IsTextOf text (Some p) → before ≤ before + few p) (λ text p is. omega arith)
+
+-- where the plan was not read, or the images do not agree with it, the job did nothing
+pub order_unprepared : (left : Option (List ℕ)) (names : ℕ) (attached : List Image) (before now : ℕ) (stop : Stop) (further : Plan → Option Stop) (read : ℕ) → EndsPreparing left names attached before now stop →
+    IfSome left (λ text. (plan : Option Plan) → IsTextOf text plan → Orders {T = List ℕ} (plan_refusal text plan names attached further) read read None None (Err stop))
+unfolding EndsPreparing
+order_unprepared left names attached before now stop further read ends =
+    any_text left (λ text. (plan : Option Plan) → IsTextOf text plan → Orders {T = List ℕ} (plan_refusal text plan names attached further) read read None None (Err stop))
+    (λ text plan says found e. record {
+      unread = refl;
+      unput = tt;
+      no_image_fault = λ f. let g = f in let h : stop ≡ ImageFault = cc in (subst (λ (s : Stop). EndsPreparing left names attached before now s) h ends).0;
+      no_out_fault = λ f. let g = f in let h : stop ≡ OutFault = cc in (subst (λ (s : Stop). EndsPreparing left names attached before now s) h ends).0;
+    })
+
+-- and where they do, what is refused is what comes after
+pub order_prepared : (left : Option (List ℕ)) (names : ℕ) (attached : List Image) (plan : Plan) (further : Plan → Option Stop) (before now : ℕ) (r : Result (List ℕ) Stop) → IsPrepared left names attached plan →
+    Orders (first_of (many_refusal plan ∷ further plan ∷ [])) before now None None r →
+    IfSome left (λ text. (read : Option Plan) → IsTextOf text read → Orders (plan_refusal text read names attached further) before now None None r)
+order_prepared left names attached plan further before now r prepared order =
+    if_some left (SaysPlan names attached plan) (λ text. (read : Option Plan) → IsTextOf text read → Orders (plan_refusal text read names attached further) before now None None r)
+    (λ text h read says. subst (λ (refused : Option Stop). Orders refused before now None None r) (sym ((h read says).1 further)) order)
     prepared

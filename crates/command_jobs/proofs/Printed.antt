@@ -1,10 +1,12 @@
 -- How a job ends that finds its answer, and then puts it.
-use Rattle.std.proofs.Common.{◌≡◌, ℕ, ◌≤◌, List, None, Some, Option, Result, Ok, Err, IfSome, IfOk, refl, sym, ap, subst, arith, inl, Bool}
+use Rattle.std.proofs.Common.{◌≡◌, ℕ, ◌≤◌, List, None, Some, Option, Result, Ok, Err, IfSome, IfErr, IfOk, refl, sym, ap, subst, arith, inl, inr, false}
 use Rattle.std.specs.Io.KnownBytes.{Appends, Keeps}
 use Rattle.std.proofs.lemmas.List.{append-nil}
 use Rattle.image_source.specs.Streams.{AppendsFront}
-use Rattle.command_jobs.specs.Jobs.{Counts, Ends, HasCauses, Refuses, IsPrinted, Leaves, MayHavePut, MayHaveRead}
-use Rattle.command_jobs.specs.Stops.{EndsBy, IsExcused}
+use Rattle.plan_text.specs.declared.plan.Plan.{Plan}
+use Rattle.command_jobs.specs.Jobs.{Counts, Ends, HasCauses, IsPrinted, Leaves, MayHavePut, MayHaveRead, Orders, Refuses}
+use Rattle.command_jobs.specs.Plans.{IsTextOf}
+use Rattle.command_jobs.specs.Stops.{EndsBy, IsEarly, IsExcused, IsRefusal}
 use Rattle.command_jobs.specs.declared.stop.Stop.{Stop}
 use Rattle.command_jobs.specs.declared.stop.Stop.TheVariants.{ImageFault, PlanFault, OutFault}
 
@@ -58,10 +60,10 @@ ends_printed refused printed old new before after (Ok text) (Err stop) answered 
 abbrev pub with_out : Counts → ℕ → Counts
 with_out counts out = record { images = counts.images; plan = counts.plan; out = out; sectors = counts.sectors }
 
-pub leaves_printed : {T : Type 0} (streams : Bool) (counts now : Counts) (old new : Option (List ℕ)) (before after : ℕ) (answer : Result (List ℕ) Stop) (result : Result T Stop) →
-    HasCauses counts now answer → IsPrinted old new before after answer result → before ≤ after → Leaves streams (with_out counts before) (with_out now after) old new result
-leaves_printed streams counts now old new before after (Err stop) (Ok x) answered is later = absurd (let e = is.0 in cc)
-leaves_printed streams counts now old new before after (Err stop) (Err other) answered is later =
+pub leaves_printed : {T : Type 0} (counts now : Counts) (old new : Option (List ℕ)) (before after : ℕ) (answer : Result (List ℕ) Stop) (result : Result T Stop) →
+    HasCauses counts now answer → IsPrinted old new before after answer result → before ≤ after → Leaves false (with_out counts before) (with_out now after) old new result
+leaves_printed counts now old new before after (Err stop) (Ok x) answered is later = absurd (let e = is.0 in cc)
+leaves_printed counts now old new before after (Err stop) (Err other) answered is later =
     let same : other ≡ stop = let e = is.0 in cc in
     record {
       image_fault = λ e. answered.image_fault (let f = e in let g : stop ≡ ImageFault = cc in ap (λ (x : Stop). Err x) g);
@@ -71,9 +73,9 @@ leaves_printed streams counts now old new before after (Err stop) (Err other) an
       plan_later = answered.plan_later;
       out_later = later;
       nothing = λ h. subst (λ gained. Keeps old gained) (sym is.1) (keeps_itself old);
-      unread = subst (λ s. (MayHaveRead s → ⊥) → now.sectors ≡ counts.sectors) (sym same) answered.unread;
+      unread = subst (λ s. (MayHaveRead false s → ⊥) → now.sectors ≡ counts.sectors) (sym same) answered.unread;
     }
-leaves_printed streams counts now old new before after (Ok text) (Ok x) answered is later = record {
+leaves_printed counts now old new before after (Ok text) (Ok x) answered is later = record {
   image_fault = λ e. absurd (cc);
   plan_fault = λ e. absurd (cc);
   out_fault = λ e. absurd (cc);
@@ -83,7 +85,7 @@ leaves_printed streams counts now old new before after (Ok text) (Ok x) answered
   nothing = tt;
   unread = tt;
 }
-leaves_printed streams counts now old new before after (Ok text) (Err stop) answered is later =
+leaves_printed counts now old new before after (Ok text) (Err stop) answered is later =
     record {
       image_fault = λ e. absurd (let g = is.0 in let f = e in cc);
       plan_fault = λ e. absurd (let g = is.0 in let f = e in cc);
@@ -91,6 +93,55 @@ leaves_printed streams counts now old new before after (Ok text) (Err stop) answ
       images_later = answered.images_later;
       plan_later = answered.plan_later;
       out_later = later;
-      nothing = λ h. absurd (h (subst (MayHavePut streams) (sym is.0) tt));
-      unread = λ h. absurd (h (subst MayHaveRead (sym is.0) tt));
+      nothing = λ h. absurd (h (subst (MayHavePut false) (sym is.0) tt));
+      unread = λ h. absurd (h (subst (MayHaveRead false) (sym is.0) tt));
     }
+
+-- what is refused is told before anything is put
+pub order_printed : {T : Type 0} (refused : Option Stop) (read now : ℕ) (old new : Option (List ℕ)) (before after : ℕ) (answer : Result (List ℕ) Stop) (result : Result T Stop) →
+    Refuses refused answer → Orders refused read now None None answer → IsPrinted old new before after answer result → Orders refused read now old new result
+order_printed refused read now old new before after (Ok text) result answered order is stop e = absurd (let none : refused ≡ None = answered.passes in cc)
+order_printed refused read now old new before after (Err stop) (Ok x) answered order is found e = absurd (let f = is.0 in cc)
+order_printed refused read now old new before after (Err stop) (Err other) answered order is found e =
+    let same : other ≡ stop = let f = is.0 in cc in
+    let first = order found e in
+    record {
+      unread = first.unread;
+      unput = subst (λ gained. Keeps old gained) (sym is.1) (keeps_itself old);
+      no_image_fault = λ f. first.no_image_fault (let g = f in let h : stop ≡ ImageFault = cc in ap (λ (x : Stop). Err x) h);
+      no_out_fault = λ f. first.no_out_fault (let g = f in let h : stop ≡ OutFault = cc in ap (λ (x : Stop). Err x) h);
+    }
+
+-- the same of a command over a plan
+pub orders_printed : {T : Type 0} (left : Option (List ℕ)) (refusal : List ℕ → Option Plan → Option Stop) (read now : ℕ) (old new : Option (List ℕ)) (before after : ℕ) (answer : Result (List ℕ) Stop) (result : Result T Stop) →
+    IfSome left (λ text. (plan : Option Plan) → IsTextOf text plan → Refuses (refusal text plan) answer) →
+    IfSome left (λ text. (plan : Option Plan) → IsTextOf text plan → Orders (refusal text plan) read now None None answer) → IsPrinted old new before after answer result →
+    IfSome left (λ text. (plan : Option Plan) → IsTextOf text plan → Orders (refusal text plan) read now old new result)
+orders_printed None refusal read now old new before after answer result answered order is = tt
+orders_printed (Some text) refusal read now old new before after answer result answered order is =
+    λ plan says. order_printed (refusal text plan) read now old new before after answer result (answered plan says) (order plan says) is
+
+-- what is not refused has no order to keep
+pub order_allowed : {T : Type 0} (refused : Option Stop) (read now : ℕ) (old new : Option (List ℕ)) (r : Result T Stop) → refused ≡ None → Orders refused read now old new r
+order_allowed refused read now old new r none stop e = absurd (cc)
+
+-- a refusal before anything is touched
+pub order_refused : {T : Type 0} (refused : Option Stop) (read : ℕ) (gained : Option (List ℕ)) (stop : Stop) → IsRefusal stop → Orders {T = T} refused read read gained gained (Err stop)
+order_refused refused read gained stop is found e = record {
+  unread = refl;
+  unput = keeps_itself gained;
+  no_image_fault = λ f. let g = f in let h : stop ≡ ImageFault = cc in subst IsRefusal h is;
+  no_out_fault = λ f. let g = f in let h : stop ≡ OutFault = cc in subst IsRefusal h is;
+}
+
+-- so is one for which memory may be the cause
+pub order_early : (refused : Option Stop) (read : ℕ) (answer : Result (List ℕ) Stop) → Refuses refused answer → IfErr answer IsEarly → Orders refused read read None None answer
+unfolding IsEarly
+order_early refused read (Ok text) answered early stop e = absurd (let none : refused ≡ None = answered.passes in cc)
+order_early refused read (Err stop) answered (inr is) found e = order_refused refused read None stop is found e
+order_early refused read (Err stop) answered (inl memory) found e = record {
+  unread = refl;
+  unput = tt;
+  no_image_fault = λ f. absurd (let g = f in cc);
+  no_out_fault = λ f. absurd (let g = f in cc);
+}

@@ -177,7 +177,7 @@ fault_leaves old new n before after gained now VolumeMemory reads later memory r
   plan_later = omega arith;
   out_later = later;
   nothing = λ h. subst (λ (g : Option (List ℕ)). Keeps gained g) (sym (memory refl).0) (keeps_itself gained);
-  unread = λ h. absurd (h tt);
+  unread = λ h. ap (λ (s : Seen). s.sectors_read) (memory refl).1;
 }
 
 pub refused_leaves : (seen : Seen) (out : ℕ) (gained : Option (List ℕ)) (stop : Stop) → IsRefusal stop →

@@ -1,5 +1,5 @@
 -- What `check` refuses and prints.
-use Rattle.std.specs.Prelude.{ℕ, nat_le, if◌then◌else◌, List, ◌++◌, codes, decimal}
+use Rattle.std.specs.Prelude.{ℕ, ◌*◌, nat_le, if◌then◌else◌, List, ◌++◌, codes, length}
 use Rattle.std.specs.Option.{option_map}
 use Rattle.std.specs.declared.option.Option.{Option}
 use Rattle.std.specs.declared.option.Option.TheVariants.{None, Some}
@@ -11,6 +11,7 @@ use Rattle.page_engine.specs.Sets.{rank_of}
 use Rattle.plan_text.specs.Spelling.{line, slot_name}
 use Rattle.plan_text.specs.declared.plan.Plan.{Plan}
 use Rattle.command_jobs.specs.Plans.{plan_refusal}
+use Rattle.command_jobs.specs.Printing.{share_line}
 use Rattle.command_jobs.specs.declared.stop.Stop.{Stop}
 use Rattle.command_jobs.specs.declared.stop.Stop.TheVariants.{Set}
 
@@ -26,13 +27,17 @@ check_refusal set text plan names attached = plan_refusal text plan names attach
 abbrev pub rows_tested : Plan → Geometry → ℕ
 rows_tested plan set = tested_rows set plan.end plan.limits.window
 
+-- the most sectors that `check` reads over a plan: the tested rows of the set on each image
+abbrev pub check_reads : Geometry → List Image → Plan → ℕ
+check_reads set attached plan = length attached * rows_tested plan set
+
 -- the rank of the set, or a dash where it is not in the product
 unfoldable pub rank_line : Option ℕ → List ℕ
 rank_line rank = line (codes "rank " ++ slot_name rank)
 
 -- how many of the tested rows are unsound
-unfoldable pub unsound_line : ℕ → ℕ → List ℕ
-unsound_line unsound tested = line (codes "unsound " ++ decimal unsound ++ codes " of " ++ decimal tested)
+abbrev pub unsound_line : ℕ → ℕ → List ℕ
+unsound_line unsound tested = share_line (codes "unsound ") unsound tested
 
 -- whether no more are than may be
 unfoldable pub verdict_line : ℕ → ℕ → List ℕ

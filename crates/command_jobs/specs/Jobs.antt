@@ -1,5 +1,5 @@
 -- How a job ends, what it prints, and what it leaves.
-use Rattle.std.specs.Prelude.{ℕ, ◌≡◌, ◌≤◌, Bool, true, List, [], ◌∷◌, Result, Ok, Err, MatchResult, OnOk, IfErr, IsErrOf, IfSome}
+use Rattle.std.specs.Prelude.{ℕ, ◌≡◌, ◌≤◌, Bool, true, false, List, [], ◌∷◌, Result, Ok, Err, MatchResult, OnOk, IfErr, IsErrOf, IfSome}
 use Rattle.std.specs.declared.option.Option.{Option}
 use Rattle.std.specs.declared.option.Option.TheVariants.{None, Some}
 use Rattle.std.specs.Io.KnownBytes.{Appends, Keeps}
@@ -33,12 +33,23 @@ MayHavePut streams OutFault = Unit {0}
 MayHavePut streams ImageFault = streams ≡ true
 MayHavePut streams _ = ⊥
 
--- at this stop a job may have read
-abbrev pub MayHaveRead : Stop → Type 0
-MayHaveRead ImageFault = Unit {0}
-MayHaveRead OutFault = Unit {0}
-MayHaveRead OutOfMemory = Unit {0}
-MayHaveRead _ = ⊥
+-- at this stop a job may have read; one that puts as it reads takes its memory before
+abbrev pub MayHaveRead : Bool → Stop → Type 0
+MayHaveRead streams ImageFault = Unit {0}
+MayHaveRead streams OutFault = Unit {0}
+MayHaveRead streams OutOfMemory = streams ≡ false
+MayHaveRead streams _ = ⊥
+
+-- nothing was read or put, and no fault of the images or of the output is told
+pub record IsUnreached {T : Type 0} (before after : ℕ) (old new : Option (List ℕ)) (result : Result T Stop) : Type 0 where
+  pub unread : after ≡ before
+  pub unput : Keeps old new
+  pub no_image_fault : IsErrOf result ImageFault → ⊥
+  pub no_out_fault : IsErrOf result OutFault → ⊥
+
+-- what is refused comes before the job itself
+abbrev pub Orders : {T : Type 0} → Option Stop → ℕ → ℕ → Option (List ℕ) → Option (List ℕ) → Result T Stop → Type 0
+Orders refused before after old new result = (stop : Stop) → refused ≡ Some stop → IsUnreached before after old new result
 
 -- what a job leaves: faults have their causes, nothing is put but at Ok and where it may be, and
 -- nothing is read before the job itself
@@ -50,7 +61,7 @@ pub record Leaves {T : Type 0} (streams : Bool) (before after : Counts) (old new
   pub plan_later : before.plan ≤ after.plan
   pub out_later : before.out ≤ after.out
   pub nothing : IfErr result (λ stop. (MayHavePut streams stop → ⊥) → Keeps old new)
-  pub unread : IfErr result (λ stop. (MayHaveRead stop → ⊥) → after.sectors ≡ before.sectors)
+  pub unread : IfErr result (λ stop. (MayHaveRead streams stop → ⊥) → after.sectors ≡ before.sectors)
 
 -- an answer that is found before anything is put, where the first refusal is this
 pub record Refuses {T : Type 0} (refused : Option Stop) (result : Result T Stop) : Type 0 where
@@ -64,7 +75,7 @@ pub record HasCauses {T : Type 0} (before after : Counts) (result : Result T Sto
   pub out_fault : IsErrOf result OutFault → ⊥
   pub images_later : before.images ≤ after.images
   pub plan_later : before.plan ≤ after.plan
-  pub unread : IfErr result (λ stop. (MayHaveRead stop → ⊥) → after.sectors ≡ before.sectors)
+  pub unread : IfErr result (λ stop. (MayHaveRead false stop → ⊥) → after.sectors ≡ before.sectors)
 
 -- an answer is put whole, or a front of it where the output fails; without an answer nothing is put
 abbrev pub IsPrinted : {T : Type 0} → Option (List ℕ) → Option (List ℕ) → ℕ → ℕ → Result (List ℕ) Stop → Result T Stop → Type 0

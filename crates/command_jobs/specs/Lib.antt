@@ -3,6 +3,7 @@ pub mod Stops
 pub mod Jobs
 pub mod Mapping
 pub mod Plans
+pub mod Printing
 pub mod Listing
 pub mod Checking
 pub mod Writing

@@ -1,11 +1,13 @@
 -- What `write` and `rebuild` refuse and print.
-use Rattle.std.specs.Prelude.{ℕ, ◌&&◌, nat_lt, if◌then◌else◌, List, [], ◌∷◌, slice_index_or}
+use Rattle.std.specs.Prelude.{ℕ, ◌*◌, ◌&&◌, nat_lt, if◌then◌else◌, List, [], ◌∷◌, slice_index_or}
 use Rattle.std.specs.Option.{is_none, option_map}
 use Rattle.std.specs.declared.option.Option.{Option}
 use Rattle.std.specs.declared.option.Option.TheVariants.{None, Some}
 use Rattle.image_source.specs.Seen.{Image}
 use Rattle.raid_params.specs.declared.types.Geometry.{Geometry}
+use Rattle.raid_params.specs.Size.{area}
 use Rattle.raid_terms.specs.Volume.{member, volume}
+use Rattle.row_scan.specs.Block.{held}
 use Rattle.command_jobs.specs.Agreement.{end_of}
 use Rattle.command_jobs.specs.Mapping.{set_refusal}
 use Rattle.command_jobs.specs.Stops.{first_of}
@@ -27,3 +29,7 @@ rebuild_refusal set slot end names attached = first_of (set_refusal set end name
 -- what `rebuild` prints: the member of the slot
 abbrev pub rebuild_output : Geometry → ℕ → Option ℕ → List Image → Option (List (List ℕ)) → Option (List ℕ)
 rebuild_output set slot end attached told = option_map (λ images. member images set (end_of end attached) slot) told
+
+-- the most sectors that `write` and `rebuild` read: each sector of each member that is there
+abbrev pub members_reads : Geometry → Option ℕ → List Image → ℕ
+members_reads set end attached = held set.slots.items * area set.head (end_of end attached)

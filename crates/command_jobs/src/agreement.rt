@@ -3,7 +3,7 @@ ghost use Rattle.std.specs.Prelude.{◌≡◌, ◌≤◌, ◌<◌, IfSome, lengt
 ghost use Rattle.std.specs.Option.{option_map};
 ghost use Rattle.command_jobs.specs.Agreement.{count_fault as count_fault_of, end_of as end_of_images, length_fault as length_fault_of, lengths_of, other_length, limits_fault as limits_fault_of, plan_fault as plan_fault_of, shortest as shortest_of};
 
-use image_source::Images;
+use image_source::{Images, MOST_ATTACHED};
 use plan_text::Plan;
 use raid_params::MOST;
 
@@ -29,7 +29,7 @@ pub struct Disagreement {
 /// How so many images disagree with the plan: by their number, or by the first length that is not
 /// the planned one.
 pub fn plan_fault<I: Images>(images: &I, names: usize, plan: &Plan) -> Option<Disagreement>
-    requires few { length plan.now.lengths.items ≤ 16 }
+    requires few { length plan.now.lengths.items ≤ MOST }
     ensures { result ≡ plan_fault_of plan.now names (I.seen images.now).attached }
 {
     let lengths = plan.lengths.as_slice();
@@ -41,7 +41,7 @@ pub fn plan_fault<I: Images>(images: &I, names: usize, plan: &Plan) -> Option<Di
 
 /// The first image whose length is not the planned one.
 fn length_fault<I: Images>(images: &I, planned: &[u64]) -> Option<Disagreement>
-    requires few { length planned.now ≤ 16 }
+    requires few { length planned.now ≤ MOST }
     ensures { result ≡ option_map (length_fault_of (lengths_of (I.seen images.now).attached) planned.now) (other_length (lengths_of (I.seen images.now).attached) planned.now) }
 {
     match first_other(images, planned) {
@@ -56,7 +56,7 @@ fn length_fault<I: Images>(images: &I, planned: &[u64]) -> Option<Disagreement>
 
 /// The number of the first image whose length is not the planned one.
 fn first_other<I: Images>(images: &I, planned: &[u64]) -> Option<usize>
-    requires few { length planned.now ≤ 16 }
+    requires few { length planned.now ≤ MOST }
     ensures first { result ≡ other_length (lengths_of (I.seen images.now).attached) planned.now }
     ensures within { IfSome result (λ image. image < length planned.now) }
 {
@@ -66,7 +66,7 @@ fn first_other<I: Images>(images: &I, planned: &[u64]) -> Option<usize>
 /// How so many images disagree with what a command over one set takes: there are none, or more than
 /// `MOST`, or the end that is asked for is past the shortest.
 pub fn limits_fault<I: Images>(images: &I, names: usize, end: Option<u64>) -> Option<Disagreement>
-    requires attached { length (I.seen images.now).attached ≡ min names 65536 }
+    requires attached { length (I.seen images.now).attached ≡ min names MOST_ATTACHED }
     ensures { result ≡ limits_fault_of end names (I.seen images.now).attached }
 {
     if names == 0 {
@@ -102,7 +102,7 @@ fn count_fault(given: usize, planned: usize) -> Disagreement
 /// The end that is asked for, or that of the shortest image, of so many.
 pub fn end_of<I: Images>(images: &I, count: usize, end: Option<u64>) -> u64
     requires attached { length (I.seen images.now).attached ≡ count }
-    requires few { count ≤ 65536 }
+    requires few { count ≤ MOST_ATTACHED }
     ensures { result ≡ end_of_images end (I.seen images.now).attached }
 {
     match end {
@@ -115,7 +115,7 @@ pub fn end_of<I: Images>(images: &I, count: usize, end: Option<u64>) -> u64
 #[tactic(auto, using(crate::proofs::Lengths::shortest_first, crate::proofs::Lengths::shortest_more))]
 fn shortest<I: Images>(images: &I, count: usize) -> u64
     requires attached { length (I.seen images.now).attached ≡ count }
-    requires few { count ≤ 65536 }
+    requires few { count ≤ MOST_ATTACHED }
     ensures { result ≡ shortest_of (lengths_of (I.seen images.now).attached) }
 {
     let mut least = sectors_of(images, 0);
@@ -127,7 +127,7 @@ fn shortest<I: Images>(images: &I, count: usize) -> u64
 
 /// Whether the length of an image is not the planned one.
 fn has_other_length<I: Images>(images: &I, image: usize, planned: &[u64]) -> bool
-    requires few { length planned.now ≤ 16 }
+    requires few { length planned.now ≤ MOST }
     requires within { image < length planned.now }
     ensures { result ≡ not (nat_eq (slice_index (lengths_of (I.seen images.now).attached) image) (slice_index planned.now image)) }
 {
@@ -137,7 +137,7 @@ fn has_other_length<I: Images>(images: &I, image: usize, planned: &[u64]) -> boo
 /// The length of an attached image in sectors, 0 where there is none of this number.
 #[tactic(auto, using(crate::proofs::Lengths::sectors_at))]
 fn sectors_of<I: Images>(images: &I, image: usize) -> u64
-    requires few { image < 65536 }
+    requires few { image < MOST_ATTACHED }
     ensures { result ≡ slice_index (lengths_of (I.seen images.now).attached) image }
 {
     images.length(image as u32).unwrap_or(0)

@@ -1,5 +1,5 @@
 //! Attaching the images of the words.
-ghost use Rattle.std.specs.Prelude.{◌≡◌, ◌+◌, ◌≤◌, ◌<◌, length, All, IsTrue, OnOk, [], min};
+ghost use Rattle.std.specs.Prelude.{◌≡◌, ◌+◌, ◌≤◌, ◌<◌, length, All, IsTrue, OnErr, OnOk, [], min};
 ghost use Rattle.image_source.specs.Attached.{AttachesSome};
 ghost use Rattle.image_source.specs.Causes.{HasCause};
 
@@ -13,6 +13,7 @@ fn attach_all<I: Images>(images: &mut I, names: &[Word]) -> Result<(), Failed>
     requires named { All (λ name. IsTrue ((I.seen images.old).world.may_attach name)) names.now }
     ensures some { AttachesSome (I.seen images.old) (I.seen images.new) names.now }
     ensures all { OnOk result (length (I.seen images.new).attached ≡ length (I.seen images.old).attached + length names.now) }
+    ensures fewer { OnErr result (length (I.seen images.new).attached < length (I.seen images.old).attached + length names.now) }
     ensures cause { HasCause (I.seen images.old).faults (I.seen images.new).faults result }
 {
     for name in names {
@@ -28,6 +29,7 @@ pub fn attach_front<I: Images>(images: &mut I, names: &[Word]) -> Result<(), Fai
     requires named { All (λ name. IsTrue ((I.seen images.old).world.may_attach name)) names.now }
     ensures some { AttachesSome (I.seen images.old) (I.seen images.new) names.now }
     ensures all { OnOk result (length (I.seen images.new).attached ≡ min (length names.now) MOST_ATTACHED) }
+    ensures fewer { OnErr result (length (I.seen images.new).attached < min (length names.now) MOST_ATTACHED) }
     ensures cause { HasCause (I.seen images.old).faults (I.seen images.new).faults result }
 {
     attach_all(images, &names[..names.len().min(MOST_ATTACHED)])

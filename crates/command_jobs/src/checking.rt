@@ -1,8 +1,10 @@
 //! The command `check`.
 ghost use Rattle.std.specs.Prelude.{[], ◌∷◌, ◌≡◌, ◌<◌, ◌≤◌, ◌*◌, ◌+◌, ◌++◌, ◌^◌, ◌⊎◌, IfErr, IfOk, IfSome, IsTrue, None, OnOk, Option, Some, false, length, min};
 ghost use Rattle.command_jobs.specs.Agreement.{plan_fault as plan_fault_of};
-ghost use Rattle.command_jobs.specs.Checking.{check_output, check_refusal, check_text as check_text_of, rank_line, rows_tested, rule_refusal, unsound_line, verdict_line};
-ghost use Rattle.command_jobs.specs.Jobs.{Ends, HasCauses, Leaves, Refuses};
+ghost use Rattle.command_jobs.specs.Checking.{check_output, check_reads, check_refusal, check_text as check_text_of, rank_line, rows_tested, rule_refusal, unsound_line, verdict_line};
+ghost use Rattle.command_jobs.specs.Jobs.{Ends, HasCauses, Leaves, Orders, Refuses};
+ghost use Rattle.command_jobs.specs.Source.{TakesFew};
+ghost use Rattle.std.specs.Io.KnownBytes.{IsAtEnd};
 ghost use Rattle.command_jobs.specs.Plans.{IsTextOf, many_refusal};
 ghost use Rattle.command_jobs.specs.Stops.{IsRefusal, first_of};
 ghost use Rattle.command_jobs.specs.declared.stop.Stop.TheVariants.{ImageFault as ImageFaultOf, OutOfMemory as OutOfMemoryOf};
@@ -19,10 +21,10 @@ ghost use Rattle.raid_terms.specs.Parity.{unsound_rows as unsound_rows_of};
 ghost use Rattle.row_scan.specs.Scan.{IsScannable};
 
 use crate::preparing::prepare;
-use crate::printing::{add_number, print};
+use crate::printing::{add_number, add_share, print};
 use crate::stop::Stop;
 use address_map::area;
-use image_source::{Images, Memory, Sink, Source};
+use image_source::{Images, MOST_ATTACHED, Memory, Sink, Source};
 use page_engine::{product_rank, product_total};
 use plan_text::{Limits, Plan, Text};
 use raid_params::Geometry;
@@ -39,15 +41,19 @@ pub fn check<S: Source, I: Images, K: Sink>(
     set: &Geometry,
     out: &mut K,
 ) -> Result<(), Stop>
-    requires attached { length (I.seen images.old).attached ≡ min names 65536 }
+    requires attached { length (I.seen images.old).attached ≡ min names MOST_ATTACHED }
     requires set { HasWord set.now }
     ensures ends { IfSome (S.left source.old) (λ text. (read : Option PlanOf) → IsTextOf text read →
         Ends (check_refusal set.now text read names (I.seen images.old).attached) (check_output set.now read (told_all (I.seen images.old).attached)) (K.gained out.old) (K.gained out.new) result) }
+    ensures order { IfSome (S.left source.old) (λ text. (read : Option PlanOf) → IsTextOf text read →
+        Orders (check_refusal set.now text read names (I.seen images.old).attached) (I.seen images.old).sectors_read (I.seen images.new).sectors_read (K.gained out.old) (K.gained out.new) result) }
+    ensures takes { TakesFew (S.left source.old) (S.left source.new) }
+    ensures end { OnOk result (IsAtEnd (S.left source.new)) }
     ensures leaves { Leaves false
         (record { images = (I.seen images.old).faults; plan = S.faults source.old; out = K.faults out.old; sectors = (I.seen images.old).sectors_read })
         (record { images = (I.seen images.new).faults; plan = S.faults source.new; out = K.faults out.new; sectors = (I.seen images.new).sectors_read })
         (K.gained out.old) (K.gained out.new) result }
-    ensures reads { IfSome (S.left source.old) (λ text. (plan : PlanOf) → IsTextOf text (Some plan) → (I.seen images.new).sectors_read ≤ (I.seen images.old).sectors_read + length (I.seen images.old).attached * rows_tested plan set.now) }
+    ensures reads { IfSome (S.left source.old) (λ text. (plan : PlanOf) → IsTextOf text (Some plan) → (I.seen images.new).sectors_read ≤ (I.seen images.old).sectors_read + check_reads set.now (I.seen images.old).attached plan) }
     ensures world { (I.seen images.new).world ≡ (I.seen images.old).world }
     ensures attached { (I.seen images.new).attached ≡ (I.seen images.old).attached }
 {
@@ -62,16 +68,20 @@ fn answer<S: Source, I: Images>(
     names: usize,
     set: &Geometry,
 ) -> Result<Text, Stop>
-    requires attached { length (I.seen images.old).attached ≡ min names 65536 }
+    requires attached { length (I.seen images.old).attached ≡ min names MOST_ATTACHED }
     requires set { HasWord set.now }
     ensures refuses { IfSome (S.left source.old) (λ text. (read : Option PlanOf) → IsTextOf text read →
         Refuses (check_refusal set.now text read names (I.seen images.old).attached) result) }
+    ensures order { IfSome (S.left source.old) (λ text. (read : Option PlanOf) → IsTextOf text read →
+        Orders (check_refusal set.now text read names (I.seen images.old).attached) (I.seen images.old).sectors_read (I.seen images.new).sectors_read None None result) }
+    ensures takes { TakesFew (S.left source.old) (S.left source.new) }
+    ensures end { OnOk result (IsAtEnd (S.left source.new)) }
     ensures causes { HasCauses
         (record { images = (I.seen images.old).faults; plan = S.faults source.old; out = 0; sectors = (I.seen images.old).sectors_read })
         (record { images = (I.seen images.new).faults; plan = S.faults source.new; out = 0; sectors = (I.seen images.new).sectors_read }) result }
     ensures text { IfOk result (λ found. IfSome (S.left source.old) (λ text. (read : Option PlanOf) → IsTextOf text read →
         IfSome (check_output set.now read (told_all (I.seen images.old).attached)) (λ printed. found ≡ printed))) }
-    ensures reads { IfSome (S.left source.old) (λ text. (plan : PlanOf) → IsTextOf text (Some plan) → (I.seen images.new).sectors_read ≤ (I.seen images.old).sectors_read + length (I.seen images.old).attached * rows_tested plan set.now) }
+    ensures reads { IfSome (S.left source.old) (λ text. (plan : PlanOf) → IsTextOf text (Some plan) → (I.seen images.new).sectors_read ≤ (I.seen images.old).sectors_read + check_reads set.now (I.seen images.old).attached plan) }
     ensures world { (I.seen images.new).world ≡ (I.seen images.old).world }
     ensures attached { (I.seen images.new).attached ≡ (I.seen images.old).attached }
 {
@@ -90,12 +100,13 @@ fn checked<I: Images>(
     set: &Geometry,
     plan: &Plan,
 ) -> Result<Text, Stop>
-    requires attached { length (I.seen images.old).attached ≡ min names 65536 }
+    requires attached { length (I.seen images.old).attached ≡ min names MOST_ATTACHED }
     requires set { HasWord set.now }
     requires plan { IsPlan plan.now }
     requires agrees { plan_fault_of plan.now names (I.seen images.old).attached ≡ None }
     ensures text { IfOk result (λ text. IfSome (told_all (I.seen images.old).attached) (λ bytes. text ≡ check_text_of bytes plan.now set.now)) }
     ensures refuses { Refuses (first_of (many_refusal plan.now ∷ rule_refusal set.now names plan.now ∷ [])) result }
+    ensures order { Orders (first_of (many_refusal plan.now ∷ rule_refusal set.now names plan.now ∷ [])) (I.seen images.old).sectors_read (I.seen images.new).sectors_read None None result }
     ensures causes { HasCauses
         (record { images = (I.seen images.old).faults; plan = 0; out = 0; sectors = (I.seen images.old).sectors_read })
         (record { images = (I.seen images.new).faults; plan = 0; out = 0; sectors = (I.seen images.new).sectors_read }) result }
@@ -180,7 +191,7 @@ fn check_text(
 {
     let mut text = Text::new(alloc);
     add_rank(&mut text, rank)?;
-    add_unsound(&mut text, unsound, tested)?;
+    add_share(&mut text, b"unsound ", unsound, tested)?;
     add_verdict(&mut text, unsound, limits.badrows)?;
     Ok(text)
 }
@@ -203,18 +214,6 @@ fn add_rank_or_dash(text: &mut Text, rank: Option<u64>) -> Result<(), Memory>
         Some(rank) => add_number(text, rank),
         None => text.extend_from_slice(b"-"),
     }
-}
-
-/// Appends the line of the unsound rows.
-#[tactic(auto, unfolding(crate::specs::Checking::unsound_line))]
-fn add_unsound(text: &mut Text, unsound: u64, tested: u64) -> Result<(), Memory>
-    ensures { OnOk result (text.new ≡ text.old ++ unsound_line unsound tested) }
-{
-    text.extend_from_slice(b"unsound ")?;
-    add_number(text, unsound)?;
-    text.extend_from_slice(b" of ")?;
-    add_number(text, tested)?;
-    text.extend_from_slice(b"\n")
 }
 
 /// Appends the line of the verdict on so many unsound rows, where so many may be.

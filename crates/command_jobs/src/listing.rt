@@ -1,18 +1,21 @@
 //! The command `list`.
-ghost use Rattle.std.specs.Prelude.{◌≡◌, ◌≤◌, ◌++◌, IfErr, IfOk, IfSome, None, OnOk, Option, Some, [], ◌∷◌, false, length, min};
+ghost use Rattle.std.specs.Prelude.{◌≡◌, ◌≤◌, ◌+◌, ◌++◌, IfErr, IfOk, IfSome, None, OnOk, Option, Some, [], ◌∷◌, false, length, min};
 ghost use Rattle.image_source.specs.Attached.{told_all};
-ghost use Rattle.page_engine.specs.Sets.{AgreeWith, LeavesImages};
+ghost use Rattle.image_source.specs.Seen.{OnlyReads};
+ghost use Rattle.page_engine.specs.Sets.{AgreeWith};
 ghost use Rattle.plan_text.specs.PlanText.{IsPlan};
 ghost use Rattle.plan_text.specs.declared.plan.Plan.{Plan as PlanOf};
-ghost use Rattle.command_jobs.specs.Jobs.{Ends, HasCauses, Leaves, Refuses};
-ghost use Rattle.command_jobs.specs.Listing.{cursor_refusal, list_output, list_refusal, listing, next_line, page_text as page_bytes};
+ghost use Rattle.command_jobs.specs.Jobs.{Ends, HasCauses, Leaves, Orders, Refuses};
+ghost use Rattle.command_jobs.specs.Source.{TakesFew};
+ghost use Rattle.std.specs.Io.KnownBytes.{IsAtEnd};
+ghost use Rattle.command_jobs.specs.Listing.{cursor_refusal, list_output, list_reads, list_refusal, listing, page_text as page_bytes};
 ghost use Rattle.command_jobs.specs.Plans.{IsTextOf, many_refusal};
 ghost use Rattle.command_jobs.specs.Stops.{first_of};
 
 use crate::preparing::prepare;
-use crate::printing::{add_number, print};
+use crate::printing::{add_share, print};
 use crate::stop::Stop;
-use image_source::{Images, Memory, Sink, Source};
+use image_source::{Images, MOST_ATTACHED, Memory, Sink, Source};
 use page_engine::{ListPage, page};
 use plan_text::{Plan, Text, set_line};
 use std::alloc::Global;
@@ -29,14 +32,19 @@ pub fn list<S: Source, I: Images, K: Sink>(
     span: u64,
     out: &mut K,
 ) -> Result<(), Stop>
-    requires attached { length (I.seen images.old).attached ≡ min names 65536 }
+    requires attached { length (I.seen images.old).attached ≡ min names MOST_ATTACHED }
     requires size { 1 ≤ size }
     ensures ends { IfSome (S.left source.old) (λ text. (read : Option PlanOf) → IsTextOf text read →
         Ends (list_refusal from text read names (I.seen images.old).attached) (list_output from size span read (told_all (I.seen images.old).attached)) (K.gained out.old) (K.gained out.new) result) }
+    ensures order { IfSome (S.left source.old) (λ text. (read : Option PlanOf) → IsTextOf text read →
+        Orders (list_refusal from text read names (I.seen images.old).attached) (I.seen images.old).sectors_read (I.seen images.new).sectors_read (K.gained out.old) (K.gained out.new) result) }
+    ensures takes { TakesFew (S.left source.old) (S.left source.new) }
+    ensures end { OnOk result (IsAtEnd (S.left source.new)) }
     ensures leaves { Leaves false
         (record { images = (I.seen images.old).faults; plan = S.faults source.old; out = K.faults out.old; sectors = (I.seen images.old).sectors_read })
         (record { images = (I.seen images.new).faults; plan = S.faults source.new; out = K.faults out.new; sectors = (I.seen images.new).sectors_read })
         (K.gained out.old) (K.gained out.new) result }
+    ensures reads { IfSome (S.left source.old) (λ text. (plan : PlanOf) → IsTextOf text (Some plan) → (I.seen images.new).sectors_read ≤ (I.seen images.old).sectors_read + list_reads plan from span) }
     ensures world { (I.seen images.new).world ≡ (I.seen images.old).world }
     ensures attached { (I.seen images.new).attached ≡ (I.seen images.old).attached }
 {
@@ -53,16 +61,22 @@ fn answer<S: Source, I: Images>(
     size: u64,
     span: u64,
 ) -> Result<Text, Stop>
-    requires attached { length (I.seen images.old).attached ≡ min names 65536 }
+    requires attached { length (I.seen images.old).attached ≡ min names MOST_ATTACHED }
     requires size { 1 ≤ size }
     ensures text { IfOk result (λ text. IfSome (S.left source.old) (λ left. (read : Option PlanOf) → IsTextOf left read →
         IfSome (list_output from size span read (told_all (I.seen images.old).attached)) (λ printed. text ≡ printed))) }
     ensures refuses { IfSome (S.left source.old) (λ left. (read : Option PlanOf) → IsTextOf left read →
         Refuses (list_refusal from left read names (I.seen images.old).attached) result) }
+    ensures order { IfSome (S.left source.old) (λ left. (read : Option PlanOf) → IsTextOf left read →
+        Orders (list_refusal from left read names (I.seen images.old).attached) (I.seen images.old).sectors_read (I.seen images.new).sectors_read None None result) }
+    ensures takes { TakesFew (S.left source.old) (S.left source.new) }
+    ensures end { OnOk result (IsAtEnd (S.left source.new)) }
     ensures causes { HasCauses
         (record { images = (I.seen images.old).faults; plan = S.faults source.old; out = 0; sectors = (I.seen images.old).sectors_read })
         (record { images = (I.seen images.new).faults; plan = S.faults source.new; out = 0; sectors = (I.seen images.new).sectors_read }) result }
-    ensures leaves { LeavesImages (I.seen images.old) (I.seen images.new) }
+    ensures reads { IfSome (S.left source.old) (λ text. (plan : PlanOf) → IsTextOf text (Some plan) → (I.seen images.new).sectors_read ≤ (I.seen images.old).sectors_read + list_reads plan from span) }
+    ensures world { (I.seen images.new).world ≡ (I.seen images.old).world }
+    ensures attached { (I.seen images.new).attached ≡ (I.seen images.old).attached }
 {
     match prepare(alloc, source, images, names) {
         Ok(plan) => listed(alloc, images, &plan, from, size, span),
@@ -85,10 +99,11 @@ fn listed<I: Images>(
     requires size { 1 ≤ size }
     ensures text { IfOk result (λ text. IfSome (told_all (I.seen images.old).attached) (λ bytes. text ≡ listing bytes plan.now from size span)) }
     ensures refuses { Refuses (first_of (many_refusal plan.now ∷ cursor_refusal from plan.now ∷ [])) result }
+    ensures order { Orders (first_of (many_refusal plan.now ∷ cursor_refusal from plan.now ∷ [])) (I.seen images.old).sectors_read (I.seen images.new).sectors_read None None result }
     ensures causes { HasCauses
         (record { images = (I.seen images.old).faults; plan = 0; out = 0; sectors = (I.seen images.old).sectors_read })
         (record { images = (I.seen images.new).faults; plan = 0; out = 0; sectors = (I.seen images.new).sectors_read }) result }
-    ensures leaves { LeavesImages (I.seen images.old) (I.seen images.new) }
+    ensures reads { OnlyReads (I.seen images.old) (I.seen images.new) (list_reads plan.now from span) }
 {
     match page(alloc, images, plan, from, size, span) {
         Ok(page) => Ok(page_text(alloc, &page)?),
@@ -105,17 +120,6 @@ fn page_text(alloc: Global, page: &ListPage) -> Result<Text, Memory>
         let line = set_line(alloc, held.rank, &held.geo)?;
         text.extend_from_slice(line.as_slice())?;
     }
-    push_next(&mut text, page.next, page.total)?;
+    add_share(&mut text, b"next ", page.next, page.total)?;
     Ok(text)
-}
-
-/// Appends the line that says where the next page begins.
-fn push_next(text: &mut Text, next: u64, total: u64) -> Result<(), Memory>
-    ensures { OnOk result (text.new ≡ text.old ++ next_line next total) }
-{
-    text.extend_from_slice(b"next ")?;
-    add_number(text, next)?;
-    text.extend_from_slice(b" of ")?;
-    add_number(text, total)?;
-    text.extend_from_slice(b"\n")
 }

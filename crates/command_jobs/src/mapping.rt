@@ -1,7 +1,7 @@
 //! The command `map`.
 ghost use Rattle.std.specs.Prelude.{◌≡◌, ◌<◌, ◌≤◌, ◌+◌, ◌++◌, ◌^◌, ◌⊎◌, All, IfErr, IfOk, IfSome, IsTrue, None, OnOk, Some, codes, decimal, false, length, min, slice_index_or, unwrap_or};
 ghost use Rattle.command_jobs.specs.Agreement.{end_of as end_of_images};
-ghost use Rattle.command_jobs.specs.Jobs.{Ends, Leaves, Refuses};
+ghost use Rattle.command_jobs.specs.Jobs.{Ends, Leaves, Orders, Refuses};
 ghost use Rattle.command_jobs.specs.Mapping.{map_refusal, map_text as map_text_of, name_line, or_dash, place_line, sector_refusal, set_refusal};
 ghost use Rattle.command_jobs.specs.Stops.{IsEarly, IsRefusal};
 ghost use Rattle.plan_text.specs.SetText.{HasWord};
@@ -14,7 +14,7 @@ use crate::agreement::{end_of, limits_fault};
 use crate::printing::{add_number, add_or_dash, print};
 use crate::stop::{SectorFault, Stop};
 use address_map::{Home, locate, volume_sectors};
-use image_source::{Images, Memory, Sink};
+use image_source::{Images, MOST_ATTACHED, Memory, Sink};
 use plan_text::Text;
 use raid_layouts::{md_name, p_slot, q_slot};
 use raid_params::{Geometry, Head};
@@ -33,11 +33,12 @@ pub fn map<I: Images, K: Sink>(
     end: Option<u64>,
     out: &mut K,
 ) -> Result<(), Stop>
-    requires attached { length (I.seen images.now).attached ≡ min names 65536 }
+    requires attached { length (I.seen images.now).attached ≡ min names MOST_ATTACHED }
     requires small { All (λ image. image.sectors < 2 ^ 55) (I.seen images.now).attached }
     requires set { HasWord set.now }
     requires end { IfSome end (λ sector. sector < 2 ^ 55) }
     ensures ends { Ends (map_refusal set.now sector end names (I.seen images.now).attached) (Some (map_text_of set.now sector)) (K.gained out.old) (K.gained out.new) result }
+    ensures order { Orders (map_refusal set.now sector end names (I.seen images.now).attached) (I.seen images.now).sectors_read (I.seen images.now).sectors_read (K.gained out.old) (K.gained out.new) result }
     ensures leaves { Leaves false
         (record { images = (I.seen images.now).faults; plan = 0; out = K.faults out.old; sectors = (I.seen images.now).sectors_read })
         (record { images = (I.seen images.now).faults; plan = 0; out = K.faults out.new; sectors = (I.seen images.now).sectors_read })
@@ -56,7 +57,7 @@ fn answer<I: Images>(
     sector: u64,
     end: Option<u64>,
 ) -> Result<Text, Stop>
-    requires attached { length (I.seen images.now).attached ≡ min names 65536 }
+    requires attached { length (I.seen images.now).attached ≡ min names MOST_ATTACHED }
     requires small { All (λ image. image.sectors < 2 ^ 55) (I.seen images.now).attached }
     requires set { HasWord set.now }
     requires end { IfSome end (λ sector. sector < 2 ^ 55) }
@@ -95,7 +96,7 @@ pub fn checked_end<I: Images>(
     set: &Geometry,
     end: Option<u64>,
 ) -> Result<u64, Stop>
-    requires attached { length (I.seen images.now).attached ≡ min names 65536 }
+    requires attached { length (I.seen images.now).attached ≡ min names MOST_ATTACHED }
     requires small { All (λ image. image.sectors < 2 ^ 55) (I.seen images.now).attached }
     requires end { IfSome end (λ sector. sector < 2 ^ 55) }
     ensures end { IfOk result (λ e. (e ≡ end_of_images end (I.seen images.now).attached) × (e < 2 ^ 55)) }

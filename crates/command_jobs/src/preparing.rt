@@ -1,5 +1,7 @@
 //! Reading the plan, and comparing the images with it.
-ghost use Rattle.std.specs.Prelude.{◌≡◌, ◌≤◌, IfErr, IfOk, length, min};
+ghost use Rattle.std.specs.Prelude.{◌≡◌, ◌≤◌, IfErr, IfOk, OnOk, length, min};
+ghost use Rattle.std.specs.Io.KnownBytes.{IsAtEnd};
+ghost use Rattle.command_jobs.specs.Source.{TakesFew};
 ghost use Rattle.command_jobs.specs.Agreement.{plan_fault as plan_fault_of};
 ghost use Rattle.command_jobs.specs.Jobs.{EndsPreparing, IsPrepared};
 ghost use Rattle.plan_text.specs.PlanText.{IsPlan};
@@ -7,7 +9,7 @@ ghost use Rattle.plan_text.specs.PlanText.{IsPlan};
 use crate::agreement::plan_fault;
 use crate::reading::read_all;
 use crate::stop::Stop;
-use image_source::{Images, Source};
+use image_source::{Images, MOST_ATTACHED, Source};
 use plan_text::{Plan, read_plan};
 use std::alloc::Global;
 
@@ -19,11 +21,13 @@ pub(crate) fn prepare<S: Source, I: Images>(
     images: &I,
     names: usize,
 ) -> Result<Plan, Stop>
-    requires attached { length (I.seen images.now).attached ≡ min names 65536 }
+    requires attached { length (I.seen images.now).attached ≡ min names MOST_ATTACHED }
     ensures plan { IfOk result IsPlan }
     ensures agrees { IfOk result (λ plan. plan_fault_of plan names (I.seen images.now).attached ≡ None) }
     ensures prepared { IfOk result (IsPrepared (S.left source.old) names (I.seen images.now).attached) }
     ensures ends { IfErr result (EndsPreparing (S.left source.old) names (I.seen images.now).attached (S.faults source.old) (S.faults source.new)) }
+    ensures takes { TakesFew (S.left source.old) (S.left source.new) }
+    ensures end { OnOk result (IsAtEnd (S.left source.new)) }
     ensures later { S.faults source.old ≤ S.faults source.new }
 {
     let text = read_all(alloc, source)?;

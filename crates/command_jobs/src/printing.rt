@@ -2,6 +2,7 @@
 ghost use Rattle.std.specs.Prelude.{◌≡◌, ◌≤◌, ◌++◌, OnOk, decimal};
 ghost use Rattle.command_jobs.specs.Jobs.{IsPrinted};
 ghost use Rattle.command_jobs.specs.Mapping.{or_dash};
+ghost use Rattle.command_jobs.specs.Printing.{share_line};
 
 use crate::stop::Stop;
 use image_source::{Memory, Sink};
@@ -36,4 +37,16 @@ pub(crate) fn add_number(text: &mut Text, number: u64) -> Result<(), Memory>
 {
     let mut buffer = Buffer::new();
     text.extend_from_slice(buffer.format(number).as_bytes())
+}
+
+/// Appends a line of a name, which ends with a space, and how many of how many.
+#[tactic(auto, unfolding(crate::specs::Printing::share_line))]
+pub(crate) fn add_share(text: &mut Text, name: &[u8], part: u64, whole: u64) -> Result<(), Memory>
+    ensures { OnOk result (text.new ≡ text.old ++ share_line name.now part whole) }
+{
+    text.extend_from_slice(name)?;
+    add_number(text, part)?;
+    text.extend_from_slice(b" of ")?;
+    add_number(text, whole)?;
+    text.extend_from_slice(b"\n")
 }

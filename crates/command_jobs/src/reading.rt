@@ -1,6 +1,7 @@
 //! Reading a source to its end.
-ghost use Rattle.std.specs.Prelude.{◌≡◌, ◌≤◌, length, IfOk, IfErr, IfSome};
-ghost use Rattle.command_jobs.specs.Source.{EndsReading};
+ghost use Rattle.std.specs.Prelude.{◌≡◌, ◌≤◌, length, IfOk, IfErr, IfSome, OnOk};
+ghost use Rattle.std.specs.Io.KnownBytes.{IsAtEnd};
+ghost use Rattle.command_jobs.specs.Source.{EndsReading, TakesFew};
 
 use crate::stop::Stop;
 use image_source::Source;
@@ -19,6 +20,8 @@ pub fn read_all<S: Source>(alloc: Global, source: &mut S) -> Result<Vec<u8>, Sto
     ensures text { IfOk result (λ text. IfSome (S.left source.old) (λ left. text.items ≡ left)) }
     ensures short { IfOk result (λ text. length text.items ≤ 4194304) }
     ensures ends { IfErr result (EndsReading (S.left source.old) (S.faults source.old) (S.faults source.new)) }
+    ensures takes { TakesFew (S.left source.old) (S.left source.new) }
+    ensures end { OnOk result (IsAtEnd (S.left source.new)) }
     ensures later { S.faults source.old ≤ S.faults source.new }
 {
     let mut text = Vec::new(alloc);

@@ -2,17 +2,16 @@
 ghost use Rattle.std.specs.Prelude.{◌≡◌, ◌≤◌, ◌<◌, ◌+◌, ◌*◌, ◌^◌, ◌&&◌, All, IfErr, IfOk, IfSome, None, OnOk, Some, is_none, length, min, nat_lt, slice_index_or, true};
 ghost use Rattle.image_source.specs.Attached.{told_all};
 ghost use Rattle.command_jobs.specs.Agreement.{end_of};
-ghost use Rattle.command_jobs.specs.Jobs.{Ends, Leaves};
+ghost use Rattle.command_jobs.specs.Jobs.{Ends, Leaves, Orders};
 ghost use Rattle.command_jobs.specs.Mapping.{set_refusal};
 ghost use Rattle.command_jobs.specs.Stops.{IsRefusal};
-ghost use Rattle.command_jobs.specs.Writing.{rebuild_output, rebuild_refusal, slot_refusal, write_output};
+ghost use Rattle.command_jobs.specs.Writing.{members_reads, rebuild_output, rebuild_refusal, slot_refusal, write_output};
 ghost use Rattle.plan_text.specs.SetText.{HasWord};
-ghost use Rattle.raid_params.specs.Size.{area};
 ghost use Rattle.virtual_volume.specs.Served.{IsServed};
 
 use crate::mapping::checked_end;
 use crate::stop::Stop;
-use image_source::{Images, Sink};
+use image_source::{Images, MOST_ATTACHED, Sink};
 use raid_params::Geometry;
 use std::alloc::Global;
 use virtual_volume::write_volume;
@@ -27,16 +26,17 @@ pub fn write<I: Images, K: Sink>(
     end: Option<u64>,
     out: &mut K,
 ) -> Result<(), Stop>
-    requires attached { length (I.seen images.old).attached ≡ min names 65536 }
+    requires attached { length (I.seen images.old).attached ≡ min names MOST_ATTACHED }
     requires small { All (λ image. image.sectors < 2 ^ 55) (I.seen images.old).attached }
     requires set { HasWord set.now }
     requires end { IfSome end (λ sector. sector < 2 ^ 55) }
     ensures ends { Ends (set_refusal set.now end names (I.seen images.old).attached) (write_output set.now end (I.seen images.old).attached (told_all (I.seen images.old).attached)) (K.gained out.old) (K.gained out.new) result }
+    ensures order { Orders (set_refusal set.now end names (I.seen images.old).attached) (I.seen images.old).sectors_read (I.seen images.new).sectors_read (K.gained out.old) (K.gained out.new) result }
     ensures leaves { Leaves true
         (record { images = (I.seen images.old).faults; plan = 0; out = K.faults out.old; sectors = (I.seen images.old).sectors_read })
         (record { images = (I.seen images.new).faults; plan = 0; out = K.faults out.new; sectors = (I.seen images.new).sectors_read })
         (K.gained out.old) (K.gained out.new) result }
-    ensures reads { (I.seen images.new).sectors_read ≤ (I.seen images.old).sectors_read + set.now.head.members * area set.now.head (end_of end (I.seen images.old).attached) }
+    ensures reads { (I.seen images.new).sectors_read ≤ (I.seen images.old).sectors_read + members_reads set.now end (I.seen images.old).attached }
     ensures world { (I.seen images.new).world ≡ (I.seen images.old).world }
     ensures kept { (I.seen images.new).attached ≡ (I.seen images.old).attached }
 {
@@ -59,16 +59,17 @@ pub fn rebuild<I: Images, K: Sink>(
     end: Option<u64>,
     out: &mut K,
 ) -> Result<(), Stop>
-    requires attached { length (I.seen images.old).attached ≡ min names 65536 }
+    requires attached { length (I.seen images.old).attached ≡ min names MOST_ATTACHED }
     requires small { All (λ image. image.sectors < 2 ^ 55) (I.seen images.old).attached }
     requires set { HasWord set.now }
     requires end { IfSome end (λ sector. sector < 2 ^ 55) }
     ensures ends { Ends (rebuild_refusal set.now slot end names (I.seen images.old).attached) (rebuild_output set.now slot end (I.seen images.old).attached (told_all (I.seen images.old).attached)) (K.gained out.old) (K.gained out.new) result }
+    ensures order { Orders (rebuild_refusal set.now slot end names (I.seen images.old).attached) (I.seen images.old).sectors_read (I.seen images.new).sectors_read (K.gained out.old) (K.gained out.new) result }
     ensures leaves { Leaves true
         (record { images = (I.seen images.old).faults; plan = 0; out = K.faults out.old; sectors = (I.seen images.old).sectors_read })
         (record { images = (I.seen images.new).faults; plan = 0; out = K.faults out.new; sectors = (I.seen images.new).sectors_read })
         (K.gained out.old) (K.gained out.new) result }
-    ensures reads { (I.seen images.new).sectors_read ≤ (I.seen images.old).sectors_read + set.now.head.members * area set.now.head (end_of end (I.seen images.old).attached) }
+    ensures reads { (I.seen images.new).sectors_read ≤ (I.seen images.old).sectors_read + members_reads set.now end (I.seen images.old).attached }
     ensures world { (I.seen images.new).world ≡ (I.seen images.old).world }
     ensures kept { (I.seen images.new).attached ≡ (I.seen images.old).attached }
 {
@@ -89,7 +90,7 @@ fn served_end<I: Images>(
     set: &Geometry,
     end: Option<u64>,
 ) -> Result<u64, Stop>
-    requires attached { length (I.seen images.now).attached ≡ min names 65536 }
+    requires attached { length (I.seen images.now).attached ≡ min names MOST_ATTACHED }
     requires small { All (λ image. image.sectors < 2 ^ 55) (I.seen images.now).attached }
     requires set { HasWord set.now }
     requires end { IfSome end (λ sector. sector < 2 ^ 55) }
@@ -110,7 +111,7 @@ fn missing_end<I: Images>(
     slot: u8,
     end: Option<u64>,
 ) -> Result<u64, Stop>
-    requires attached { length (I.seen images.now).attached ≡ min names 65536 }
+    requires attached { length (I.seen images.now).attached ≡ min names MOST_ATTACHED }
     requires small { All (λ image. image.sectors < 2 ^ 55) (I.seen images.now).attached }
     requires set { HasWord set.now }
     requires end { IfSome end (λ sector. sector < 2 ^ 55) }

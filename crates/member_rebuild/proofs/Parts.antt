@@ -63,16 +63,12 @@ sectors_cut images geo slot first count n a b c few p q =
     (front_more b c (sectors_of images geo slot first count) (sectors_of images geo slot (first + count) (n - (first + count))) (sectors_of images geo slot first (n - first))
     (sectors_join images geo slot first count (n - (first + count)) (n - first) (first + count) (omega arith) refl) q)
 
--- what is known of a put whose error was turned into another, by the other's result
-pub put_err : {T E F : Type 0} (P : E → Type 0) (old new : Option (List ℕ)) (bytes : List ℕ) (r : Result T E) (m : Result T F) (e : F) →
-    MatchResult r (λ x. m ≡ Ok x) P → m ≡ Err e → Puts old new r bytes → AppendsFront old new bytes
-put_err P old new bytes (Ok x) m e is err p = absurd (cc)
-put_err P old new bytes (Err x) m e is err p = p
-
-pub put_ok : {T E F : Type 0} (Q : E → F → Type 0) (old new : Option (List ℕ)) (bytes : List ℕ) (r : Result T E) (m : Result T F) (v : T) →
-    MatchResult r (λ x. m ≡ Ok x) (λ e. IsErrAnd m (Q e)) → m ≡ Ok v → Puts old new r bytes → Appends old new bytes
-put_ok Q old new bytes (Ok x) m v is ok p = p
-put_ok {T} {E} {F} Q old new bytes (Err x) m v is ok p = absurd (subst (λ (o : Result T F). IsErrAnd o (Q x)) ok is)
+-- what is known of a put, where its error was turned into another
+pub puts_as : {T E F : Type 0} (Q : E → F → Type 0) (old new : Option (List ℕ)) (bytes : List ℕ) (r : Result T E) (m : Result T F) →
+    MatchResult r (λ x. m ≡ Ok x) (λ e. IsErrAnd m (Q e)) → Puts old new r bytes → Puts old new m bytes
+puts_as Q old new bytes (Ok x) m is p = rw is p
+puts_as Q old new bytes (Err x) (Ok v) is p = absurd is
+puts_as Q old new bytes (Err x) (Err e) is p = p
 
 -- the members reach to the end of a block
 pub block_held : (attached now : List Image) (offset first count sectors : ℕ) (slots : List (Option ℕ)) → now ≡ attached → first + count ≤ sectors →

@@ -8,7 +8,7 @@ ghost use Rattle.image_source.specs.Seen.{OnlyReads};
 ghost use Rattle.image_source.specs.Streams.{AppendsFront, Puts};
 ghost use Rattle.raid_params.specs.Size.{area as area_of};
 ghost use Rattle.raid_terms.specs.Volume.{member};
-ghost use Rattle.row_scan.specs.Block.{IsTestable, Reaches};
+ghost use Rattle.row_scan.specs.Block.{IsTestable, Reaches, held};
 ghost use Rattle.virtual_volume.specs.Regions.{IsRoom};
 ghost use Rattle.virtual_volume.specs.Served.{Ends, IsServed};
 ghost use Rattle.member_rebuild.specs.Sectors.{sectors_of};
@@ -16,11 +16,9 @@ ghost use Rattle.member_rebuild.specs.Sectors.{sectors_of};
 use address_map::area;
 use image_source::{Images, Sink};
 use raid_params::Geometry;
+use row_scan::BLOCK;
 use std::alloc::Global;
 use virtual_volume::{Room, VolumeFault};
-
-/// The sectors that are read of each member at a time, 128 KiB.
-const BLOCK: u64 = 256;
 
 /// Writes the `count` sectors of the missing member of a slot from sector `first` on.
 #[tactic(auto, using(row_scan::proofs::Regions::region_inside))]
@@ -44,7 +42,7 @@ fn write_block<I: Images, K: Sink>(
     requires missing { slice_index_or geo.now.slots.items slot None ≡ None }
     ensures put { IfSome (told_all (I.seen images.old).attached)
         (λ bytes. Puts (K.gained sink.old) (K.gained sink.new) result (sectors_of bytes geo.now slot first count)) }
-    ensures reads { OnlyReads (I.seen images.old) (I.seen images.new) (length geo.now.slots.items * count) }
+    ensures reads { OnlyReads (I.seen images.old) (I.seen images.new) (held geo.now.slots.items * count) }
     ensures later { K.faults sink.old ≤ K.faults sink.new }
     ensures ends { IfErr result (Ends (I.seen images.old).faults (I.seen images.new).faults (K.faults sink.old) (K.faults sink.new)) }
     ensures room { IsRoom (length geo.now.slots.items) room.new }
@@ -54,8 +52,7 @@ fn write_block<I: Images, K: Sink>(
         .map_err(|_| VolumeFault::ReadFault)?;
     room.solve(geo, first, count, slot);
     sink.put(room.region(slot, count))
-        .map_err(|_| VolumeFault::WriteFault)?;
-    Ok(())
+        .map_err(|_| VolumeFault::WriteFault)
 }
 
 /// Writes the first `sectors` sectors of the missing member of a slot, in blocks.
@@ -76,13 +73,13 @@ fn write_sectors<I: Images, K: Sink>(
     requires missing { slice_index_or geo.now.slots.items slot None ≡ None }
     ensures put { IfSome (told_all (I.seen images.old).attached)
         (λ bytes. Puts (K.gained sink.old) (K.gained sink.new) result (sectors_of bytes geo.now slot 0 sectors)) }
-    ensures reads { OnlyReads (I.seen images.old) (I.seen images.new) (length geo.now.slots.items * sectors) }
+    ensures reads { OnlyReads (I.seen images.old) (I.seen images.new) (held geo.now.slots.items * sectors) }
     ensures later { K.faults sink.old ≤ K.faults sink.new }
     ensures ends { IfErr result (Ends (I.seen images.old).faults (I.seen images.new).faults (K.faults sink.old) (K.faults sink.new)) }
 {
     let mut first = 0;
     while first < sectors {
-        let count = BLOCK.min(sectors - first);
+        let count = (BLOCK as u64).min(sectors - first);
         write_block(images, sink, room, geo, slot, first, count as usize)?;
         first += count;
     }
@@ -93,8 +90,8 @@ fn write_sectors<I: Images, K: Sink>(
 /// slot, from its data offset on, to the end of the whole rows before the image sector `end`.
 ///
 /// It fails for want of memory before anything is read or written, and after that only by a fault
-/// of the images or of the sink: then a front of the member was written. Each member sector is read
-/// at most once.
+/// of the images or of the sink: then a front of the member was written. No more sectors are read
+/// than the members that are there hold in whole rows.
 #[tactic(auto, using(virtual_volume::proofs::Sets::served_head, virtual_volume::proofs::Sets::served_slots, virtual_volume::proofs::Sets::served_testable))]
 pub fn rebuild<I: Images, K: Sink>(
     alloc: Global,
@@ -116,10 +113,12 @@ pub fn rebuild<I: Images, K: Sink>(
     ensures read_fault { IsErrOf result VolumeFault.ReadFault →
         Rose (I.seen images.old).faults (I.seen images.new).faults }
     ensures write_fault { IsErrOf result VolumeFault.WriteFault → Rose (K.faults sink.old) (K.faults sink.new) }
-    ensures reads { OnlyReads (I.seen images.old) (I.seen images.new) (geo.now.head.members * area_of geo.now.head end) }
+    ensures reads { OnlyReads (I.seen images.old) (I.seen images.new) (held geo.now.slots.items * area_of geo.now.head end) }
     ensures later { K.faults sink.old ≤ K.faults sink.new }
 {
     let sectors = area(&geo.head, end);
-    let mut room = Room::new(alloc, geo.head.members, BLOCK).map_err(|_| VolumeFault::Memory)?;
+    let mut room = Room::new(alloc, geo.head.members, BLOCK as u64).map_err(
+        |_| VolumeFault::Memory,
+    )?;
     write_sectors(images, sink, &mut room, geo, slot as usize, sectors)
 }

@@ -1,13 +1,15 @@
 -- Ranks tested one by one.
-use Rattle.std.proofs.Common.{◌≡◌, ℕ, ◌+◌, ◌-◌, ◌<◌, ◌≤◌, Bool, true, false, cond, List, [], ◌∷◌, ◌++◌, length, take, map, refl, sym, ap, ◌∙◌, arith, append_assoc, append-nil, length-append, IfSome, Option, Some, None, All, subst, inl, inr}
+use Rattle.std.proofs.Common.{◌≡◌, ℕ, ◌+◌, ◌-◌, ◌*◌, ◌<◌, ◌≤◌, Bool, true, false, cond, List, [], ◌∷◌, ◌++◌, length, take, map, refl, sym, ap, ◌∙◌, arith, append_assoc, append-nil, length-append, IfSome, Option, Some, None, All, subst, inl, inr}
 use Rattle.std.proofs.lemmas.List.{take_all, take_at, get_or_at, map-append, length-map}
 use Rattle.std.proofs.lemmas.List.Elements.{All-append, All-cons, All-nil}
 use Rattle.std.proofs.lemmas.Bool.{le-leb, lt-leb}
 use Rattle.raid_terms.specs.Page.{passing, stop_of, IsPage}
 use Rattle.raid_terms.proofs.Pages.{passing-split}
 use Rattle.plan_text.specs.declared.plan.Plan.{Plan}
-use Rattle.page_engine.specs.Sets.{passes_at, total_of, AddsIfPasses, HoldsSet, LeavesImages}
-use Rattle.image_source.specs.Seen.{Seen}
+use Rattle.page_engine.specs.Sets.{passes_at, total_of, AddsIfPasses, HoldsSet}
+use Rattle.image_source.proofs.Reading.{reads_join, reads_none, reads_up}
+use Rattle.image_source.specs.Seen.{OnlyReads, Seen}
+use Rattle.std.proofs.Math.Nat.{mul-add, mul-le-mul_left}
 use Rattle.page_engine.specs.declared.paging.Line.{Line}
 
 abbrev ranks : List Line → List ℕ
@@ -92,10 +94,18 @@ short_page None plan from size span stop lines far at few = tt
 short_page (Some bytes) plan from size span stop lines far at few =
     rw at (short (passes_at bytes plan) (total_of plan) from size span (map (λ (one : Line). one.rank) lines) (rw at at far) (let same = length-map lines (λ (one : Line). one.rank) in omega arith))
 
--- images are left as they were, one call after the other
-pub left_on : (a b c : Seen) → LeavesImages a b → LeavesImages b c → LeavesImages a c
-left_on a b c ab bc = record {
-  world = bc.world ∙ ab.world;
-  attached = bc.attached ∙ ab.attached;
-  faults = let x = ab.faults in let y = bc.faults in omega arith;
-}
+-- the readings for the ranks so far, and for one more, where at most n sectors are read for each
+pub reads_rank : (old mid new : Seen) (n from rank : ℕ) → from ≤ rank → OnlyReads old mid (n * (rank - from)) → OnlyReads mid new n → OnlyReads old new (n * (rank + 1 - from))
+reads_rank old mid new n from rank low before one =
+    let next : rank + 1 - from ≡ rank - from + 1 = omega arith in
+    rw next (reads_up old new (reads_join old mid new before one) (omega (arith, mul-add n (rank - from) 1)))
+
+-- and those of a range that ends later
+pub reads_later : (old new : Seen) (n from a b : ℕ) → a ≤ b → OnlyReads old new (n * (a - from)) → OnlyReads old new (n * (b - from))
+reads_later old new n from a b le reads =
+    let within : a - from ≤ b - from = omega arith in
+    reads_up old new reads (mul-le-mul_left n within)
+
+-- where nothing was read
+pub reads_nothing : (seen : Seen) (n : ℕ) → OnlyReads seen seen n
+reads_nothing seen n = reads_up seen seen (reads_none seen) (omega arith)

@@ -1,23 +1,25 @@
 -- What is known of a set of a plan: its parity can be tested over images that agree with the plan.
-use Rattle.std.proofs.Common.{◌≡◌, ◌≢◌, ℕ, ◌<◌, ◌≤◌, ◌^◌, Bool, false, nat_le, ◌&&◌, List, [], ◌∷◌, length, map, refl, sym, ap, ◌∙◌, subst, arith, Option, Some, None, All, IfSome, IsTrue, slice_get}
+use Rattle.std.proofs.Common.{◌≡◌, ◌≢◌, ℕ, ◌*◌, ◌<◌, ◌≤◌, ◌^◌, Bool, false, nat_le, ◌&&◌, List, [], ◌∷◌, length, map, refl, sym, ap, ◌∙◌, subst, arith, Option, Some, None, Result, Ok, Err, All, IfOk, IfSome, IsTrue, slice_get}
 use Rattle.std.proofs.lemmas.Bool.{le-leb, leb-true, and_parts}
 use Rattle.std.proofs.lemmas.List.{length-map}
 use Rattle.std.proofs.lemmas.List.Elements.{All-head, All-tail, All-nil, All-cons}
-use Rattle.image_source.specs.Seen.{Image}
+use Rattle.image_source.proofs.Reading.{reads_up}
+use Rattle.image_source.specs.Seen.{Image, OnlyReads, Seen}
+use Rattle.std.proofs.Math.Nat.{mul-le-mul_left}
 use Rattle.raid_params.specs.declared.limits.TheConstants.{MOST}
 use Rattle.raid_params.specs.declared.types.Geometry.{Geometry}
 use Rattle.raid_params.specs.Size.{rows}
 use Rattle.raid_params.specs.Validity.{fewest, has_members, has_pattern, has_syndrome, is_chunk, is_shaped, is_valid_head}
-use Rattle.raid_terms.specs.Parity.{passes_parity}
+use Rattle.raid_terms.specs.Parity.{passes_parity, tested_rows}
 use Rattle.raid_terms.specs.Product.{passes}
 use Rattle.row_scan.specs.Scan.{IsScannable}
 use Rattle.plan_text.specs.PlanText.{IsPlan, criteria_of}
 use Rattle.plan_text.specs.declared.plan.Plan.{Plan}
-use Rattle.page_engine.specs.Sets.{AgreeWith, passes_at, sets_of}
+use Rattle.page_engine.specs.Sets.{AgreeWith, passes_at, set_reads, sets_of}
 use Rattle.page_engine.proofs.Shaped.{set_at, shaped_set}
 
 -- each image of agreeing images reaches to the end
-all_reach : (attached : List Image) (end : ℕ) → All (λ n. end ≤ n) (map (λ (image : Image). image.sectors) attached) → All (λ image. end ≤ image.sectors) attached
+pub all_reach : (attached : List Image) (end : ℕ) → All (λ n. end ≤ n) (map (λ (image : Image). image.sectors) attached) → All (λ image. end ≤ image.sectors) attached
 all_reach [] end all = All-nil (λ (image : Image). end ≤ image.sectors)
 all_reach (image ∷ images) end all =
     All-cons (λ (one : Image). end ≤ one.sectors) image images
@@ -25,7 +27,7 @@ all_reach (image ∷ images) end all =
     (all_reach images end (All-tail (λ n. end ≤ n) image.sectors (map (λ (one : Image). one.sectors) images) all))
 
 -- the end is below a length
-end_near : (lengths : List ℕ) (end : ℕ) → 1 ≤ length lengths → All (λ n. n < 2 ^ 55) lengths → All (λ n. end ≤ n) lengths → end < 2 ^ 55
+pub end_near : (lengths : List ℕ) (end : ℕ) → 1 ≤ length lengths → All (λ n. n < 2 ^ 55) lengths → All (λ n. end ≤ n) lengths → end < 2 ^ 55
 end_near [] end some small ends = absurd (omega arith)
 end_near (n ∷ ns) end some small ends =
     let a = All-head (λ k. k < 2 ^ 55) n ns small in
@@ -68,8 +70,20 @@ no_row None plan rank geo e none = tt
 no_row (Some bytes) plan rank geo e none = sym (passes_as bytes plan rank geo e ∙ ap (λ (n : ℕ). nat_le 1 n && passes_parity bytes geo plan.end plan.limits.window plan.limits.badrows) none)
 
 -- another passes where the parity test holds
-pub some_row : (told : Option (List (List ℕ))) (plan : Plan) (rank : ℕ) (geo : Geometry) (holds : Bool) → slice_get (sets_of plan) rank ≡ Some geo → rows geo.head plan.end ≢ 0 →
+some_row : (told : Option (List (List ℕ))) (plan : Plan) (rank : ℕ) (geo : Geometry) (holds : Bool) → slice_get (sets_of plan) rank ≡ Some geo → rows geo.head plan.end ≢ 0 →
     IfSome told (λ bytes. holds ≡ passes_parity bytes geo plan.end plan.limits.window plan.limits.badrows) → IfSome told (λ bytes. holds ≡ passes_at bytes plan rank)
 some_row None plan rank geo holds e some test = tt
 some_row (Some bytes) plan rank geo holds e some test =
     test ∙ sym (passes_as bytes plan rank geo e ∙ ap (λ (b : Bool). b && passes_parity bytes geo plan.end plan.limits.window plan.limits.badrows) (le-leb 1 (rows geo.head plan.end) (omega arith)))
+
+pub some_row_ok : {E : Type 0} (told : Option (List (List ℕ))) (plan : Plan) (rank : ℕ) (geo : Geometry) (r : Result Bool E) → slice_get (sets_of plan) rank ≡ Some geo → rows geo.head plan.end ≢ 0 →
+    IfOk r (λ holds. IfSome told (λ bytes. holds ≡ passes_parity bytes geo plan.end plan.limits.window plan.limits.badrows)) → IfOk r (λ holds. IfSome told (λ bytes. holds ≡ passes_at bytes plan rank))
+some_row_ok told plan rank geo (Ok holds) e some test = some_row told plan rank geo holds e some test
+some_row_ok told plan rank geo (Err fault) e some test = tt
+
+-- its test reads at most the window of each image
+pub reads_set : (old new : Seen) (plan : Plan) (geo : Geometry) → AgreeWith plan old.attached → OnlyReads old new (length old.attached * tested_rows geo plan.end plan.limits.window) → OnlyReads old new (set_reads plan)
+reads_set old new plan geo agrees reads =
+    let count : length old.attached ≡ length plan.lengths.items = sym (length-map old.attached (λ (image : Image). image.sectors)) ∙ ap length agrees in
+    let few : tested_rows geo plan.end plan.limits.window ≤ plan.limits.window = omega arith in
+    reads_up old new (rw count at reads) (mul-le-mul_left (length plan.lengths.items) few)

@@ -1,5 +1,5 @@
 -- The parameter sets of a plan: which there are, in which order, which pass, and their pages.
-use Rattle.std.specs.Prelude.{ℕ, ◌≡◌, ◌≤◌, ◌<◌, ◌^◌, ◌⊎◌, Bool, true, false, ◌&&◌, ◌==◌, IfSome, List, [], ◌∷◌, ◌++◌, length, map, position, slice_get}
+use Rattle.std.specs.Prelude.{ℕ, ◌≡◌, ◌≤◌, ◌<◌, ◌^◌, ◌*◌, ◌-◌, ◌⊎◌, Result, Ok, Err, Bool, true, false, ◌&&◌, ◌==◌, IfSome, List, [], ◌∷◌, ◌++◌, length, map, position, slice_get}
 use Rattle.std.specs.declared.option.Option.{Option}
 use Rattle.std.specs.declared.option.Option.TheVariants.{Some}
 use Rattle.image_source.specs.Causes.{Rose}
@@ -73,11 +73,19 @@ EndsTest old new (Cursor fault) = ⊥
 EndsTest old new ReadFault = Rose old.faults new.faults
 EndsTest old new Memory = Unit {0}
 
--- images were at most read
-pub record LeavesImages (old new : Seen) : Type 0 where
-  pub world : new.world ≡ old.world
-  pub attached : new.attached ≡ old.attached
-  pub faults : old.faults ≤ new.faults
+-- the most sectors that are read for a set: the window of each image
+abbrev pub set_reads : Plan → ℕ
+set_reads plan = length plan.lengths.items * plan.limits.window
+
+-- and for the sets of the ranks from one up to another
+abbrev pub page_reads : Plan → ℕ → ℕ → ℕ
+page_reads plan from to = set_reads plan * (to - from)
+
+-- the rank up to which sets are tested: where the next page begins, or, where there is no page, the
+-- end of the range
+abbrev pub tested_to : ℕ → Result ListPage PageFault → ℕ
+tested_to stop (Ok page) = page.next
+tested_to stop (Err fault) = stop
 
 -- the attached images have the planned lengths, and there are no others
 abbrev pub AgreeWith : Plan → List Image → Type 0

@@ -1,17 +1,20 @@
 //! A page of the sets that pass.
 ghost use Rattle.std.specs.Prelude.{◌≡◌, ◌<◌, ◌≤◌, ◌^◌, All, IfErr, IfOk, IfSome, IsErrOf, OnOk, Some, length, slice_get};
 ghost use Rattle.image_source.specs.Attached.{told_all};
+ghost use Rattle.image_source.specs.Causes.{HasCause};
+ghost use Rattle.image_source.specs.Seen.{OnlyReads};
 ghost use Rattle.plan_text.specs.PlanText.{IsPlan};
 ghost use Rattle.raid_params.specs.declared.limits.TheConstants.{MOST};
-ghost use Rattle.page_engine.specs.Sets.{AddsIfPasses, AgreeWith, EndsPage, EndsTest, HoldsSet, IsPageOf, LeavesImages, passes_at, sets_of, total_of};
+ghost use Rattle.raid_terms.specs.Page.{stop_of};
+ghost use Rattle.page_engine.specs.Sets.{AddsIfPasses, AgreeWith, EndsPage, EndsTest, HoldsSet, IsPageOf, page_reads, passes_at, set_reads, sets_of, tested_to, total_of};
 ghost use Rattle.page_engine.specs.declared.paging.PageFault.TheVariants.{Cursor, Many};
 
 use crate::product::{product_set, product_total};
 use address_map::rows;
-use image_source::{Images, ListOf};
+use image_source::{Failed, Images, ListOf};
 use plan_text::Plan;
 use raid_params::{Geometry, MOST};
-use row_scan::{Blocks, ScanFault, parity_holds};
+use row_scan::{Blocks, parity_holds};
 use std::alloc::Global;
 use thiserror::Error;
 
@@ -58,7 +61,8 @@ pub enum PageFault {
 }
 
 /// The page of a plan from a rank on: the first `size` of the sets that pass and whose ranks are
-/// below `from + span`, and the rank from which the next page goes on.
+/// below `from + span`, and the rank from which the next page goes on. For each rank up to there at
+/// most the window of each image is read.
 pub fn page<I: Images>(
     alloc: Global,
     images: &mut I,
@@ -76,7 +80,9 @@ pub fn page<I: Images>(
     ensures many { 2 ^ 64 ≤ total_of plan.now → IsErrOf result Many }
     ensures cursor { total_of plan.now < 2 ^ 64 → total_of plan.now < from → IsErrOf result (Cursor (record { from = from; total = total_of plan.now })) }
     ensures ends { IfErr result (EndsPage plan.now from (I.seen images.old) (I.seen images.new)) }
-    ensures leaves { LeavesImages (I.seen images.old) (I.seen images.new) }
+    ensures reads { OnlyReads (I.seen images.old) (I.seen images.new)
+        (page_reads plan.now from (tested_to (stop_of (total_of plan.now) from span) result)) }
+    ensures within { IfOk result (λ p. p.next ≤ stop_of (total_of plan.now) from span) }
 {
     let total = product_total(plan).ok_or(PageFault::Many)?;
     if from > total {
@@ -105,7 +111,9 @@ fn walk<I: Images>(
     ensures sets { IfOk result (λ p. All (HoldsSet plan.now) p.lines) }
     ensures total { IfOk result (λ p. p.total ≡ total_of plan.now) }
     ensures ends { IfErr result (EndsTest (I.seen images.old) (I.seen images.new)) }
-    ensures leaves { LeavesImages (I.seen images.old) (I.seen images.new) }
+    ensures reads { OnlyReads (I.seen images.old) (I.seen images.new)
+        (page_reads plan.now from (tested_to (stop_of (total_of plan.now) from span) result)) }
+    ensures within { IfOk result (λ p. p.next ≤ stop_of (total_of plan.now) from span) }
 {
     let stop = total.min(from.saturating_add(span));
     let mut lines = Lines::new(alloc);
@@ -142,11 +150,11 @@ fn add_if_passes<I: Images>(
     requires blocks { MOST ≤ blocks.old }
     ensures added { OnOk result (AddsIfPasses (told_all (I.seen images.old).attached) plan.now rank lines.old lines.new) }
     ensures ends { IfErr result (EndsTest (I.seen images.old) (I.seen images.new)) }
-    ensures leaves { LeavesImages (I.seen images.old) (I.seen images.new) }
+    ensures reads { OnlyReads (I.seen images.old) (I.seen images.new) (set_reads plan.now) }
     ensures blocks { blocks.new ≡ blocks.old }
 {
     let geo = product_set(plan, rank);
-    if !set_passes(images, blocks, plan, rank, &geo)? {
+    if !set_passes(images, blocks, plan, rank, &geo).map_err(|_| PageFault::ReadFault)? {
         return Ok(());
     }
     lines
@@ -161,22 +169,18 @@ fn set_passes<I: Images>(
     plan: &Plan,
     rank: u64,
     geo: &Geometry,
-) -> Result<bool, PageFault>
+) -> Result<bool, Failed>
     requires plan { IsPlan plan.now }
     requires lengths { AgreeWith plan.now (I.seen images.old).attached }
     requires set { slice_get (sets_of plan.now) rank ≡ Some geo.now }
     requires blocks { MOST ≤ blocks.old }
     ensures told { IfOk result (λ passes. IfSome (told_all (I.seen images.old).attached) (λ bytes. passes ≡ passes_at bytes plan.now rank)) }
-    ensures ends { IfErr result (EndsTest (I.seen images.old) (I.seen images.new)) }
-    ensures leaves { LeavesImages (I.seen images.old) (I.seen images.new) }
+    ensures cause { HasCause (I.seen images.old).faults (I.seen images.new).faults result }
+    ensures reads { OnlyReads (I.seen images.old) (I.seen images.new) (set_reads plan.now) }
     ensures blocks { blocks.new ≡ blocks.old }
 {
     if rows(&geo.head, plan.end) == 0 {
         return Ok(false);
     }
-    match parity_holds(images, blocks, geo, plan.end, &plan.limits) {
-        Ok(holds) => Ok(holds),
-        Err(ScanFault::ReadFault) => Err(PageFault::ReadFault),
-        Err(ScanFault::Memory) => Err(PageFault::Memory),
-    }
+    parity_holds(images, blocks, geo, plan.end, &plan.limits)
 }

@@ -1,5 +1,6 @@
 -- A command's job, as the reading of the words says it.
 use Rattle.std.proofs.Common.{◌≡◌, ℕ, ◌≤◌, ◌+◌, ◌*◌, List, None, Some, Option, Result, Err, IfSome, refl, sym, subst, arith, Bool, length}
+use Rattle.std.specs.Option.{option_map}
 use Rattle.image_source.specs.Attached.{told_all}
 use Rattle.image_source.specs.Causes.{Rose}
 use Rattle.image_source.specs.Seen.{Image}
@@ -7,16 +8,16 @@ use Rattle.raid_params.specs.declared.types.Geometry.{Geometry}
 use Rattle.plan_text.specs.declared.plan.Plan.{Plan}
 use Rattle.command_words.specs.declared.command.Command.{Command}
 use Rattle.command_words.specs.declared.command.Command.TheVariants.{List as ListCommand, Check as CheckCommand, Map as MapCommand, Write as WriteCommand, Rebuild as RebuildCommand}
-use Rattle.command_jobs.specs.Checking.{check_output, check_refusal, rows_tested}
-use Rattle.command_jobs.specs.Jobs.{Counts, Ends, Leaves}
-use Rattle.command_jobs.specs.Listing.{list_output, list_refusal}
+use Rattle.command_jobs.specs.Checking.{check_output, check_reads, check_refusal}
+use Rattle.command_jobs.specs.Jobs.{Counts, Ends, Leaves, Orders}
+use Rattle.command_jobs.specs.Listing.{list_output, list_reads, list_refusal}
 use Rattle.command_jobs.specs.Mapping.{map_refusal, map_text, set_refusal}
-use Rattle.command_jobs.specs.Writing.{rebuild_output, rebuild_refusal, write_output}
+use Rattle.command_jobs.specs.Writing.{members_reads, rebuild_output, rebuild_refusal, write_output}
 use Rattle.command_jobs.specs.Plans.{IsTextOf}
 use Rattle.command_jobs.specs.declared.stop.Stop.{Stop}
 use Rattle.command_jobs.specs.declared.stop.Stop.TheVariants.{NotBuilt}
 use Rattle.command_jobs.proofs.Printed.{keeps_itself}
-use Rattle.reraid_cli.specs.Answers.{Reading, check_reads, command_output, command_reads, command_refusal, members_reads, most_reads, output, refusal}
+use Rattle.reraid_cli.specs.Answers.{Reading, command_output, command_reads, command_refusal, most_reads, output, refusal}
 use Rattle.reraid_cli.specs.Asked.{IsAsked}
 
 -- the refusal and the output of a command are those of the reading that says it
@@ -31,12 +32,19 @@ reads_as : (command : Command) (reading : Reading) (attached : List Image) (befo
 unfolding most_reads
 reads_as command reading attached before after is few = subst (λ (c : Option Command). IfSome (command_reads c reading attached) (λ n. after ≤ before + n)) (sym is) few
 
+-- what holds over the text that the source had left holds over the reading's
+told_as : (left : Option (List ℕ)) (reading : Reading) (P : List ℕ → Option Plan → Type 0) → left ≡ Some reading.text → IsTextOf reading.text reading.plan →
+    IfSome left (λ text. (plan : Option Plan) → IsTextOf text plan → P text plan) → P reading.text reading.plan
+told_as left reading P text is all =
+    let Q : Option (List ℕ) → Type 0 = λ l. IfSome l (λ t. (plan : Option Plan) → IsTextOf t plan → P t plan) in
+    let here : (plan : Option Plan) → IsTextOf reading.text plan → P reading.text plan = subst Q text all in
+    here reading.plan is
+
 pub list_asked : (from size span n names : ℕ) (left : Option (List ℕ)) (reading : Reading) (attached : List Image) (old new : Option (List ℕ)) (r : Result (Unit {0}) Stop) → IsAsked (ListCommand from size span n) names left reading →
     IfSome left (λ text. (read : Option Plan) → IsTextOf text read → Ends (list_refusal from text read names attached) (list_output from size span read (told_all attached)) old new r) →
     Ends (refusal reading attached) (output reading attached) old new r
 list_asked from size span n names left reading attached old new r asked ends =
-    let P : Option (List ℕ) → Type 0 = λ l. IfSome l (λ text. (read : Option Plan) → IsTextOf text read → Ends (list_refusal from text read names attached) (list_output from size span read (told_all attached)) old new r) in
-    let here : Ends (list_refusal from reading.text reading.plan names attached) (list_output from size span reading.plan (told_all attached)) old new r = subst P (asked.text tt) ends reading.plan (asked.plan tt) in
+    let here = told_as left reading (λ text read. Ends (list_refusal from text read names attached) (list_output from size span read (told_all attached)) old new r) (asked.text tt) (asked.plan tt) ends in
     let Q : ℕ → Type 0 = λ k. Ends (list_refusal from reading.text reading.plan k attached) (list_output from size span reading.plan (told_all attached)) old new r in
     ends_as (ListCommand from size span n) reading attached old new r asked.command_is (subst Q (sym asked.names_are) here)
 
@@ -44,8 +52,7 @@ pub check_asked : (set : Geometry) (n names : ℕ) (left : Option (List ℕ)) (r
     IfSome left (λ text. (read : Option Plan) → IsTextOf text read → Ends (check_refusal set text read names attached) (check_output set read (told_all attached)) old new r) →
     Ends (refusal reading attached) (output reading attached) old new r
 check_asked set n names left reading attached old new r asked ends =
-    let P : Option (List ℕ) → Type 0 = λ l. IfSome l (λ text. (read : Option Plan) → IsTextOf text read → Ends (check_refusal set text read names attached) (check_output set read (told_all attached)) old new r) in
-    let here : Ends (check_refusal set reading.text reading.plan names attached) (check_output set reading.plan (told_all attached)) old new r = subst P (asked.text tt) ends reading.plan (asked.plan tt) in
+    let here = told_as left reading (λ text read. Ends (check_refusal set text read names attached) (check_output set read (told_all attached)) old new r) (asked.text tt) (asked.plan tt) ends in
     let Q : ℕ → Type 0 = λ k. Ends (check_refusal set reading.text reading.plan k attached) (check_output set reading.plan (told_all attached)) old new r in
     ends_as (CheckCommand set n) reading attached old new r asked.command_is (subst Q (sym asked.names_are) here)
 
@@ -94,20 +101,69 @@ planless streams images later out after sectors read plan gained now r leaves = 
   unread = leaves.unread;
 }
 
--- what is read of the images
-pub list_reads : (from size span n names before after : ℕ) (left : Option (List ℕ)) (reading : Reading) (attached : List Image) → IsAsked (ListCommand from size span n) names left reading → IfSome (most_reads reading attached) (λ k. after ≤ before + k)
-list_reads from size span n names before after left reading attached asked = reads_as (ListCommand from size span n) reading attached before after asked.command_is tt
+-- what is refused comes before the job
+abbrev IsFirst : ℕ → ℕ → Option (List ℕ) → Option (List ℕ) → Result (Unit {0}) Stop → Option Stop → Type 0
+IsFirst before after old new r refused = Orders refused before after old new r
 
-check_known : (set : Geometry) (attached : List Image) (before after : ℕ) (text : List ℕ) (read : Option Plan) → IsTextOf text read → ((plan : Plan) → IsTextOf text (Some plan) → after ≤ before + length attached * rows_tested plan set) →
-    IfSome (check_reads set read attached) (λ k. after ≤ before + k)
-check_known set attached before after text None is few = tt
-check_known set attached before after text (Some plan) is few = few plan is
+order_as : (command : Command) (reading : Reading) (attached : List Image) (before after : ℕ) (old new : Option (List ℕ)) (r : Result (Unit {0}) Stop) → reading.command ≡ Some command →
+    Orders (command_refusal (Some command) reading attached) before after old new r → Orders (refusal reading attached) before after old new r
+unfolding refusal
+order_as command reading attached before after old new r is order =
+    subst (λ (c : Option Command). IsFirst before after old new r (command_refusal c reading attached)) (sym is) order
+
+pub list_order : (from size span n names before after : ℕ) (left : Option (List ℕ)) (reading : Reading) (attached : List Image) (old new : Option (List ℕ)) (r : Result (Unit {0}) Stop) → IsAsked (ListCommand from size span n) names left reading →
+    IfSome left (λ text. (read : Option Plan) → IsTextOf text read → Orders (list_refusal from text read names attached) before after old new r) → Orders (refusal reading attached) before after old new r
+list_order from size span n names before after left reading attached old new r asked order =
+    let here = told_as left reading (λ text plan. Orders (list_refusal from text plan names attached) before after old new r) (asked.text tt) (asked.plan tt) order in
+    order_as (ListCommand from size span n) reading attached before after old new r asked.command_is
+    (subst (λ (k : ℕ). IsFirst before after old new r (list_refusal from reading.text reading.plan k attached)) (sym asked.names_are) here)
+
+pub check_order : (set : Geometry) (n names before after : ℕ) (left : Option (List ℕ)) (reading : Reading) (attached : List Image) (old new : Option (List ℕ)) (r : Result (Unit {0}) Stop) → IsAsked (CheckCommand set n) names left reading →
+    IfSome left (λ text. (read : Option Plan) → IsTextOf text read → Orders (check_refusal set text read names attached) before after old new r) → Orders (refusal reading attached) before after old new r
+check_order set n names before after left reading attached old new r asked order =
+    let here = told_as left reading (λ text plan. Orders (check_refusal set text plan names attached) before after old new r) (asked.text tt) (asked.plan tt) order in
+    order_as (CheckCommand set n) reading attached before after old new r asked.command_is
+    (subst (λ (k : ℕ). IsFirst before after old new r (check_refusal set reading.text reading.plan k attached)) (sym asked.names_are) here)
+
+pub map_order : (set : Geometry) (sector : ℕ) (end : Option ℕ) (n names before after : ℕ) (left : Option (List ℕ)) (reading : Reading) (attached : List Image) (old new : Option (List ℕ)) (r : Result (Unit {0}) Stop) →
+    IsAsked (MapCommand set sector end n) names left reading → Orders (map_refusal set sector end names attached) before after old new r → Orders (refusal reading attached) before after old new r
+map_order set sector end n names before after left reading attached old new r asked order =
+    order_as (MapCommand set sector end n) reading attached before after old new r asked.command_is
+    (subst (λ (k : ℕ). IsFirst before after old new r (map_refusal set sector end k attached)) (sym asked.names_are) order)
+
+pub write_order : (set : Geometry) (end : Option ℕ) (n names before after : ℕ) (left : Option (List ℕ)) (reading : Reading) (attached : List Image) (old new : Option (List ℕ)) (r : Result (Unit {0}) Stop) →
+    IsAsked (WriteCommand set end n) names left reading → Orders (set_refusal set end names attached) before after old new r → Orders (refusal reading attached) before after old new r
+write_order set end n names before after left reading attached old new r asked order =
+    order_as (WriteCommand set end n) reading attached before after old new r asked.command_is
+    (subst (λ (k : ℕ). IsFirst before after old new r (set_refusal set end k attached)) (sym asked.names_are) order)
+
+pub rebuild_order : (set : Geometry) (slot : ℕ) (end : Option ℕ) (n names before after : ℕ) (left : Option (List ℕ)) (reading : Reading) (attached : List Image) (old new : Option (List ℕ)) (r : Result (Unit {0}) Stop) →
+    IsAsked (RebuildCommand set slot end n) names left reading → Orders (rebuild_refusal set slot end names attached) before after old new r → Orders (refusal reading attached) before after old new r
+rebuild_order set slot end n names before after left reading attached old new r asked order =
+    order_as (RebuildCommand set slot end n) reading attached before after old new r asked.command_is
+    (subst (λ (k : ℕ). IsFirst before after old new r (rebuild_refusal set slot end k attached)) (sym asked.names_are) order)
+
+-- what is read of the images, over a plan that the text is, or none
+plan_known : (few : Plan → ℕ) (before after : ℕ) (text : List ℕ) (read : Option Plan) → IsTextOf text read → ((plan : Plan) → IsTextOf text (Some plan) → after ≤ before + few plan) →
+    IfSome (option_map few read) (λ k. after ≤ before + k)
+plan_known few before after text None is within = tt
+plan_known few before after text (Some plan) is within = within plan is
+
+plan_read : (few : Plan → ℕ) (before after : ℕ) (left : Option (List ℕ)) (reading : Reading) → left ≡ Some reading.text → IsTextOf reading.text reading.plan →
+    IfSome left (λ text. (plan : Plan) → IsTextOf text (Some plan) → after ≤ before + few plan) → IfSome (option_map few reading.plan) (λ k. after ≤ before + k)
+plan_read few before after left reading text is within =
+    let P : Option (List ℕ) → Type 0 = λ l. IfSome l (λ text. (plan : Plan) → IsTextOf text (Some plan) → after ≤ before + few plan) in
+    plan_known few before after reading.text reading.plan is (subst P text within)
+
+pub list_read : (from size span n names before after : ℕ) (left : Option (List ℕ)) (reading : Reading) (attached : List Image) → IsAsked (ListCommand from size span n) names left reading →
+    IfSome left (λ text. (plan : Plan) → IsTextOf text (Some plan) → after ≤ before + list_reads plan from span) → IfSome (most_reads reading attached) (λ k. after ≤ before + k)
+list_read from size span n names before after left reading attached asked few =
+    reads_as (ListCommand from size span n) reading attached before after asked.command_is (plan_read (λ plan. list_reads plan from span) before after left reading (asked.text tt) (asked.plan tt) few)
 
 pub check_read : (set : Geometry) (n names before after : ℕ) (left : Option (List ℕ)) (reading : Reading) (attached : List Image) → IsAsked (CheckCommand set n) names left reading →
-    IfSome left (λ text. (plan : Plan) → IsTextOf text (Some plan) → after ≤ before + length attached * rows_tested plan set) → IfSome (most_reads reading attached) (λ k. after ≤ before + k)
+    IfSome left (λ text. (plan : Plan) → IsTextOf text (Some plan) → after ≤ before + check_reads set attached plan) → IfSome (most_reads reading attached) (λ k. after ≤ before + k)
 check_read set n names before after left reading attached asked few =
-    let P : Option (List ℕ) → Type 0 = λ l. IfSome l (λ text. (plan : Plan) → IsTextOf text (Some plan) → after ≤ before + length attached * rows_tested plan set) in
-    reads_as (CheckCommand set n) reading attached before after asked.command_is (check_known set attached before after reading.text reading.plan (asked.plan tt) (subst P (asked.text tt) few))
+    reads_as (CheckCommand set n) reading attached before after asked.command_is (plan_read (check_reads set attached) before after left reading (asked.text tt) (asked.plan tt) few)
 
 pub map_reads : (set : Geometry) (sector : ℕ) (end : Option ℕ) (n names before : ℕ) (left : Option (List ℕ)) (reading : Reading) (attached : List Image) → IsAsked (MapCommand set sector end n) names left reading → IfSome (most_reads reading attached) (λ k. before ≤ before + k)
 map_reads set sector end n names before left reading attached asked = reads_as (MapCommand set sector end n) reading attached before before asked.command_is (let h : before ≤ before + 0 = omega arith in h)

@@ -1,5 +1,5 @@
 -- Statuses, their lines and their causes.
-use Rattle.std.proofs.Common.{◌≡◌, ◌≢◌, ℕ, List, length, Some, Option, Result, Ok, Err, refl, sym, ap, ◌∙◌, subst, arith, Contains, inl, inr, true, false, Bool}
+use Rattle.std.proofs.Common.{IsErrOf, ◌≡◌, ◌≢◌, ℕ, List, length, Some, Option, Result, Ok, Err, refl, sym, ap, ◌∙◌, subst, arith, Contains, inl, inr, true, false, Bool}
 use Rattle.std.proofs.lemmas.List.{take_all}
 use Rattle.image_source.specs.Causes.{HasCause}
 use Rattle.image_source.specs.Streams.{Puts}
@@ -144,16 +144,60 @@ put_before OutFault status is ten h = absurd (omega arith)
 put_before NotBuilt status is ten h = h
 put_before OutOfMemory status is ten h = h
 
-pub read_nothing : (stop : Stop) (status : ℕ) → status ≡ status_of stop → status ≢ 10 → status ≢ 12 → status ≢ 20 → MayHaveRead stop → ⊥
-read_nothing PlanIsLong status is ten twelve twenty h = h
-read_nothing (Images fault) status is ten twelve twenty h = h
-read_nothing Many status is ten twelve twenty h = h
-read_nothing (Cursor fault) status is ten twelve twenty h = h
-read_nothing (Set fault) status is ten twelve twenty h = h
-read_nothing (Slot slot) status is ten twelve twenty h = h
-read_nothing (Sector fault) status is ten twelve twenty h = h
-read_nothing ImageFault status is ten twelve twenty h = ten is
-read_nothing PlanFault status is ten twelve twenty h = h
-read_nothing OutFault status is ten twelve twenty h = twelve is
-read_nothing NotBuilt status is ten twelve twenty h = h
-read_nothing OutOfMemory status is ten twelve twenty h = twenty is
+pub read_nothing : (streams : Bool) (stop : Stop) (status : ℕ) → status ≡ status_of stop → status ≢ 10 → status ≢ 12 → status ≢ 20 → MayHaveRead streams stop → ⊥
+read_nothing streams PlanIsLong status is ten twelve twenty h = h
+read_nothing streams (Images fault) status is ten twelve twenty h = h
+read_nothing streams Many status is ten twelve twenty h = h
+read_nothing streams (Cursor fault) status is ten twelve twenty h = h
+read_nothing streams (Set fault) status is ten twelve twenty h = h
+read_nothing streams (Slot slot) status is ten twelve twenty h = h
+read_nothing streams (Sector fault) status is ten twelve twenty h = h
+read_nothing streams ImageFault status is ten twelve twenty h = ten is
+read_nothing streams PlanFault status is ten twelve twenty h = h
+read_nothing streams OutFault status is ten twelve twenty h = twelve is
+read_nothing streams NotBuilt status is ten twelve twenty h = h
+read_nothing streams OutOfMemory status is ten twelve twenty h = twenty is
+
+-- a job that puts as it reads has not read where memory is wanting
+pub read_no_memory : (stop : Stop) (status : ℕ) → status ≡ status_of stop → status ≡ 20 → MayHaveRead true stop → ⊥
+read_no_memory PlanIsLong status is twenty h = h
+read_no_memory (Images fault) status is twenty h = h
+read_no_memory Many status is twenty h = h
+read_no_memory (Cursor fault) status is twenty h = h
+read_no_memory (Set fault) status is twenty h = h
+read_no_memory (Slot slot) status is twenty h = h
+read_no_memory (Sector fault) status is twenty h = h
+read_no_memory ImageFault status is twenty h = absurd (omega arith)
+read_no_memory PlanFault status is twenty h = h
+read_no_memory OutFault status is twenty h = absurd (omega arith)
+read_no_memory NotBuilt status is twenty h = h
+read_no_memory OutOfMemory status is twenty h = absurd (cc)
+
+-- only faults of the images and of the output have their statuses
+pub not_ten : (stop : Stop) (status : ℕ) → status ≡ status_of stop → (IsErrOf {T = Unit {0}} (Err stop) ImageFault → ⊥) → status ≢ 10
+not_ten PlanIsLong status is other ten = absurd (omega arith)
+not_ten (Images fault) status is other ten = absurd (omega arith)
+not_ten Many status is other ten = absurd (omega arith)
+not_ten (Cursor fault) status is other ten = absurd (omega arith)
+not_ten (Set fault) status is other ten = absurd (omega arith)
+not_ten (Slot slot) status is other ten = absurd (omega arith)
+not_ten (Sector fault) status is other ten = absurd (omega arith)
+not_ten ImageFault status is other ten = other refl
+not_ten PlanFault status is other ten = absurd (omega arith)
+not_ten OutFault status is other ten = absurd (omega arith)
+not_ten NotBuilt status is other ten = absurd (omega arith)
+not_ten OutOfMemory status is other ten = absurd (omega arith)
+
+pub not_twelve : (stop : Stop) (status : ℕ) → status ≡ status_of stop → (IsErrOf {T = Unit {0}} (Err stop) OutFault → ⊥) → status ≢ 12
+not_twelve PlanIsLong status is other twelve = absurd (omega arith)
+not_twelve (Images fault) status is other twelve = absurd (omega arith)
+not_twelve Many status is other twelve = absurd (omega arith)
+not_twelve (Cursor fault) status is other twelve = absurd (omega arith)
+not_twelve (Set fault) status is other twelve = absurd (omega arith)
+not_twelve (Slot slot) status is other twelve = absurd (omega arith)
+not_twelve (Sector fault) status is other twelve = absurd (omega arith)
+not_twelve ImageFault status is other twelve = absurd (omega arith)
+not_twelve PlanFault status is other twelve = absurd (omega arith)
+not_twelve OutFault status is other twelve = other refl
+not_twelve NotBuilt status is other twelve = absurd (omega arith)
+not_twelve OutOfMemory status is other twelve = absurd (omega arith)

@@ -1,8 +1,9 @@
 -- What a run answers.
-use Rattle.std.specs.Prelude.{ℕ, ◌≡◌, ◌*◌, ◌==◌, Bool, true, false, if◌then◌else◌, List, [], ◌∷◌, length}
+use Rattle.std.specs.Prelude.{ℕ, ◌≡◌, ◌≢◌, ◌*◌, ◌==◌, Bool, true, false, if◌then◌else◌, List, [], ◌∷◌, length}
+use Rattle.std.specs.Option.{option_map}
 use Rattle.std.specs.declared.option.Option.{Option}
 use Rattle.std.specs.declared.option.Option.TheVariants.{None, Some}
-use Rattle.std.specs.Io.KnownBytes.{Appends}
+use Rattle.std.specs.Io.KnownBytes.{Appends, Keeps}
 use Rattle.image_source.specs.Attached.{told_all}
 use Rattle.image_source.specs.Seen.{Image}
 use Rattle.image_source.specs.Streams.{AppendsFront}
@@ -11,13 +12,11 @@ use Rattle.raid_params.specs.declared.types.Geometry.{Geometry}
 use Rattle.command_words.specs.Commands.{AreRead, names_after}
 use Rattle.command_words.specs.declared.command.Command.{Command}
 use Rattle.command_words.specs.declared.command.Command.TheVariants.{List as ListCommand, Check as CheckCommand, Map as MapCommand, Write as WriteCommand, Rebuild as RebuildCommand}
-use Rattle.command_jobs.specs.Checking.{check_output, check_refusal, rows_tested}
-use Rattle.command_jobs.specs.Listing.{list_output, list_refusal}
+use Rattle.command_jobs.specs.Checking.{check_output, check_reads, check_refusal}
+use Rattle.command_jobs.specs.Listing.{list_output, list_reads, list_refusal}
 use Rattle.command_jobs.specs.Mapping.{map_refusal, map_text, set_refusal}
-use Rattle.command_jobs.specs.Agreement.{end_of}
 use Rattle.command_jobs.specs.Plans.{IsTextOf}
-use Rattle.command_jobs.specs.Writing.{rebuild_output, rebuild_refusal, write_output}
-use Rattle.raid_params.specs.Size.{area}
+use Rattle.command_jobs.specs.Writing.{members_reads, rebuild_output, rebuild_refusal, write_output}
 use Rattle.command_jobs.specs.Stops.{note_of, status_of}
 use Rattle.command_jobs.specs.declared.stop.Stop.{Stop}
 use Rattle.command_jobs.specs.declared.stop.Stop.TheVariants.{PlanIsLong, Many, ImageFault, PlanFault, OutFault, NotBuilt, OutOfMemory}
@@ -69,20 +68,12 @@ command_output (Some (RebuildCommand set slot end names)) reading attached = reb
 unfoldable pub output : Reading → List Image → Option (List ℕ)
 output reading attached = command_output reading.command reading attached
 
--- the tested rows of a set on each image
-abbrev pub check_reads : Geometry → Option Plan → List Image → Option ℕ
-check_reads set None attached = None
-check_reads set (Some plan) attached = Some (length attached * rows_tested plan set)
-
--- the sectors of all members of a set
-abbrev pub members_reads : Geometry → Option ℕ → List Image → ℕ
-members_reads set end attached = set.head.members * area set.head (end_of end attached)
-
--- the most sectors that a command reads, where it is bounded: `check` reads at most the tested rows
--- of each image, `write` and `rebuild` at most each sector of each member, `map` none
+-- the most sectors that a command reads, where its plan is one: `list` reads at most the window of
+-- each image for each rank of its range, `check` at most the tested rows of each image, `write` and
+-- `rebuild` at most each sector of each member that is there, `map` none
 abbrev pub command_reads : Option Command → Reading → List Image → Option ℕ
-command_reads (Some (ListCommand from size span names)) reading attached = None
-command_reads (Some (CheckCommand set names)) reading attached = check_reads set reading.plan attached
+command_reads (Some (ListCommand from size span names)) reading attached = option_map (λ plan. list_reads plan from span) reading.plan
+command_reads (Some (CheckCommand set names)) reading attached = option_map (check_reads set attached) reading.plan
 command_reads (Some (WriteCommand set end names)) reading attached = Some (members_reads set end attached)
 command_reads (Some (RebuildCommand set slot end names)) reading attached = Some (members_reads set end attached)
 command_reads _ reading attached = Some 0
@@ -130,3 +121,10 @@ statuses = 0 ∷ 3 ∷ 4 ∷ 5 ∷ 6 ∷ 7 ∷ 8 ∷ 10 ∷ 11 ∷ 12 ∷ 19 ∷
 pub record IsNoted (faults : ℕ) (old new : Option (List ℕ)) (noted : List ℕ) : Type 0 where
   pub front : AppendsFront old new noted
   pub whole : faults ≡ 0 → Appends old new noted
+
+-- nothing was read or put, and the status is not that of a fault of the images or of the output
+pub record IsOrdered (before after : ℕ) (old new : Option (List ℕ)) (status : ℕ) : Type 0 where
+  pub unread : after ≡ before
+  pub unput : Keeps old new
+  pub no_image_fault : status ≢ 10
+  pub no_out_fault : status ≢ 12

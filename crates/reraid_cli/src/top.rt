@@ -1,11 +1,14 @@
 //! The top call.
 ghost use Rattle.std.specs.Prelude.{◌≡◌, ◌≢◌, ◌<◌, ◌≤◌, ◌+◌, [], All, Contains, IsTrue, IfSome, None, Option, Some, false, length, min, true};
-ghost use Rattle.std.specs.Io.KnownBytes.{Appends, Keeps};
+ghost use Rattle.std.specs.Io.KnownBytes.{Appends, IsAtEnd, Keeps};
+ghost use Rattle.command_jobs.specs.Source.{TakesFew};
+ghost use Rattle.command_jobs.specs.Stops.{note_of, status_of};
+ghost use Rattle.command_jobs.specs.declared.stop.Stop.{Stop};
 ghost use Rattle.image_source.specs.Attached.{AreImagesOf};
 ghost use Rattle.image_source.specs.Streams.{AppendsFront};
 ghost use Rattle.command_words.specs.Commands.{AreRead, IsCommandLine, names_after};
 ghost use Rattle.command_words.specs.declared.command.Command.{Command};
-ghost use Rattle.reraid_cli.specs.Answers.{IsNoted, IsPlanned, Reading, Says, has_numbers, most_reads, note_by, note_for, output, refusal, status_by, statuses, streams};
+ghost use Rattle.reraid_cli.specs.Answers.{IsNoted, IsOrdered, IsPlanned, Reading, Says, has_numbers, most_reads, note_by, note_for, output, refusal, status_by, statuses, streams};
 
 use crate::running::run;
 use command_words::Word;
@@ -44,12 +47,22 @@ pub fn reraid<R: Threads + Sync, S: Source, I: Images, K: Sink, N: Sink>(
     ensures exact { result ≢ 10 → result ≢ 11 → result ≢ 12 → result ≢ 20 →
         (reading : Reading) → Says words.now (S.left plan.old) reading → result ≡ status_by (refusal reading (I.seen images.new).attached) }
 
+    // What is refused comes before the work itself: nothing is read or put, and no fault of the images
+    // or of the output is told for it.
+    ensures order { (reading : Reading) → Says words.now (S.left plan.old) reading → (stop : Stop) →
+        refusal reading (I.seen images.new).attached ≡ Some stop → length (I.seen images.new).attached ≡ min (length (names_after words.now)) MOST_ATTACHED →
+        IsOrdered (I.seen images.old).sectors_read (I.seen images.new).sectors_read (K.gained out.old) (K.gained out.new) result }
+
     // Words that say nothing are refused before anything is touched.
     ensures words { AreRead words.now None → (result ≡ 19) × (I.seen images.new ≡ I.seen images.old) }
 
     // Only a command over a plan takes from the source.
     ensures unasked { (read : Option Command) → AreRead words.now read → (IsPlanned read → ⊥) →
         (S.left plan.new ≡ S.left plan.old) × (S.faults plan.new ≡ S.faults plan.old) }
+
+    // Of the source at most one byte more is taken than a plan may have, and at status 0 all of it.
+    ensures takes { TakesFew (S.left plan.old) (S.left plan.new) }
+    ensures end { result ≡ 0 → (read : Option Command) → AreRead words.now read → IsPlanned read → IsAtEnd (S.left plan.new) }
 
     // Status 0: `out` gained the answer, and nothing else.
     ensures printed { result ≡ 0 → (reading : Reading) → Says words.now (S.left plan.old) reading →
@@ -67,24 +80,28 @@ pub fn reraid<R: Threads + Sync, S: Source, I: Images, K: Sink, N: Sink>(
     ensures nothing { result ≢ 0 → result ≢ 10 → result ≢ 12 → Keeps (K.gained out.old) (K.gained out.new) }
     ensures unput { result ≡ 10 → (command : Command) → IsCommandLine words.now command → streams (Some command) ≡ false → Keeps (K.gained out.old) (K.gained out.new) }
 
-    // Where an attachment failed nothing is put and no sector is read.
+    // Where an attachment failed nothing is taken from the source, nothing put, and no sector read.
     ensures cut { length (I.seen images.new).attached < min (length (names_after words.now)) MOST_ATTACHED →
-        Keeps (K.gained out.old) (K.gained out.new) × ((I.seen images.new).sectors_read ≡ (I.seen images.old).sectors_read) }
+        Keeps (K.gained out.old) (K.gained out.new) × ((I.seen images.new).sectors_read ≡ (I.seen images.old).sectors_read)
+        × (S.left plan.new ≡ S.left plan.old) × (S.faults plan.new ≡ S.faults plan.old) × (K.faults out.new ≡ K.faults out.old) }
 
     // The notes gained the line of the status, whole where they did not fail. Where the line holds
-    // numbers they are those of the refusal.
+    // numbers they are those of the refusal, and always those of a stop of this status.
     ensures note { has_numbers result ≡ false → IsNoted (N.faults notes.new) (N.gained notes.old) (N.gained notes.new) (note_for result) }
     ensures numbers { has_numbers result ≡ true → (reading : Reading) → Says words.now (S.left plan.old) reading →
         IsNoted (N.faults notes.new) (N.gained notes.old) (N.gained notes.new) (note_by (refusal reading (I.seen images.new).attached)) }
+    ensures line { result ≢ 0 → (stop : Stop) × (status_of stop ≡ result) × IsNoted (N.faults notes.new) (N.gained notes.old) (N.gained notes.new) (note_of stop) }
 
     // The images attached are those of the words after `--`, in their order, and all of them (of
     // more than 65,536 the first so many) unless an attachment failed. Nothing else is attached.
     ensures attached { AreImagesOf (I.seen images.old).world (names_after words.now) (I.seen images.new).attached }
     ensures all { (command : Command) → IsCommandLine words.now command → result ≢ 10 → length (I.seen images.new).attached ≡ min (length (names_after words.now)) MOST_ATTACHED }
 
-    // Images are only attached and read; a refusal reads none, and what a command reads is bounded.
+    // Images are only attached and read; a refusal reads none, and want of memory neither where the
+    // command puts as it reads. What a command reads is bounded.
     ensures world { (I.seen images.new).world ≡ (I.seen images.old).world }
     ensures unread { result ≢ 0 → result ≢ 10 → result ≢ 12 → result ≢ 20 → (I.seen images.new).sectors_read ≡ (I.seen images.old).sectors_read }
+    ensures early { result ≡ 20 → (command : Command) → IsCommandLine words.now command → streams (Some command) ≡ true → (I.seen images.new).sectors_read ≡ (I.seen images.old).sectors_read }
     ensures reads { (reading : Reading) → Says words.now (S.left plan.old) reading →
         IfSome (most_reads reading (I.seen images.new).attached) (λ n. (I.seen images.new).sectors_read ≤ (I.seen images.old).sectors_read + n) }
 {

@@ -15,9 +15,7 @@ use Rattle.raid_params.specs.Slots.{stands}
 use Rattle.raid_params.specs.Validity.{is_shaped}
 use Rattle.raid_params.specs.declared.types.Geometry.{Geometry}
 use Rattle.row_scan.specs.Block.{held}
-
-first_apart : (p : ℕ → Bool) (a n : ℕ) → count_by p (range_with_len a (suc n)) ≡ cond (p a) 1 0 + count_by p (range_with_len (a + 1) n)
-first_apart p a n = sum_by-cons (λ j. cond (p j) 1 0) a (range_with_len (a + 1) n)
+use Rattle.row_scan.proofs.Counting.{count_first}
 
 no_less : (a b : Bool) → (a ≡ true → b ≡ true) → cond a 1 0 ≤ cond b 1 0
 no_less true b h = let is : b ≡ true = h refl in rw is (omega arith)
@@ -26,7 +24,7 @@ no_less false b h = omega arith
 -- a weaker test passes no fewer
 weaker : (p q : ℕ → Bool) (a n : ℕ) → ((x : ℕ) → p x ≡ true → q x ≡ true) → count_by p (range_with_len a n) ≤ count_by q (range_with_len a n)
 weaker p q a zero h = omega arith
-weaker p q a (suc n) h = omega (arith, first_apart p a n, first_apart q a n, no_less (p a) (q a) (h a), weaker p q (a + 1) n h)
+weaker p q a (suc n) h = omega (arith, count_first p a n, count_first q a n, no_less (p a) (q a) (h a), weaker p q (a + 1) n h)
 
 -- and one more, where it passes a number that the other does not
 strictly : (p q : ℕ → Bool) (a n i : ℕ) → ((x : ℕ) → p x ≡ true → q x ≡ true) → a ≤ i → i < a + n → p i ≡ false → q i ≡ true →
@@ -34,12 +32,12 @@ strictly : (p q : ℕ → Bool) (a n i : ℕ) → ((x : ℕ) → p x ≡ true �
 strictly p q a zero i h from to out into = absurd (omega arith)
 strictly p q a (suc n) i h from to out into =
     elim (cases_lt a i) [
-      | inl more ↦ omega (arith, first_apart p a n, first_apart q a n, no_less (p a) (q a) (h a), strictly p q (a + 1) n i h (omega arith) (omega arith) out into)
+      | inl more ↦ omega (arith, count_first p a n, count_first q a n, no_less (p a) (q a) (h a), strictly p q (a + 1) n i h (omega arith) (omega arith) out into)
       | inr same ↦
           (let e : a ≡ i = omega arith in
           let none : ◌≡◌ {A = ℕ} (cond (p a) 1 0) 0 = ap (λ (b : Bool). cond b 1 0) (ap p e ∙ out) in
           let one : ◌≡◌ {A = ℕ} (cond (q a) 1 0) 1 = ap (λ (b : Bool). cond b 1 0) (ap q e ∙ into) in
-          omega (arith, first_apart p a n, first_apart q a n, none, one, weaker p q (a + 1) n h))
+          omega (arith, count_first p a n, count_first q a n, none, one, weaker p q (a + 1) n h))
     ]
 
 or_either : (a b c : Bool) → (b ≡ true → c ≡ true) → (a || b) ≡ true → (a || c) ≡ true
@@ -142,11 +140,21 @@ reads_all old new slots k count reads = reads_up old new reads (mul-le-mul_right
 pub reads_images : (old new : Seen) (geo : Geometry) (images rows : ℕ) → is_shaped geo images ≡ true → OnlyReads old new (held geo.slots.items * rows) → OnlyReads old new (images * rows)
 reads_images old new geo images rows shaped reads = reads_up old new reads (mul-le-mul_right rows (held_few geo images shaped))
 
--- nor than of each slot
-pub reads_slots : (old new : Seen) (slots : List (Option ℕ)) (count : ℕ) → OnlyReads old new (held slots * count) → OnlyReads old new (length slots * count)
-unfolding held
-reads_slots old new slots count reads = reads_up old new reads (mul-le-mul_right count (count_by-le-length is_some slots))
-
 -- where one sector of each is
-pub reads_once : (old new : Seen) (slots : List (Option ℕ)) → OnlyReads old new (held slots * 1) → OnlyReads old new (length slots)
-reads_once old new slots reads = reads_up old new (reads_slots old new slots 1 reads) (omega arith)
+pub reads_once : (old new : Seen) (slots : List (Option ℕ)) → OnlyReads old new (held slots * 1) → OnlyReads old new (held slots)
+reads_once old new slots reads = reads_up old new reads (omega arith)
+
+-- a slot that holds an image is one of those that do
+held_some : (slots : List (Option ℕ)) (slot : ℕ) (d : Option ℕ) → slot < length slots → is_none (get_or slots slot d) ≡ false → 1 ≤ held slots
+held_some slots slot d lt some =
+    let here = held_next slots slot 1 d (get_or slots slot d) lt refl in
+    let one : held (take (slot + 1) slots) * 1 ≡ held (take slot slots) * 1 + 1 = rw some at here in
+    omega (arith, one, held_within slots (slot + 1))
+
+-- no more is read than of all members, where one sector of one of them is
+pub reads_one : (old new : Seen) (slots : List (Option ℕ)) (slot sectors : ℕ) (d s : Option ℕ) → OnlyReads old new (if is_none s then 0 else sectors) →
+    sectors ≤ 1 → slot < length slots → get_or slots slot d ≡ s → is_none s ≡ false → OnlyReads old new (held slots)
+reads_one old new slots slot sectors d s reads few lt is some =
+    let there : is_none (get_or slots slot d) ≡ false = ap (λ (o : Option ℕ). is_none o) is ∙ some in
+    let one : OnlyReads old new sectors = rw some at reads in
+    reads_up old new one (omega (arith, held_some slots slot d lt there))

@@ -14,7 +14,7 @@ pub record IsScannable (geo : Geometry) (end : ℕ) (attached : List Image) : Ty
   pub near : end < 2 ^ 55
   pub long : All (λ image. end ≤ image.sectors) attached
 
--- the images failed, or memory is wanting
+-- the images failed, or memory is wanting and nothing was read
 abbrev pub EndsScan : Seen → Seen → ScanFault → Type 0
 EndsScan old new ReadFault = Rose old.faults new.faults
-EndsScan old new Memory = Unit {0}
+EndsScan old new Memory = new ≡ old

@@ -54,7 +54,7 @@ impl Blocks {
 }
 
 /// So many bytes of 0.
-fn zeros(alloc: Global, count: usize) -> Result<Vec<u8>, Memory>
+pub fn zeros(alloc: Global, count: usize) -> Result<Vec<u8>, Memory>
     ensures { IfOk result (λ bytes. length bytes.items ≡ count) }
 {
     let bytes = vec![in alloc; 0u8; count].map_err(|_| Memory)?;

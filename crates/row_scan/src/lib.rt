@@ -14,7 +14,7 @@ mod scan;
 #[cfg(test)]
 mod tests;
 
-pub use blocks::Blocks;
+pub use blocks::{BLOCK, BLOCK_BYTES, Blocks, zeros};
 pub use read::{read_member, read_members};
 pub use rows::{gather, turn_to};
 pub use scan::{ScanFault, parity_holds, unsound};

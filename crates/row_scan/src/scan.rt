@@ -1,6 +1,7 @@
 //! The parity test of a parameter set, and the count of its unsound rows.
 ghost use Rattle.std.specs.Prelude.{◌≡◌, ◌+◌, ◌-◌, ◌*◌, ◌^◌, ◌<◌, ◌≤◌, length, All, IfErr, IfOk, IfSome};
 ghost use Rattle.image_source.specs.Attached.{told_all};
+ghost use Rattle.image_source.specs.Causes.{HasCause};
 ghost use Rattle.image_source.specs.Seen.{OnlyReads};
 ghost use Rattle.raid_terms.specs.Parity.{passes_parity, tested_rows, unsound_rows};
 ghost use Rattle.row_scan.specs.Block.{held, IsLeft, IsRest, IsTestable, Reaches};
@@ -10,13 +11,13 @@ use crate::blocks::{BLOCK, BLOCK_BYTES, Blocks, FIRST_BLOCK};
 use crate::read::read_members;
 use crate::rows::rows_left;
 use address_map::area;
-use image_source::{Images, SECTOR};
+use image_source::{Failed, Images, SECTOR};
 use plan_text::{Limits, Plan};
 use raid_params::Geometry;
 use std::alloc::Global;
 use thiserror::Error;
 
-/// Why a test has no answer.
+/// Why the unsound rows are not counted.
 #[derive(Clone, Copy, Debug, Drop, Error)]
 pub enum ScanFault {
     /// The images failed.
@@ -37,14 +38,14 @@ pub fn parity_holds<I: Images>(
     geo: &Geometry,
     end: u64,
     limits: &Limits,
-) -> Result<bool, ScanFault>
+) -> Result<bool, Failed>
     requires set { IsScannable geo.now end (I.seen images.old).attached }
     requires blocks { length geo.now.slots.items ≤ blocks.old }
     ensures told { IfOk result (λ holds. IfSome (told_all (I.seen images.old).attached)
         (λ bytes. holds ≡ passes_parity bytes geo.now end limits.now.window limits.now.badrows)) }
     ensures reads { OnlyReads (I.seen images.old) (I.seen images.new)
         (length (I.seen images.old).attached * tested_rows geo.now end limits.now.window) }
-    ensures ends { IfErr result (EndsScan (I.seen images.old) (I.seen images.new)) }
+    ensures cause { HasCause (I.seen images.old).faults (I.seen images.new).faults result }
     ensures blocks { blocks.new ≡ blocks.old }
 {
     let left = test_rows(images, blocks, geo, end, limits.window, limits.badrows)?;
@@ -52,7 +53,8 @@ pub fn parity_holds<I: Images>(
 }
 
 /// How many of the tested sector rows of a parameter set are unsound: those below its area, whose
-/// whole rows end before the plan's `end`, and below the plan's `window`.
+/// whole rows end before the plan's `end`, and below the plan's `window`. Memory is taken before the
+/// first reading.
 pub fn unsound<I: Images>(
     alloc: Global,
     images: &mut I,
@@ -67,7 +69,9 @@ pub fn unsound<I: Images>(
     ensures ends { IfErr result (EndsScan (I.seen images.old) (I.seen images.new)) }
 {
     let mut blocks = Blocks::new(alloc, geo.slots.len()).map_err(|_| ScanFault::Memory)?;
-    count_unsound(images, &mut blocks, geo, plan.end, plan.limits.window)
+    count_unsound(images, &mut blocks, geo, plan.end, plan.limits.window).map_err(
+        |_| ScanFault::ReadFault,
+    )
 }
 
 /// The same, with room for the members' blocks, before the image sector `end` and below `window`.
@@ -77,14 +81,14 @@ pub(crate) fn count_unsound<I: Images>(
     geo: &Geometry,
     end: u64,
     window: u64,
-) -> Result<u64, ScanFault>
+) -> Result<u64, Failed>
     requires set { IsScannable geo.now end (I.seen images.old).attached }
     requires blocks { length geo.now.slots.items ≤ blocks.old }
     ensures told { IfOk result (λ n. IfSome (told_all (I.seen images.old).attached)
         (λ bytes. n ≡ unsound_rows bytes geo.now (tested_rows geo.now end window))) }
     ensures reads { OnlyReads (I.seen images.old) (I.seen images.new)
         (length (I.seen images.old).attached * tested_rows geo.now end window) }
-    ensures ends { IfErr result (EndsScan (I.seen images.old) (I.seen images.new)) }
+    ensures cause { HasCause (I.seen images.old).faults (I.seen images.new).faults result }
     ensures blocks { blocks.new ≡ blocks.old }
 {
     // There are fewer rows than u64::MAX, so that none is too many.
@@ -100,14 +104,14 @@ fn test_rows<I: Images>(
     end: u64,
     window: u64,
     left: u64,
-) -> Result<Option<u64>, ScanFault>
+) -> Result<Option<u64>, Failed>
     requires set { IsScannable geo.now end (I.seen images.old).attached }
     requires blocks { length geo.now.slots.items ≤ blocks.old }
     ensures told { IfOk result (λ rest. IfSome (told_all (I.seen images.old).attached)
         (λ bytes. IsRest bytes geo.now (tested_rows geo.now end window) left rest)) }
     ensures reads { OnlyReads (I.seen images.old) (I.seen images.new)
         (length (I.seen images.old).attached * tested_rows geo.now end window) }
-    ensures ends { IfErr result (EndsScan (I.seen images.old) (I.seen images.new)) }
+    ensures cause { HasCause (I.seen images.old).faults (I.seen images.new).faults result }
     ensures blocks { blocks.new ≡ blocks.old }
 {
     let rows = rows_to_test(geo, end, window);
@@ -131,7 +135,7 @@ fn test_in<I: Images>(
     geo: &Geometry,
     rows: u64,
     left: u64,
-) -> Result<Option<u64>, ScanFault>
+) -> Result<Option<u64>, Failed>
     requires set { IsTestable geo.now }
     requires near { geo.now.head.offset + rows < 2 ^ 55 }
     requires held { 1 ≤ rows → All (Reaches (I.seen images.old).attached (geo.now.head.offset + rows)) geo.now.slots.items }
@@ -140,7 +144,7 @@ fn test_in<I: Images>(
     ensures told { IfOk result (λ rest. IfSome (told_all (I.seen images.old).attached)
         (λ bytes. IsRest bytes geo.now rows left rest)) }
     ensures reads { OnlyReads (I.seen images.old) (I.seen images.new) (held geo.now.slots.items * rows) }
-    ensures ends { IfErr result (EndsScan (I.seen images.old) (I.seen images.new)) }
+    ensures cause { HasCause (I.seen images.old).faults (I.seen images.new).faults result }
 {
     let mut rest = left;
     let mut first = 0;
@@ -176,7 +180,7 @@ fn block_left<I: Images>(
     first: u64,
     count: u64,
     left: u64,
-) -> Result<Option<u64>, ScanFault>
+) -> Result<Option<u64>, Failed>
     requires set { IsTestable geo.now }
     requires near { geo.now.head.offset + (first + count) < 2 ^ 55 }
     requires held { All (Reaches (I.seen images.old).attached (geo.now.head.offset + (first + count))) geo.now.slots.items }
@@ -187,12 +191,10 @@ fn block_left<I: Images>(
     ensures told { IfOk result (λ rest. IfSome (told_all (I.seen images.old).attached)
         (λ bytes. IsLeft bytes geo.now first count left rest)) }
     ensures reads { OnlyReads (I.seen images.old) (I.seen images.new) (held geo.now.slots.items * count) }
-    ensures ends { IfErr result (EndsScan (I.seen images.old) (I.seen images.new)) }
+    ensures cause { HasCause (I.seen images.old).faults (I.seen images.new).faults result }
 {
     let count = count as usize;
-    read_members(images, sectors, geo, BLOCK_BYTES, first, count).map_err(
-        |_| ScanFault::ReadFault,
-    )?;
+    read_members(images, sectors, geo, BLOCK_BYTES, first, count)?;
     let row = &mut row[..SECTOR * geo.slots.len()];
     Ok(rows_left(geo, sectors, row, first, count, left))
 }

@@ -88,16 +88,12 @@ pub passed_err : {T E : Type 0} (old new : Option (List ℕ)) (before after byte
 passed_err old new before after bytes (Ok v) is q = absurd (cc)
 passed_err old new before after bytes (Err e) is q = q
 
--- what is known of a call whose error was turned into another, by the other's result
-pub was_err : {T E F : Type 0} (P : E → Type 0) (old new : Option (List ℕ)) (before after bytes : List ℕ) (r : Result T E) (m : Result T F) (e : F) →
-    MatchResult r (λ x. m ≡ Ok x) P → m ≡ Err e → Passed old new before after r bytes → AppendsFront old new (before ++ bytes)
-was_err P old new before after bytes (Ok x) m e is err p = absurd (cc)
-was_err P old new before after bytes (Err x) m e is err p = p
-
-pub was_ok : {T E F : Type 0} (Q : E → F → Type 0) (old new : Option (List ℕ)) (before after bytes : List ℕ) (r : Result T E) (m : Result T F) (v : T) →
-    MatchResult r (λ x. m ≡ Ok x) (λ e. IsErrAnd m (Q e)) → m ≡ Ok v → Passed old new before after r bytes → Passes old new before after bytes
-was_ok Q old new before after bytes (Ok x) m v is ok p = p
-was_ok {T} {E} {F} Q old new before after bytes (Err x) m v is ok p = absurd (subst (λ (o : Result T F). IsErrAnd o (Q x)) ok is)
+-- what is known of a call, where its error was turned into another
+pub passed_as : {T E F : Type 0} (Q : E → F → Type 0) (old new : Option (List ℕ)) (before after bytes : List ℕ) (r : Result T E) (m : Result T F) →
+    MatchResult r (λ x. m ≡ Ok x) (λ e. IsErrAnd m (Q e)) → Passed old new before after r bytes → Passed old new before after m bytes
+passed_as Q old new before after bytes (Ok x) m is p = rw is p
+passed_as Q old new before after bytes (Err x) (Ok v) is p = absurd is
+passed_as Q old new before after bytes (Err x) (Err e) is p = p
 
 -- all passed, and nothing waits
 pub appends_all : (a b : Option (List ℕ)) (before after x : List ℕ) → after ≡ [] → Passes a b before after x → Appends a b (before ++ x)

@@ -1,15 +1,17 @@
 -- Rows that are put item by item.
-use Rattle.std.proofs.Common.{◌≡◌, ℕ, ◌+◌, ◌-◌, ◌*◌, ◌<◌, ◌≤◌, List, [], ◌++◌, length, take, drop, Option, refl, sym, ap, ◌∙◌, subst, arith, append_assoc}
+use Rattle.std.proofs.Common.{◌≡◌, ℕ, ◌+◌, ◌-◌, ◌*◌, ◌<◌, ◌≤◌, List, [], ◌++◌, length, take, drop, Option, Result, Ok, Err, refl, sym, ap, ◌∙◌, subst, arith, append_assoc}
 use Rattle.std.proofs.lemmas.Nat.{mul-le}
-use Rattle.image_source.specs.Streams.{AppendsFront}
+use Rattle.image_source.specs.Streams.{AppendsFront, Puts}
 use Rattle.raid_params.specs.Size.{data_blocks, rows}
 use Rattle.raid_params.specs.declared.types.Geometry.{Geometry}
 use Rattle.raid_terms.specs.Role.{item_of}
 use Rattle.virtual_volume.specs.Parts.{chunk_of, items_of, rows_of}
 use Rattle.virtual_volume.specs.Regions.{HoldAll}
-use Rattle.virtual_volume.specs.Waiting.{Passes}
+use Rattle.virtual_volume.specs.Waiting.{Passed, Passes}
 use Rattle.virtual_volume.proofs.Blocks.{region_chunk}
 use Rattle.std.specs.Io.KnownBytes.{Appends}
+use Rattle.std.specs.Prelude.{MatchResult, OnOk}
+use Rattle.std.specs.Result.{IsErrAnd}
 use Rattle.std.proofs.lemmas.List.{append-nil}
 use Rattle.raid_terms.specs.Volume.{volume}
 use Rattle.virtual_volume.proofs.Fronts.{appends_all, front_more, passes_cut, passes_join, passes_none}
@@ -94,7 +96,7 @@ rows_whole images geo end n waits e f =
     ap (λ (l : List ℕ). l ++ rows_of images geo 0 n) e ∙ ap (λ (t : ℕ). rows_of images geo 0 t) f ∙ sym (volume_rows images geo end)
 
 -- all rows passed, and nothing waits
-pub rows_written : (images : List (List ℕ)) (geo : Geometry) (end n : ℕ) (a b c : Option (List ℕ)) (before between after : List ℕ) → before ≡ [] → after ≡ [] → n ≡ rows geo.head end →
+rows_written : (images : List (List ℕ)) (geo : Geometry) (end n : ℕ) (a b c : Option (List ℕ)) (before between after : List ℕ) → before ≡ [] → after ≡ [] → n ≡ rows geo.head end →
     Passes a b before between (rows_of images geo 0 n) → Passes b c between after [] → Appends a c (volume images geo end)
 rows_written images geo end n a b c before between after e f is p q =
     subst (λ (l : List ℕ). Appends a c l) (rows_whole images geo end n before e is)
@@ -102,8 +104,16 @@ rows_written images geo end n a b c before between after e f is p q =
     (passes_join a b c before between after (rows_of images geo 0 n) [] (rows_of images geo 0 n) (sym (append-nil (rows_of images geo 0 n))) p q))
 
 -- all rows passed, and what waited could not be put
-pub rows_unflushed : (images : List (List ℕ)) (geo : Geometry) (end n : ℕ) (a b c : Option (List ℕ)) (before between : List ℕ) → before ≡ [] → n ≡ rows geo.head end →
+rows_unflushed : (images : List (List ℕ)) (geo : Geometry) (end n : ℕ) (a b c : Option (List ℕ)) (before between : List ℕ) → before ≡ [] → n ≡ rows geo.head end →
     Passes a b before between (rows_of images geo 0 n) → AppendsFront b c (between ++ []) → AppendsFront a c (volume images geo end)
 rows_unflushed images geo end n a b c before between e is p q =
     subst (λ (l : List ℕ). AppendsFront a c l) (rows_whole images geo end n before e is)
     (passes_cut a b c before between (rows_of images geo 0 n) [] (rows_of images geo 0 n) (sym (append-nil (rows_of images geo 0 n))) p q)
+
+-- all rows passed, and what waited was put or not
+pub rows_flushed : {T E F : Type 0} (Q : E → F → Type 0) (images : List (List ℕ)) (geo : Geometry) (end n : ℕ) (a b c : Option (List ℕ)) (before between after : List ℕ) (r : Result T E) (m : Result T F) →
+    before ≡ [] → n ≡ rows geo.head end → OnOk r (after ≡ []) → MatchResult r (λ x. m ≡ Ok x) (λ e. IsErrAnd m (Q e)) →
+    Passes a b before between (rows_of images geo 0 n) → Passed b c between after r [] → Puts a c m (volume images geo end)
+rows_flushed Q images geo end n a b c before between after (Ok x) m e is none same p q = rw same (rows_written images geo end n a b c before between after e none is p q)
+rows_flushed Q images geo end n a b c before between after (Err x) (Ok v) e is none same p q = absurd same
+rows_flushed Q images geo end n a b c before between after (Err x) (Err y) e is none same p q = rows_unflushed images geo end n a b c before between e is p q

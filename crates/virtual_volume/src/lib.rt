@@ -14,6 +14,6 @@ mod sector;
 mod tests;
 mod volume;
 
-pub use room::{Room, batch_rows};
+pub use room::Room;
 pub use sector::read_volume;
 pub use volume::{VolumeFault, write_volume};

@@ -3,13 +3,13 @@ ghost use Rattle.std.specs.Prelude.{◌≡◌, [], ◌++◌, ◌+◌, ◌≤◌,
 ghost use Rattle.image_source.specs.Causes.{HasCause};
 ghost use Rattle.virtual_volume.specs.Waiting.{Passed};
 
-use crate::room::zeros;
 use image_source::{Failed, Memory, Sink};
+use row_scan::{BLOCK_BYTES, zeros};
 use std::alloc::Global;
 use std::marker::Model;
 
 /// The bytes that wait at most.
-const PENDING: usize = 131_072;
+const PENDING: usize = BLOCK_BYTES;
 
 /// Bytes that wait to be put. Contracts see them.
 #[derive(Drop)]

@@ -4,27 +4,23 @@ ghost use Rattle.image_source.specs.Attached.{told_all};
 ghost use Rattle.image_source.specs.Causes.{HasCause};
 ghost use Rattle.image_source.specs.Seen.{OnlyReads};
 ghost use Rattle.raid_params.specs.Validity.{is_valid_head};
-ghost use Rattle.row_scan.specs.Block.{HoldRead, IsTestable, Reaches};
-ghost use Rattle.virtual_volume.specs.Regions.{HoldAll, HoldSlot, IsRoom};
+ghost use Rattle.row_scan.specs.Block.{HoldRead, IsTestable, Reaches, held};
+ghost use Rattle.virtual_volume.specs.Regions.{HoldAll, HoldSlot, IsRoom, KeepOthers};
 
 use crate::lost::{solve_lost, solve_slot};
 use image_source::{Failed, Images, Memory, SECTOR};
-use raid_params::{Geometry, Head};
-use row_scan::read_members;
+use raid_params::{Geometry, Head, LARGEST_CHUNK};
+use row_scan::{BLOCK, read_members, zeros};
 use std::alloc::Global;
-
-/// The sectors of a batch of small chunks, 128 KiB a member: a read then costs little beside the
-/// bytes that it brings.
-const BLOCK: u64 = 256;
 
 /// The rows of chunks in a batch: as many as fit into `BLOCK` sectors a member, and at least one.
 #[tactic(auto, using(address_map::proofs::Heads::some_chunk, address_map::proofs::Heads::short_chunk, crate::proofs::Places::short_batch))]
-pub fn batch_rows(head: &Head) -> u64
+pub(crate) fn batch_rows(head: &Head) -> u64
     requires { IsTrue (is_valid_head head.now) }
     ensures some { 1 ≤ result }
-    ensures short { result * head.now.chunk ≤ 32768 }
+    ensures short { result * head.now.chunk ≤ LARGEST_CHUNK }
 {
-    (BLOCK / head.chunk).max(1)
+    (BLOCK as u64 / head.chunk).max(1)
 }
 
 /// Room for a region of sectors of each member, one region after the other.
@@ -42,7 +38,7 @@ impl Room {
     /// Room for so many sectors of each member.
     #[tactic(auto, using(crate::proofs::Places::small_room))]
     pub fn new(alloc: Global, members: u8, sectors: u64) -> Result<Room, Memory>
-        requires { sectors ≤ 32768 }
+        requires { sectors ≤ LARGEST_CHUNK }
         ensures { IfOk result (λ room. IsRoom members room × (room.stride ≡ 512 * sectors)) }
     {
         let stride = SECTOR * sectors as usize;
@@ -74,7 +70,7 @@ impl Room {
         ensures stride { self.new.stride ≡ self.old.stride }
         ensures told { OnOk result (IfSome (told_all (I.seen images.old).attached) (λ bytes.
             HoldRead bytes geo.now self.new.stride first (512 * count) (length geo.now.slots.items) self.new.sectors.items)) }
-        ensures reads { OnlyReads (I.seen images.old) (I.seen images.new) (length geo.now.slots.items * count) }
+        ensures reads { OnlyReads (I.seen images.old) (I.seen images.new) (held geo.now.slots.items * count) }
         ensures cause { HasCause (I.seen images.old).faults (I.seen images.new).faults result }
     {
         read_members(images, &mut self.sectors, geo, self.stride, first, count)
@@ -94,6 +90,7 @@ impl Room {
         ensures found { (bytes : List (List ℕ)) →
             HoldRead bytes geo.now self.old.stride first (512 * count) (length geo.now.slots.items) self.old.sectors.items →
             HoldSlot bytes geo.now self.new.stride first count slot self.new.sectors.items }
+        ensures others { KeepOthers self.old.stride slot self.old.sectors.items self.new.sectors.items }
     {
         solve_slot(
             geo,
@@ -136,12 +133,4 @@ impl Room {
             count,
         );
     }
-}
-
-/// So many bytes of 0.
-pub(crate) fn zeros(alloc: Global, count: usize) -> Result<Vec<u8>, Memory>
-    ensures { IfOk result (λ bytes. length bytes.items ≡ count) }
-{
-    let bytes = vec![in alloc; 0u8; count].map_err(|_| Memory)?;
-    Ok(bytes)
 }

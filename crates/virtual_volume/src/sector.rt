@@ -5,7 +5,7 @@ ghost use Rattle.image_source.specs.Causes.{HasCause};
 ghost use Rattle.image_source.specs.Seen.{OnlyReads};
 ghost use Rattle.raid_params.specs.Size.{volume_sectors};
 ghost use Rattle.raid_terms.specs.Volume.{member_sector, volume_sector};
-ghost use Rattle.row_scan.specs.Block.{IsTestable, Reaches};
+ghost use Rattle.row_scan.specs.Block.{IsTestable, Reaches, held};
 ghost use Rattle.virtual_volume.specs.Served.{IsServed};
 
 use crate::lost::solve_slot;
@@ -20,7 +20,8 @@ const ROW: usize = SECTOR * MOST;
 /// Reads a sector of the volume of a set of parameters into `to`, which holds 512 bytes. Only whole
 /// rows before the image sector `end` count.
 ///
-/// It takes no memory, and fails only by a fault of the images.
+/// It takes no memory, reads no more sectors than members are there, and fails only by a fault of
+/// the images.
 #[tactic(auto, using(crate::proofs::Sets::served_head, crate::proofs::Sets::served_slots, crate::proofs::Sets::served_testable))]
 pub fn read_volume<I: Images>(
     images: &mut I,
@@ -34,7 +35,7 @@ pub fn read_volume<I: Images>(
     requires to { length to.old ≡ 512 }
     ensures told { OnOk result (IfSome (told_all (I.seen images.old).attached)
         (λ bytes. to.new ≡ volume_sector bytes geo.now sector)) }
-    ensures reads { OnlyReads (I.seen images.old) (I.seen images.new) geo.now.head.members }
+    ensures reads { OnlyReads (I.seen images.old) (I.seen images.new) (held geo.now.slots.items) }
     ensures cause { HasCause (I.seen images.old).faults (I.seen images.new).faults result }
 {
     match locate(&geo.head, end, sector) {
@@ -59,7 +60,7 @@ fn read_sector<I: Images>(
     requires to { length to.old ≡ 512 }
     ensures told { OnOk result (IfSome (told_all (I.seen images.old).attached)
         (λ bytes. to.new ≡ member_sector bytes geo.now slot sector)) }
-    ensures reads { OnlyReads (I.seen images.old) (I.seen images.new) (length geo.now.slots.items) }
+    ensures reads { OnlyReads (I.seen images.old) (I.seen images.new) (held geo.now.slots.items) }
     ensures cause { HasCause (I.seen images.old).faults (I.seen images.new).faults result }
 {
     let held = geo.slots[slot];
@@ -87,7 +88,7 @@ fn find_sector<I: Images>(
     requires to { length to.old ≡ 512 }
     ensures told { OnOk result (IfSome (told_all (I.seen images.old).attached)
         (λ bytes. to.new ≡ member_sector bytes geo.now slot sector)) }
-    ensures reads { OnlyReads (I.seen images.old) (I.seen images.new) (length geo.now.slots.items) }
+    ensures reads { OnlyReads (I.seen images.old) (I.seen images.new) (held geo.now.slots.items) }
     ensures cause { HasCause (I.seen images.old).faults (I.seen images.new).faults result }
 {
     let mut sectors = [0u8; ROW];

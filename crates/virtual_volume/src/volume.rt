@@ -9,7 +9,7 @@ ghost use Rattle.image_source.specs.Streams.{AppendsFront, Puts};
 ghost use Rattle.raid_params.specs.Size.{area, data_blocks as data_blocks_of};
 ghost use Rattle.raid_params.specs.Validity.{is_valid_head};
 ghost use Rattle.raid_terms.specs.Volume.{volume};
-ghost use Rattle.row_scan.specs.Block.{IsTestable, Reaches};
+ghost use Rattle.row_scan.specs.Block.{IsTestable, Reaches, held};
 ghost use Rattle.virtual_volume.specs.Parts.{items_of, rows_of};
 ghost use Rattle.virtual_volume.specs.Regions.{HoldAll, IsRoom};
 ghost use Rattle.virtual_volume.specs.Served.{Ends, IsServed};
@@ -126,7 +126,7 @@ fn write_batch<I: Images, K: Sink>(
     ensures passed { IfSome (told_all (I.seen images.old).attached) (λ bytes.
         Passed (K.gained sink.old) (K.gained sink.new) pending.old pending.new result (rows_of bytes geo.now first rows)) }
     ensures reads { OnlyReads (I.seen images.old) (I.seen images.new)
-        (length geo.now.slots.items * (rows * geo.now.head.chunk)) }
+        (held geo.now.slots.items * (rows * geo.now.head.chunk)) }
     ensures later { K.faults sink.old ≤ K.faults sink.new }
     ensures ends { IfErr result (Ends (I.seen images.old).faults (I.seen images.new).faults (K.faults sink.old) (K.faults sink.new)) }
     ensures room { IsRoom (length geo.now.slots.items) room.new }
@@ -146,8 +146,7 @@ fn write_batch<I: Images, K: Sink>(
         first,
         rows as usize,
     )
-    .map_err(|_| VolumeFault::WriteFault)?;
-    Ok(())
+    .map_err(|_| VolumeFault::WriteFault)
 }
 
 /// Writes the volume's part in the first `rows` rows, `batch` rows at a time.
@@ -170,7 +169,7 @@ fn write_rows<I: Images, K: Sink>(
     ensures passed { IfSome (told_all (I.seen images.old).attached) (λ bytes.
         Passed (K.gained sink.old) (K.gained sink.new) pending.old pending.new result (rows_of bytes geo.now 0 rows)) }
     ensures reads { OnlyReads (I.seen images.old) (I.seen images.new)
-        (length geo.now.slots.items * (rows * geo.now.head.chunk)) }
+        (held geo.now.slots.items * (rows * geo.now.head.chunk)) }
     ensures later { K.faults sink.old ≤ K.faults sink.new }
     ensures ends { IfErr result (Ends (I.seen images.old).faults (I.seen images.new).faults (K.faults sink.old) (K.faults sink.new)) }
 {
@@ -201,22 +200,21 @@ fn write_all<I: Images, K: Sink>(
     requires fits { 512 * (batch * geo.now.head.chunk) ≤ room.old.stride }
     ensures put { IfSome (told_all (I.seen images.old).attached)
         (λ bytes. Puts (K.gained sink.old) (K.gained sink.new) result (volume bytes geo.now end)) }
-    ensures reads { OnlyReads (I.seen images.old) (I.seen images.new) (geo.now.head.members * area geo.now.head end) }
+    ensures reads { OnlyReads (I.seen images.old) (I.seen images.new) (held geo.now.slots.items * area geo.now.head end) }
     ensures later { K.faults sink.old ≤ K.faults sink.new }
     ensures ends { IfErr result (Ends (I.seen images.old).faults (I.seen images.new).faults (K.faults sink.old) (K.faults sink.new)) }
 {
     let rows = rows(&geo.head, end);
     write_rows(images, pending, sink, room, geo, rows, batch)?;
-    pending.flush(sink).map_err(|_| VolumeFault::WriteFault)?;
-    Ok(())
+    pending.flush(sink).map_err(|_| VolumeFault::WriteFault)
 }
 
 /// Writes the volume of a set of parameters over the attached images: `volume_sectors` sectors, in
 /// their order. Only whole rows before the image sector `end` count.
 ///
 /// It fails for want of memory before anything is read or written, and after that only by a fault
-/// of the images or of the sink: then a front of the volume was written. Each member sector is read
-/// at most once.
+/// of the images or of the sink: then a front of the volume was written. No more sectors are read
+/// than the members that are there hold in whole rows.
 #[tactic(auto, using(crate::proofs::Sets::served_head, crate::proofs::Sets::served_slots))]
 pub fn write_volume<I: Images, K: Sink>(
     alloc: Global,
@@ -235,7 +233,7 @@ pub fn write_volume<I: Images, K: Sink>(
     ensures read_fault { IsErrOf result VolumeFault.ReadFault →
         Rose (I.seen images.old).faults (I.seen images.new).faults }
     ensures write_fault { IsErrOf result VolumeFault.WriteFault → Rose (K.faults sink.old) (K.faults sink.new) }
-    ensures reads { OnlyReads (I.seen images.old) (I.seen images.new) (geo.now.head.members * area geo.now.head end) }
+    ensures reads { OnlyReads (I.seen images.old) (I.seen images.new) (held geo.now.slots.items * area geo.now.head end) }
     ensures later { K.faults sink.old ≤ K.faults sink.new }
 {
     let batch = batch_rows(&geo.head);

@@ -1,8 +1,8 @@
-use Rattle.std.proofs.Common.{length}
+use Rattle.std.proofs.Common.{◌*◌, length}
 use Rattle.image_source.specs.Attached.{told_all}
-use Rattle.command_jobs.specs.Checking.{rule_refusal}
-use Rattle.command_jobs.proofs.Checks.{reads_prepared, reads_unprepared, text_prepared}
-use Rattle.command_jobs.proofs.Prepared.{cause_prepared, cause_unprepared, refuses_prepared, refuses_unprepared}
+use Rattle.command_jobs.specs.Checking.{rows_tested, rule_refusal}
+use Rattle.command_jobs.proofs.Checks.{text_prepared}
+use Rattle.command_jobs.proofs.Prepared.{cause_prepared, cause_unprepared, order_prepared, order_unprepared, reads_prepared, reads_unprepared, refuses_prepared, refuses_unprepared}
 use Rattle.command_jobs.proofs.checking.answer.Goals as goal
 
 pub returns-in-Ok-clause-refuses : goal.returns-in-Ok-clause-refuses
@@ -24,7 +24,7 @@ returns-in-Ok-clause-text g c =
 pub returns-in-Ok-clause-reads : goal.returns-in-Ok-clause-reads
 returns-in-Ok-clause-reads g c =
     let seen = g.I.Images.seen c.args.images.now in
-    reads_prepared (g.S.Source.left c.args.source.now) c.args.set.now c.args.names seen.attached c.in-Ok.plan seen.sectors_read (g.I.Images.seen c.checked.new.images).sectors_read (length (g.I.Images.seen c.args.images.now).attached)
+    reads_prepared (g.S.Source.left c.args.source.now) c.args.names seen.attached c.in-Ok.plan (λ plan. length seen.attached * rows_tested plan c.args.set.now) seen.sectors_read (g.I.Images.seen c.checked.new.images).sectors_read
     c.in-Ok.ensures.prepared c.checked.ensures.reads.sectors_read
 
 pub returns-in-Err-clause-refuses : goal.returns-in-Err-clause-refuses
@@ -39,4 +39,17 @@ returns-in-Err-clause-causes g c =
 
 pub returns-in-Err-clause-reads : goal.returns-in-Err-clause-reads
 returns-in-Err-clause-reads g c =
-    reads_unprepared (g.S.Source.left c.args.source.now) c.args.set.now (g.I.Images.seen c.args.images.now).sectors_read (length (g.I.Images.seen c.args.images.now).attached)
+    let seen = g.I.Images.seen c.args.images.now in
+    reads_unprepared (g.S.Source.left c.args.source.now) (λ plan. length seen.attached * rows_tested plan c.args.set.now) seen.sectors_read
+
+pub returns-in-Ok-clause-order : goal.returns-in-Ok-clause-order
+returns-in-Ok-clause-order g c =
+    let seen = g.I.Images.seen c.args.images.now in
+    order_prepared (g.S.Source.left c.args.source.now) c.args.names seen.attached c.in-Ok.plan (rule_refusal c.args.set.now c.args.names) seen.sectors_read (g.I.Images.seen c.checked.new.images).sectors_read c.checked.result
+    c.in-Ok.ensures.prepared c.checked.ensures.order
+
+pub returns-in-Err-clause-order : goal.returns-in-Err-clause-order
+returns-in-Err-clause-order g c =
+    let seen = g.I.Images.seen c.args.images.now in
+    order_unprepared (g.S.Source.left c.args.source.now) c.args.names seen.attached (g.S.Source.faults c.args.source.now) (g.S.Source.faults c.prepare.new.source) c.in-Err.stop (rule_refusal c.args.set.now c.args.names) seen.sectors_read
+    c.in-Err.ensures.ends

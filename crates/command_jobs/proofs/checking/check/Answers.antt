@@ -1,8 +1,8 @@
-use Rattle.std.proofs.Common.{false}
 use Rattle.image_source.specs.Attached.{told_all}
+use Rattle.command_jobs.specs.Checking.{check_refusal}
 use Rattle.command_jobs.proofs.Checks.{check_ends}
 use Rattle.command_jobs.proofs.Prepared.{counts_of}
-use Rattle.command_jobs.proofs.Printed.{leaves_printed}
+use Rattle.command_jobs.proofs.Printed.{leaves_printed, orders_printed}
 use Rattle.command_jobs.proofs.checking.check.Goals as goal
 
 pub returns-clause-ends : goal.returns-clause-ends
@@ -14,6 +14,13 @@ returns-clause-ends g c =
 
 pub returns-clause-leaves : goal.returns-clause-leaves
 returns-clause-leaves g c =
-    leaves_printed false (counts_of (g.I.Images.seen c.args.images.now) (g.S.Source.faults c.args.source.now)) (counts_of (g.I.Images.seen c.answer.new.images) (g.S.Source.faults c.answer.new.source))
+    leaves_printed (counts_of (g.I.Images.seen c.args.images.now) (g.S.Source.faults c.args.source.now)) (counts_of (g.I.Images.seen c.answer.new.images) (g.S.Source.faults c.answer.new.source))
     (g.K.Sink.gained c.args.out.now) (g.K.Sink.gained c.print.new.out) (g.K.Sink.faults c.args.out.now) (g.K.Sink.faults c.print.new.out) c.answer.result c.print.result
     c.answer.ensures.causes c.print.ensures.printed c.print.ensures.later
+
+pub returns-clause-order : goal.returns-clause-order
+returns-clause-order g c =
+    let seen = g.I.Images.seen c.args.images.now in
+    orders_printed (g.S.Source.left c.args.source.now) (λ text plan. check_refusal c.args.set.now text plan c.args.names seen.attached) seen.sectors_read (g.I.Images.seen c.answer.new.images).sectors_read
+    (g.K.Sink.gained c.args.out.now) (g.K.Sink.gained c.print.new.out) (g.K.Sink.faults c.args.out.now) (g.K.Sink.faults c.print.new.out) c.answer.result c.print.result
+    c.answer.ensures.refuses c.answer.ensures.order c.print.ensures.printed

@@ -1,5 +1,5 @@
-use Rattle.command_jobs.specs.Listing.{cursor_refusal}
-use Rattle.command_jobs.proofs.Prepared.{cause_unprepared, images_agree, refuses_unprepared}
+use Rattle.command_jobs.specs.Listing.{cursor_refusal, list_reads}
+use Rattle.command_jobs.proofs.Prepared.{cause_unprepared, images_agree, order_prepared, order_unprepared, reads_prepared, reads_unprepared, refuses_unprepared}
 use Rattle.command_jobs.proofs.listing.answer.Goals as goal
 
 pub listed-requires-clause-lengths : goal.listed-requires-clause-lengths
@@ -15,3 +15,25 @@ pub returns-in-Err-clause-causes : goal.returns-in-Err-clause-causes
 returns-in-Err-clause-causes g c =
     cause_unprepared (g.S.Source.left c.args.source.now) c.args.names (g.I.Images.seen c.args.images.now) (g.S.Source.faults c.args.source.now) (g.S.Source.faults c.prepare.new.source) c.in-Err.stop
     c.prepare.ensures.later c.in-Err.ensures.ends
+
+pub returns-in-Ok-clause-reads : goal.returns-in-Ok-clause-reads
+returns-in-Ok-clause-reads g c =
+    let seen = g.I.Images.seen c.args.images.now in
+    reads_prepared (g.S.Source.left c.args.source.now) c.args.names seen.attached c.in-Ok.plan (λ plan. list_reads plan c.args.from c.args.span) seen.sectors_read (g.I.Images.seen c.listed.new.images).sectors_read
+    c.in-Ok.ensures.prepared c.listed.ensures.reads.sectors_read
+
+pub returns-in-Err-clause-reads : goal.returns-in-Err-clause-reads
+returns-in-Err-clause-reads g c =
+    reads_unprepared (g.S.Source.left c.args.source.now) (λ plan. list_reads plan c.args.from c.args.span) (g.I.Images.seen c.args.images.now).sectors_read
+
+pub returns-in-Ok-clause-order : goal.returns-in-Ok-clause-order
+returns-in-Ok-clause-order g c =
+    let seen = g.I.Images.seen c.args.images.now in
+    order_prepared (g.S.Source.left c.args.source.now) c.args.names seen.attached c.in-Ok.plan (cursor_refusal c.args.from) seen.sectors_read (g.I.Images.seen c.listed.new.images).sectors_read c.listed.result
+    c.in-Ok.ensures.prepared c.listed.ensures.order
+
+pub returns-in-Err-clause-order : goal.returns-in-Err-clause-order
+returns-in-Err-clause-order g c =
+    let seen = g.I.Images.seen c.args.images.now in
+    order_unprepared (g.S.Source.left c.args.source.now) c.args.names seen.attached (g.S.Source.faults c.args.source.now) (g.S.Source.faults c.prepare.new.source) c.in-Err.stop (cursor_refusal c.args.from) seen.sectors_read
+    c.in-Err.ensures.ends

@@ -1,13 +1,12 @@
 use Rattle.std.proofs.Common.{ℕ, ◌*◌, List, length, IfSome, rules, subst, arith}
-use Rattle.std.specs.Io.KnownBytes.{Appends}
 use Rattle.image_source.specs.Attached.{told_all}
-use Rattle.image_source.specs.Streams.{AppendsFront, Puts}
+use Rattle.image_source.specs.Streams.{Puts}
 use Rattle.row_scan.specs.Block.{HoldRead}
 use Rattle.virtual_volume.proofs.Fronts.{front_none, puts_err}
 use Rattle.row_scan.proofs.IfTold.{if_any, if_told}
 use Rattle.row_scan.proofs.Regions.{region_inside}
 use Rattle.member_rebuild.specs.Sectors.{sectors_of}
-use Rattle.member_rebuild.proofs.Parts.{part_is, put_err, put_ok}
+use Rattle.member_rebuild.proofs.Parts.{part_is, puts_as}
 use Rattle.member_rebuild.proofs.member.write_block.Goals as goal
 
 pub returns-in_err-map_err-clause-put : goal.returns-in_err-map_err-clause-put
@@ -17,21 +16,6 @@ returns-in_err-map_err-clause-put g c =
     (λ bytes. puts_err (g.K.Sink.gained c.args.sink.now) (g.K.Sink.gained c.args.sink.now) (sectors_of bytes c.args.geo.now c.args.slot c.args.first c.args.count) c.from_residual.result c.from_residual.ensures.0
     (front_none (g.K.Sink.gained c.args.sink.now) (sectors_of bytes c.args.geo.now c.args.slot c.args.first c.args.count)))
 
-pub returns-in_err-map_err-2-clause-put : goal.returns-in_err-map_err-2-clause-put
-returns-in_err-map_err-2-clause-put g c =
-    let lies = region_inside c.solve.new.self.stride c.args.slot (length c.args.geo.now.slots.items) c.requires.slot in
-    let held : IfSome (told_all (g.I.Images.seen c.args.images.now).attached)
-    (λ bytes. HoldRead bytes c.args.geo.now c.read.new.self.stride c.args.first (512 * c.args.count) (length c.args.geo.now.slots.items) c.read.new.self.sectors.items) = search rules in
-    if_told (told_all (g.I.Images.seen c.args.images.now).attached)
-    (λ bytes. HoldRead bytes c.args.geo.now c.read.new.self.stride c.args.first (512 * c.args.count) (length c.args.geo.now.slots.items) c.read.new.self.sectors.items)
-    (λ bytes. Puts (g.K.Sink.gained c.args.sink.now) (g.K.Sink.gained c.put.new.self) c.from_residual-in_err-map_err-2.result (sectors_of bytes c.args.geo.now c.args.slot c.args.first c.args.count))
-    (λ bytes hold. puts_err (g.K.Sink.gained c.args.sink.now) (g.K.Sink.gained c.put.new.self) (sectors_of bytes c.args.geo.now c.args.slot c.args.first c.args.count) c.from_residual-in_err-map_err-2.result c.from_residual-in_err-map_err-2.ensures.0
-    (subst (λ (l : List ℕ). AppendsFront (g.K.Sink.gained c.args.sink.now) (g.K.Sink.gained c.put.new.self) l)
-    (part_is bytes c.args.geo.now c.solve.new.self.stride c.args.first c.args.count c.args.slot c.solve.new.self.sectors.items c.region.result.now (c.solve.ensures.found bytes hold) (omega arith) c.region.ensures)
-    (put_err _ (g.K.Sink.gained c.args.sink.now) (g.K.Sink.gained c.put.new.self) c.region.result.now c.put.result c.map_err-2.result c.in_err-map_err-2.field-0.0
-    c.map_err-2.ensures.cases c.in_err-map_err-2.was c.put.ensures.bytes)))
-    held
-
 pub returns-clause-put : goal.returns-clause-put
 returns-clause-put g c =
     let lies = region_inside c.solve.new.self.stride c.args.slot (length c.args.geo.now.slots.items) c.requires.slot in
@@ -39,10 +23,9 @@ returns-clause-put g c =
     (λ bytes. HoldRead bytes c.args.geo.now c.read.new.self.stride c.args.first (512 * c.args.count) (length c.args.geo.now.slots.items) c.read.new.self.sectors.items) = search rules in
     if_told (told_all (g.I.Images.seen c.args.images.now).attached)
     (λ bytes. HoldRead bytes c.args.geo.now c.read.new.self.stride c.args.first (512 * c.args.count) (length c.args.geo.now.slots.items) c.read.new.self.sectors.items)
-    (λ bytes. Appends (g.K.Sink.gained c.args.sink.now) (g.K.Sink.gained c.put.new.self) (sectors_of bytes c.args.geo.now c.args.slot c.args.first c.args.count))
+    (λ bytes. Puts (g.K.Sink.gained c.args.sink.now) (g.K.Sink.gained c.put.new.self) c.map_err-2.result (sectors_of bytes c.args.geo.now c.args.slot c.args.first c.args.count))
     (λ bytes hold.
-    subst (λ (l : List ℕ). Appends (g.K.Sink.gained c.args.sink.now) (g.K.Sink.gained c.put.new.self) l)
+    subst (λ (l : List ℕ). Puts (g.K.Sink.gained c.args.sink.now) (g.K.Sink.gained c.put.new.self) c.map_err-2.result l)
     (part_is bytes c.args.geo.now c.solve.new.self.stride c.args.first c.args.count c.args.slot c.solve.new.self.sectors.items c.region.result.now (c.solve.ensures.found bytes hold) (omega arith) c.region.ensures)
-    (put_ok _ (g.K.Sink.gained c.args.sink.now) (g.K.Sink.gained c.put.new.self) c.region.result.now c.put.result c.map_err-2.result c.in_ok-map_err-2.field-0
-    c.map_err-2.ensures.cases c.in_ok-map_err-2.was c.put.ensures.bytes))
+    (puts_as _ (g.K.Sink.gained c.args.sink.now) (g.K.Sink.gained c.put.new.self) c.region.result.now c.put.result c.map_err-2.result c.map_err-2.ensures.cases c.put.ensures.bytes))
     held

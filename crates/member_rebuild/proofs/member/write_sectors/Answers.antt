@@ -1,9 +1,10 @@
-use Rattle.std.proofs.Common.{◌+◌, ◌≤◌, length, refl, ◌∙◌, arith}
+use Rattle.std.proofs.Common.{◌+◌, ◌≤◌, refl, ◌∙◌, arith}
 use Rattle.std.specs.Io.KnownBytes.{Appends}
 use Rattle.image_source.specs.Attached.{told_all}
 use Rattle.image_source.specs.Streams.{AppendsFront, Puts}
 use Rattle.image_source.proofs.Reading.{reads_none, reads_up}
 use Rattle.row_scan.proofs.Parity.{reads_on}
+use Rattle.row_scan.specs.Block.{held}
 use Rattle.virtual_volume.proofs.Fronts.{puts_err}
 use Rattle.row_scan.proofs.IfTold.{if_any, if_both}
 use Rattle.member_rebuild.specs.Sectors.{sectors_of}
@@ -45,7 +46,7 @@ returns-in_err-write_block-clause-put g c =
 pub returns-in_err-write_block-clause-reads : goal.returns-in_err-write_block-clause-reads
 returns-in_err-write_block-clause-reads g c =
     let few : c.loop-first.first + c.min-count.result ≤ c.args.sectors = omega arith in
-    reads_on (g.I.Images.seen c.args.images.now) (g.I.Images.seen c.loop-first.images) (g.I.Images.seen c.write_block.new.images) (length c.args.geo.now.slots.items)
+    reads_on (g.I.Images.seen c.args.images.now) (g.I.Images.seen c.loop-first.images) (g.I.Images.seen c.write_block.new.images) (held c.args.geo.now.slots.items)
     c.loop-first.first c.min-count.result c.args.sectors c.loop-first.invariant.reads c.write_block.ensures.reads few
 
 pub loop-first-preserved : goal.loop-first-preserved
@@ -60,7 +61,7 @@ loop-first-preserved g c = record {
       c.loop-first.invariant.put
       (rw (← c.loop-first.invariant.reads.attached) c.in_ok-write_block.ensures.put);
   reads =
-      reads_on (g.I.Images.seen c.args.images.now) (g.I.Images.seen c.loop-first.images) (g.I.Images.seen c.write_block.new.images) (length c.args.geo.now.slots.items)
+      reads_on (g.I.Images.seen c.args.images.now) (g.I.Images.seen c.loop-first.images) (g.I.Images.seen c.write_block.new.images) (held c.args.geo.now.slots.items)
       c.loop-first.first c.min-count.result (c.loop-first.first + c.min-count.result) c.loop-first.invariant.reads c.write_block.ensures.reads (omega arith);
   later = omega (arith, c.write_block.ensures.later);
   within = omega arith;

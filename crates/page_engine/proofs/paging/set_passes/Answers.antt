@@ -1,6 +1,6 @@
 use Rattle.std.proofs.Common.{arith, sym, ◌∙◌}
 use Rattle.image_source.specs.Attached.{told_all}
-use Rattle.page_engine.proofs.SetTests.{few_slots, head_valid, no_row, scannable, some_row}
+use Rattle.page_engine.proofs.SetTests.{few_slots, head_valid, no_row, reads_set, scannable, some_row_ok}
 use Rattle.page_engine.proofs.paging.set_passes.Goals as goal
 
 pub rows-requires : goal.rows-requires
@@ -19,7 +19,11 @@ parity_holds-requires-clause-blocks g c =
     let few = few_slots c.args.plan.now c.args.rank c.args.geo.now c.requires.plan c.requires.set in
     omega arith
 
-pub returns-in-Ok-clause-told : goal.returns-in-Ok-clause-told
-returns-in-Ok-clause-told g c =
-    some_row (told_all (g.I.Images.seen c.args.images.now).attached) c.args.plan.now c.args.rank c.args.geo.now c.in-Ok.holds c.requires.set
-    (λ none. c.if-rows-eq0.false (c.rows.ensures ∙ none)) c.in-Ok.ensures.told
+pub returns-clause-told : goal.returns-clause-told
+returns-clause-told g c =
+    some_row_ok (told_all (g.I.Images.seen c.args.images.now).attached) c.args.plan.now c.args.rank c.args.geo.now c.parity_holds.result c.requires.set
+    (λ none. c.if-rows-eq0.false (c.rows.ensures ∙ none)) c.parity_holds.ensures.told
+
+pub returns-clause-reads : goal.returns-clause-reads
+returns-clause-reads g c =
+    reads_set (g.I.Images.seen c.args.images.now) (g.I.Images.seen c.parity_holds.new.images) c.args.plan.now c.args.geo.now c.requires.lengths c.parity_holds.ensures.reads

@@ -1,7 +1,8 @@
 use Rattle.std.proofs.Common.{◌<◌, ◌≤◌, length, All}
 use Rattle.image_source.specs.Attached.{told_all}
 use Rattle.raid_params.specs.declared.limits.TheConstants.{MOST}
-use Rattle.page_engine.specs.Sets.{HoldsSet, LeavesImages}
+use Rattle.image_source.specs.Seen.{OnlyReads}
+use Rattle.page_engine.specs.Sets.{HoldsSet, page_reads}
 use Rattle.page_engine.proofs.RankByRank.{Walked}
 use Rattle.page_engine.proofs.paging.walk.Given as goal
 
@@ -10,6 +11,6 @@ invariant-loop-rank g l = record {
   walked : Walked (told_all (g.I.Images.seen l.fn.images).attached) l.plan l.from l.rank l.lines;
   few : length l.lines < l.size;
   sets : All (HoldsSet l.plan) l.lines;
-  leaves : LeavesImages (g.I.Images.seen l.fn.images) (g.I.Images.seen l.images);
+  reads : OnlyReads (g.I.Images.seen l.fn.images) (g.I.Images.seen l.images) (page_reads l.plan l.from l.rank);
   blocks : MOST ≤ l.blocks;
 }

@@ -1,7 +1,7 @@
 use Rattle.std.proofs.Common.{subst}
 use Rattle.command_words.specs.declared.command.Command.{Command}
 use Rattle.reraid_cli.specs.Asked.{IsAsked}
-use Rattle.reraid_cli.proofs.Serving.{check_asked, check_read, list_asked, list_reads, map_asked, rebuild_asked, rebuild_reads, write_asked, write_reads}
+use Rattle.reraid_cli.proofs.Serving.{check_asked, check_order, check_read, list_asked, list_order, list_read, map_asked, map_order, rebuild_asked, rebuild_order, rebuild_reads, write_asked, write_order, write_reads}
 use Rattle.reraid_cli.proofs.running.serve.Goals as goal
 
 pub returns-in-List-clause-ends : goal.returns-in-List-clause-ends
@@ -15,7 +15,7 @@ pub returns-in-List-clause-reads : goal.returns-in-List-clause-reads
 returns-in-List-clause-reads g c reading asked =
     let left = g.S.Source.left c.args.plan.now in
     let P : Command → Type 0 = λ k. IsAsked k c.args.names left reading in
-    list_reads c.in-List.from c.in-List.size c.in-List.span c.in-List.names c.args.names (g.I.Images.seen c.args.images.now).sectors_read (g.I.Images.seen c.list.new.images).sectors_read left reading (g.I.Images.seen c.args.images.now).attached (subst P c.in-List.is asked)
+    list_read c.in-List.from c.in-List.size c.in-List.span c.in-List.names c.args.names (g.I.Images.seen c.args.images.now).sectors_read (g.I.Images.seen c.list.new.images).sectors_read left reading (g.I.Images.seen c.args.images.now).attached (subst P c.in-List.is asked) c.list.ensures.reads
 
 pub returns-in-Check-clause-ends : goal.returns-in-Check-clause-ends
 returns-in-Check-clause-ends g c reading asked =
@@ -64,3 +64,38 @@ returns-in-Rebuild-clause-reads g c reading asked =
     let P : Command → Type 0 = λ k. IsAsked k c.args.names left reading in
     rebuild_reads c.in-Rebuild.set c.in-Rebuild.slot c.in-Rebuild.end c.in-Rebuild.names c.args.names (g.I.Images.seen c.args.images.now).sectors_read (g.I.Images.seen c.rebuild.new.images).sectors_read left reading (g.I.Images.seen c.args.images.now).attached
     (subst P c.in-Rebuild.is asked) c.rebuild.ensures.reads
+
+pub returns-in-List-clause-order : goal.returns-in-List-clause-order
+returns-in-List-clause-order g c reading asked =
+    let left = g.S.Source.left c.args.plan.now in
+    let P : Command → Type 0 = λ k. IsAsked k c.args.names left reading in
+    list_order c.in-List.from c.in-List.size c.in-List.span c.in-List.names c.args.names (g.I.Images.seen c.args.images.now).sectors_read (g.I.Images.seen c.list.new.images).sectors_read left reading (g.I.Images.seen c.args.images.now).attached (g.K.Sink.gained c.args.out.now) (g.K.Sink.gained c.list.new.out) c.list.result
+    (subst P c.in-List.is asked) c.list.ensures.order
+
+pub returns-in-Check-clause-order : goal.returns-in-Check-clause-order
+returns-in-Check-clause-order g c reading asked =
+    let left = g.S.Source.left c.args.plan.now in
+    let P : Command → Type 0 = λ k. IsAsked k c.args.names left reading in
+    check_order c.in-Check.set c.in-Check.names c.args.names (g.I.Images.seen c.args.images.now).sectors_read (g.I.Images.seen c.check.new.images).sectors_read left reading (g.I.Images.seen c.args.images.now).attached (g.K.Sink.gained c.args.out.now) (g.K.Sink.gained c.check.new.out) c.check.result
+    (subst P c.in-Check.is asked) c.check.ensures.order
+
+pub returns-in-Map-clause-order : goal.returns-in-Map-clause-order
+returns-in-Map-clause-order g c reading asked =
+    let left = g.S.Source.left c.args.plan.now in
+    let P : Command → Type 0 = λ k. IsAsked k c.args.names left reading in
+    map_order c.in-Map.set c.in-Map.sector c.in-Map.end c.in-Map.names c.args.names (g.I.Images.seen c.args.images.now).sectors_read (g.I.Images.seen c.args.images.now).sectors_read left reading (g.I.Images.seen c.args.images.now).attached (g.K.Sink.gained c.args.out.now) (g.K.Sink.gained c.map.new.out) c.map.result
+    (subst P c.in-Map.is asked) c.map.ensures.order
+
+pub returns-in-Write-clause-order : goal.returns-in-Write-clause-order
+returns-in-Write-clause-order g c reading asked =
+    let left = g.S.Source.left c.args.plan.now in
+    let P : Command → Type 0 = λ k. IsAsked k c.args.names left reading in
+    write_order c.in-Write.set c.in-Write.end c.in-Write.names c.args.names (g.I.Images.seen c.args.images.now).sectors_read (g.I.Images.seen c.write.new.images).sectors_read left reading (g.I.Images.seen c.args.images.now).attached (g.K.Sink.gained c.args.out.now) (g.K.Sink.gained c.write.new.out) c.write.result
+    (subst P c.in-Write.is asked) c.write.ensures.order
+
+pub returns-in-Rebuild-clause-order : goal.returns-in-Rebuild-clause-order
+returns-in-Rebuild-clause-order g c reading asked =
+    let left = g.S.Source.left c.args.plan.now in
+    let P : Command → Type 0 = λ k. IsAsked k c.args.names left reading in
+    rebuild_order c.in-Rebuild.set c.in-Rebuild.slot c.in-Rebuild.end c.in-Rebuild.names c.args.names (g.I.Images.seen c.args.images.now).sectors_read (g.I.Images.seen c.rebuild.new.images).sectors_read left reading (g.I.Images.seen c.args.images.now).attached (g.K.Sink.gained c.args.out.now) (g.K.Sink.gained c.rebuild.new.out) c.rebuild.result
+    (subst P c.in-Rebuild.is asked) c.rebuild.ensures.order

@@ -1,9 +1,9 @@
-use Rattle.std.proofs.Common.{◌≡◌, ap, ◌∙◌, subst, ℕ, List, Bool, Some}
-use Rattle.command_jobs.specs.Jobs.{MayHavePut}
+use Rattle.std.proofs.Common.{◌≡◌, sym, ap, ◌∙◌, subst, ℕ, List, Bool, Some}
+use Rattle.command_jobs.specs.Jobs.{MayHavePut, MayHaveRead}
 use Rattle.command_jobs.specs.Stops.{note_of, status_of}
 use Rattle.command_jobs.specs.declared.stop.Stop.TheVariants.{ImageFault, NotBuilt}
 use Rattle.reraid_cli.specs.Answers.{IsNoted, refusal, streams}
-use Rattle.reraid_cli.proofs.Statuses.{status_known, by_refusal, noted, noted_for, noted_numbers, put_before, put_nothing, read_nothing}
+use Rattle.reraid_cli.proofs.Statuses.{status_known, by_refusal, noted, noted_for, noted_numbers, not_ten, not_twelve, put_before, put_nothing, read_no_memory, read_nothing}
 use Rattle.reraid_cli.proofs.top.reraid.Goals as goal
 
 pub returns-in-Ok-clause-words : goal.returns-in-Ok-clause-words
@@ -52,8 +52,30 @@ returns-in-Err-clause-numbers g c has reading says =
     (c.in-Err.ensures.ends reading says).ends
 
 pub returns-in-Err-clause-unread : goal.returns-in-Err-clause-unread
-returns-in-Err-clause-unread g c zero ten twelve twenty = c.in-Err.ensures.leaves.2.unread (read_nothing c.in-Err.stop c.status.result c.status.ensures ten twelve twenty)
+returns-in-Err-clause-unread g c zero ten twelve twenty = c.in-Err.ensures.leaves.2.unread (read_nothing (streams c.in-Err.ensures.leaves.0) c.in-Err.stop c.status.result c.status.ensures ten twelve twenty)
 
 pub returns-in-Err-clause-all : goal.returns-in-Err-clause-all
 returns-in-Err-clause-all g c command line other =
     c.in-Err.ensures.all command line (λ is. other (let stop : c.in-Err.stop ≡ ImageFault = cc in c.status.ensures ∙ ap status_of stop))
+
+pub returns-in-Err-clause-order : goal.returns-in-Err-clause-order
+returns-in-Err-clause-order g c reading says stop is all =
+    let first = c.in-Err.ensures.order reading says all stop is in
+    record {
+      unread = first.unread;
+      unput = first.unput;
+      no_image_fault = not_ten c.in-Err.stop c.status.result c.status.ensures first.no_image_fault;
+      no_out_fault = not_twelve c.in-Err.stop c.status.result c.status.ensures first.no_out_fault;
+    }
+
+pub returns-in-Err-clause-early : goal.returns-in-Err-clause-early
+returns-in-Err-clause-early g c twenty command line puts =
+    let leaves = c.in-Err.ensures.leaves in
+    let same : leaves.0 ≡ Some command = leaves.1.whole command line in
+    leaves.2.unread (λ read. read_no_memory c.in-Err.stop c.status.result c.status.ensures twenty (subst (λ (b : Bool). MayHaveRead b c.in-Err.stop) (ap streams same ∙ puts) read))
+
+pub returns-in-Err-clause-line : goal.returns-in-Err-clause-line
+returns-in-Err-clause-line g c some =
+    let line : c.as_bytes.result.now ≡ note_of c.in-Err.stop = c.as_bytes.ensures.value ∙ (c.deref.ensures.0 ∙ c.line.ensures) in
+    let P : List ℕ → Type 0 = λ xs. IsNoted (g.N.Sink.faults c.put.new.self) (g.N.Sink.gained c.args.notes.now) (g.N.Sink.gained c.put.new.self) xs in
+    (c.in-Err.stop, sym c.status.ensures, subst P line (noted (g.N.Sink.gained c.args.notes.now) (g.N.Sink.gained c.put.new.self) (g.N.Sink.faults c.args.notes.now) (g.N.Sink.faults c.put.new.self) c.put.result c.as_bytes.result.now c.put.ensures.bytes c.put.ensures.cause c.requires.notes))

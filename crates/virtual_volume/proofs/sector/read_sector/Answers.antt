@@ -1,7 +1,8 @@
-use Rattle.std.proofs.Common.{◌≡◌, ℕ, List, length, get_or, None, ap, arith}
+use Rattle.std.proofs.Common.{◌≡◌, ℕ, List, length, get_or, None, ap, sym, arith}
 use Rattle.std.specs.Option.{is_none}
 use Rattle.std.specs.declared.option.Option.{Option}
 use Rattle.image_source.specs.Attached.{told_all}
+use Rattle.row_scan.proofs.Held.{reads_one}
 use Rattle.virtual_volume.proofs.Blocks.{read_told}
 use Rattle.virtual_volume.proofs.sector.read_sector.Goals as goal
 
@@ -11,3 +12,9 @@ returns-in-Some-clause-told g c =
     let long : length c.read_member.new.to ≡ 512 = omega arith in
     read_told (told_all (g.I.Images.seen c.args.images.now).attached) c.args.geo.now c.args.slot c.args.sector (get_or c.deref.result.now c.args.slot None) c.read_member.result c.read_member.new.to same
     (ap (λ (o : Option ℕ). is_none o) c.in-Some.is) long c.read_member.ensures.told
+
+pub returns-in-Some-clause-reads : goal.returns-in-Some-clause-reads
+returns-in-Some-clause-reads g c =
+    let same : get_or c.args.geo.now.slots.items c.args.slot None ≡ get_or c.deref.result.now c.args.slot None = ap (λ (l : List (Option ℕ)). get_or l c.args.slot None) (sym c.deref.ensures.0) in
+    reads_one (g.I.Images.seen c.args.images.now) (g.I.Images.seen c.read_member.new.images) c.args.geo.now.slots.items c.args.slot _ None (get_or c.deref.result.now c.args.slot None) c.read_member.ensures.reads
+    (omega arith) c.requires.slot same (ap (λ (o : Option ℕ). is_none o) c.in-Some.is)

@@ -1,4 +1,4 @@
-use Rattle.std.proofs.Common.{◌≡◌, ℕ, ◌+◌, ◌*◌, List, [], ◌++◌, ap, subst, rules, arith}
+use Rattle.std.proofs.Common.{◌≡◌, ℕ, ◌+◌, ◌*◌, List, ◌++◌, ap, subst, arith}
 use Rattle.image_source.specs.Attached.{told_all}
 use Rattle.image_source.specs.Streams.{AppendsFront, Puts}
 use Rattle.raid_params.specs.Size.{rows}
@@ -6,9 +6,9 @@ use Rattle.raid_terms.specs.Volume.{volume}
 use Rattle.row_scan.proofs.Sets.{testable_chunk}
 use Rattle.virtual_volume.specs.Parts.{rows_of}
 use Rattle.virtual_volume.specs.Waiting.{Passes}
-use Rattle.virtual_volume.proofs.Fronts.{puts_err, was_err, was_ok}
+use Rattle.virtual_volume.proofs.Fronts.{puts_err}
 use Rattle.row_scan.proofs.IfTold.{if_told}
-use Rattle.virtual_volume.proofs.Puts.{rows_unflushed, rows_whole, rows_written}
+use Rattle.virtual_volume.proofs.Puts.{rows_flushed, rows_whole}
 use Rattle.virtual_volume.proofs.Sets.{served_end, served_held, served_testable}
 use Rattle.virtual_volume.proofs.volume.write_all.Goals as goal
 
@@ -30,28 +30,12 @@ returns-in_err-write_rows-clause-put g c =
     (rows_whole bytes c.args.geo.now c.args.end c.rows-rows.result c.args.pending.now c.requires.empty c.rows-rows.ensures) q))
     c.in_err-write_rows.ensures.passed
 
-pub returns-in_err-map_err-clause-put : goal.returns-in_err-map_err-clause-put
-returns-in_err-map_err-clause-put g c =
-    if_told (told_all (g.I.Images.seen c.args.images.now).attached)
-    (λ bytes. Passes (g.K.Sink.gained c.args.sink.now) (g.K.Sink.gained c.write_rows.new.sink) c.args.pending.now c.write_rows.new.pending (rows_of bytes c.args.geo.now 0 c.rows-rows.result))
-    (λ bytes. Puts (g.K.Sink.gained c.args.sink.now) (g.K.Sink.gained c.flush.new.sink) c.from_residual-in_err-map_err.result (volume bytes c.args.geo.now c.args.end))
-    (λ bytes p.
-    puts_err (g.K.Sink.gained c.args.sink.now) (g.K.Sink.gained c.flush.new.sink) (volume bytes c.args.geo.now c.args.end) c.from_residual-in_err-map_err.result c.from_residual-in_err-map_err.ensures.0
-    (rows_unflushed bytes c.args.geo.now c.args.end c.rows-rows.result (g.K.Sink.gained c.args.sink.now) (g.K.Sink.gained c.write_rows.new.sink) (g.K.Sink.gained c.flush.new.sink) c.args.pending.now c.write_rows.new.pending
-    c.requires.empty c.rows-rows.ensures p
-    (was_err _ (g.K.Sink.gained c.write_rows.new.sink) (g.K.Sink.gained c.flush.new.sink) c.write_rows.new.pending c.flush.new.self [] c.flush.result c.map_err.result c.in_err-map_err.field-0.0
-    c.map_err.ensures.cases c.in_err-map_err.was c.flush.ensures.passed)))
-    c.in_ok-write_rows.ensures.passed
-
 pub returns-clause-put : goal.returns-clause-put
 returns-clause-put g c =
-    let none : c.flush.new.self ≡ [] = search rules in
     if_told (told_all (g.I.Images.seen c.args.images.now).attached)
     (λ bytes. Passes (g.K.Sink.gained c.args.sink.now) (g.K.Sink.gained c.write_rows.new.sink) c.args.pending.now c.write_rows.new.pending (rows_of bytes c.args.geo.now 0 c.rows-rows.result))
-    _
+    (λ bytes. Puts (g.K.Sink.gained c.args.sink.now) (g.K.Sink.gained c.flush.new.sink) c.map_err.result (volume bytes c.args.geo.now c.args.end))
     (λ bytes p.
-    rows_written bytes c.args.geo.now c.args.end c.rows-rows.result (g.K.Sink.gained c.args.sink.now) (g.K.Sink.gained c.write_rows.new.sink) (g.K.Sink.gained c.flush.new.sink) c.args.pending.now c.write_rows.new.pending c.flush.new.self
-    c.requires.empty none c.rows-rows.ensures p
-    (was_ok _ (g.K.Sink.gained c.write_rows.new.sink) (g.K.Sink.gained c.flush.new.sink) c.write_rows.new.pending c.flush.new.self [] c.flush.result c.map_err.result c.in_ok-map_err.field-0
-    c.map_err.ensures.cases c.in_ok-map_err.was c.flush.ensures.passed))
+    rows_flushed _ bytes c.args.geo.now c.args.end c.rows-rows.result (g.K.Sink.gained c.args.sink.now) (g.K.Sink.gained c.write_rows.new.sink) (g.K.Sink.gained c.flush.new.sink) c.args.pending.now c.write_rows.new.pending c.flush.new.self
+    c.flush.result c.map_err.result c.requires.empty c.rows-rows.ensures c.flush.ensures.none c.map_err.ensures.cases p c.flush.ensures.passed)
     c.in_ok-write_rows.ensures.passed

@@ -4,8 +4,8 @@ use Rattle.row_scan.proofs.Sets.{testable_chunk}
 use Rattle.virtual_volume.specs.Parts.{rows_of}
 use Rattle.row_scan.specs.Block.{HoldRead}
 use Rattle.virtual_volume.specs.Regions.{HoldAll}
-use Rattle.virtual_volume.specs.Waiting.{Passed, Passes}
-use Rattle.virtual_volume.proofs.Fronts.{front_none, passed_err, was_err, was_ok}
+use Rattle.virtual_volume.specs.Waiting.{Passed}
+use Rattle.virtual_volume.proofs.Fronts.{front_none, passed_as, passed_err}
 use Rattle.row_scan.proofs.IfTold.{if_any, if_told}
 use Rattle.virtual_volume.proofs.Sets.{few_rows, some_sectors}
 use Rattle.virtual_volume.proofs.volume.write_batch.Goals as goal
@@ -25,28 +25,15 @@ returns-in_err-map_err-clause-passed g c =
     (λ bytes. passed_err (g.K.Sink.gained c.args.sink.now) (g.K.Sink.gained c.args.sink.now) c.args.pending.now c.args.pending.now (rows_of bytes c.args.geo.now c.args.first c.args.rows) c.from_residual.result c.from_residual.ensures.0
     (front_none (g.K.Sink.gained c.args.sink.now) (c.args.pending.now ++ rows_of bytes c.args.geo.now c.args.first c.args.rows)))
 
-pub returns-in_err-map_err-2-clause-passed : goal.returns-in_err-map_err-2-clause-passed
-returns-in_err-map_err-2-clause-passed g c =
-    let held : IfSome (told_all (g.I.Images.seen c.args.images.now).attached)
-    (λ bytes. HoldRead bytes c.args.geo.now c.read.new.self.stride (c.args.first * c.args.geo.now.head.chunk) (512 * (c.args.rows * c.args.geo.now.head.chunk)) (length c.args.geo.now.slots.items) c.read.new.self.sectors.items) = search rules in
-    if_told (told_all (g.I.Images.seen c.args.images.now).attached)
-    (λ bytes. HoldRead bytes c.args.geo.now c.read.new.self.stride (c.args.first * c.args.geo.now.head.chunk) (512 * (c.args.rows * c.args.geo.now.head.chunk)) (length c.args.geo.now.slots.items) c.read.new.self.sectors.items)
-    (λ bytes. Passed (g.K.Sink.gained c.args.sink.now) (g.K.Sink.gained c.put_rows.new.sink) c.args.pending.now c.put_rows.new.pending c.from_residual-in_err-map_err-2.result (rows_of bytes c.args.geo.now c.args.first c.args.rows))
-    (λ bytes hold. passed_err (g.K.Sink.gained c.args.sink.now) (g.K.Sink.gained c.put_rows.new.sink) c.args.pending.now c.put_rows.new.pending (rows_of bytes c.args.geo.now c.args.first c.args.rows) c.from_residual-in_err-map_err-2.result c.from_residual-in_err-map_err-2.ensures.0
-    (was_err _ (g.K.Sink.gained c.args.sink.now) (g.K.Sink.gained c.put_rows.new.sink) c.args.pending.now c.put_rows.new.pending (rows_of bytes c.args.geo.now c.args.first c.args.rows) c.put_rows.result c.map_err-2.result c.in_err-map_err-2.field-0.0
-    c.map_err-2.ensures.cases c.in_err-map_err-2.was
-    (c.put_rows.ensures.passed bytes (subst (λ (l : List ℕ). HoldAll bytes c.args.geo.now c.solve_all.new.self.stride (c.args.first * c.args.geo.now.head.chunk) (c.args.rows * c.args.geo.now.head.chunk) l) (sym c.deref.ensures.value) (c.solve_all.ensures.found bytes hold)))))
-    held
-
 pub returns-clause-passed : goal.returns-clause-passed
 returns-clause-passed g c =
     let held : IfSome (told_all (g.I.Images.seen c.args.images.now).attached)
     (λ bytes. HoldRead bytes c.args.geo.now c.read.new.self.stride (c.args.first * c.args.geo.now.head.chunk) (512 * (c.args.rows * c.args.geo.now.head.chunk)) (length c.args.geo.now.slots.items) c.read.new.self.sectors.items) = search rules in
     if_told (told_all (g.I.Images.seen c.args.images.now).attached)
     (λ bytes. HoldRead bytes c.args.geo.now c.read.new.self.stride (c.args.first * c.args.geo.now.head.chunk) (512 * (c.args.rows * c.args.geo.now.head.chunk)) (length c.args.geo.now.slots.items) c.read.new.self.sectors.items)
-    (λ bytes. Passes (g.K.Sink.gained c.args.sink.now) (g.K.Sink.gained c.put_rows.new.sink) c.args.pending.now c.put_rows.new.pending (rows_of bytes c.args.geo.now c.args.first c.args.rows))
+    (λ bytes. Passed (g.K.Sink.gained c.args.sink.now) (g.K.Sink.gained c.put_rows.new.sink) c.args.pending.now c.put_rows.new.pending c.map_err-2.result (rows_of bytes c.args.geo.now c.args.first c.args.rows))
     (λ bytes hold.
-    was_ok _ (g.K.Sink.gained c.args.sink.now) (g.K.Sink.gained c.put_rows.new.sink) c.args.pending.now c.put_rows.new.pending (rows_of bytes c.args.geo.now c.args.first c.args.rows) c.put_rows.result c.map_err-2.result c.in_ok-map_err-2.field-0
-    c.map_err-2.ensures.cases c.in_ok-map_err-2.was
+    passed_as _ (g.K.Sink.gained c.args.sink.now) (g.K.Sink.gained c.put_rows.new.sink) c.args.pending.now c.put_rows.new.pending (rows_of bytes c.args.geo.now c.args.first c.args.rows) c.put_rows.result c.map_err-2.result
+    c.map_err-2.ensures.cases
     (c.put_rows.ensures.passed bytes (subst (λ (l : List ℕ). HoldAll bytes c.args.geo.now c.solve_all.new.self.stride (c.args.first * c.args.geo.now.head.chunk) (c.args.rows * c.args.geo.now.head.chunk) l) (sym c.deref.ensures.value) (c.solve_all.ensures.found bytes hold))))
     held

@@ -1,8 +1,9 @@
-use Rattle.std.proofs.Common.{◌+◌, ◌*◌, ◌≤◌, ◌++◌, length, refl, ◌∙◌, arith}
+use Rattle.std.proofs.Common.{◌+◌, ◌*◌, ◌≤◌, ◌++◌, refl, ◌∙◌, arith}
 use Rattle.image_source.specs.Attached.{told_all}
 use Rattle.image_source.specs.Streams.{AppendsFront}
 use Rattle.image_source.proofs.Reading.{reads_none, reads_up}
 use Rattle.row_scan.proofs.Parity.{reads_on}
+use Rattle.row_scan.specs.Block.{held}
 use Rattle.virtual_volume.specs.Parts.{rows_of}
 use Rattle.virtual_volume.specs.Waiting.{Passed, Passes}
 use Rattle.virtual_volume.proofs.Fronts.{passed_err, passes_join}
@@ -54,7 +55,7 @@ returns-in_err-write_batch-clause-passed g c =
 pub returns-in_err-write_batch-clause-reads : goal.returns-in_err-write_batch-clause-reads
 returns-in_err-write_batch-clause-reads g c =
     let few : c.loop-first.first + c.min-count.result ≤ c.args.rows = omega arith in
-    reads_on (g.I.Images.seen c.args.images.now) (g.I.Images.seen c.loop-first.images) (g.I.Images.seen c.write_batch.new.images) (length c.args.geo.now.slots.items)
+    reads_on (g.I.Images.seen c.args.images.now) (g.I.Images.seen c.loop-first.images) (g.I.Images.seen c.write_batch.new.images) (held c.args.geo.now.slots.items)
     (c.loop-first.first * c.args.geo.now.head.chunk) (c.min-count.result * c.args.geo.now.head.chunk) (c.args.rows * c.args.geo.now.head.chunk) c.loop-first.invariant.reads c.write_batch.ensures.reads
     (batch_inside c.loop-first.first c.min-count.result c.args.rows c.args.geo.now.head.chunk few)
 
@@ -72,7 +73,7 @@ loop-first-preserved g c = record {
       c.loop-first.invariant.passes
       (rw (← c.loop-first.invariant.reads.attached) c.in_ok-write_batch.ensures.passed);
   reads =
-      reads_on (g.I.Images.seen c.args.images.now) (g.I.Images.seen c.loop-first.images) (g.I.Images.seen c.write_batch.new.images) (length c.args.geo.now.slots.items)
+      reads_on (g.I.Images.seen c.args.images.now) (g.I.Images.seen c.loop-first.images) (g.I.Images.seen c.write_batch.new.images) (held c.args.geo.now.slots.items)
       (c.loop-first.first * c.args.geo.now.head.chunk) (c.min-count.result * c.args.geo.now.head.chunk) ((c.loop-first.first + c.min-count.result) * c.args.geo.now.head.chunk) c.loop-first.invariant.reads c.write_batch.ensures.reads
       (batch_inside c.loop-first.first c.min-count.result (c.loop-first.first + c.min-count.result) c.args.geo.now.head.chunk (omega arith));
   later = omega (arith, c.write_batch.ensures.later);

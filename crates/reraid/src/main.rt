@@ -5,7 +5,7 @@
 #![tactic(auto)]
 
 use image_source::{FileImages, Sink, StdSink, StdSource};
-use reraid_cli::{Word, reraid};
+use reraid_cli::{Stop, Word, reraid};
 use std::alloc::Global;
 use std::env;
 use std::io::ErrorKind;
@@ -58,12 +58,20 @@ fn command_line<R: Env + AllocGlobal>(rt: &R, alloc: Global) -> Result<Vec<Word>
     Ok(words)
 }
 
+/// The status where a word is not text: the runtime hands over no such word, so the top call never
+/// has this one.
+const NOT_UNDERSTOOD: u8 = 1;
+
 /// Writes why the top call is not made, and gives the status.
 fn refuse<N: Sink>(start: Start, notes: &mut N) -> ExitCode {
-    let (line, status) = match start {
-        Start::NotText => ("reraid: word 1 is not understood\n", 1),
-        Start::OutOfMemory => ("reraid: out of memory\n", 20),
-    };
-    let _ = notes.put(line.as_bytes());
-    ExitCode::from(status)
+    match start {
+        Start::NotText => {
+            let _ = notes.put(b"reraid: word 1 is not understood\n");
+            ExitCode::from(NOT_UNDERSTOOD)
+        }
+        Start::OutOfMemory => {
+            let _ = notes.put(Stop::OutOfMemory.line().as_bytes());
+            ExitCode::from(Stop::OutOfMemory.status())
+        }
+    }
 }

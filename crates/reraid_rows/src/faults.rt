@@ -1,7 +1,7 @@
 //! Faults in mid-stream: each call of each object made to fail in turn.
 ghost use Rattle.std.specs.Prelude.{◌≡◌};
 
-use crate::outside::{Outside, first_names, images_of, run_command, run_in_pieces};
+use crate::outside::{Outside, filled, first_names, images_of, run_command, run_in_pieces};
 use crate::plans::{LISTING, PLAN};
 use crate::rows::{SET, STRIPES};
 use crate::words::{Command, Operand};
@@ -26,6 +26,14 @@ const PAST: Command<'static> = Command::List(&[
 
 /// The tests of the set of rank 0.
 const TESTS: Command<'static> = Command::Check(&[Operand::Set(SET)]);
+
+/// The volume of that set, and the member of its last slot where that is lost.
+const VOLUME: Command<'static> = Command::Write(&[Operand::Set(SET)]);
+
+const MEMBER: Command<'static> = Command::Rebuild(&[
+    Operand::Set("5:ls:none:1:0:0,1,-"),
+    Operand::Slot(2),
+]);
 
 const TESTED: &str = "rank 0\nunsound 0 of 2\npass\n";
 
@@ -60,63 +68,70 @@ fn fail(outside: &mut Outside, object: Object, call: u64) -> Result<(), Memory>
     }
 }
 
-/// A run, whole or with its plan in pieces.
+/// A run, with its plan whole or in pieces of at most so many bytes.
 fn run<R: Threads + Sync>(
     rt: &R,
     alloc: Global,
     command: &Command,
-    pieces: bool,
+    piece: Option<usize>,
     object: Object,
     call: u64,
 ) -> Result<(u8, Outside), Memory> {
     let names = first_names(STRIPES.len());
     let mut met = images_of(alloc, names, STRIPES, PLAN.as_bytes())?;
     fail(&mut met, object, call)?;
-    let status = if pieces {
-        run_in_pieces(rt, alloc, command, names, &mut met)?
-    } else {
-        run_command(rt, alloc, command, names, &mut met)?
+    let status = match piece {
+        Some(most) => run_in_pieces(rt, alloc, command, names, &mut met, most)?,
+        None => run_command(rt, alloc, command, names, &mut met)?,
     };
     Ok((status, met))
 }
 
-/// What a command prints where nothing fails, and the first five bytes of it.
-fn answer_of(command: &Command) -> (&'static str, &'static str) {
+/// What a command prints or puts where nothing fails.
+fn answer_of(alloc: Global, command: &Command) -> Result<Vec<u8>, Memory> {
     match command {
-        Command::Check(_) => (TESTED, "rank "),
-        _ => (LISTING, "0 5:l"),
+        Command::Check(_) => text(alloc, TESTED),
+        Command::Write(_) => filled(alloc, &[1, 3, 6, 2]),
+        Command::Rebuild(_) => filled(alloc, &[2, 6]),
+        _ => text(alloc, LISTING),
     }
 }
 
+/// The bytes of a text.
+fn text(alloc: Global, text: &str) -> Result<Vec<u8>, Memory> {
+    text.as_bytes().to_vec(alloc).map_err(|_| Memory)
+}
+
 /// Fails each call of an object in turn, until the run ends as without a fault, and gives how
-/// many runs met one. Each ends with the object's status and line, and leaves on the output
-/// nothing, or of a put that takes five bytes those.
+/// many runs met one. Each ends with the object's status. Of a put that fails, on the output or
+/// on the notes, the first five bytes stay; else nothing is put, and the object's line is noted.
 fn each_call<R: Threads + Sync + Abort>(
     rt: &R,
     alloc: Global,
     command: &Command,
-    pieces: bool,
+    piece: Option<usize>,
     object: Object,
 ) -> Result<u64, Fail> {
-    let (whole, front) = answer_of(command);
-    let (status, line, left) = match object {
-        Object::Images => (10, "reraid: image read fault\n", ""),
-        Object::Plan => (11, "reraid: plan read fault\n", ""),
-        Object::Out => (12, "reraid: output fault\n", front),
-        Object::Notes => (6, "reraid: cursor 7 is past 6\n", ""),
+    let whole = answer_of(alloc, command)?;
+    let (status, noted, left) = match object {
+        Object::Images => (10, "reraid: image read fault\n", 0),
+        Object::Plan => (11, "reraid: plan read fault\n", 0),
+        Object::Out => (12, "reraid: output fault\n", 5),
+        Object::Notes => (6, "rerai", 0),
     };
     for call in 1..MANY {
-        let (ended, met) = run(rt, alloc, command, pieces, object, call)?;
+        let (ended, met) = run(rt, alloc, command, piece, object, call)?;
         if ended == 0 {
-            assert_eq!(rt; met.out.bytes(), whole.as_bytes());
+            assert_eq!(rt; met.out.bytes(), whole.as_slice());
             return Ok(call - 1);
         }
         if ended == 6 && met.notes.bytes() == CURSOR.as_bytes() {
             return Ok(call - 1);
         }
         assert_eq!(rt; ended, status);
-        assert_eq!(rt; met.out.bytes(), left.as_bytes());
-        assert!(rt; line.as_bytes().starts_with(met.notes.bytes()));
+        assert_eq!(rt; met.out.bytes().len(), left);
+        assert!(rt; whole.starts_with(met.out.bytes()));
+        assert_eq!(rt; met.notes.bytes(), noted.as_bytes());
     }
     Ok(MANY)
 }
@@ -135,13 +150,13 @@ fn each_object<R: Threads + Sync + Abort>(
     rt: &R,
     alloc: Global,
     command: &Command,
-    pieces: bool,
+    piece: Option<usize>,
 ) -> Result<Calls, Fail> {
     Ok(Calls {
-        images: each_call(rt, alloc, command, pieces, Object::Images)?,
-        plan: each_call(rt, alloc, command, pieces, Object::Plan)?,
-        out: each_call(rt, alloc, command, pieces, Object::Out)?,
-        notes: each_call(rt, alloc, command, pieces, Object::Notes)?,
+        images: each_call(rt, alloc, command, piece, Object::Images)?,
+        plan: each_call(rt, alloc, command, piece, Object::Plan)?,
+        out: each_call(rt, alloc, command, piece, Object::Out)?,
+        notes: each_call(rt, alloc, command, piece, Object::Notes)?,
     })
 }
 
@@ -150,13 +165,13 @@ fn each_object<R: Threads + Sync + Abort>(
 #[test]
 fn each_fault_of_a_listing_has_its_status(rt: HostRuntime) -> Result<(), Fail> {
     let alloc = rt.alloc();
-    let whole = each_object(&rt, alloc, &FIRST, false)?;
+    let whole = each_object(&rt, alloc, &FIRST, None)?;
     assert!(rt; whole.images >= 21 && whole.images < MANY);
     assert!(rt; whole.plan >= 2 && whole.plan < MANY);
     assert_eq!(rt; whole.out, 1);
     assert_eq!(rt; whole.notes, 0);
     // a text of 193 bytes in pieces of seven
-    let pieces = each_object(&rt, alloc, &FIRST, true)?;
+    let pieces = each_object(&rt, alloc, &FIRST, Some(7))?;
     assert_eq!(rt; pieces.images, whole.images);
     assert!(rt; pieces.plan >= 28 && pieces.plan < MANY);
     assert_eq!(rt; pieces.out, 1);
@@ -168,7 +183,7 @@ fn each_fault_of_a_listing_has_its_status(rt: HostRuntime) -> Result<(), Fail> {
 // one put, and nothing is noted.
 #[test]
 fn each_fault_of_a_check_has_its_status(rt: HostRuntime) -> Result<(), Fail> {
-    let whole = each_object(&rt, rt.alloc(), &TESTS, false)?;
+    let whole = each_object(&rt, rt.alloc(), &TESTS, None)?;
     assert!(rt; whole.images >= 6 && whole.images < MANY);
     assert!(rt; whole.plan >= 2 && whole.plan < MANY);
     assert_eq!(rt; whole.out, 1);
@@ -176,20 +191,59 @@ fn each_fault_of_a_check_has_its_status(rt: HostRuntime) -> Result<(), Fail> {
     Ok(())
 }
 
+// The volume and a member are attachments, at least one read of each member that is there, and one
+// put. The plan is not asked for.
+#[test]
+fn each_fault_of_a_volume_has_its_status(rt: HostRuntime) -> Result<(), Fail> {
+    let alloc = rt.alloc();
+    let volume = each_object(&rt, alloc, &VOLUME, None)?;
+    assert!(rt; volume.images >= 6 && volume.images < MANY);
+    assert_eq!(rt; volume.plan, 0);
+    assert_eq!(rt; volume.out, 1);
+    assert_eq!(rt; volume.notes, 0);
+    let member = each_object(&rt, alloc, &MEMBER, None)?;
+    assert!(rt; member.images >= 5 && member.images < MANY);
+    assert_eq!(rt; member.plan, 0);
+    assert_eq!(rt; member.out, 1);
+    assert_eq!(rt; member.notes, 0);
+    Ok(())
+}
+
 // Past the total nothing is read and nothing put, and the line of the cursor is one put.
 #[test]
 fn each_fault_past_the_total_has_its_status(rt: HostRuntime) -> Result<(), Fail> {
     let alloc = rt.alloc();
-    let whole = each_object(&rt, alloc, &PAST, false)?;
+    let whole = each_object(&rt, alloc, &PAST, None)?;
     assert_eq!(rt; whole.images, 3);
     assert!(rt; whole.plan >= 2 && whole.plan < MANY);
     assert_eq!(rt; whole.out, 0);
     assert_eq!(rt; whole.notes, 1);
-    let pieces = each_object(&rt, alloc, &PAST, true)?;
+    let pieces = each_object(&rt, alloc, &PAST, Some(7))?;
     assert_eq!(rt; pieces.images, 3);
     assert!(rt; pieces.plan >= 28 && pieces.plan < MANY);
     assert_eq!(rt; pieces.out, 0);
     assert_eq!(rt; pieces.notes, 1);
+    Ok(())
+}
+
+/// The most bytes of a plan.
+const LONGEST: usize = 4_194_304;
+
+// Of a source that gives one byte at a time so many are taken, and then one more, or its end is seen.
+// No further call is made: it would fail.
+#[test]
+fn a_source_is_asked_once_more_than_a_plan_is_long(rt: HostRuntime) -> Result<(), Fail> {
+    let alloc = rt.alloc();
+    let names = first_names(STRIPES.len());
+    for (more, status) in [(0, 19), (1, 3)] {
+        let plan = vec![in alloc; b'x'; LONGEST + more]?;
+        let mut met = images_of(alloc, names, STRIPES, &plan)?;
+        met.plan.fail_call(4_194_306)?;
+        assert_eq!(rt;
+            run_in_pieces(&rt, alloc, &FIRST, names, &mut met, 1)?,
+            status
+        );
+    }
     Ok(())
 }
 

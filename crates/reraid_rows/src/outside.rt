@@ -125,18 +125,20 @@ pub(crate) fn run_command<R: Threads + Sync>(
     ))
 }
 
-/// The same, with the plan in pieces of a few bytes.
+/// The same, with the plan in pieces of at most so many bytes.
 pub(crate) fn run_in_pieces<R: Threads + Sync>(
     rt: &R,
     alloc: Global,
     command: &Command,
     names: &[&str],
     outside: &mut Outside,
+    most: usize,
 ) -> Result<u8, Memory>
     requires { AreReady (map (λ name. name.now) names.now) outside.old.images outside.old.plan outside.old.out outside.old.notes }
 {
     let words = command_words(alloc, command, names)?;
-    let mut plan = Pieces::of(replace(&mut outside.plan, MemSource::new(alloc, b"")?));
+    let source = replace(&mut outside.plan, MemSource::new(alloc, b"")?);
+    let mut plan = Pieces::of(source, most);
     Ok(reraid(
         rt,
         alloc,

@@ -5,13 +5,12 @@ ghost use Rattle.image_source.specs.Memory.{Tape};
 use image_source::{Failed, MemSource, Source};
 use std::marker::Model;
 
-/// The most bytes that are given at once.
-const PIECE: usize = 7;
-
-/// A source in memory that gives at most `PIECE` bytes at once.
+/// A source in memory that gives at most so many bytes at once, and at least one.
 #[derive(Drop)]
 pub struct Pieces {
     source: MemSource,
+    /// The most bytes at once. Zero is taken for one.
+    most: usize,
 }
 
 impl Model for Pieces {
@@ -23,10 +22,11 @@ impl Model for Pieces {
 }
 
 impl Pieces {
-    pub fn of(source: MemSource) -> Pieces
+    /// What is left of the source, with at most `most` bytes at once.
+    pub fn of(source: MemSource, most: usize) -> Pieces
         ensures { result ≡ source }
     {
-        Pieces { source }
+        Pieces { source, most }
     }
 }
 
@@ -36,7 +36,7 @@ impl Source for Pieces {
     ghost faults = { λ p. p.faults };
 
     fn take(&mut self, to: &mut [u8]) -> Result<usize, Failed> {
-        let most = to.len().min(PIECE);
+        let most = to.len().min(self.most.max(1));
         self.source.take(&mut to[..most])
     }
 }

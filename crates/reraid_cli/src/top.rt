@@ -60,7 +60,8 @@ pub fn reraid<R: Threads + Sync, S: Source, I: Images, K: Sink, N: Sink>(
     ensures unasked { (read : Option Command) → AreRead words.now read → (IsPlanned read → ⊥) →
         (S.left plan.new ≡ S.left plan.old) × (S.faults plan.new ≡ S.faults plan.old) }
 
-    // Of the source at most one byte more is taken than a plan may have, and at status 0 all of it.
+    // Of the source at most one byte more is taken than a plan may have; at status 0 a command over a
+    // plan took all of it.
     ensures takes { TakesFew (S.left plan.old) (S.left plan.new) }
     ensures end { result ≡ 0 → (read : Option Command) → AreRead words.now read → IsPlanned read → IsAtEnd (S.left plan.new) }
 

@@ -1,5 +1,5 @@
 //! Room for blocks of sectors, one a member.
-ghost use Rattle.std.specs.Prelude.{◌≡◌, ◌*◌, length, IfOk};
+ghost use Rattle.std.specs.Prelude.{◌≡◌, ◌*◌, length, replicate, IfOk};
 
 use image_source::{Memory, SECTOR};
 use std::alloc::Global;
@@ -55,7 +55,8 @@ impl Blocks {
 
 /// So many bytes of 0.
 pub fn zeros(alloc: Global, count: usize) -> Result<Vec<u8>, Memory>
-    ensures { IfOk result (λ bytes. length bytes.items ≡ count) }
+    ensures zeros { IfOk result (λ bytes. bytes.items ≡ replicate count 0) }
+    ensures length { IfOk result (λ bytes. length bytes.items ≡ count) }
 {
     let bytes = vec![in alloc; 0u8; count].map_err(|_| Memory)?;
     Ok(bytes)

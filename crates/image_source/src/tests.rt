@@ -1,9 +1,11 @@
 //! That the calls which may want memory succeed, and what the adapters do over real files.
+ghost use Rattle.std.specs.Prelude.{◌<◌, ◌^◌};
+
 use crate::{
     FileImages, Images, ListOf, MemImages, MemSink, MemSource, Sink, Source, StdSink, StdSource,
 };
 use std::fs::File;
-use std::io::{Cursor, ErrorKind, Read};
+use std::io::{Cursor, ErrorKind, Read, Seek, SeekFrom, Write};
 use std::test::Fail;
 use std::{fs, io};
 
@@ -71,6 +73,42 @@ fn files_are_images(rt: HostRuntime) -> Result<(), Fail> {
     for name in ["long.img", "short.img", "one.img"] {
         fs::remove_file(&rt, name)?;
     }
+    Ok(())
+}
+
+/// Writes a sector of one byte into the file `far.img`, and gives the sector there as an image has it.
+fn sector_at(rt: &HostRuntime, file: &mut File, sector: u64, byte: u8) -> Result<[u8; 512], Fail>
+    requires { sector < 2 ^ 55 }
+{
+    file.seek(SeekFrom::Start(sector * 512))?;
+    file.write_all(&[byte; 512])?;
+    let mut images = FileImages::new(rt, rt.alloc())?;
+    let length = images.attach("far.img")?;
+    let mut to = [0; 512];
+    if sector < length {
+        images.read(0, sector, &mut to)?;
+    }
+    Ok(to)
+}
+
+/// A place past 4 GiB is read, and the sector number 2^32 where the file system has files of that length.
+#[test]
+fn far_sectors_are_read(rt: HostRuntime) -> Result<(), Fail> {
+    let mut file = File::create(&rt, "far.img")?;
+    assert_eq!(rt; sector_at(&rt, &mut file, 1 << 23, 1)?, [1; 512]);
+    if file.set_len((1 << 41) + 512).is_ok() {
+        assert_eq!(rt; sector_at(&rt, &mut file, 1 << 32, 2)?, [2; 512]);
+    }
+    fs::remove_file(&rt, "far.img")?;
+    Ok(())
+}
+
+/// A folder and a device are no images.
+#[test]
+fn regular_files_alone_are_images(rt: HostRuntime) -> Result<(), Fail> {
+    let mut images = FileImages::new(&rt, rt.alloc())?;
+    assert!(rt; images.attach(".").is_err());
+    assert!(rt; images.attach("/dev/null").is_err());
     Ok(())
 }
 

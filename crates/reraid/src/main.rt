@@ -2,15 +2,19 @@
 //!
 //! What it answers is promised by `reraid_cli::reraid`. Before that call only two things end a run: a word
 //! that is not text, and want of memory. `docs/USING.md` shows how to use it.
+//!
+//! A run may be started with a standard descriptor closed. A file that is opened takes the lowest free
+//! one, so an image would then be read as the plan. `hold_descriptors` takes these places before.
 #![tactic(auto)]
 
 use image_source::{FileImages, Sink, StdSink, StdSource};
 use reraid_cli::{Stop, Word, reraid};
 use std::alloc::Global;
-use std::env;
+use std::fs::File;
 use std::io::ErrorKind;
 use std::process::ExitCode;
-use std::rt::Env;
+use std::rt::{Env, Files};
+use std::{env, io};
 
 /// Why the top call is not made.
 enum Start {
@@ -22,6 +26,7 @@ enum Start {
 
 fn main(rt: HostRuntime) -> ExitCode {
     let alloc = rt.alloc();
+    let _held = hold_descriptors(&rt);
     let mut notes = StdSink::new(rt.stderr());
     let words = match command_line(&rt, alloc) {
         Ok(words) => words,
@@ -41,6 +46,13 @@ fn main(rt: HostRuntime) -> ExitCode {
         &mut out,
         &mut notes,
     ))
+}
+
+/// Opens `/dev/null` three times, which takes what is closed of the descriptors 0 to 2 as long as the
+/// answer lives. A plan read from there is empty, and what is written there fails.
+fn hold_descriptors<R: Files>(rt: &R) -> [io::Result<R::File>; 3] {
+    let open = || File::open(rt, "/dev/null");
+    [open(), open(), open()]
 }
 
 /// The words after the program's name.

@@ -1,0 +1,9 @@
+-- Where a file is read, by what its type says of places and bytes.
+use Rattle.std.specs.Prelude.{ℕ, ◌≡◌, List, IfSome, Some}
+use Rattle.std.specs.declared.option.Option.{Option}
+use Rattle.std.specs.Io.KnownBytes.{Keeps, Consumes}
+
+-- the bytes are those that lie from a place of the file on: moved there, it holds what it held, and gives them next
+abbrev pub ReadsAt : {F : Type 0} → (F → Option ℕ) → (F → Option (List ℕ)) → (F → Option (List ℕ)) → F → F → ℕ → List ℕ → Type 0
+ReadsAt {F} place held left old new at bytes =
+    IfSome (place old) (λ _. (moved : F) × (place moved ≡ Some at) × Keeps (held old) (held moved) × Consumes (left moved) (left new) bytes)

@@ -15,7 +15,11 @@ mod slots;
 mod types;
 mod validity;
 
-pub use limits::{LARGEST_CHUNK, MOST, MOST_CHUNKS, MOST_LESS_ONE, MOST_OFFSETS, SECTORS_END};
+pub use limits::{
+    LARGEST_CHUNK, MOST, MOST_CHUNKS, MOST_DROPS, MOST_GROUPS, MOST_LESS_ONE, MOST_LEVELS,
+    MOST_MARKS, MOST_MISSING, MOST_OFFSETS, MOST_ORIGINS, MOST_PATTERNS, MOST_SYNDROMES,
+    PLAN_BYTES, SECTORS_END,
+};
 pub use slots::{count_empty, stands_among};
 pub use types::{Bounds, Cell, GeoFault, Geometry, Head, Level, Part, Pattern, Slots, Syndrome};
 pub use validity::is_chunk;

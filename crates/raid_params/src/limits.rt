@@ -6,6 +6,15 @@ pub const MOST: usize = 16;
 /// The most numbers of members in a plan: those from 2 to `MOST`.
 pub const MOST_LESS_ONE: usize = MOST - 1;
 
+/// The levels: there are three.
+pub const MOST_LEVELS: usize = 3;
+
+/// The patterns: there are fourteen.
+pub const MOST_PATTERNS: usize = 14;
+
+/// The orders of Q: there are four, with that of no Q.
+pub const MOST_SYNDROMES: usize = 4;
+
 /// The most chunk sizes in a plan: there are so many.
 pub const MOST_CHUNKS: usize = 16;
 
@@ -17,3 +26,21 @@ pub const LARGEST_CHUNK: u64 = 1 << (MOST_CHUNKS - 1);
 
 /// Every number of sectors of an image, and every data offset, is below this.
 pub const SECTORS_END: u64 = 1 << 55;
+
+/// The most origins in a plan: volume sectors at which a file system may begin.
+pub const MOST_ORIGINS: usize = 64;
+
+/// The most empty slots that a plan may allow: no level survives more.
+pub const MOST_MISSING: u8 = 2;
+
+/// The most groups of marks of one kind of file system in a plan. Of partition tables there is one at most.
+pub const MOST_GROUPS: usize = 32;
+
+/// The most marks of one kind of landmark sector in a plan.
+pub const MOST_MARKS: usize = 4096;
+
+/// The most bytes of the text of a plan.
+pub const PLAN_BYTES: usize = 4_194_304;
+
+/// The most sectors that a survey is told to pass over.
+pub const MOST_DROPS: usize = 64;

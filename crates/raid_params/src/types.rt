@@ -1,5 +1,7 @@
 //! The types of parameters.
-use crate::limits::{MOST, MOST_CHUNKS, MOST_LESS_ONE, MOST_OFFSETS};
+use crate::limits::{
+    MOST, MOST_CHUNKS, MOST_LESS_ONE, MOST_LEVELS, MOST_OFFSETS, MOST_PATTERNS, MOST_SYNDROMES,
+};
 use arrayvec::ArrayVec;
 
 /// A RAID level. RAID 4 is `Raid5` with the pattern `ParityLast`.
@@ -118,14 +120,14 @@ pub struct Cell {
 /// sense, with at most `missing` empty slots and at most `foreign` images in no slot.
 #[derive(Drop)]
 pub struct Bounds {
-    /// The levels to try: there are three.
-    pub levels: ArrayVec<Level, 3>,
+    /// The levels to try.
+    pub levels: ArrayVec<Level, MOST_LEVELS>,
     /// The numbers of members to try.
     pub members: ArrayVec<u8, MOST_LESS_ONE>,
-    /// The patterns to try: there are fourteen.
-    pub patterns: ArrayVec<Pattern, 14>,
-    /// The orders of Q to try: there are four.
-    pub syndromes: ArrayVec<Syndrome, 4>,
+    /// The patterns to try.
+    pub patterns: ArrayVec<Pattern, MOST_PATTERNS>,
+    /// The orders of Q to try.
+    pub syndromes: ArrayVec<Syndrome, MOST_SYNDROMES>,
     /// The chunks to try, in sectors.
     pub chunks: ArrayVec<u64, MOST_CHUNKS>,
     /// The image sectors to try at which the data of each member may begin.

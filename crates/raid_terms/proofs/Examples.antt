@@ -1,5 +1,6 @@
 -- The definitions tried on small arrays whose answers were worked out by hand.
-use Rattle.std.proofs.Common.{◌≡◌, ℕ, Bool, true, false, List, [], ◌∷◌, ◌++◌, length, map, filter, refl, Option, Some, None, replicate}
+use Rattle.std.proofs.Common.{◌≡◌, ℕ, Bool, true, false, List, [], ◌∷◌, ◌++◌, length, map, filter, refl, Option, Some, None, replicate, slice_get}
+use Rattle.std.specs.Option.{option_map_or}
 use Rattle.std.specs.List.{range_with_len}
 use Rattle.raid_params.specs.declared.types.Bounds.{Bounds}
 use Rattle.raid_params.specs.declared.types.Geometry.{Geometry}
@@ -15,10 +16,10 @@ use Rattle.raid_params.specs.declared.types.Part.TheVariants.{Block, P, Q}
 use Rattle.gf256.specs.Field.{power_of, times}
 use Rattle.raid_terms.specs.Cells.{part_of}
 use Rattle.raid_terms.specs.Exponent.{item_in}
-use Rattle.raid_terms.specs.Parity.{equations_hold, is_sound, is_sound_column, filled, sum_of}
+use Rattle.raid_terms.specs.Parity.{equations_hold, passes_parity, is_sound, is_sound_column, filled, sum_of}
 use Rattle.raid_terms.specs.Solving.{lost_byte, solved}
 use Rattle.raid_terms.specs.Volume.{byte_in, member_sector, volume}
-use Rattle.raid_terms.specs.Product.{Criteria, product, rank_passes}
+use Rattle.raid_terms.specs.Product.{product}
 use Rattle.raid_params.specs.Validity.{is_chunk}
 use Rattle.raid_terms.specs.SlotLists.{all_lists}
 use Rattle.raid_params.specs.Slots.{stands, is_distinct, empties}
@@ -45,11 +46,12 @@ slots_of geo = geo.slots.items
 sector : ℕ → List ℕ
 sector byte = replicate 512 byte
 
-criteria_of : Bounds → ℕ → Criteria
-criteria_of bounds bad_rows = record { bounds = bounds; end = 2; window = 2; bad_rows = bad_rows }
+-- the set of a rank meets the parity test, over members of two sectors
+rank_passes : List (List ℕ) → Bounds → ℕ → ℕ → Bool
+rank_passes images bounds bad_rows rank = option_map_or (λ geo. passes_parity images geo 2 2 bad_rows) (slice_get (product (length images) bounds) rank) false
 
-passing_ranks : List (List ℕ) → Criteria → ℕ → List ℕ
-passing_ranks images criteria total = filter (rank_passes (product (length images) criteria.bounds) images criteria) (range_with_len 0 total)
+passing_ranks : List (List ℕ) → Bounds → ℕ → ℕ → List ℕ
+passing_ranks images bounds bad_rows total = filter (rank_passes images bounds bad_rows) (range_with_len 0 total)
 
 a : List ℕ
 a = sector 1 ++ sector 2
@@ -88,22 +90,22 @@ unfolding bounds_of all_lists stands is_distinct empties is_chunk
 two_levels = refl
 
 -- 1 + 3 + 2 and 2 + 4 + 6 cancel bit by bit, so every order passes: here the first and the last
-first_passes : rank_passes (product 3 three) (a ∷ b ∷ c ∷ []) (criteria_of three 0) 0 ≡ true
-unfolding a b c sector criteria_of bounds_of three all_lists stands is_distinct empties is_chunk is_sound filled sum_of
+first_passes : rank_passes (a ∷ b ∷ c ∷ []) three 0 0 ≡ true
+unfolding a b c sector rank_passes bounds_of three all_lists stands is_distinct empties is_chunk is_sound filled sum_of
 first_passes = refl
 
-last_passes : rank_passes (product 3 three) (a ∷ b ∷ c ∷ []) (criteria_of three 0) 5 ≡ true
-unfolding a b c sector criteria_of bounds_of three all_lists stands is_distinct empties is_chunk is_sound filled sum_of
+last_passes : rank_passes (a ∷ b ∷ c ∷ []) three 0 5 ≡ true
+unfolding a b c sector rank_passes bounds_of three all_lists stands is_distinct empties is_chunk is_sound filled sum_of
 last_passes = refl
 
 -- 2, 4 and 7 do not
-none_pass : passing_ranks (a ∷ b ∷ c_changed ∷ []) (criteria_of three 0) 6 ≡ []
-unfolding a b c_changed sector passing_ranks criteria_of bounds_of three all_lists stands is_distinct empties is_chunk is_sound filled sum_of
+none_pass : passing_ranks (a ∷ b ∷ c_changed ∷ []) three 0 6 ≡ []
+unfolding a b c_changed sector passing_ranks rank_passes bounds_of three all_lists stands is_distinct empties is_chunk is_sound filled sum_of
 none_pass = refl
 
 -- unless one row may be unsound
-one_bad_row : passing_ranks (a ∷ b ∷ c_changed ∷ []) (criteria_of three 1) 6 ≡ 0 ∷ 1 ∷ 2 ∷ 3 ∷ 4 ∷ 5 ∷ []
-unfolding a b c_changed sector passing_ranks criteria_of bounds_of three all_lists stands is_distinct empties is_chunk is_sound filled sum_of
+one_bad_row : passing_ranks (a ∷ b ∷ c_changed ∷ []) three 1 6 ≡ 0 ∷ 1 ∷ 2 ∷ 3 ∷ 4 ∷ 5 ∷ []
+unfolding a b c_changed sector passing_ranks rank_passes bounds_of three all_lists stands is_distinct empties is_chunk is_sound filled sum_of
 one_bad_row = refl
 
 -- row 2 of left-asymmetric level 6 over four members: the first block, P, Q, the second block. The walk

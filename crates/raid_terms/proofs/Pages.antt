@@ -4,7 +4,7 @@ use Rattle.std.specs.List.{range_with_len}
 use Rattle.std.proofs.lemmas.List.{take_all}
 use Rattle.std.proofs.lemmas.List.Elements.{filter-append, All-head, All-tail}
 use Rattle.std.proofs.lemmas.Bool.{leb-true, leb-false}
-use Rattle.raid_terms.specs.Page.{passing, stop_of, IsPage, Ask, ArePages, joined, AskSome, JoinedPagesAreTheFilter, PagesGoOn}
+use Rattle.raid_terms.specs.Page.{passing, stop_of, IsPage, Ask, ArePages, joined, AskSome, JoinedPagesAreTheFilter, JoinedPagesAreWhatPasses, PagesGoOn}
 
 -- a range in two parts
 pub range-add : (a m n : ℕ) → range_with_len a (m + n) ≡ range_with_len a m ++ range_with_len (a + m) n
@@ -112,6 +112,11 @@ pages_between p total from (ask ∷ asks) (lines ∷ pages) next low some are =
       within = rest.within;
       whole = rw (here.whole, rest.whole) (sym (passing-split p from are.0 next forward onward));
     }
+
+pub pages_from_any_rank : JoinedPagesAreWhatPasses
+pages_from_any_rank p total from asks pages next low some are =
+    let between = pages_between p total from asks pages next low some are in
+    (between.forward, between.within, between.whole)
 
 pub joined_pages : JoinedPagesAreTheFilter
 joined_pages p total asks pages some are = (pages_between p total 0 asks pages total (omega arith) some are).whole

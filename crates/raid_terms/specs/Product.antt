@@ -1,13 +1,11 @@
--- The product: every parameter set of the bounds, in its order, and those that pass.
-use Rattle.std.specs.Prelude.{ℕ, ◌-◌, min, Bool, false, nat_le, ◌&&◌, List, map, filter, slice_get}
+-- The product: every parameter set of the bounds, in its order.
+use Rattle.std.specs.Prelude.{ℕ, ◌-◌, min, Bool, nat_le, ◌&&◌, List, map, filter}
 use Rattle.std.specs.List.{flat_map}
-use Rattle.std.specs.Option.{option_map_or}
 use Rattle.std.specs.declared.option.Option.{Option}
 use Rattle.raid_params.specs.declared.types.Bounds.{Bounds}
 use Rattle.raid_params.specs.declared.types.Geometry.{Geometry}
 use Rattle.raid_params.specs.declared.types.Head.{Head}
-use Rattle.raid_terms.specs.Parity.{passes_parity}
-use Rattle.raid_params.specs.Size.{redundancy, rows}
+use Rattle.raid_params.specs.Size.{redundancy}
 use Rattle.raid_params.specs.Validity.{is_valid_head}
 use Rattle.raid_terms.specs.SlotLists.{all_lists}
 use Rattle.raid_params.specs.Slots.{is_distinct, empties}
@@ -36,19 +34,3 @@ sets_of images bounds head =
 -- the product: a parameter set's rank is its position here
 abbrev pub product : ℕ → Bounds → List Geometry
 product images bounds = flat_map (sets_of images bounds) (heads bounds)
-
--- what is asked of a set: its whole rows end before the image sector `end`, and of the tested
--- rows, those below `window`, at most `bad_rows` are unsound
-pub record Criteria : Type 0 where
-  pub bounds : Bounds
-  pub end : ℕ
-  pub window : ℕ
-  pub bad_rows : ℕ
-
--- a parameter set passes: it has a whole row, and meets the parity test
-abbrev pub passes : List (List ℕ) → Criteria → Geometry → Bool
-passes images criteria geo = nat_le 1 (rows geo.head criteria.end) && passes_parity images geo criteria.end criteria.window criteria.bad_rows
-
--- the set of a rank passes, of these sets in their order
-abbrev pub rank_passes : List Geometry → List (List ℕ) → Criteria → ℕ → Bool
-rank_passes sets images criteria rank = option_map_or (passes images criteria) (slice_get sets rank) false

@@ -4,7 +4,7 @@
 //! of a range of ranks whose every prefix passes that test, in order of rank. It goes from one
 //! untested prefix to the next by counts, keeps no list of ranks, and takes no memory.
 //!
-//! No command uses it yet: it is there for listings that skip what cannot pass. What survives stands in
+//! `page_engine` walks the slot lists of a head with it. What survives stands in
 //! `specs/Survivors`, how many tests a walk may take in `specs/Tests`, and where it stands in
 //! `specs/Left`. The laws: the leaves by their ranks, and that each leaf holds the list of its rank.
 #![tactic(auto)]

@@ -1,3 +1,5 @@
+pub mod Regions
+pub mod Lanes
 pub mod Members
 pub mod Fillings
 pub mod Sums
@@ -10,3 +12,7 @@ pub mod Pairs
 pub mod Places
 pub mod Solved
 pub mod LostColumns
+pub mod Horner
+pub mod Apart
+pub mod StripSums
+pub mod Asked

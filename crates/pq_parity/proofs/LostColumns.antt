@@ -1,5 +1,5 @@
 -- The solution of a column, and its bytes.
-use Rattle.std.proofs.Common.{ℕ, inl, inr, ◌≡◌, ◌<◌, ◌≤◌, ◌+◌, ◌*◌, Bool, true, false, cond, List, [], ◌∷◌, ◌++◌, length, take, drop, get_or, slice_index, refl, sym, ap, ap₂, ◌∙◌, arith, subst, bit_xor}
+use Rattle.std.proofs.Common.{ℕ, inl, inr, ◌≡◌, ◌<◌, ◌≤◌, ◌+◌, Bool, true, false, cond, List, [], ◌∷◌, ◌++◌, length, take, drop, get_or, slice_index, refl, sym, ap, ap₂, ◌∙◌, arith, subst, bit_xor}
 use Rattle.std.specs.List.{AllByRecursion, find, slice_get}
 use Rattle.std.specs.Option.{option_or, unwrap_or, IfSome}
 use Rattle.std.proofs.lemmas.Option.{slice_get-get_or}
@@ -9,18 +9,16 @@ use Rattle.std.specs.declared.option.Option.TheVariants.{Some}
 use Rattle.std.proofs.lemmas.List.Elements.{recursion_from_All}
 use Rattle.std.proofs.lemmas.Bool.{false≢true}
 use Rattle.std.proofs.lemmas.List.{length-append}
-use Rattle.std.proofs.lemmas.List.FromFn.{length-map-range_with_len}
 use Rattle.raid_params.specs.declared.types.Cell.{Cell}
 use Rattle.raid_params.specs.declared.types.Part.{Part}
-use Rattle.raid_terms.specs.Parity.{column_of, filled, has_p, has_q, in_p, in_q, IsRow}
+use Rattle.raid_terms.specs.Parity.{filled, has_p, has_q, in_p, in_q, IsRow}
 use Rattle.raid_terms.specs.Solving.{lost_byte, solved, solves}
-use Rattle.pq_parity.specs.Syndromes.{known_sum, sum_at}
+use Rattle.pq_parity.specs.Syndromes.{known_sum, sum_at, AreColumns}
 use Rattle.pq_parity.specs.LostBytes.{first_missing, weighed, Apart, Finds, EachLostColumnHasOneSolution}
 use Rattle.pq_parity.proofs.Members.{In, In-from_Contains, Contains-from_In}
 use Rattle.pq_parity.proofs.Fillings.{lost, put, AreBytes, from_filled, put_in_filled}
 use Rattle.pq_parity.proofs.Sums.{known_sum_fits, in_p_fits, in_q_fits}
 use Rattle.pq_parity.proofs.Shapes.{MayBeLost, may_be_lost, length_lost}
-use Rattle.pq_parity.proofs.Soundness.{HasBytes, column_fits}
 use Rattle.pq_parity.proofs.Pairs.{weights_exist}
 use Rattle.pq_parity.proofs.Places.{first, first_lost, lost_around, put_at}
 use Rattle.pq_parity.proofs.Solved.{solution_test, solves_put, some_pass, found_at, apart_at}
@@ -73,10 +71,10 @@ weighed_at p q parts before part after other xs s t a b split beside m fit test 
     let f = found_at p q before part after xs s t (rw split at m) (rw split at fit) (rw split at test) in
     finds (get_or xs (length before) 0) f.0 s t f.2 f.1 hs ht (rw beside f.3)
 
-nonempty : (parts before : List Part) (part : Part) (after : List Part) → parts ≡ before ++ (part ∷ after) → 1 ≤ length parts
+pub nonempty : (parts before : List Part) (part : Part) (after : List Part) → parts ≡ before ++ (part ∷ after) → 1 ≤ length parts
 nonempty parts before part after e = omega (arith, ap (λ (ps : List Part). length ps) e, length-append before (part ∷ after))
 
-other_parts : (cells : List Cell) (place : ℕ) (other : Option Part) → other ≡ option_or (first_missing (take place cells)) (first_missing (drop (place + 1) cells)) →
+pub other_parts : (cells : List Cell) (place : ℕ) (other : Option Part) → other ≡ option_or (first_missing (take place cells)) (first_missing (drop (place + 1) cells)) →
     other ≡ option_or (first (lost (take place cells))) (first (lost (drop (place + 1) cells)))
 other_parts cells place other e = e ∙ ap₂ (λ (a b : Option Part). option_or a b) (first_lost (take place cells)) (first_lost (drop (place + 1) cells))
 
@@ -95,13 +93,12 @@ lost_is cells bytes place cell other a b row e fit is missing beside finds =
     split (other_parts cells place other beside) (may_be_lost cells row) s.1 s.2 finds (known_sum_fits in_p in_p_fits cells bytes fit) (known_sum_fits in_q in_q_fits cells bytes fit)
 
 -- the same of a column of a row
-pub lost_in_row : (cells : List Cell) (row : List ℕ) (place x : ℕ) (cell : Cell) (other : Option Part) (a b : ℕ) → IsRow cells → HasBytes row →
+pub lost_in_row : (cells : List Cell) (column : ℕ → List ℕ) (place x : ℕ) (cell : Cell) (other : Option Part) (a b : ℕ) → IsRow cells → AreColumns cells column →
     slice_get cells place ≡ Some cell → cell.missing ≡ true →
     other ≡ option_or (first_missing (take place cells)) (first_missing (drop (place + 1) cells)) → Finds cell.part other a b →
-    lost_byte cells (column_of (length cells) row x) place ≡ weighed a b (sum_at in_p cells row x) (sum_at in_q cells row x)
-lost_in_row cells row place x cell other a b is_row bytes is missing beside finds =
-    lost_is cells (column_of (length cells) row x) place cell other a b is_row (length-map-range_with_len (λ i. slice_index row (512 * i + x)) 0 (length cells))
-    (column_fits row (length cells) x bytes) is missing beside finds
+    lost_byte cells (column x) place ≡ weighed a b (sum_at in_p cells column x) (sum_at in_q cells column x)
+lost_in_row cells column place x cell other a b is_row bytes is missing beside finds =
+    lost_is cells (column x) place cell other a b is_row (bytes x).0 (bytes x).1 is missing beside finds
 
 -- missing parts are apart
 pub apart_in_row : (cells : List Cell) (place : ℕ) (cell : Cell) (other : Option Part) → IsRow cells → slice_get cells place ≡ Some cell → cell.missing ≡ true →
@@ -112,7 +109,7 @@ apart_in_row cells place cell other row is missing beside =
     rw (other_parts cells place other beside) (apart_at (has_p cells) (has_q cells) (lost (take place cells)) cell.part (lost (drop (place + 1) cells)) m)
 
 -- the cell at a place, read with a default
-missing_there : (cells : List Cell) (place : ℕ) (d : Cell) → place < length cells → IfSome (slice_get cells place) (λ cell. cell.missing ≡ true) →
+pub missing_there : (cells : List Cell) (place : ℕ) (d : Cell) → place < length cells → IfSome (slice_get cells place) (λ cell. cell.missing ≡ true) →
     (get_or cells place d).missing ≡ true
 missing_there cells place d h m = rw (slice_get-get_or cells place d h) at m
 
@@ -123,14 +120,14 @@ apart_there cells place d other row h m beside =
     apart_in_row cells place (get_or cells place d) other row (slice_get-get_or cells place d h) (missing_there cells place d h m) beside
 
 -- the byte that is the weighed sum of the sums of P's and of Q's equation
-pub lost_there : (cells : List Cell) (row : List ℕ) (place x : ℕ) (d : Cell) (other : Option Part) (a b zero_byte with_p byte : ℕ) → IsRow cells → HasBytes row → place < length cells →
+pub lost_there : (cells : List Cell) (column : ℕ → List ℕ) (place x : ℕ) (d : Cell) (other : Option Part) (a b zero_byte with_p byte : ℕ) → IsRow cells → AreColumns cells column → place < length cells →
     IfSome (slice_get cells place) (λ cell. cell.missing ≡ true) →
     other ≡ option_or (first_missing (take place cells)) (first_missing (drop (place + 1) cells)) → Finds (get_or cells place d).part other a b →
-    zero_byte ≡ 0 → with_p ≡ bit_xor zero_byte (product a (sum_at in_p cells row x)) → byte ≡ bit_xor with_p (product b (sum_at in_q cells row x)) →
-    byte ≡ lost_byte cells (column_of (length cells) row x) place
-lost_there cells row place x d other a b zero_byte with_p byte is_row bytes h m beside finds e0 e1 e2 =
-    e2 ∙ ap (λ (v : ℕ). bit_xor v (product b (sum_at in_q cells row x))) (e1 ∙ ap (λ (v : ℕ). bit_xor v (product a (sum_at in_p cells row x))) e0)
-    ∙ sym (lost_in_row cells row place x (get_or cells place d) other a b is_row bytes (slice_get-get_or cells place d h) (missing_there cells place d h m) beside finds)
+    zero_byte ≡ 0 → with_p ≡ bit_xor zero_byte (product a (sum_at in_p cells column x)) → byte ≡ bit_xor with_p (product b (sum_at in_q cells column x)) →
+    byte ≡ lost_byte cells (column x) place
+lost_there cells column place x d other a b zero_byte with_p byte is_row bytes h m beside finds e0 e1 e2 =
+    e2 ∙ ap (λ (v : ℕ). bit_xor v (product b (sum_at in_q cells column x))) (e1 ∙ ap (λ (v : ℕ). bit_xor v (product a (sum_at in_p cells column x))) e0)
+    ∙ sym (lost_in_row cells column place x (get_or cells place d) other a b is_row bytes (slice_get-get_or cells place d h) (missing_there cells place d h m) beside finds)
 
 -- two bytes that pass are equal
 same_at : (p q : Bool) (before : List Part) (part : Part) (after : List Part) (xs ys : List ℕ) (s t : ℕ) → MayBeLost p q (before ++ (part ∷ after)) →

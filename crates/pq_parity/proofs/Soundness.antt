@@ -12,8 +12,10 @@ use Rattle.gf256.proofs.Sums.{sum_zero, equal_from_sum}
 use Rattle.raid_params.specs.declared.types.Cell.{Cell}
 use Rattle.raid_params.specs.declared.types.Part.{Part}
 use Rattle.raid_params.specs.declared.types.Part.TheVariants.{Block, P, Q}
-use Rattle.raid_terms.specs.Parity.{column_of, has_p, has_q, in_p, in_q, is_data, is_sound, is_sound_column, IsRow}
-use Rattle.pq_parity.specs.Syndromes.{sum_at, AllCancel, Cancel, CancelByP}
+use Rattle.raid_terms.specs.Parity.{has_p, has_q, in_p, in_q, is_data, is_sound, is_sound_column, IsRow}
+use Rattle.pq_parity.specs.Regions.{region_column}
+use Rattle.pq_parity.specs.Unbreakable.{FullRowIsSound, NoParityIsSound}
+use Rattle.pq_parity.specs.Syndromes.{sum_at, AreColumns, AllCancel, Cancel, CancelByP}
 use Rattle.pq_parity.proofs.Fillings.{lost, AreBytes}
 use Rattle.pq_parity.proofs.Sums.{known_sum_fits, in_p_fits, in_q_fits}
 use Rattle.pq_parity.proofs.Shapes.{MayBeLost, may_be_lost, length_lost, parity_count}
@@ -45,34 +47,38 @@ HasBytes row = (k : ℕ) → Fits w8 (get_or row k 0)
 byte : (x : ℕ) → Fits w8 x → x < 256
 byte x h = omega arith
 
-pub column_fits : (row : List ℕ) (n x : ℕ) → HasBytes row → AllByRecursion (λ b. b < 256) (column_of n row x)
-column_fits row n x h = map_fits (λ i. slice_index row (512 * i + x)) 0 n (λ i. byte (slice_index row (512 * i + x)) (h (512 * i + x)))
+-- the columns of regions
+pub region_columns : (cells : List Cell) (sectors : List ℕ) (stride j : ℕ) → HasBytes sectors → AreColumns cells (region_column (length cells) stride sectors j)
+region_columns cells sectors stride j h = λ x. (
+  length-map-range_with_len (λ i. slice_index sectors (stride * i + (512 * j + x))) 0 (length cells),
+  map_fits (λ i. slice_index sectors (stride * i + (512 * j + x))) 0 (length cells)
+      (λ i. byte (slice_index sectors (stride * i + (512 * j + x))) (h (stride * i + (512 * j + x)))),
+)
 
-pub sum_at_fits : (adds : Part → ℕ → ℕ) → ((part : Part) (x : ℕ) → x < 256 → adds part x < 256) → (cells : List Cell) (row : List ℕ) (x : ℕ) → HasBytes row → sum_at adds cells row x < 256
-sum_at_fits adds fitting cells row x h = known_sum_fits adds fitting cells (column_of (length cells) row x) (column_fits row (length cells) x h)
+pub sum_at_fits : (adds : Part → ℕ → ℕ) → ((part : Part) (x : ℕ) → x < 256 → adds part x < 256) → (cells : List Cell) (column : ℕ → List ℕ) (x : ℕ) → AreColumns cells column → sum_at adds cells column x < 256
+sum_at_fits adds fitting cells column x h = known_sum_fits adds fitting cells (column x) (h x).1
 
 -- a row is sound where in each column some bytes for the missing cells cancel its sums
-row_decides : (cells : List Cell) (row : List ℕ) (p q : Bool) (parts : List Part) (good : ℕ → ℕ → Type 0) →
-    has_p cells ≡ p → has_q cells ≡ q → lost cells ≡ parts → HasBytes row →
+row_decides : (cells : List Cell) (column : ℕ → List ℕ) (p q : Bool) (parts : List Part) (good : ℕ → ℕ → Type 0) →
+    has_p cells ≡ p → has_q cells ≡ q → lost cells ≡ parts → AreColumns cells column →
     ((a b : ℕ) → a < 256 → b < 256 → (Solution p q parts a b → good a b) × (good a b → Solution p q parts a b)) →
-    Decides (is_sound cells (column_of (length cells) row)) ((x : ℕ) → x < 512 → good (sum_at in_p cells row x) (sum_at in_q cells row x))
+    Decides (is_sound cells column) ((x : ℕ) → x < 512 → good (sum_at in_p cells column x) (sum_at in_q cells column x))
 unfolding is_sound
-row_decides cells row p q parts good ep eq el bytes same =
-    let column = column_of (length cells) row in
-    let long : (x : ℕ) → length (column_of (length cells) row x) ≡ length cells = λ x. length-map-range_with_len (λ i. slice_index row (512 * i + x)) 0 (length cells) in
-    let at = λ (x : ℕ). same (sum_at in_p cells row x) (sum_at in_q cells row x) (sum_at_fits in_p in_p_fits cells row x bytes) (sum_at_fits in_q in_q_fits cells row x bytes) in
-    let there = λ (x : ℕ) (s : Solution (has_p cells) (has_q cells) (lost cells) (sum_at in_p cells row x) (sum_at in_q cells row x)). turned p q parts ep eq el x s in (
-      λ h x below. (at x).0 (there x (from_sound cells (column_of (length cells) row x) (long x) (all_at (λ y. is_sound_column cells (column_of (length cells) row y)) 0 512 h x (omega arith) (omega arith)))),
-      λ h. all_from (λ y. is_sound_column cells (column_of (length cells) row y)) 0 512
-          (λ x low high. let s = back p q parts ep eq el x ((at x).1 (h x (omega arith))) in sound cells (column_of (length cells) row x) s.0 (long x) s.1 s.2),
+row_decides cells column p q parts good ep eq el bytes same =
+    let long : (x : ℕ) → length (column x) ≡ length cells = λ x. (bytes x).0 in
+    let at = λ (x : ℕ). same (sum_at in_p cells column x) (sum_at in_q cells column x) (sum_at_fits in_p in_p_fits cells column x bytes) (sum_at_fits in_q in_q_fits cells column x bytes) in
+    let there = λ (x : ℕ) (s : Solution (has_p cells) (has_q cells) (lost cells) (sum_at in_p cells column x) (sum_at in_q cells column x)). turned p q parts ep eq el x s in (
+      λ h x below. (at x).0 (there x (from_sound cells (column x) (long x) (all_at (λ y. is_sound_column cells (column y)) 0 512 h x (omega arith) (omega arith)))),
+      λ h. all_from (λ y. is_sound_column cells (column y)) 0 512
+          (λ x low high. let s = back p q parts ep eq el x ((at x).1 (h x (omega arith))) in sound cells (column x) s.0 (long x) s.1 s.2),
     )
   where
     turned : (p q : Bool) (parts : List Part) → has_p cells ≡ p → has_q cells ≡ q → lost cells ≡ parts → (x : ℕ) →
-        Solution (has_p cells) (has_q cells) (lost cells) (sum_at in_p cells row x) (sum_at in_q cells row x) → Solution p q parts (sum_at in_p cells row x) (sum_at in_q cells row x)
+        Solution (has_p cells) (has_q cells) (lost cells) (sum_at in_p cells column x) (sum_at in_q cells column x) → Solution p q parts (sum_at in_p cells column x) (sum_at in_q cells column x)
     turned p q parts ep eq el x s = rw (← ep, ← eq, ← el) s
 
     back : (p q : Bool) (parts : List Part) → has_p cells ≡ p → has_q cells ≡ q → lost cells ≡ parts → (x : ℕ) →
-        Solution p q parts (sum_at in_p cells row x) (sum_at in_q cells row x) → Solution (has_p cells) (has_q cells) (lost cells) (sum_at in_p cells row x) (sum_at in_q cells row x)
+        Solution p q parts (sum_at in_p cells column x) (sum_at in_q cells column x) → Solution (has_p cells) (has_q cells) (lost cells) (sum_at in_p cells column x) (sum_at in_q cells column x)
     back p q parts ep eq el x s = rw (ep, eq, el) s
 
 -- nothing is missing
@@ -125,10 +131,10 @@ lone_data k a b ha = (
     at (x ∷ y ∷ zs) fit c = absurd fit.1
 
 -- as many are missing as hold parity
-pub sound_where_full : (cells : List Cell) (row : List ℕ) → IsRow cells → HasBytes row → count_by (λ c. c.missing) cells ≡ count_by (λ c. not (is_data c.part)) cells →
-    is_sound cells (column_of (length cells) row) ≡ true
-sound_where_full cells row r bytes e =
-    let d = row_decides cells row (has_p cells) (has_q cells) (lost cells) (λ a b. Unit {0}) refl refl refl bytes
+pub sound_where_full : (cells : List Cell) (column : ℕ → List ℕ) → IsRow cells → AreColumns cells column → count_by (λ c. c.missing) cells ≡ count_by (λ c. not (is_data c.part)) cells →
+    is_sound cells column ≡ true
+sound_where_full cells column r bytes e =
+    let d = row_decides cells column (has_p cells) (has_q cells) (lost cells) (λ a b. Unit {0}) refl refl refl bytes
     (λ a b ha hb. (λ s. tt, λ u. full (has_p cells) (has_q cells) (lost cells) a b (may_be_lost cells r) (length_lost cells ∙ e ∙ parity_count cells r) ha hb)) in
     d.1 (λ x h. tt)
 
@@ -183,32 +189,57 @@ p_there cells row ne e =
     (λ h. ne (sym (length_lost cells) ∙ ap (λ (ps : List Part). length ps) e ∙ sym h ∙ sym (parity_count cells row)))
 
 -- none are missing
-pub sound_where_whole : (cells : List Cell) (row : List ℕ) (o : Option Part) → IsRow cells → NotFull cells → HasBytes row →
-    o ≡ option_map (λ c. c.part) (find (λ c. c.missing) cells) → o ≡ None → Decides (is_sound cells (column_of (length cells) row)) (AllCancel cells row)
-sound_where_whole cells row o r ne bytes first is =
+pub sound_where_whole : (cells : List Cell) (column : ℕ → List ℕ) (o : Option Part) → IsRow cells → NotFull cells → AreColumns cells column →
+    o ≡ option_map (λ c. c.part) (find (λ c. c.missing) cells) → o ≡ None → Decides (is_sound cells column) (AllCancel cells column)
+sound_where_whole cells column o r ne bytes first is =
     let e = lost_none cells o first is in
     let p = p_there cells r ne e in
-    let d = row_decides cells row (has_p cells) (has_q cells) [] (λ a b. (has_p cells ≡ true → a ≡ 0) × (has_q cells ≡ true → b ≡ 0)) refl refl e bytes (λ a b ha hb. none (has_p cells) (has_q cells) a b) in
+    let d = row_decides cells column (has_p cells) (has_q cells) [] (λ a b. (has_p cells ≡ true → a ≡ 0) × (has_q cells ≡ true → b ≡ 0)) refl refl e bytes (λ a b ha hb. none (has_p cells) (has_q cells) a b) in
     (λ h. (λ x below. (d.0 h x below).0 p, λ q x below. (d.0 h x below).1 q), λ (hp, hq). d.1 (λ x below. (λ _. hp x below, λ q. hq q x below)))
 
+-- where one part is missing and the row is not full, there is a Q
+pub q_there : (cells : List Cell) (o : Option Part) (part : Part) → IsRow cells → NotFull cells → o ≡ option_map (λ c. c.part) (find (λ c. c.missing) cells) → o ≡ Some part → has_q cells ≡ true
+q_there cells o part r ne first is =
+    let f = lost_some cells o part first is in
+    (one_lost cells part f.0 r ne f.1).1
+
 -- one part of a row with P and Q is missing
-pub sound_without_p : (cells : List Cell) (row : List ℕ) (o : Option Part) → IsRow cells → NotFull cells → HasBytes row →
-    o ≡ option_map (λ c. c.part) (find (λ c. c.missing) cells) → o ≡ Some P → Decides (is_sound cells (column_of (length cells) row)) (Cancel in_q cells row)
-sound_without_p cells row o r ne bytes first is =
+pub sound_without_p : (cells : List Cell) (column : ℕ → List ℕ) (o : Option Part) → IsRow cells → NotFull cells → AreColumns cells column →
+    o ≡ option_map (λ c. c.part) (find (λ c. c.missing) cells) → o ≡ Some P → Decides (is_sound cells column) (Cancel in_q cells column)
+sound_without_p cells column o r ne bytes first is =
     let f = lost_some cells o P first is in
     let l = one_lost cells P f.0 r ne f.1 in
-    row_decides cells row true true (P ∷ []) (λ a b. b ≡ 0) l.0 l.1 l.2 bytes (λ a b ha hb. lone_p a b ha)
+    row_decides cells column true true (P ∷ []) (λ a b. b ≡ 0) l.0 l.1 l.2 bytes (λ a b ha hb. lone_p a b ha)
 
-pub sound_without_q : (cells : List Cell) (row : List ℕ) (o : Option Part) → IsRow cells → NotFull cells → HasBytes row →
-    o ≡ option_map (λ c. c.part) (find (λ c. c.missing) cells) → o ≡ Some Q → Decides (is_sound cells (column_of (length cells) row)) (Cancel in_p cells row)
-sound_without_q cells row o r ne bytes first is =
+pub sound_without_q : (cells : List Cell) (column : ℕ → List ℕ) (o : Option Part) → IsRow cells → NotFull cells → AreColumns cells column →
+    o ≡ option_map (λ c. c.part) (find (λ c. c.missing) cells) → o ≡ Some Q → Decides (is_sound cells column) (Cancel in_p cells column)
+sound_without_q cells column o r ne bytes first is =
     let f = lost_some cells o Q first is in
     let l = one_lost cells Q f.0 r ne f.1 in
-    row_decides cells row true true (Q ∷ []) (λ a b. a ≡ 0) l.0 l.1 l.2 bytes (λ a b ha hb. lone_q a b hb)
+    row_decides cells column true true (Q ∷ []) (λ a b. a ≡ 0) l.0 l.1 l.2 bytes (λ a b ha hb. lone_q a b hb)
 
-pub sound_without_data : (cells : List Cell) (row : List ℕ) (o : Option Part) (k : ℕ) → IsRow cells → NotFull cells → HasBytes row →
-    o ≡ option_map (λ c. c.part) (find (λ c. c.missing) cells) → o ≡ Some (Block k) → Decides (is_sound cells (column_of (length cells) row)) (CancelByP k cells row)
-sound_without_data cells row o k r ne bytes first is =
+pub sound_without_data : (cells : List Cell) (column : ℕ → List ℕ) (o : Option Part) (k : ℕ) → IsRow cells → NotFull cells → AreColumns cells column →
+    o ≡ option_map (λ c. c.part) (find (λ c. c.missing) cells) → o ≡ Some (Block k) → Decides (is_sound cells column) (CancelByP k cells column)
+sound_without_data cells column o k r ne bytes first is =
     let f = lost_some cells o (Block k) first is in
     let l = one_lost cells (Block k) f.0 r ne f.1 in
-    row_decides cells row true true (Block k ∷ []) (λ a b. bit_xor b (product (power_of k) a) ≡ 0) l.0 l.1 l.2 bytes (λ a b ha hb. lone_data k a b ha)
+    row_decides cells column true true (Block k ∷ []) (λ a b. bit_xor b (product (power_of k) a) ≡ 0) l.0 l.1 l.2 bytes (λ a b ha hb. lone_data k a b ha)
+
+-- bytes for missing parts
+nothing_fits : (parts : List Part) → AreBytes parts (map (λ part. 0) parts)
+nothing_fits [] = tt
+nothing_fits (part ∷ parts) = (omega arith, nothing_fits parts)
+
+-- a row without parity
+pub sound_without_parity : (cells : List Cell) (column : ℕ → List ℕ) → has_p cells ≡ false → has_q cells ≡ false → ((x : ℕ) → length (column x) ≡ length cells) → is_sound cells column ≡ true
+unfolding is_sound
+sound_without_parity cells column no_p no_q long =
+    all_from (λ y. is_sound_column cells (column y)) 0 512
+    (λ x low high. sound cells (column x) (map (λ part. 0) (lost cells)) (long x) (nothing_fits (lost cells))
+    (record { by_p = λ h. absurd (false≢true (sym no_p ∙ h)); by_q = λ h. absurd (false≢true (sym no_q ∙ h)) }))
+
+pub without_parity : NoParityIsSound
+without_parity cells column no_p no_q long = sound_without_parity cells column no_p no_q long
+
+pub full_row : FullRowIsSound
+full_row cells column row are full = sound_where_full cells column row are full

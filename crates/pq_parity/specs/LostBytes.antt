@@ -1,5 +1,5 @@
 -- What the equations say of the bytes of missing cells.
-use Rattle.std.specs.Prelude.{ℕ, ◌≡◌, ◌≢◌, ◌<◌, ◌≤◌, true, bit_xor, List, length, count_by, All}
+use Rattle.std.specs.Prelude.{ℕ, ◌≡◌, ◌≢◌, ◌<◌, ◌≤◌, Bool, true, not, ◌||◌, bit_xor, List, length, count_by, All}
 use Rattle.std.specs.List.{find, Contains}
 use Rattle.std.specs.Option.{option_map}
 use Rattle.std.specs.declared.option.Option.{Option}
@@ -9,11 +9,15 @@ use Rattle.raid_params.specs.declared.types.Cell.{Cell}
 use Rattle.raid_params.specs.declared.types.Part.{Part}
 use Rattle.raid_params.specs.declared.types.Part.TheVariants.{Block, P, Q}
 use Rattle.raid_terms.specs.Parity.{filled, in_p, in_q, IsRow}
-use Rattle.raid_terms.specs.Solving.{solves}
+use Rattle.raid_terms.specs.Solving.{is_one_lost, is_q_lost, solves}
 
 -- the part of the first missing cell
 abbrev pub first_missing : List Cell → Option Part
 first_missing cells = option_map (λ c. c.part) (find (λ c. c.missing) cells)
+
+-- the missing cells are found by Q's equation too: all but one alone that is not Q
+abbrev pub asks_q : List Cell → Bool
+asks_q cells = not (is_one_lost cells) || is_q_lost cells
 
 -- parts that may be missing together, if there is a second one
 abbrev pub Apart : Part → Option Part → Type 0

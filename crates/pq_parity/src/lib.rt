@@ -5,18 +5,22 @@
 //! bytes for the missing blocks with which both equations hold. `laws` says that lost bytes are
 //! found in one way only.
 //!
-//! `row_scan` tests rows with [`row_holds`], and `virtual_volume` finds lost sectors with [`solve`]. The
-//! equations stand in `Parity` of `raid_terms`, lost bytes in `Solving`, the two sums in
-//! `specs/Syndromes`.
+//! [`row_holds`] and [`solve`] take a row whose sectors stand one after the other, [`sectors_hold`] and
+//! [`solve_lost`] one whose sectors lie in regions of the members. `member_regions` tests rows and finds
+//! lost sectors with the latter. The equations stand in `Parity` of `raid_terms`, lost bytes in `Solving`,
+//! the two sums in `specs/Syndromes`, the regions in `specs/Regions`. Sums are formed by strips of 64 columns, Q's
+//! in falling order of exponents, so that it takes doublings alone; a test is left at the first strip that fails.
 #![tactic(auto)]
 
+mod known;
 pub mod laws;
 mod rows;
 mod solving;
+mod strips;
 mod syndromes;
 #[cfg(test)]
 mod tests;
 mod weights;
 
-pub use rows::row_holds;
-pub use solving::solve;
+pub use rows::{row_holds, sectors_hold};
+pub use solving::{solve, solve_lost};

@@ -1,15 +1,17 @@
-//! The sector of a missing cell.
-ghost use Rattle.std.specs.Prelude.{ℕ, ◌≡◌, ◌<◌, ◌+◌, ◌*◌, IfSome, length, slice_get, slice_index, take, drop, true, bit_xor};
+//! The sectors of missing cells.
+ghost use Rattle.std.specs.Prelude.{ℕ, List, ◌≡◌, ◌≢◌, ◌<◌, ◌≤◌, ◌+◌, ◌*◌, IfSome, length, slice_get, slice_index, take, drop, true, bit_xor, None};
 ghost use Rattle.std.specs.Option.{option_or};
 ghost use Rattle.gf256.specs.Field.{product};
 ghost use Rattle.raid_terms.specs.Parity.{column_of, in_p, in_q, IsRow};
-ghost use Rattle.raid_terms.specs.Solving.{lost_byte};
-ghost use Rattle.pq_parity.specs.LostBytes.{first_missing};
-ghost use Rattle.pq_parity.specs.Syndromes.{sum_at};
+ghost use Rattle.raid_terms.specs.Solving.{is_q_lost, lost_byte};
+ghost use Rattle.pq_parity.specs.LostBytes.{asks_q, first_missing};
+ghost use Rattle.pq_parity.specs.Regions.{HoldLost, KeepKnown, region_column};
+ghost use Rattle.pq_parity.specs.Syndromes.{AreColumns, IsSyndrome};
 
-use crate::rows::missing_part;
-use crate::syndromes::{p_syndrome, q_syndrome};
+use crate::rows::{missing_count, missing_part};
+use crate::syndromes::{Sums, p_sums, sums_of};
 use crate::weights::weights_of;
+use image_source::SECTOR;
 use lane_kernels::scale_xor;
 use raid_params::{Cell, Part};
 
@@ -29,10 +31,112 @@ pub fn solve(cells: &[Cell], row: &[u8], place: usize, to: &mut [u8])
     ensures lost { (x : ℕ) → x < 512 →
         slice_index to.new x ≡ lost_byte cells.now (column_of (length cells.now) row.now x) place }
 {
+    let sums = sums_for(cells, row, SECTOR, 0);
+    find_sector(cells, place, &sums.p, &sums.q, to);
+}
+
+/// Writes the lost sector of each missing cell, as [`solve`] finds it, into the cell's region: as its sector
+/// number `j`. The regions lie one after the other, each of `stride` bytes.
+#[tactic(auto, using(crate::proofs::Regions::region_inside))]
+pub fn solve_lost(cells: &[Cell], sectors: &mut [u8], stride: usize, j: usize)
+    requires cells { IsRow cells.now }
+    requires sectors { stride * length cells.now ≤ length sectors.old }
+    requires j { 512 * j + 512 ≤ stride }
+    ensures lost { HoldLost cells.now stride j sectors.old sectors.new }
+    ensures others { KeepKnown cells.now stride j sectors.old sectors.new }
+{
+    if missing_part(cells).is_none() {
+        return;
+    }
+    let sums = sums_for(cells, sectors, stride, j);
+    for place in 0..cells.len() {
+        fill_sector(cells, place, &sums.p, &sums.q, sectors, stride, j);
+    }
+}
+
+/// The sums by which the missing cells are found: those of both equations, or those of P's alone where one
+/// cell that is not Q is missing.
+fn sums_for(cells: &[Cell], sectors: &[u8], stride: usize, j: usize) -> Sums
+    requires cells { IsRow cells.now }
+    requires missing { first_missing cells.now ≢ None }
+    requires sectors { stride * length cells.now ≤ length sectors.now }
+    requires j { 512 * j + 512 ≤ stride }
+    ensures columns { AreColumns cells.now (region_column (length cells.now) stride sectors.now j) }
+    ensures p { IsSyndrome in_p cells.now (region_column (length cells.now) stride sectors.now j) result.p }
+    ensures q { asks_q cells.now ≡ true → IsSyndrome in_q cells.now (region_column (length cells.now) stride sectors.now j) result.q }
+{
+    if asks_both(cells) {
+        return sums_of(cells, sectors, stride, j);
+    }
+    Sums {
+        p: p_sums(cells, sectors, stride, j),
+        q: [0; SECTOR],
+    }
+}
+
+/// Whether the missing cells are found by Q's equation too.
+fn asks_both(cells: &[Cell]) -> bool
+    ensures { result ≡ asks_q cells.now }
+{
+    missing_count(cells) != 1 || is_q_missing(cells)
+}
+
+/// Whether Q is missing.
+fn is_q_missing(cells: &[Cell]) -> bool
+    ensures { result ≡ is_q_lost cells.now }
+{
+    cells
+        .iter()
+        .any(|cell| cell.missing && matches!(cell.part, Part::Q))
+}
+
+/// Writes the lost sector of the cell at this place into its region, where the cell is missing.
+#[tactic(auto, using(crate::proofs::Regions::region_inside))]
+fn fill_sector(
+    cells: &[Cell],
+    place: usize,
+    by_p: &[u8],
+    by_q: &[u8],
+    sectors: &mut [u8],
+    stride: usize,
+    j: usize,
+)
+    requires cells { IsRow cells.now }
+    requires place { place < length cells.now }
+    requires by_p { length by_p.now ≡ 512 }
+    requires by_q { length by_q.now ≡ 512 }
+    requires sectors { stride * length cells.now ≤ length sectors.old }
+    requires j { 512 * j + 512 ≤ stride }
+    ensures lost { IfSome (slice_get cells.now place) (λ cell. cell.missing ≡ true →
+        (column : ℕ → List ℕ) → AreColumns cells.now column →
+        IsSyndrome in_p cells.now column by_p.now → (asks_q cells.now ≡ true → IsSyndrome in_q cells.now column by_q.now) →
+        (x : ℕ) → x < 512 → slice_index sectors.new (stride * place + (512 * j + x)) ≡ lost_byte cells.now (column x) place) }
+    ensures others { (p : ℕ) → IfSome (slice_get cells.now place) (λ cell. cell.missing ≡ true →
+        (x : ℕ) → x < 512 → p ≢ stride * place + (512 * j + x)) → slice_index sectors.new p ≡ slice_index sectors.old p }
+{
+    if cells[place].missing {
+        let at = stride * place + SECTOR * j;
+        find_sector(cells, place, by_p, by_q, &mut sectors[at..at + SECTOR]);
+    }
+}
+
+/// Finds the lost sector of the missing cell at this place by the sums of both equations.
+fn find_sector(cells: &[Cell], place: usize, by_p: &[u8], by_q: &[u8], to: &mut [u8])
+    requires cells { IsRow cells.now }
+    requires place { place < length cells.now }
+    requires missing { IfSome (slice_get cells.now place) (λ cell. cell.missing ≡ true) }
+    requires by_p { length by_p.now ≡ 512 }
+    requires by_q { length by_q.now ≡ 512 }
+    requires to { length to.old ≡ 512 }
+    ensures length { length to.new ≡ 512 }
+    ensures lost { (column : ℕ → List ℕ) → AreColumns cells.now column →
+        IsSyndrome in_p cells.now column by_p.now → (asks_q cells.now ≡ true → IsSyndrome in_q cells.now column by_q.now) →
+        (x : ℕ) → x < 512 → slice_index to.new x ≡ lost_byte cells.now (column x) place }
+{
     let weights = weights_of(cells[place].part, other_missing(cells, place));
     to.fill(0);
-    add_p(to, cells, row, weights.p);
-    add_q(to, cells, row, weights.q);
+    add_weighed(to, by_p, weights.p);
+    add_weighed(to, by_q, weights.q);
 }
 
 /// What the first other missing cell holds.
@@ -43,32 +147,16 @@ fn other_missing(cells: &[Cell], place: usize) -> Option<Part>
     missing_part(&cells[..place]).or(missing_part(&cells[place + 1..]))
 }
 
-/// Adds the sums of P's equation, times the weight.
+/// Adds sums times a weight.
 #[tactic(auto, using(crate::proofs::Pairs::no_weight))]
-fn add_p(to: &mut [u8], cells: &[Cell], row: &[u8], weight: u8)
+fn add_weighed(to: &mut [u8], sums: &[u8], weight: u8)
     requires to { length to.old ≡ 512 }
-    requires row { length row.now ≡ 512 * length cells.now }
+    requires sums { length sums.now ≡ 512 }
     ensures length { length to.new ≡ 512 }
     ensures bytes { (x : ℕ) → x < 512 →
-        slice_index to.new x ≡ bit_xor (slice_index to.old x) (product weight (sum_at in_p cells.now row.now x)) }
+        slice_index to.new x ≡ bit_xor (slice_index to.old x) (product weight (slice_index sums.now x)) }
 {
-    if weight == 0 {
-        return;
+    if weight != 0 {
+        scale_xor(to, sums, weight);
     }
-    scale_xor(to, &p_syndrome(cells, row), weight);
-}
-
-/// Adds the sums of Q's equation, times the weight.
-#[tactic(auto, using(crate::proofs::Pairs::no_weight))]
-fn add_q(to: &mut [u8], cells: &[Cell], row: &[u8], weight: u8)
-    requires to { length to.old ≡ 512 }
-    requires row { length row.now ≡ 512 * length cells.now }
-    ensures length { length to.new ≡ 512 }
-    ensures bytes { (x : ℕ) → x < 512 →
-        slice_index to.new x ≡ bit_xor (slice_index to.old x) (product weight (sum_at in_q cells.now row.now x)) }
-{
-    if weight == 0 {
-        return;
-    }
-    scale_xor(to, &q_syndrome(cells, row), weight);
 }

@@ -1,76 +1,94 @@
 //! The sums of a sector row over the cells that are there, a byte for each column.
-ghost use Rattle.std.specs.Prelude.{ℕ, ◌≡◌, ◌<◌, ◌≤◌, ◌+◌, ◌*◌, length, slice_index, bit_xor};
-ghost use Rattle.raid_terms.specs.Parity.{in_p, in_q};
-ghost use Rattle.pq_parity.specs.Syndromes.{IsSyndrome, known_in};
+ghost use Rattle.std.specs.Prelude.{ℕ, ◌≡◌, ◌<◌, ◌≤◌, ◌+◌, ◌*◌, length, slice_index, true};
+ghost use Rattle.std.specs.Simd.Lanes.{Each1};
+ghost use Rattle.raid_params.specs.declared.limits.TheConstants.{MOST};
+ghost use Rattle.raid_terms.specs.Parity.{has_q, in_p, in_q, IsRow};
+ghost use Rattle.pq_parity.specs.declared.strips.TheConstants.{STRIPS};
+ghost use Rattle.pq_parity.specs.Known.{ArePlaces};
+ghost use Rattle.pq_parity.specs.Regions.{region_column};
+ghost use Rattle.pq_parity.specs.Syndromes.{AreColumns, IsSyndrome, sum_at};
 
+use crate::known::{Known, known_of};
+use crate::strips::{STRIP, STRIPS, both_sums, p_sum, store};
 use image_source::SECTOR;
-use lane_kernels::{scale_xor, xor_into};
-use raid_params::{Cell, Part};
+use raid_params::Cell;
+use std::simd::prelude::*;
 
-/// The sums that P's equation asks to be 0.
-pub fn p_syndrome(cells: &[Cell], row: &[u8]) -> [u8; SECTOR]
-    requires { length row.now ≡ 512 * length cells.now }
-    ensures { IsSyndrome in_p cells.now row.now result }
+/// The sums of the equations, a byte for each column.
+#[derive(Drop)]
+pub struct Sums {
+    pub p: [u8; SECTOR],
+    pub q: [u8; SECTOR],
+}
+
+/// The sums that P's equation asks to be 0, over the sectors number `j` of the cells' regions.
+pub fn p_sums(cells: &[Cell], sectors: &[u8], stride: usize, j: usize) -> [u8; SECTOR]
+    requires cells { length cells.now ≤ MOST }
+    requires sectors { stride * length cells.now ≤ length sectors.now }
+    requires j { 512 * j + 512 ≤ stride }
+    ensures columns { AreColumns cells.now (region_column (length cells.now) stride sectors.now j) }
+    ensures p { IsSyndrome in_p cells.now (region_column (length cells.now) stride sectors.now j) result }
 {
     let mut sums = [0u8; SECTOR];
-    for place in 0..cells.len() {
-        add_to_p(&mut sums, cells[place], sector(row, place));
+    for strip in 0..STRIPS {
+        let at = STRIP * strip;
+        store(
+            &mut sums,
+            at,
+            p_sum(cells, sectors, stride, SECTOR * j + at),
+        );
     }
     sums
 }
 
-/// The sums that Q's equation asks to be 0.
-pub fn q_syndrome(cells: &[Cell], row: &[u8]) -> [u8; SECTOR]
-    requires { length row.now ≡ 512 * length cells.now }
-    ensures { IsSyndrome in_q cells.now row.now result }
+/// The sums that both equations ask to be 0, over the same.
+pub fn sums_of(cells: &[Cell], sectors: &[u8], stride: usize, j: usize) -> Sums
+    requires cells { IsRow cells.now }
+    requires q { has_q cells.now ≡ true }
+    requires sectors { stride * length cells.now ≤ length sectors.now }
+    requires j { 512 * j + 512 ≤ stride }
+    ensures columns { AreColumns cells.now (region_column (length cells.now) stride sectors.now j) }
+    ensures p { IsSyndrome in_p cells.now (region_column (length cells.now) stride sectors.now j) result.p }
+    ensures q { IsSyndrome in_q cells.now (region_column (length cells.now) stride sectors.now j) result.q }
 {
-    let mut sums = [0u8; SECTOR];
-    for place in 0..cells.len() {
-        add_to_q(&mut sums, cells[place], sector(row, place));
+    let known = known_of(cells);
+    let mut sums = Sums {
+        p: [0; SECTOR],
+        q: [0; SECTOR],
+    };
+    for strip in 0..STRIPS {
+        let (p, q) = strip_sums(cells, &known, sectors, stride, j, strip);
+        store(&mut sums.p, STRIP * strip, p);
+        store(&mut sums.q, STRIP * strip, q);
     }
     sums
 }
 
-/// The sector at this place of a row.
-fn sector(row: &[u8], place: usize) -> &[u8]
-    requires { 512 * place + 512 ≤ length row.now }
-    ensures long { length result.now ≡ 512 }
-    ensures bytes { (x : ℕ) → x < 512 → slice_index result.now x ≡ slice_index row.now (512 * place + x) }
+/// The sums of both equations over a strip of columns.
+#[tactic(auto, using(crate::proofs::Apart::are_placed))]
+pub fn strip_sums(
+    cells: &[Cell],
+    known: &Known,
+    sectors: &[u8],
+    stride: usize,
+    j: usize,
+    strip: usize,
+) -> (u8x64, u8x64)
+    requires cells { IsRow cells.now }
+    requires q { has_q cells.now ≡ true }
+    requires known { ArePlaces cells.now (length cells.now) known.now }
+    requires sectors { stride * length cells.now ≤ length sectors.now }
+    requires j { 512 * j + 512 ≤ stride }
+    requires strip { strip < STRIPS }
+    ensures p_long { length result.0 ≡ 64 }
+    ensures p_fits { Each1 (λ k. k < 256) result.0 }
+    ensures q_long { length result.1 ≡ 64 }
+    ensures q_fits { Each1 (λ k. k < 256) result.1 }
+    ensures p { (lane : ℕ) → lane < 64 → slice_index result.0 lane
+        ≡ sum_at in_p cells.now (region_column (length cells.now) stride sectors.now j) (64 * strip + lane) }
+    ensures q { (lane : ℕ) → lane < 64 → slice_index result.1 lane
+        ≡ sum_at in_q cells.now (region_column (length cells.now) stride sectors.now j) (64 * strip + lane) }
 {
-    &row[SECTOR * place..SECTOR * place + SECTOR]
-}
-
-/// Adds a sector to the sums for P's equation.
-fn add_to_p(sums: &mut [u8], cell: Cell, sector: &[u8])
-    requires sums { length sums.old ≡ 512 }
-    requires sector { length sector.now ≡ 512 }
-    ensures long { length sums.new ≡ 512 }
-    ensures bytes { (x : ℕ) → x < 512 →
-        slice_index sums.new x ≡ bit_xor (slice_index sums.old x) (known_in in_p cell (slice_index sector.now x)) }
-{
-    if cell.missing {
-        return;
-    }
-    match cell.part {
-        Part::Block(_) | Part::P => xor_into(sums, sector),
-        Part::Q => {}
-    }
-}
-
-/// Adds a sector to the sums for Q's equation.
-fn add_to_q(sums: &mut [u8], cell: Cell, sector: &[u8])
-    requires sums { length sums.old ≡ 512 }
-    requires sector { length sector.now ≡ 512 }
-    ensures long { length sums.new ≡ 512 }
-    ensures bytes { (x : ℕ) → x < 512 →
-        slice_index sums.new x ≡ bit_xor (slice_index sums.old x) (known_in in_q cell (slice_index sector.now x)) }
-{
-    if cell.missing {
-        return;
-    }
-    match cell.part {
-        Part::Block(k) => scale_xor(sums, sector, gf256::power(k)),
-        Part::P => {}
-        Part::Q => xor_into(sums, sector),
-    }
+    let at = SECTOR * j + STRIP * strip;
+    both_sums(known, sectors, stride, at, cells.len())
 }

@@ -1,15 +1,15 @@
-use Rattle.std.proofs.Common.{ℕ, List, length, slice_index, ap, ◌∙◌, arith}
-use Rattle.std.proofs.lemmas.List.{get_or-replicate}
-use Rattle.pq_parity.proofs.LostColumns.{apart_there, lost_there}
+use Rattle.std.proofs.Common.{ℕ, List, length, ap, ◌∙◌}
+use Rattle.pq_parity.specs.Regions.{region_column}
+use Rattle.raid_terms.specs.Solving.{lost_byte}
+use Rattle.pq_parity.proofs.Asked.{some_missing}
+use Rattle.pq_parity.proofs.Regions.{row_column}
 use Rattle.pq_parity.proofs.solving.solve.Goals as goal
 
-pub weights_of-weights-requires : goal.weights_of-weights-requires
-weights_of-weights-requires c =
-    apart_there c.args.cells.now c.args.place _ c.other_missing.result c.requires.cells c.requires.place c.requires.missing c.other_missing.ensures
-
 pub returns-clause-lost : goal.returns-clause-lost
-returns-clause-lost c x below =
-    lost_there c.args.cells.now c.args.row.now c.args.place x _ c.other_missing.result c.weights_of-weights.result.p c.weights_of-weights.result.q
-    (slice_index c.fill.new.self x) (slice_index c.add_p.new.to x) (slice_index c.add_q.new.to x)
-    c.requires.cells c.type_inv.row c.requires.place c.requires.missing c.other_missing.ensures c.weights_of-weights.ensures
-    (ap (λ (s : List ℕ). slice_index s x) (c.fill.ensures.after (λ y e. e)) ∙ get_or-replicate {A = ℕ} (length c.args.to.now) x 0 0 (omega arith)) (c.add_p.ensures.bytes x below) (c.add_q.ensures.bytes x below)
+returns-clause-lost c = λ x below.
+    c.find_sector.ensures.lost (region_column (length c.args.cells.now) 512 c.args.row.now 0) c.sums_for-sums.ensures.columns
+    c.sums_for-sums.ensures.p c.sums_for-sums.ensures.q x below
+    ∙ ap (λ (column : List ℕ). lost_byte c.args.cells.now column c.args.place) (row_column (length c.args.cells.now) c.args.row.now x)
+
+pub sums_for-sums-requires-clause-missing : goal.sums_for-sums-requires-clause-missing
+sums_for-sums-requires-clause-missing c = some_missing c.args.cells.now c.args.place c.requires.missing c.requires.place

@@ -1,0 +1,11 @@
+use Rattle.std.proofs.Common.{◌≡◌, ℕ, ◌<◌, length, true, IfSome, slice_get}
+use Rattle.pq_parity.specs.Regions.{region_column, HoldsLost, KeepKnown}
+use Rattle.pq_parity.specs.Syndromes.{AreColumns}
+use Rattle.pq_parity.proofs.solving.solve_lost.Given as goal
+
+abbrev pub invariant-loop-place : goal.invariant-loop-place
+invariant-loop-place l = record {
+  columns : AreColumns l.cells (region_column (length l.cells) l.stride l.fn.sectors l.j);
+  lost : (i : ℕ) → i < l.place → IfSome (slice_get l.cells i) (λ cell. cell.missing ≡ true → HoldsLost l.cells l.stride l.j l.fn.sectors l.sectors i);
+  others : KeepKnown l.cells l.stride l.j l.fn.sectors l.sectors;
+}

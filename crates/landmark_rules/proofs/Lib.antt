@@ -1,0 +1,4 @@
+pub mod Ranges
+pub mod Distances
+pub mod Places
+pub mod Holding

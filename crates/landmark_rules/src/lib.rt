@@ -1,0 +1,19 @@
+//! Landmarks: where the marks of images lie on the volume of a parameter set, and whether they lie where
+//! file systems and partition tables put them.
+//!
+//! A mark is a landmark sector of an image with the rule that says where on the volume it may lie. The marks
+//! of one partition table or file system form a group. [`groups_hold`] is the landmark test of a parameter
+//! set, [`held_origin`] says from where a group holds, [`tally`] counts, and [`sector_in`] says which sector of the
+//! volume a slot holds at a sector of its image. Rules stand in `specs/Rules`,
+//! where marks lie in `specs/Marks`, the test and what a plan may hold in `specs/Groups`.
+#![tactic(auto)]
+
+mod counting;
+mod marks;
+mod testing;
+#[cfg(test)]
+mod tests;
+
+pub use counting::{fits, sector_in, tally};
+pub use marks::{Group, GroupKind, Groups, Kind, Mark, MarkCount, MarkTests, Marks, Rule};
+pub use testing::{groups_hold, held_origin};

@@ -1,0 +1,60 @@
+-- Which plans there are: their numbers are within the limits of the tool, and their lists rise.
+use Rattle.std.specs.Prelude.{ℕ, ◌≤◌, ◌<◌, ◌^◌, IsTrue, List, length, map, All}
+use Rattle.std.specs.List.Sorted.{IsStrictlyIncreasing}
+use Rattle.raid_params.specs.declared.limits.TheConstants.{MOST, MOST_MISSING, MOST_OFFSETS, MOST_ORIGINS}
+use Rattle.raid_params.specs.declared.types.Bounds.{Bounds}
+use Rattle.raid_params.specs.Validity.{is_chunk}
+use Rattle.landmark_rules.specs.Groups.{AreGroups}
+use Rattle.landmark_rules.specs.declared.marks.MarkTests.{MarkTests}
+use Rattle.search_plan.specs.Places.{level_place, pattern_place, syndrome_place}
+use Rattle.search_plan.specs.declared.plan.Limits.{Limits}
+use Rattle.search_plan.specs.declared.plan.Plan.{Plan}
+
+-- a list of a plan: it has an element, and it rises strictly
+pub record AreRising (numbers : List ℕ) : Type 0 where
+  pub some : 1 ≤ length numbers
+  pub rising : IsStrictlyIncreasing numbers
+
+-- the lengths of images
+pub record AreLengths (lengths : List ℕ) : Type 0 where
+  pub some : 1 ≤ length lengths
+  pub most : length lengths ≤ MOST
+  pub short : All (λ n. n < 2 ^ 55) lengths
+
+-- the bounds of a search
+pub record AreBounds (bounds : Bounds) : Type 0 where
+  pub levels : AreRising (map level_place bounds.levels.items)
+  pub members : AreRising bounds.members.items
+  pub few_members : All (λ n. (2 ≤ n) × (n ≤ MOST)) bounds.members.items
+  pub patterns : AreRising (map pattern_place bounds.patterns.items)
+  pub syndromes : AreRising (map syndrome_place bounds.syndromes.items)
+  pub chunks : AreRising bounds.chunks.items
+  pub powers : All (λ chunk. IsTrue (is_chunk chunk)) bounds.chunks.items
+  pub offsets : AreRising bounds.offsets.items
+  pub few_offsets : length bounds.offsets.items ≤ MOST_OFFSETS
+  pub near_offsets : All (λ n. n < 2 ^ 55) bounds.offsets.items
+  pub missing : bounds.missing ≤ MOST_MISSING
+  pub foreign : bounds.foreign ≤ MOST
+
+-- how rows are tested
+pub record AreLimits (limits : Limits) : Type 0 where
+  pub badrows : limits.badrows < 2 ^ 55
+  pub some_window : 1 ≤ limits.window
+  pub window : limits.window < 2 ^ 55
+
+-- how marks are tested
+pub record AreTests (tests : MarkTests) : Type 0 where
+  pub origins : AreRising tests.origins.items
+  pub few_origins : length tests.origins.items ≤ MOST_ORIGINS
+  pub near_origins : All (λ n. n < 2 ^ 55) tests.origins.items
+  pub misfits : tests.misfits < 2 ^ 55
+  pub least : tests.least < 2 ^ 55
+
+-- a plan, part by part
+pub record IsPlan (plan : Plan) : Type 0 where
+  pub lengths : AreLengths plan.lengths.items
+  pub ends : All (λ n. plan.end ≤ n) plan.lengths.items
+  pub bounds : AreBounds plan.bounds
+  pub limits : AreLimits plan.limits
+  pub tests : AreTests plan.tests
+  pub groups : AreGroups plan.lengths.items plan.groups

@@ -8,9 +8,9 @@ use Rattle.image_source.specs.Streams.{AppendsFront, Puts}
 use Rattle.raid_params.specs.Size.{area}
 use Rattle.raid_params.specs.declared.types.Geometry.{Geometry}
 use Rattle.raid_terms.specs.Volume.{member, member_sector}
-use Rattle.row_scan.proofs.Sets.{reaches_less}
-use Rattle.row_scan.specs.Block.{Reaches}
-use Rattle.virtual_volume.specs.Regions.{HoldSlot}
+use Rattle.member_regions.proofs.Sets.{reaches_less}
+use Rattle.member_regions.specs.Members.{Reaches}
+use Rattle.member_regions.specs.Regions.{HoldSlot}
 use Rattle.virtual_volume.proofs.Blocks.{region_sectors}
 use Rattle.virtual_volume.proofs.Fronts.{appends_join, appends_none, front_after, front_more}
 use Rattle.virtual_volume.proofs.Ranges.{flat_same, flat_shift, flat_split}
@@ -18,13 +18,12 @@ use Rattle.member_rebuild.specs.Sectors.{sectors_of}
 
 -- the region of a slot holds its sectors
 pub part_is : (images : List (List ℕ)) (geo : Geometry) (stride first count slot : ℕ) (sectors part : List ℕ) → HoldSlot images geo stride first count slot sectors →
-    stride * slot + 512 * count ≤ length sectors → part ≡ slice_range sectors (stride * slot) (stride * slot + 512 * count) → part ≡ sectors_of images geo slot first count
+    length part ≡ 512 * count → part ≡ slice_range sectors (stride * slot + 512 * 0) (stride * slot + 512 * 0 + 512 * count) → part ≡ sectors_of images geo slot first count
 unfolding sectors_of
-part_is images geo stride first count slot sectors part hold within is =
-    let long : stride * slot + 512 * count - stride * slot ≡ 512 * count = omega arith in
-    let from : stride * slot ≡ stride * slot + 512 * 0 = omega arith in
-    region_sectors images geo stride first count slot 0 count sectors part hold (omega arith) (omega arith)
-    (is ∙ ap (λ (n : ℕ). take n (drop (stride * slot) sectors)) long ∙ ap (λ (n : ℕ). take (512 * count) (drop n sectors)) from)
+part_is images geo stride first count slot sectors part hold long is =
+    let size : stride * slot + 512 * 0 + 512 * count - (stride * slot + 512 * 0) ≡ 512 * count = omega arith in
+    region_sectors images geo stride first count slot 0 count sectors part hold (omega arith) long
+    (is ∙ ap (λ (n : ℕ). take n (drop (stride * slot + 512 * 0) sectors)) size)
     ∙ flat_same (λ j. member_sector images geo slot (first + (0 + j))) (λ j. member_sector images geo slot (first + j)) 0 count
     (λ j low high. let e : first + (0 + j) ≡ first + j = omega arith in ap (λ (t : ℕ). member_sector images geo slot t) e)
     ∙ sym (flat_shift (member_sector images geo slot) first 0 count first (omega arith))

@@ -8,24 +8,23 @@ ghost use Rattle.image_source.specs.Seen.{OnlyReads};
 ghost use Rattle.image_source.specs.Streams.{AppendsFront, Puts};
 ghost use Rattle.raid_params.specs.Size.{area as area_of};
 ghost use Rattle.raid_terms.specs.Volume.{member};
-ghost use Rattle.row_scan.specs.Block.{IsTestable, Reaches, held};
-ghost use Rattle.virtual_volume.specs.Regions.{IsRoom};
+ghost use Rattle.member_regions.specs.Members.{IsTestable, Reaches, held};
+ghost use Rattle.member_regions.specs.Regions.{IsRoomFor, KeepsRoom};
 ghost use Rattle.virtual_volume.specs.Served.{Ends, IsServed};
 ghost use Rattle.member_rebuild.specs.Sectors.{sectors_of};
 
 use address_map::area;
 use image_source::{Images, Sink};
+use member_regions::{BLOCK, Regions};
 use raid_params::Geometry;
-use row_scan::BLOCK;
 use std::alloc::Global;
-use virtual_volume::{Room, VolumeFault};
+use virtual_volume::VolumeFault;
 
 /// Writes the `count` sectors of the missing member of a slot from sector `first` on.
-#[tactic(auto, using(row_scan::proofs::Regions::region_inside))]
 fn write_block<I: Images, K: Sink>(
     images: &mut I,
     sink: &mut K,
-    room: &mut Room,
+    regions: &mut Regions,
     geo: &Geometry,
     slot: usize,
     first: u64,
@@ -36,8 +35,7 @@ fn write_block<I: Images, K: Sink>(
         geo.now.slots.items }
     requires near { geo.now.head.offset + (first + count) < 2 ^ 55 }
     requires some { 1 ≤ count }
-    requires room { IsRoom (length geo.now.slots.items) room.old }
-    requires fits { 512 * count ≤ room.old.stride }
+    requires room { IsRoomFor (length geo.now.slots.items) count regions.old }
     requires slot { slot < length geo.now.slots.items }
     requires missing { slice_index_or geo.now.slots.items slot None ≡ None }
     ensures put { IfSome (told_all (I.seen images.old).attached)
@@ -45,13 +43,13 @@ fn write_block<I: Images, K: Sink>(
     ensures reads { OnlyReads (I.seen images.old) (I.seen images.new) (held geo.now.slots.items * count) }
     ensures later { K.faults sink.old ≤ K.faults sink.new }
     ensures ends { IfErr result (Ends (I.seen images.old).faults (I.seen images.new).faults (K.faults sink.old) (K.faults sink.new)) }
-    ensures room { IsRoom (length geo.now.slots.items) room.new }
-    ensures stride { room.new.stride ≡ room.old.stride }
+    ensures room { KeepsRoom regions.old regions.new }
 {
-    room.read(images, geo, first, count)
+    regions
+        .read(images, geo, first, count)
         .map_err(|_| VolumeFault::ReadFault)?;
-    room.solve(geo, first, count, slot);
-    sink.put(room.region(slot, count))
+    regions.solve(geo, first, count);
+    sink.put(regions.region(slot, 0, count))
         .map_err(|_| VolumeFault::WriteFault)
 }
 
@@ -59,7 +57,7 @@ fn write_block<I: Images, K: Sink>(
 fn write_sectors<I: Images, K: Sink>(
     images: &mut I,
     sink: &mut K,
-    room: &mut Room,
+    regions: &mut Regions,
     geo: &Geometry,
     slot: usize,
     sectors: u64,
@@ -67,8 +65,7 @@ fn write_sectors<I: Images, K: Sink>(
     requires set { IsTestable geo.now }
     requires held { All (Reaches (I.seen images.old).attached (geo.now.head.offset + sectors)) geo.now.slots.items }
     requires near { geo.now.head.offset + sectors < 2 ^ 55 }
-    requires room { IsRoom (length geo.now.slots.items) room.old }
-    requires fits { 512 * BLOCK ≤ room.old.stride }
+    requires room { IsRoomFor (length geo.now.slots.items) BLOCK regions.old }
     requires slot { slot < length geo.now.slots.items }
     requires missing { slice_index_or geo.now.slots.items slot None ≡ None }
     ensures put { IfSome (told_all (I.seen images.old).attached)
@@ -80,7 +77,7 @@ fn write_sectors<I: Images, K: Sink>(
     let mut first = 0;
     while first < sectors {
         let count = (BLOCK as u64).min(sectors - first);
-        write_block(images, sink, room, geo, slot, first, count as usize)?;
+        write_block(images, sink, regions, geo, slot, first, count as usize)?;
         first += count;
     }
     Ok(())
@@ -117,8 +114,6 @@ pub fn rebuild<I: Images, K: Sink>(
     ensures later { K.faults sink.old ≤ K.faults sink.new }
 {
     let sectors = area(&geo.head, end);
-    let mut room = Room::new(alloc, geo.head.members, BLOCK as u64).map_err(
-        |_| VolumeFault::Memory,
-    )?;
-    write_sectors(images, sink, &mut room, geo, slot as usize, sectors)
+    let mut regions = Regions::new(alloc, geo.slots.len(), BLOCK).map_err(|_| VolumeFault::Memory)?;
+    write_sectors(images, sink, &mut regions, geo, slot as usize, sectors)
 }

@@ -3,7 +3,7 @@ ghost use Rattle.std.specs.Prelude.{◌≡◌, ◌≤◌, ◌^◌, ◌<◌, leng
 ghost use Rattle.image_source.specs.Memory.{seen_of};
 
 use crate::rebuild;
-use image_source::{Images, MemImages, MemSink};
+use image_source::{Failed, Images, MemImages, MemSink, SECTOR, Sink};
 use raid_params::{Geometry, Head, Level, Pattern, Slots, Syndrome};
 use std::alloc::Global;
 use std::process::Abort;
@@ -33,13 +33,13 @@ fn two_reach(images: &MemImages, end: u64) -> bool
 
 // Writes the member of slot 0, over two images.
 #[tactic(auto, using(virtual_volume::proofs::TestSets::long_served))]
-fn write<R: Abort>(
+fn write<R: Abort, K: Sink>(
     rt: &R,
     alloc: Global,
     images: &mut MemImages,
     geo: &Geometry,
     end: u64,
-    sink: &mut MemSink,
+    sink: &mut K,
 ) -> Result<(), VolumeFault>
     requires offset { geo.now.head.offset < 2 ^ 55 }
     requires some { 1 ≤ geo.now.head.members }
@@ -112,5 +112,52 @@ fn faults(rt: HostRuntime) -> Result<(), Fail> {
     let cut = write(&rt, alloc, &mut images, &three(), 2, &mut sink);
     assert!(rt; matches!(&cut, Err(VolumeFault::WriteFault)));
     assert_eq!(rt; sink.bytes(), [1; 100].as_slice());
+    Ok(())
+}
+
+// A sink that keeps nothing and looks at each put.
+#[derive(Drop)]
+struct Looker {
+    /// The bytes that were put.
+    bytes: usize,
+    /// Whether each put held one or more whole sectors.
+    whole: bool,
+}
+
+impl Sink for Looker {
+    ghost gained = { λ _. None };
+
+    ghost faults = { λ _. 0 };
+
+    fn put(&mut self, from: &[u8]) -> Result<(), Failed> {
+        self.bytes = self.bytes.wrapping_add(from.len());
+        self.whole &= !from.is_empty() && from.len() % SECTOR == 0;
+        Ok(())
+    }
+}
+
+// Two images of so many bytes that are 1.
+fn two_of_ones(alloc: Global, bytes: usize) -> Result<MemImages, Fail> {
+    let ones = vec![in alloc; 1u8; bytes]?;
+    let mut images = MemImages::new(alloc)?;
+    images.add("a", &ones)?;
+    images.add("b", &ones)?;
+    images.attach("a")?;
+    images.attach("b")?;
+    Ok(images)
+}
+
+// 700 sectors are two blocks and a short one.
+#[test]
+fn whole_sectors_are_put(rt: HostRuntime) -> Result<(), Fail> {
+    let alloc = rt.alloc();
+    let mut images = two_of_ones(alloc, 358_400)?;
+    let mut sink = Looker {
+        bytes: 0,
+        whole: true,
+    };
+    assert!(rt; write(&rt, alloc, &mut images, &three(), 700, &mut sink).is_ok());
+    assert_eq!(rt; sink.bytes, 358_400);
+    assert!(rt; sink.whole);
     Ok(())
 }

@@ -1,9 +1,5 @@
 pub mod Sets
-pub mod Held
-pub mod IfTold
-pub mod Regions
-pub mod Counting
 pub mod Columns
-pub mod Members
 pub mod Parity
+pub mod Unbroken
 pub mod TestSets

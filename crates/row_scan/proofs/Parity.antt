@@ -1,5 +1,5 @@
 -- The rows of a block are those of the array.
-use Rattle.std.proofs.Common.{◌≡◌, ℕ, zero, suc, ◌+◌, ◌-◌, ◌*◌, ◌/◌, ◌<◌, ◌≤◌, Bool, true, false, not, cond, List, [], length, get_or, refl, sym, ap, ◌∙◌, arith, IfSome, Some, None}
+use Rattle.std.proofs.Common.{◌≡◌, ℕ, zero, suc, ◌+◌, ◌-◌, ◌*◌, ◌/◌, ◌<◌, ◌≤◌, Bool, true, false, not, cond, List, length, get_or, sym, ap, ◌∙◌, arith, IfSome, Some, None, Result, Ok, Err, IfOk}
 use Rattle.std.proofs.lemmas.List.FromFn.{length-range_with_len}
 use Rattle.std.proofs.lemmas.List.Sums.{count_by-le-length}
 use Rattle.std.specs.Option.{is_some}
@@ -10,59 +10,56 @@ use Rattle.std.specs.declared.option.Option.{Option}
 use Rattle.raid_params.specs.declared.types.Geometry.{Geometry}
 use Rattle.raid_terms.specs.Cells.{row_cells}
 use Rattle.raid_terms.specs.Parity.{is_sound_row, member_byte, member_column, unsound_rows, tested_rows, passes_parity}
-use Rattle.std.proofs.Math.Nat.{mul-add, mul-le-mul_left}
+use Rattle.std.proofs.Math.Nat.{mul-le-mul_right}
 use Rattle.image_source.specs.Seen.{Seen, OnlyReads}
-use Rattle.image_source.proofs.Reading.{reads_join, reads_up}
-use Rattle.row_scan.specs.Block.{block_column, HoldMembers, is_sound_in, unsound_in, IsLeft, IsRest}
-use Rattle.row_scan.proofs.Counting.{count_suc, count_grows}
-use Rattle.row_scan.proofs.Columns.{filled_alike, sound_alike, unsound_none, unsound_more}
-use Rattle.row_scan.specs.declared.blocks.TheConstants.{BLOCK_BYTES}
-
--- a byte of a later sector
-later_byte : (images : List (List ℕ)) (offset first j x : ℕ) (held : Option ℕ) → member_byte images offset first (512 * j + x) held ≡ member_byte images offset (first + j) x held
-later_byte images offset first j x None = refl
-later_byte images offset first j x (Some i) = ap (λ k. get_or (get_or images i []) k 0) (omega arith)
+use Rattle.image_source.proofs.Reading.{reads_up}
+use Rattle.pq_parity.specs.Regions.{region_column}
+use Rattle.member_regions.specs.Regions.{HoldRead, Room}
+use Rattle.row_scan.specs.Block.{is_sound_in, unsound_in, IsLeft, IsRest, StopsEarly}
+use Rattle.member_regions.proofs.Counting.{count_suc, count_grows}
+use Rattle.member_regions.proofs.Alike.{filled_alike, later_byte}
+use Rattle.row_scan.proofs.Columns.{sound_alike, unsound_none, unsound_more}
 
 -- a row of a block is that of the array
-held_sound : (images : List (List ℕ)) (geo : Geometry) (first count : ℕ) (sectors : List ℕ) (j : ℕ) →
-    HoldMembers images geo first (512 * count) (length geo.slots.items) sectors → j < count → is_sound_in geo sectors first j ≡ is_sound_row images geo (first + j)
+held_sound : (images : List (List ℕ)) (geo : Geometry) (first count : ℕ) (room : Room) (j : ℕ) →
+    HoldRead images geo room.stride first (512 * count) (length geo.slots.items) room.bytes → j < count → is_sound_in geo room first j ≡ is_sound_row images geo (first + j)
 unfolding is_sound_in
-held_sound images geo first count sectors j hold below =
-    sound_alike (row_cells geo ((first + j) / geo.head.chunk)) (block_column (length geo.slots.items) sectors j) (member_column images geo (first + j))
-    (λ x inside. filled_alike (member_byte images geo.head.offset (first + j) x) (λ i. get_or sectors (BLOCK_BYTES * i + (512 * j + x)) 0) geo.head ((first + j) / geo.head.chunk) 0 0 geo.slots.items
+held_sound images geo first count room j hold below =
+    sound_alike (row_cells geo ((first + j) / geo.head.chunk)) (region_column (length geo.slots.items) room.stride room.bytes j) (member_column images geo (first + j))
+    (λ x inside. filled_alike (member_byte images geo.head.offset (first + j) x) (λ i. get_or room.bytes (room.stride * i + (512 * j + x)) 0) geo.head ((first + j) / geo.head.chunk) 0 0 geo.slots.items
     (λ i within there. let at : 0 + i ≡ i = omega arith in rw at (hold i (512 * j + x) within (omega arith) there) ∙ later_byte images geo.head.offset first j x (get_or geo.slots.items i None)))
 
 -- the unsound rows of the block come after those before it
-pub unsound_after : (images : List (List ℕ)) (geo : Geometry) (first count : ℕ) (sectors : List ℕ) (n : ℕ) →
-    HoldMembers images geo first (512 * count) (length geo.slots.items) sectors → n ≤ count → unsound_rows images geo (first + n) ≡ unsound_rows images geo first + unsound_in geo sectors first n
-unsound_after images geo first count sectors zero hold le =
+pub unsound_after : (images : List (List ℕ)) (geo : Geometry) (first count : ℕ) (room : Room) (n : ℕ) →
+    HoldRead images geo room.stride first (512 * count) (length geo.slots.items) room.bytes → n ≤ count → unsound_rows images geo (first + n) ≡ unsound_rows images geo first + unsound_in geo room first n
+unsound_after images geo first count room zero hold le =
     let at : first + 0 ≡ first = omega arith in
-    rw at (omega (arith, unsound_none geo sectors first))
-unsound_after images geo first count sectors (suc n) hold le =
+    rw at (omega (arith, unsound_none geo room first))
+unsound_after images geo first count room (suc n) hold le =
     let on : first + suc n ≡ suc (first + n) = omega arith in
     let whole = count_suc (λ t. not (is_sound_row images geo t)) 0 (first + n) (first + n) (omega arith) in
-    let block = unsound_more geo sectors first n in
-    let same = ap {B = ℕ} (λ (b : Bool). cond (not b) 1 0) (held_sound images geo first count sectors n hold (omega arith)) in
-    let before = unsound_after images geo first count sectors n hold (omega arith) in
+    let block = unsound_more geo room first n in
+    let same = ap {B = ℕ} (λ (b : Bool). cond (not b) 1 0) (held_sound images geo first count room n hold (omega arith)) in
+    let before = unsound_after images geo first count room n hold (omega arith) in
     let one : n + 1 ≡ suc n = omega arith in
     let block' = rw one at block in
     rw on (omega (arith, whole, block', same, before))
 
 -- after a block
-left_after : (images : List (List ℕ)) (geo : Geometry) (first count left : ℕ) (sectors : List ℕ) (rest : Option ℕ) →
-    HoldMembers images geo first (512 * count) (length geo.slots.items) sectors →
-    MatchOption rest (left < unsound_in geo sectors first count) (λ n. unsound_in geo sectors first count + n ≡ left) →
+left_after : (images : List (List ℕ)) (geo : Geometry) (first count left : ℕ) (room : Room) (rest : Option ℕ) →
+    HoldRead images geo room.stride first (512 * count) (length geo.slots.items) room.bytes →
+    MatchOption rest (left < unsound_in geo room first count) (λ n. unsound_in geo room first count + n ≡ left) →
     IsLeft images geo first count left rest
-left_after images geo first count left sectors None hold more = omega (arith, unsound_after images geo first count sectors count hold (omega arith))
-left_after images geo first count left sectors (Some n) hold is = omega (arith, unsound_after images geo first count sectors count hold (omega arith))
+left_after images geo first count left room None hold more = omega (arith, unsound_after images geo first count room count hold (omega arith))
+left_after images geo first count left room (Some n) hold is = omega (arith, unsound_after images geo first count room count hold (omega arith))
 
 -- after a block, where its bytes are told
-pub told_after : (told : Option (List (List ℕ))) (geo : Geometry) (first count left : ℕ) (sectors : List ℕ) (rest : Option ℕ) →
-    IfSome told (λ bytes. HoldMembers bytes geo first (512 * count) (length geo.slots.items) sectors) →
-    MatchOption rest (left < unsound_in geo sectors first count) (λ n. unsound_in geo sectors first count + n ≡ left) →
+pub told_after : (told : Option (List (List ℕ))) (geo : Geometry) (first count left : ℕ) (room : Room) (rest : Option ℕ) →
+    IfSome told (λ bytes. HoldRead bytes geo room.stride first (512 * count) (length geo.slots.items) room.bytes) →
+    MatchOption rest (left < unsound_in geo room first count) (λ n. unsound_in geo room first count + n ≡ left) →
     IfSome told (λ bytes. IsLeft bytes geo first count left rest)
-told_after None geo first count left sectors rest hold is = tt
-told_after (Some bytes) geo first count left sectors rest hold is = left_after bytes geo first count left sectors rest hold is
+told_after None geo first count left room rest hold is = tt
+told_after (Some bytes) geo first count left room rest hold is = left_after bytes geo first count left room rest hold is
 
 -- where more rows are unsound than may be, no more may be
 pub told_ends : (told : Option (List (List ℕ))) (geo : Geometry) (first count left rows bad : ℕ) → first + count ≤ rows →
@@ -103,7 +100,20 @@ told_unsound (Some bytes) geo rows bad n None most is more =
     absurd (omega arith)
 told_unsound (Some bytes) geo rows bad n (Some k) most is left = omega arith
 
--- the readings so far and of one more block
-pub reads_on : (old mid new : Seen) (n first count rows : ℕ) → OnlyReads old mid (n * first) → OnlyReads mid new (n * count) → first + count ≤ rows → OnlyReads old new (n * rows)
-reads_on old mid new n first count rows before block within =
-    reads_up old new (reads_join old mid new before block) (omega (arith, mul-add n first count, mul-le-mul_left n within))
+-- where more rows are unsound than may be, little was read
+pub told_stops : (told : Option (List (List ℕ))) (geo : Geometry) (n first rest bad : ℕ) (old new : Seen) →
+    IfSome told (λ bytes. unsound_rows bytes geo first + rest ≡ bad) → OnlyReads old new (n * (first + 256)) → IfSome told (λ bytes. StopsEarly bytes geo bad n old new)
+told_stops None geo n first rest bad old new far reads = tt
+told_stops (Some bytes) geo n first rest bad old new far reads = (first, omega arith, reads)
+
+-- and also of as many members as there are images
+told_stops_more : (told : Option (List (List ℕ))) (geo : Geometry) (n m bad : ℕ) (old new : Seen) → n ≤ m →
+    IfSome told (λ bytes. StopsEarly bytes geo bad n old new) → IfSome told (λ bytes. StopsEarly bytes geo bad m old new)
+told_stops_more None geo n m bad old new few stops = tt
+told_stops_more (Some bytes) geo n m bad old new few stops = (stops.0, stops.1, reads_up old new stops.2 (mul-le-mul_right (stops.0 + 256) few))
+
+pub ends_more : {E : Type 0} (result : Result (Option ℕ) E) (told : Option (List (List ℕ))) (geo : Geometry) (n m bad : ℕ) (old new : Seen) → n ≤ m →
+    IfOk result (λ rest. rest ≡ None → IfSome told (λ bytes. StopsEarly bytes geo bad n old new)) →
+    IfOk result (λ rest. rest ≡ None → IfSome told (λ bytes. StopsEarly bytes geo bad m old new))
+ends_more (Ok rest) told geo n m bad old new few stops = λ none. told_stops_more told geo n m bad old new few (stops none)
+ends_more (Err e) told geo n m bad old new few stops = tt

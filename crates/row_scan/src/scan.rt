@@ -1,21 +1,26 @@
 //! The parity test of a parameter set, and the count of its unsound rows.
-ghost use Rattle.std.specs.Prelude.{◌≡◌, ◌+◌, ◌-◌, ◌*◌, ◌^◌, ◌<◌, ◌≤◌, length, All, IfErr, IfOk, IfSome};
+ghost use Rattle.std.specs.Prelude.{◌≡◌, ◌+◌, ◌-◌, ◌*◌, ◌^◌, ◌<◌, ◌≤◌, length, All, false, IfErr, IfOk, IfSome, None};
 ghost use Rattle.image_source.specs.Attached.{told_all};
 ghost use Rattle.image_source.specs.Causes.{HasCause};
 ghost use Rattle.image_source.specs.Seen.{OnlyReads};
 ghost use Rattle.raid_terms.specs.Parity.{passes_parity, tested_rows, unsound_rows};
-ghost use Rattle.row_scan.specs.Block.{held, IsLeft, IsRest, IsTestable, Reaches};
+ghost use Rattle.raid_params.specs.Size.{redundancy};
+ghost use Rattle.member_regions.specs.Members.{held, IsTestable, Reaches};
+ghost use Rattle.member_regions.specs.Regions.{IsRoomFor, KeepsRoom};
+ghost use Rattle.row_scan.specs.Block.{IsLeft, IsRest, StopsEarly};
 ghost use Rattle.row_scan.specs.Scan.{EndsScan, IsScannable};
 
-use crate::blocks::{BLOCK, BLOCK_BYTES, Blocks, FIRST_BLOCK};
-use crate::read::read_members;
 use crate::rows::rows_left;
 use address_map::area;
-use image_source::{Failed, Images, SECTOR};
-use plan_text::{Limits, Plan};
+use image_source::{Failed, Images};
+use member_regions::{BLOCK, Regions};
 use raid_params::Geometry;
+use search_plan::{Limits, Plan};
 use std::alloc::Global;
 use thiserror::Error;
+
+/// The sectors of the first block: most sets that are wrong fail in their first rows.
+const FIRST_BLOCK: usize = 8;
 
 /// Why the unsound rows are not counted.
 #[derive(Clone, Copy, Debug, Drop, Error)]
@@ -30,25 +35,29 @@ pub enum ScanFault {
 
 /// Whether at most `limits.badrows` of the tested sector rows of a parameter set are unsound: those
 /// below its area, whose whole rows end before the image sector `end`, and below `limits.window`.
-/// It stops at the first row too many.
+/// It stops at the first row too many: then it has read no further than the block that this row lies
+/// in, at most `BLOCK` sectors a member. At level 0 no row can be unsound, and nothing is read.
 #[tactic(auto, using(crate::proofs::Parity::told_passes))]
 pub fn parity_holds<I: Images>(
     images: &mut I,
-    blocks: &mut Blocks,
+    regions: &mut Regions,
     geo: &Geometry,
     end: u64,
     limits: &Limits,
 ) -> Result<bool, Failed>
     requires set { IsScannable geo.now end (I.seen images.old).attached }
-    requires blocks { length geo.now.slots.items ≤ blocks.old }
+    requires room { IsRoomFor (length geo.now.slots.items) BLOCK regions.old }
     ensures told { IfOk result (λ holds. IfSome (told_all (I.seen images.old).attached)
         (λ bytes. holds ≡ passes_parity bytes geo.now end limits.now.window limits.now.badrows)) }
     ensures reads { OnlyReads (I.seen images.old) (I.seen images.new)
         (length (I.seen images.old).attached * tested_rows geo.now end limits.now.window) }
+    ensures early { IfOk result (λ holds. holds ≡ false → IfSome (told_all (I.seen images.old).attached)
+        (λ bytes. StopsEarly bytes geo.now limits.now.badrows (length (I.seen images.old).attached) (I.seen images.old) (I.seen images.new))) }
+    ensures unread { redundancy geo.now.head.level ≡ 0 → I.seen images.new ≡ I.seen images.old }
     ensures cause { HasCause (I.seen images.old).faults (I.seen images.new).faults result }
-    ensures blocks { blocks.new ≡ blocks.old }
+    ensures room { KeepsRoom regions.old regions.new }
 {
-    let left = test_rows(images, blocks, geo, end, limits.window, limits.badrows)?;
+    let left = test_rows(images, regions, geo, end, limits.window, limits.badrows)?;
     Ok(left.is_some())
 }
 
@@ -66,10 +75,11 @@ pub fn unsound<I: Images>(
         (λ bytes. n ≡ unsound_rows bytes geo.now (tested_rows geo.now plan.now.end plan.now.limits.window))) }
     ensures reads { OnlyReads (I.seen images.old) (I.seen images.new)
         (length (I.seen images.old).attached * tested_rows geo.now plan.now.end plan.now.limits.window) }
+    ensures unread { redundancy geo.now.head.level ≡ 0 → I.seen images.new ≡ I.seen images.old }
     ensures ends { IfErr result (EndsScan (I.seen images.old) (I.seen images.new)) }
 {
-    let mut blocks = Blocks::new(alloc, geo.slots.len()).map_err(|_| ScanFault::Memory)?;
-    count_unsound(images, &mut blocks, geo, plan.end, plan.limits.window).map_err(
+    let mut regions = Regions::new(alloc, geo.slots.len(), BLOCK).map_err(|_| ScanFault::Memory)?;
+    count_unsound(images, &mut regions, geo, plan.end, plan.limits.window).map_err(
         |_| ScanFault::ReadFault,
     )
 }
@@ -77,61 +87,59 @@ pub fn unsound<I: Images>(
 /// The same, with room for the members' blocks, before the image sector `end` and below `window`.
 pub(crate) fn count_unsound<I: Images>(
     images: &mut I,
-    blocks: &mut Blocks,
+    regions: &mut Regions,
     geo: &Geometry,
     end: u64,
     window: u64,
 ) -> Result<u64, Failed>
     requires set { IsScannable geo.now end (I.seen images.old).attached }
-    requires blocks { length geo.now.slots.items ≤ blocks.old }
+    requires room { IsRoomFor (length geo.now.slots.items) BLOCK regions.old }
     ensures told { IfOk result (λ n. IfSome (told_all (I.seen images.old).attached)
         (λ bytes. n ≡ unsound_rows bytes geo.now (tested_rows geo.now end window))) }
     ensures reads { OnlyReads (I.seen images.old) (I.seen images.new)
         (length (I.seen images.old).attached * tested_rows geo.now end window) }
+    ensures unread { redundancy geo.now.head.level ≡ 0 → I.seen images.new ≡ I.seen images.old }
     ensures cause { HasCause (I.seen images.old).faults (I.seen images.new).faults result }
-    ensures blocks { blocks.new ≡ blocks.old }
+    ensures room { KeepsRoom regions.old regions.new }
 {
     // There are fewer rows than u64::MAX, so that none is too many.
-    let left = test_rows(images, blocks, geo, end, window, u64::MAX)?;
+    let left = test_rows(images, regions, geo, end, window, u64::MAX)?;
     Ok(u64::MAX - left.unwrap_or(0))
 }
 
 /// How many more of the tested rows may be unsound, where `left` may be, and None where more are.
 fn test_rows<I: Images>(
     images: &mut I,
-    blocks: &mut Blocks,
+    regions: &mut Regions,
     geo: &Geometry,
     end: u64,
     window: u64,
     left: u64,
 ) -> Result<Option<u64>, Failed>
     requires set { IsScannable geo.now end (I.seen images.old).attached }
-    requires blocks { length geo.now.slots.items ≤ blocks.old }
+    requires room { IsRoomFor (length geo.now.slots.items) BLOCK regions.old }
     ensures told { IfOk result (λ rest. IfSome (told_all (I.seen images.old).attached)
         (λ bytes. IsRest bytes geo.now (tested_rows geo.now end window) left rest)) }
     ensures reads { OnlyReads (I.seen images.old) (I.seen images.new)
         (length (I.seen images.old).attached * tested_rows geo.now end window) }
+    ensures early { IfOk result (λ rest. rest ≡ None → IfSome (told_all (I.seen images.old).attached)
+        (λ bytes. StopsEarly bytes geo.now left (length (I.seen images.old).attached) (I.seen images.old) (I.seen images.new))) }
+    ensures unread { redundancy geo.now.head.level ≡ 0 → I.seen images.new ≡ I.seen images.old }
     ensures cause { HasCause (I.seen images.old).faults (I.seen images.new).faults result }
-    ensures blocks { blocks.new ≡ blocks.old }
+    ensures room { KeepsRoom regions.old regions.new }
 {
+    if geo.head.level.redundancy() == 0 {
+        return Ok(Some(left));
+    }
     let rows = rows_to_test(geo, end, window);
-    test_in(
-        images,
-        &mut blocks.sectors,
-        &mut blocks.row,
-        geo,
-        rows,
-        left,
-    )
+    test_first(images, regions, geo, rows, left)
 }
 
-/// The same of the first `rows` rows, with room for a block of each member and for a sector of
-/// each. The first block is small, and each later one as long as all before it, up to `BLOCK`
-/// sectors.
-fn test_in<I: Images>(
+/// The same of the first `rows` rows. The first block is small, and each later one as long as all
+/// before it, up to `BLOCK` sectors.
+fn test_first<I: Images>(
     images: &mut I,
-    sectors: &mut [u8],
-    row: &mut [u8],
+    regions: &mut Regions,
     geo: &Geometry,
     rows: u64,
     left: u64,
@@ -139,11 +147,13 @@ fn test_in<I: Images>(
     requires set { IsTestable geo.now }
     requires near { geo.now.head.offset + rows < 2 ^ 55 }
     requires held { 1 ≤ rows → All (Reaches (I.seen images.old).attached (geo.now.head.offset + rows)) geo.now.slots.items }
-    requires sectors { BLOCK_BYTES * length geo.now.slots.items ≤ length sectors.old }
-    requires row { 512 * length geo.now.slots.items ≤ length row.old }
+    requires room { IsRoomFor (length geo.now.slots.items) BLOCK regions.old }
     ensures told { IfOk result (λ rest. IfSome (told_all (I.seen images.old).attached)
         (λ bytes. IsRest bytes geo.now rows left rest)) }
     ensures reads { OnlyReads (I.seen images.old) (I.seen images.new) (held geo.now.slots.items * rows) }
+    ensures early { IfOk result (λ rest. rest ≡ None → IfSome (told_all (I.seen images.old).attached)
+        (λ bytes. StopsEarly bytes geo.now left (held geo.now.slots.items) (I.seen images.old) (I.seen images.new))) }
+    ensures room { KeepsRoom regions.old regions.new }
     ensures cause { HasCause (I.seen images.old).faults (I.seen images.new).faults result }
 {
     let mut rest = left;
@@ -151,7 +161,7 @@ fn test_in<I: Images>(
     while first < rows {
         let most = first.clamp(FIRST_BLOCK as u64, BLOCK as u64);
         let count = most.min(rows - first);
-        match block_left(images, sectors, row, geo, first, count, rest)? {
+        match block_left(images, regions, geo, first, count, rest)? {
             Some(fewer) => rest = fewer,
             None => return Ok(None),
         }
@@ -161,7 +171,7 @@ fn test_in<I: Images>(
 }
 
 /// How many member sectors lie below the area and the window.
-#[tactic(auto, using(raid_layouts::proofs::Shapes::shaped_head, crate::proofs::Sets::area_below))]
+#[tactic(auto, using(raid_layouts::proofs::Shapes::shaped_head, member_regions::proofs::Sets::area_below))]
 fn rows_to_test(geo: &Geometry, end: u64, window: u64) -> u64
     requires { IsTestable geo.now }
     ensures value { result ≡ tested_rows geo.now end window }
@@ -174,8 +184,7 @@ fn rows_to_test(geo: &Geometry, end: u64, window: u64) -> u64
 /// and None where more are. It reads a block of each member that is there.
 fn block_left<I: Images>(
     images: &mut I,
-    sectors: &mut [u8],
-    row: &mut [u8],
+    regions: &mut Regions,
     geo: &Geometry,
     first: u64,
     count: u64,
@@ -184,17 +193,16 @@ fn block_left<I: Images>(
     requires set { IsTestable geo.now }
     requires near { geo.now.head.offset + (first + count) < 2 ^ 55 }
     requires held { All (Reaches (I.seen images.old).attached (geo.now.head.offset + (first + count))) geo.now.slots.items }
-    requires sectors { BLOCK_BYTES * length geo.now.slots.items ≤ length sectors.old }
-    requires row { 512 * length geo.now.slots.items ≤ length row.old }
+    requires room { IsRoomFor (length geo.now.slots.items) BLOCK regions.old }
     requires some { 1 ≤ count }
     requires most { count ≤ BLOCK }
     ensures told { IfOk result (λ rest. IfSome (told_all (I.seen images.old).attached)
         (λ bytes. IsLeft bytes geo.now first count left rest)) }
     ensures reads { OnlyReads (I.seen images.old) (I.seen images.new) (held geo.now.slots.items * count) }
+    ensures room { KeepsRoom regions.old regions.new }
     ensures cause { HasCause (I.seen images.old).faults (I.seen images.new).faults result }
 {
     let count = count as usize;
-    read_members(images, sectors, geo, BLOCK_BYTES, first, count)?;
-    let row = &mut row[..SECTOR * geo.slots.len()];
-    Ok(rows_left(geo, sectors, row, first, count, left))
+    regions.read(images, geo, first, count)?;
+    Ok(rows_left(geo, regions, first, count, left))
 }

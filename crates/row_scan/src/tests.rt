@@ -1,12 +1,15 @@
 //! That a test succeeds, over images in memory.
-ghost use Rattle.std.specs.Prelude.{◌≡◌, ◌≤◌, ◌^◌, ◌<◌, length, All, IsSomeAnd, IsTrue, slice_get};
+ghost use Rattle.std.specs.Prelude.{◌≡◌, ◌≤◌, ◌^◌, ◌<◌, length, All, IfOk, IsSomeAnd, IsTrue, slice_get};
 ghost use Rattle.image_source.specs.Memory.{seen_of};
+ghost use Rattle.member_regions.specs.Regions.{IsRoomFor, KeepsRoom};
 
+use crate::parity_holds;
 use crate::scan::count_unsound;
-use crate::{Blocks, parity_holds};
 use image_source::{Images, MemImages};
-use plan_text::Limits;
+use member_regions::{BLOCK, Regions};
 use raid_params::{Geometry, Head, Level, Pattern, Slots, Syndrome};
+use search_plan::Limits;
+use std::alloc::Global;
 use std::process::Abort;
 use std::test::Fail;
 
@@ -46,20 +49,20 @@ fn three_reach(images: &MemImages, end: u64) -> bool
 fn holds<R: Abort>(
     rt: &R,
     images: &mut MemImages,
-    blocks: &mut Blocks,
+    regions: &mut Regions,
     geo: &Geometry,
     end: u64,
     badrows: u64,
     window: u64,
 ) -> Option<bool>
     requires offset { geo.now.head.offset < 2 ^ 55 }
-    requires blocks { length geo.now.slots.items ≤ blocks.old }
+    requires room { IsRoomFor (length geo.now.slots.items) BLOCK regions.old }
     requires end { end < 2 ^ 55 }
-    ensures { blocks.new ≡ blocks.old }
+    ensures { KeepsRoom regions.old regions.new }
 {
     assert!(rt; geo.is_shaped(3));
     assert!(rt; three_reach(images, end));
-    parity_holds(images, blocks, geo, end, &Limits { badrows, window }).ok()
+    parity_holds(images, regions, geo, end, &Limits { badrows, window }).ok()
 }
 
 // How many rows are unsound.
@@ -67,19 +70,26 @@ fn holds<R: Abort>(
 fn count<R: Abort>(
     rt: &R,
     images: &mut MemImages,
-    blocks: &mut Blocks,
+    regions: &mut Regions,
     geo: &Geometry,
     end: u64,
     window: u64,
 ) -> Option<u64>
     requires offset { geo.now.head.offset < 2 ^ 55 }
-    requires blocks { length geo.now.slots.items ≤ blocks.old }
+    requires room { IsRoomFor (length geo.now.slots.items) BLOCK regions.old }
     requires end { end < 2 ^ 55 }
-    ensures { blocks.new ≡ blocks.old }
+    ensures { KeepsRoom regions.old regions.new }
 {
     assert!(rt; geo.is_shaped(3));
     assert!(rt; three_reach(images, end));
-    count_unsound(images, blocks, geo, end, window).ok()
+    count_unsound(images, regions, geo, end, window).ok()
+}
+
+// Room for a scan of so many members.
+fn room(alloc: Global, members: usize) -> Result<Regions, Fail>
+    ensures { IfOk result (λ regions. IsRoomFor members BLOCK regions) }
+{
+    Ok(Regions::new(alloc, members, BLOCK)?)
 }
 
 // Images 0, 1 and 2 in this order, left-symmetric at level 5.
@@ -126,7 +136,7 @@ fn parity_last(level: Level, syndrome: Syndrome) -> Geometry
 // 1 + 3 + 2 and 2 + 4 + 6 cancel bit by bit, 2 + 4 + 7 do not.
 #[test]
 fn two_rows(rt: HostRuntime) -> Result<(), Fail> {
-    let mut blocks = Blocks::new(rt.alloc(), 3)?;
+    let mut regions = room(rt.alloc(), 3)?;
     let geo = three_members(1);
     let (mut a, mut b, mut c) = ([1; 1024], [3; 1024], [2; 1024]);
     a[512..].fill(2);
@@ -134,24 +144,24 @@ fn two_rows(rt: HostRuntime) -> Result<(), Fail> {
     c[512..].fill(6);
     let mut images = three_images(&rt, [&a, &b, &c])?;
     assert_eq!(rt;
-        holds(&rt, &mut images, &mut blocks, &geo, 2, 0, 2),
+        holds(&rt, &mut images, &mut regions, &geo, 2, 0, 2),
         Some(true)
     );
     c[512..].fill(7);
     let mut images = three_images(&rt, [&a, &b, &c])?;
     assert_eq!(rt;
-        holds(&rt, &mut images, &mut blocks, &geo, 2, 0, 2),
+        holds(&rt, &mut images, &mut regions, &geo, 2, 0, 2),
         Some(false)
     );
     assert_eq!(rt;
-        holds(&rt, &mut images, &mut blocks, &geo, 2, 1, 2),
+        holds(&rt, &mut images, &mut regions, &geo, 2, 1, 2),
         Some(true)
     );
     assert_eq!(rt;
-        holds(&rt, &mut images, &mut blocks, &geo, 2, 0, 1),
+        holds(&rt, &mut images, &mut regions, &geo, 2, 0, 1),
         Some(true)
     );
-    assert_eq!(rt; count(&rt, &mut images, &mut blocks, &geo, 2, 2), Some(1));
+    assert_eq!(rt; count(&rt, &mut images, &mut regions, &geo, 2, 2), Some(1));
     Ok(())
 }
 
@@ -162,22 +172,22 @@ fn many_blocks(rt: HostRuntime) -> Result<(), Fail> {
     let mut other = vec![in rt.alloc(); 0u8; 307_200]?;
     other[307_199] = 1;
     let mut images = three_images(&rt, [&zeros, &other, &zeros])?;
-    let mut blocks = Blocks::new(rt.alloc(), 4)?;
+    let mut regions = room(rt.alloc(), 4)?;
     let geo = three_members(8);
     assert_eq!(rt;
-        holds(&rt, &mut images, &mut blocks, &geo, 600, 0, 600),
+        holds(&rt, &mut images, &mut regions, &geo, 600, 0, 600),
         Some(false)
     );
     assert_eq!(rt;
-        holds(&rt, &mut images, &mut blocks, &geo, 600, 0, 599),
+        holds(&rt, &mut images, &mut regions, &geo, 600, 0, 599),
         Some(true)
     );
     assert_eq!(rt;
-        holds(&rt, &mut images, &mut blocks, &geo, 599, 0, 600),
+        holds(&rt, &mut images, &mut regions, &geo, 599, 0, 600),
         Some(true)
     );
     assert_eq!(rt;
-        count(&rt, &mut images, &mut blocks, &geo, 600, 600),
+        count(&rt, &mut images, &mut regions, &geo, 600, 600),
         Some(1)
     );
     Ok(())
@@ -187,17 +197,17 @@ fn many_blocks(rt: HostRuntime) -> Result<(), Fail> {
 // any bytes can be a row.
 #[test]
 fn a_missing_member(rt: HostRuntime) -> Result<(), Fail> {
-    let mut blocks = Blocks::new(rt.alloc(), 4)?;
+    let mut regions = room(rt.alloc(), 4)?;
     let mut q = [9; 1024];
     q[512..].fill(8);
     let mut images = three_images(&rt, [&[3; 1024], &[6; 1024], &q])?;
     let geo = parity_last(Level::Raid6, Syndrome::BySlot);
     assert_eq!(rt;
-        holds(&rt, &mut images, &mut blocks, &geo, 2, 0, 1),
+        holds(&rt, &mut images, &mut regions, &geo, 2, 0, 1),
         Some(true)
     );
-    assert_eq!(rt; count(&rt, &mut images, &mut blocks, &geo, 2, 2), Some(1));
+    assert_eq!(rt; count(&rt, &mut images, &mut regions, &geo, 2, 2), Some(1));
     let geo = parity_last(Level::Raid5, Syndrome::NoQ);
-    assert_eq!(rt; count(&rt, &mut images, &mut blocks, &geo, 2, 2), Some(0));
+    assert_eq!(rt; count(&rt, &mut images, &mut regions, &geo, 2, 2), Some(0));
     Ok(())
 }

@@ -9,10 +9,10 @@ use Rattle.std.specs.Option.{is_none}
 use Rattle.std.proofs.lemmas.List.{append-nil}
 use Rattle.raid_terms.specs.Parity.{member_byte}
 use Rattle.raid_terms.specs.Volume.{byte_in, member_sector}
-use Rattle.virtual_volume.proofs.Solved.{held_byte}
+use Rattle.member_regions.proofs.Solved.{held_byte}
 use Rattle.virtual_volume.specs.Parts.{chunk_of}
-use Rattle.row_scan.specs.Block.{HoldRead}
-use Rattle.virtual_volume.specs.Regions.{HoldSlot}
+use Rattle.member_regions.specs.Regions.{HoldRead}
+use Rattle.member_regions.specs.Regions.{HoldSlot}
 use Rattle.virtual_volume.proofs.Ranges.{flat_more, flat_same}
 
 -- one more block of a list
@@ -53,12 +53,12 @@ sector_long images geo slot t = length-map-range_with_len (λ x. byte_in images 
 
 -- sectors of a region are those of the member
 pub region_sectors : (images : List (List ℕ)) (geo : Geometry) (stride first count slot at n : ℕ) (sectors part : List ℕ) → HoldSlot images geo stride first count slot sectors →
-    at + n ≤ count → stride * slot + 512 * at + 512 * n ≤ length sectors → part ≡ take (512 * n) (drop (stride * slot + 512 * at) sectors) →
+    at + n ≤ count → length part ≡ 512 * n → part ≡ take (512 * n) (drop (stride * slot + 512 * at) sectors) →
     part ≡ flat_map (λ j. member_sector images geo slot (first + (at + j))) (range_with_len 0 n)
 region_sectors images geo stride first count slot at n sectors part hold few within is =
     let xs : List ℕ = take (512 * n) (drop (stride * slot + 512 * at) sectors) in
     let long : length (take (512 * n) (drop (stride * slot + 512 * at) sectors)) ≡ 512 * n
-    = omega (arith, length-take (512 * n) (drop (stride * slot + 512 * at) sectors), length-drop (stride * slot + 512 * at) sectors) in
+    = sym (ap (λ (l : List ℕ). length l) is) ∙ within in
     let whole : take (512 * n) (take (512 * n) (drop (stride * slot + 512 * at) sectors)) ≡ take (512 * n) (drop (stride * slot + 512 * at) sectors)
     = same_number_lists (take (512 * n) (take (512 * n) (drop (stride * slot + 512 * at) sectors))) (take (512 * n) (drop (stride * slot + 512 * at) sectors))
     (omega (arith, length-take (512 * n) (take (512 * n) (drop (stride * slot + 512 * at) sectors))))
@@ -75,7 +75,7 @@ region_sectors images geo stride first count slot at n sectors part hold few wit
 
 -- the chunk of a slot in a row
 pub region_chunk : (images : List (List ℕ)) (geo : Geometry) (stride first count slot row at : ℕ) (sectors part : List ℕ) → HoldSlot images geo stride first count slot sectors →
-    first + at ≡ row * geo.head.chunk → at + geo.head.chunk ≤ count → stride * slot + 512 * at + 512 * geo.head.chunk ≤ length sectors →
+    first + at ≡ row * geo.head.chunk → at + geo.head.chunk ≤ count → length part ≡ 512 * geo.head.chunk →
     part ≡ take (512 * geo.head.chunk) (drop (stride * slot + 512 * at) sectors) → part ≡ chunk_of images geo row slot
 unfolding chunk_of
 region_chunk images geo stride first count slot row at sectors part hold place few within is =
@@ -97,7 +97,8 @@ pub sector_found : (images : List (List ℕ)) (geo : Geometry) (slot t k : ℕ) 
 sector_found images geo slot t k sectors hold within long =
     let from : 512 * slot ≡ 512 * slot + 512 * 0 = omega arith in
     let at : t + (0 + 0) ≡ t = omega arith in
-    region_sectors images geo 512 t 1 slot 0 1 sectors (take k (drop (512 * slot) sectors)) hold (omega arith) (omega arith)
+    region_sectors images geo 512 t 1 slot 0 1 sectors (take k (drop (512 * slot) sectors)) hold (omega arith)
+    (omega (arith, length-take k (drop (512 * slot) sectors), length-drop (512 * slot) sectors))
     (ap (λ (n : ℕ). take n (drop (512 * slot) sectors)) long ∙ ap (λ (n : ℕ). take (512 * 1) (drop n sectors)) from)
     ∙ append-nil (member_sector images geo slot (t + (0 + 0)))
     ∙ ap (λ (s : ℕ). member_sector images geo slot s) at

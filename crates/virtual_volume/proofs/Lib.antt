@@ -1,7 +1,6 @@
 pub mod Places
 pub mod Ranges
 pub mod Fronts
-pub mod Solved
 pub mod Blocks
 pub mod Sets
 pub mod Whole

@@ -6,11 +6,11 @@ use Rattle.raid_params.specs.Size.{data_blocks, rows}
 use Rattle.raid_params.specs.declared.types.Geometry.{Geometry}
 use Rattle.raid_terms.specs.Role.{item_of}
 use Rattle.virtual_volume.specs.Parts.{chunk_of, items_of, rows_of}
-use Rattle.virtual_volume.specs.Regions.{HoldAll}
+use Rattle.member_regions.specs.Regions.{HoldAll}
 use Rattle.virtual_volume.specs.Waiting.{Passed, Passes}
 use Rattle.virtual_volume.proofs.Blocks.{region_chunk}
 use Rattle.std.specs.Io.KnownBytes.{Appends}
-use Rattle.std.specs.Prelude.{MatchResult, OnOk}
+use Rattle.std.specs.Prelude.{MatchResult, OnOk, slice_range}
 use Rattle.std.specs.Result.{IsErrAnd}
 use Rattle.std.proofs.lemmas.List.{append-nil}
 use Rattle.raid_terms.specs.Volume.{volume}
@@ -25,12 +25,13 @@ row_inside r rows chunk h =
     omega arith
 
 -- the part of the regions that is put for an item is the chunk of its slot
-pub item_part : (images : List (List ℕ)) (geo : Geometry) (stride first count row item slot at k : ℕ) (sectors : List ℕ) → slot ≡ item_of geo.head row item → slot < length geo.slots.items →
-    HoldAll images geo stride first count sectors → first + at ≡ row * geo.head.chunk → at + geo.head.chunk ≤ count → stride * slot + 512 * at + 512 * geo.head.chunk ≤ length sectors →
-    k ≡ 512 * geo.head.chunk → take k (drop (stride * slot + 512 * at) sectors) ≡ chunk_of images geo row (item_of geo.head row item)
-item_part images geo stride first count row item slot at k sectors is within hold place few fits long =
-    region_chunk images geo stride first count slot row at sectors (take k (drop (stride * slot + 512 * at) sectors)) (hold slot within) place few fits
-    (ap (λ (n : ℕ). take n (drop (stride * slot + 512 * at) sectors)) long)
+pub item_part : (images : List (List ℕ)) (geo : Geometry) (stride first count row item slot at : ℕ) (sectors part : List ℕ) → slot ≡ item_of geo.head row item → slot < length geo.slots.items →
+    HoldAll images geo stride first count sectors → first + at ≡ row * geo.head.chunk → at + geo.head.chunk ≤ count → length part ≡ 512 * geo.head.chunk →
+    part ≡ slice_range sectors (stride * slot + 512 * at) (stride * slot + 512 * at + 512 * geo.head.chunk) → part ≡ chunk_of images geo row (item_of geo.head row item)
+item_part images geo stride first count row item slot at sectors part is within hold place few long cut =
+    let size : stride * slot + 512 * at + 512 * geo.head.chunk - (stride * slot + 512 * at) ≡ 512 * geo.head.chunk = omega arith in
+    region_chunk images geo stride first count slot row at sectors part (hold slot within) place few long
+    (cut ∙ ap (λ (n : ℕ). take n (drop (stride * slot + 512 * at) sectors)) size)
     ∙ ap (λ (s : ℕ). chunk_of images geo row s) is
 
 pub items_start : (images : List (List ℕ)) (geo : Geometry) (row : ℕ) (old : Option (List ℕ)) (waits : List ℕ) → Passes old old waits waits (items_of images geo row 0)

@@ -15,8 +15,8 @@ use Rattle.raid_params.specs.declared.types.GeoFault.{GeoFault}
 use Rattle.raid_params.specs.declared.types.GeoFault.TheVariants.{NoRow}
 use Rattle.raid_params.specs.declared.types.Geometry.{Geometry}
 use Rattle.raid_layouts.proofs.Shapes.{shaped_head, shaped_slots}
-use Rattle.row_scan.proofs.Sets.{area_below, reaches_less, scannable_held}
-use Rattle.row_scan.specs.Block.{IsTestable, Reaches}
+use Rattle.member_regions.proofs.Sets.{area_below, images_reach, reaches_less}
+use Rattle.member_regions.specs.Members.{IsTestable, Reaches}
 use Rattle.virtual_volume.specs.Served.{IsServed}
 
 ruled_shape : (r : Option GeoFault) (geo : Geometry) (end : ℕ) → row_fault geo end r ≡ None → is_none r ≡ true
@@ -63,7 +63,7 @@ served_end geo end attached s some =
 
 pub served_held : (geo : Geometry) (end m : ℕ) (attached : List Image) → IsServed geo end attached → m ≤ end → All (Reaches attached m) geo.slots.items
 served_held geo end m attached s le =
-    scannable_held geo end m attached (record { shaped = served_shape geo end attached s; offset = s.offset; near = s.near; long = s.long }) le
+    images_reach geo end m attached (served_shape geo end attached s) s.long le
 
 -- a batch of rows lies in the rows
 pub batch_inside : (first count rows chunk : ℕ) → first + count ≤ rows → first * chunk + count * chunk ≤ rows * chunk

@@ -1,4 +1,3 @@
-pub mod Regions
 pub mod Waiting
 pub mod Parts
 pub mod Served

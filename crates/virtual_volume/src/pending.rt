@@ -3,13 +3,13 @@ ghost use Rattle.std.specs.Prelude.{◌≡◌, [], ◌++◌, ◌+◌, ◌≤◌,
 ghost use Rattle.image_source.specs.Causes.{HasCause};
 ghost use Rattle.virtual_volume.specs.Waiting.{Passed};
 
-use image_source::{Failed, Memory, Sink};
-use row_scan::{BLOCK_BYTES, zeros};
+use image_source::{Failed, Memory, SECTOR, Sink};
+use member_regions::{BLOCK, zeros};
 use std::alloc::Global;
 use std::marker::Model;
 
 /// The bytes that wait at most.
-const PENDING: usize = BLOCK_BYTES;
+const PENDING: usize = BLOCK * SECTOR;
 
 /// Bytes that wait to be put. Contracts see them.
 #[derive(Drop)]

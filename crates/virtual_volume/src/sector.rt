@@ -5,14 +5,13 @@ ghost use Rattle.image_source.specs.Causes.{HasCause};
 ghost use Rattle.image_source.specs.Seen.{OnlyReads};
 ghost use Rattle.raid_params.specs.Size.{volume_sectors};
 ghost use Rattle.raid_terms.specs.Volume.{member_sector, volume_sector};
-ghost use Rattle.row_scan.specs.Block.{IsTestable, Reaches, held};
+ghost use Rattle.member_regions.specs.Members.{IsTestable, Reaches, held};
 ghost use Rattle.virtual_volume.specs.Served.{IsServed};
 
-use crate::lost::solve_slot;
 use address_map::locate;
 use image_source::{Failed, Images, SECTOR};
+use member_regions::{read_member, read_members, solve_members};
 use raid_params::{Geometry, MOST};
-use row_scan::{read_member, read_members};
 
 /// The bytes of a sector of each member, at most.
 const ROW: usize = SECTOR * MOST;
@@ -92,10 +91,8 @@ fn find_sector<I: Images>(
     ensures cause { HasCause (I.seen images.old).faults (I.seen images.new).faults result }
 {
     let mut sectors = [0u8; ROW];
-    let mut row = [0u8; ROW];
-    let room = &mut row[..SECTOR * geo.slots.len()];
     read_members(images, &mut sectors, geo, SECTOR, sector, 1)?;
-    solve_slot(geo, &mut sectors, room, SECTOR, sector, 1, slot);
+    solve_members(geo, &mut sectors, SECTOR, sector, 1);
     to.copy_from_slice(&sectors[SECTOR * slot..SECTOR * slot + SECTOR]);
     Ok(())
 }

@@ -1,10 +1,10 @@
 //! Volumes that were worked out by hand, over images in memory.
-ghost use Rattle.std.specs.Prelude.{◌≡◌, ◌≤◌, ◌^◌, ◌<◌, length, All, IsSomeAnd, IsTrue, slice_get};
+ghost use Rattle.std.specs.Prelude.{◌≡◌, ◌+◌, ◌≤◌, ◌^◌, ◌<◌, length, All, IsSomeAnd, IsTrue, None, OnOk, slice_get};
 ghost use Rattle.image_source.specs.Memory.{seen_of};
 
 use crate::{VolumeFault, read_volume, write_volume};
 use address_map::volume_sectors;
-use image_source::{Failed, Images, MemImages, MemSink};
+use image_source::{Failed, Images, MemImages, MemSink, SECTOR, Sink};
 use raid_params::{Geometry, Head, Level, Pattern, Slots, Syndrome};
 use std::alloc::Global;
 use std::process::Abort;
@@ -36,14 +36,14 @@ fn all_reach(images: &MemImages, count: u8, end: u64) -> bool
 
 // Writes the volume, over so many images.
 #[tactic(auto, using(crate::proofs::TestSets::long_served))]
-fn write<R: Abort>(
+fn write<R: Abort, K: Sink>(
     rt: &R,
     alloc: Global,
     images: &mut MemImages,
     count: u8,
     geo: &Geometry,
     end: u64,
-    sink: &mut MemSink,
+    sink: &mut K,
 ) -> Result<(), VolumeFault>
     requires offset { geo.now.head.offset < 2 ^ 55 }
     requires end { end < 2 ^ 55 }
@@ -238,5 +238,162 @@ fn large_chunks_are_put_at_once(rt: HostRuntime) -> Result<(), Fail> {
     sink.fail_call(3, 100)?;
     assert!(rt; write(&rt, alloc, &mut images, 2, &striped(256), 256, &mut sink).is_ok());
     assert_eq!(rt; sink.bytes(), ones.as_slice());
+    Ok(())
+}
+
+// A sink that keeps nothing and looks at each put.
+#[derive(Drop)]
+struct Looker {
+    /// The bytes that were put.
+    bytes: usize,
+    /// Whether each put held one or more whole sectors.
+    whole: bool,
+    /// Whether each byte was 1.
+    ones: bool,
+}
+
+impl Looker {
+    fn new() -> Looker {
+        Looker {
+            bytes: 0,
+            whole: true,
+            ones: true,
+        }
+    }
+}
+
+impl Sink for Looker {
+    ghost gained = { λ _. None };
+
+    ghost faults = { λ _. 0 };
+
+    fn put(&mut self, from: &[u8]) -> Result<(), Failed> {
+        self.bytes = self.bytes.wrapping_add(from.len());
+        self.whole &= !from.is_empty() && from.len() % SECTOR == 0;
+        self.ones &= from.iter().all(|byte| *byte == 1);
+        Ok(())
+    }
+}
+
+// Two images of so many bytes that are 1.
+fn two_of_ones(alloc: Global, bytes: usize) -> Result<MemImages, Fail> {
+    let ones = vec![in alloc; 1u8; bytes]?;
+    let mut images = MemImages::new(alloc)?;
+    images.add("a", &ones)?;
+    images.add("b", &ones)?;
+    images.attach("a")?;
+    images.attach("b")?;
+    Ok(images)
+}
+
+// Chunks of which many are a batch, one is, and larger ones, with a last batch that is short: 700 sectors
+// hold 175 chunks of 4, 10 of 64, 2 of 256 and 1 of 512.
+#[test]
+fn whole_sectors_are_put(rt: HostRuntime) -> Result<(), Fail> {
+    let alloc = rt.alloc();
+    let mut images = two_of_ones(alloc, 358_400)?;
+    for (chunk, sectors) in [(4, 1400), (64, 1280), (256, 1024), (512, 1024)] {
+        let mut sink = Looker::new();
+        assert!(rt; write(&rt, alloc, &mut images, 2, &striped(chunk), 700, &mut sink).is_ok());
+        assert_eq!(rt; sink.bytes, SECTOR * sectors);
+        assert!(rt; sink.whole && sink.ones);
+    }
+    Ok(())
+}
+
+// The largest chunk, of 16 MiB.
+#[test]
+fn the_largest_chunk(rt: HostRuntime) -> Result<(), Fail> {
+    let alloc = rt.alloc();
+    let mut images = two_of_ones(alloc, 16_777_216)?;
+    let mut sink = Looker::new();
+    assert!(rt;
+        write(
+            &rt,
+            alloc,
+            &mut images,
+            2,
+            &striped(32768),
+            32768,
+            &mut sink
+        )
+        .is_ok()
+    );
+    assert_eq!(rt; sink.bytes, 33_554_432);
+    assert!(rt; sink.whole && sink.ones);
+    Ok(())
+}
+
+// Sixteen members, of which data members 0 and 5 are missing, in chunks of 4 sectors.
+fn sixteen() -> Geometry
+    ensures { result.head.offset ≡ 0 }
+{
+    let mut slots = Slots::new();
+    slots.push(NO);
+    slots.push(Some(0));
+    slots.push(Some(1));
+    slots.push(Some(2));
+    slots.push(Some(3));
+    slots.push(NO);
+    slots.push(Some(4));
+    slots.push(Some(5));
+    slots.push(Some(6));
+    slots.push(Some(7));
+    slots.push(Some(8));
+    slots.push(Some(9));
+    slots.push(Some(10));
+    slots.push(Some(11));
+    slots.push(Some(12));
+    slots.push(Some(13));
+    let head = Head {
+        level: Level::Raid6,
+        members: 16,
+        pattern: Pattern::ParityLast,
+        syndrome: Syndrome::ByData,
+        chunk: 4,
+        offset: 0,
+    };
+    Geometry { head, slots }
+}
+
+// Attaches an image of this name so many times.
+fn attach_times(images: &mut MemImages, name: &str, count: u8) -> Result<(), Fail>
+    requires room { length (seen_of images.old).attached ≤ 16 }
+    requires named { IsTrue ((seen_of images.old).world.may_attach name.now) }
+    ensures files { images.new.files ≡ images.old.files }
+    ensures attached { OnOk result (length (seen_of images.new).attached ≡ length (seen_of images.old).attached + count) }
+{
+    for _ in 0..count {
+        images.attach(name)?;
+    }
+    Ok(())
+}
+
+// Twelve images of zeros, then two of ones: the data members that are there, P and Q.
+fn fourteen_images(alloc: Global) -> Result<MemImages, Fail> {
+    let zeros = vec![in alloc; 0u8; 138_240]?;
+    let ones = vec![in alloc; 1u8; 138_240]?;
+    let mut images = MemImages::new(alloc)?;
+    images.add("zeros", &zeros)?;
+    images.add("ones", &ones)?;
+    attach_times(&mut images, "zeros", 12)?;
+    attach_times(&mut images, "ones", 2)?;
+    Ok(images)
+}
+
+// P and Q are 1 in each column: then of the two lost members the first, which Q weighs by 1, holds ones
+// and the other zeros. 270 sectors are a batch of 64 rows, a short one of 3, and the
+// start of a row that does not count.
+#[test]
+fn sixteen_members_of_which_two_are_lost(rt: HostRuntime) -> Result<(), Fail> {
+    let alloc = rt.alloc();
+    let mut images = fourteen_images(alloc)?;
+    let mut sink = MemSink::new(alloc, 1_921_024)?;
+    assert!(rt; write(&rt, alloc, &mut images, 14, &sixteen(), 270, &mut sink).is_ok());
+    assert_eq!(rt; sink.bytes().len(), 1_921_024);
+    for (chunk, part) in sink.bytes().chunks_exact(2048).enumerate() {
+        let byte = if chunk % 14 == 0 { 1 } else { 0 };
+        assert!(rt; part.iter().all(|b| *b == byte));
+    }
     Ok(())
 }

@@ -9,16 +9,17 @@ ghost use Rattle.image_source.specs.Streams.{AppendsFront, Puts};
 ghost use Rattle.raid_params.specs.Size.{area, data_blocks as data_blocks_of};
 ghost use Rattle.raid_params.specs.Validity.{is_valid_head};
 ghost use Rattle.raid_terms.specs.Volume.{volume};
-ghost use Rattle.row_scan.specs.Block.{IsTestable, Reaches, held};
+ghost use Rattle.member_regions.specs.Members.{IsTestable, Reaches, held};
+ghost use Rattle.member_regions.specs.Regions.{HoldAll, IsRoomFor, KeepsRoom};
 ghost use Rattle.virtual_volume.specs.Parts.{items_of, rows_of};
-ghost use Rattle.virtual_volume.specs.Regions.{HoldAll, IsRoom};
 ghost use Rattle.virtual_volume.specs.Served.{Ends, IsServed};
 ghost use Rattle.virtual_volume.specs.Waiting.{Passed};
 
+use crate::batch::batch_rows;
 use crate::pending::Pending;
-use crate::room::{Room, batch_rows};
 use address_map::rows;
-use image_source::{Failed, Images, SECTOR, Sink};
+use image_source::{Failed, Images, Sink};
+use member_regions::Regions;
 use raid_layouts::slot_of_item;
 use raid_params::{Geometry, Head};
 use std::alloc::Global;
@@ -48,59 +49,55 @@ fn data_blocks(head: &Head) -> u8
 }
 
 /// Puts the data items of a row, whose chunks lie from sector `at` of each region on.
-#[tactic(auto, using(row_scan::proofs::Sets::testable_head, row_scan::proofs::Sets::testable_slots, row_scan::proofs::Regions::region_inside))]
+#[tactic(auto, using(member_regions::proofs::Sets::testable_head, member_regions::proofs::Sets::testable_slots, pq_parity::proofs::Regions::region_inside))]
 fn put_row<K: Sink>(
     pending: &mut Pending,
     sink: &mut K,
     geo: &Geometry,
-    sectors: &[u8],
-    stride: usize,
+    regions: &Regions,
     row: u64,
     at: usize,
 ) -> Result<(), Failed>
     requires set { IsTestable geo.now }
-    requires sectors { stride * length geo.now.slots.items ≤ length sectors.now }
-    requires fits { 512 * (at + geo.now.head.chunk) ≤ stride }
+    requires room { IsRoomFor (length geo.now.slots.items) (at + geo.now.head.chunk) regions.now }
     ensures passed { (images : List (List ℕ)) (first count : ℕ) →
         first + at ≡ row * geo.now.head.chunk → at + geo.now.head.chunk ≤ count →
-        HoldAll images geo.now stride first count sectors.now →
+        HoldAll images geo.now regions.now.stride first count regions.now.bytes →
         Passed (K.gained sink.old) (K.gained sink.new) pending.old pending.new result
         (items_of images geo.now row (data_blocks_of geo.now.head)) }
     ensures cause { HasCause (K.faults sink.old) (K.faults sink.new) result }
 {
-    let size = SECTOR * geo.head.chunk as usize;
+    let chunk = geo.head.chunk as usize;
     for item in 0..data_blocks(&geo.head) {
         let slot = slot_of_item(&geo.head, row, item) as usize;
-        let start = stride * slot + SECTOR * at;
-        pending.put(sink, &sectors[start..start + size])?;
+        pending.put(sink, regions.region(slot, at, chunk))?;
     }
     Ok(())
 }
 
 /// Puts the data items of `rows` rows from row `first` on, of which the regions hold the chunks.
-#[tactic(auto, using(row_scan::proofs::Regions::region_inside))]
+#[tactic(auto, using(pq_parity::proofs::Regions::region_inside))]
 fn put_rows<K: Sink>(
     pending: &mut Pending,
     sink: &mut K,
     geo: &Geometry,
-    sectors: &[u8],
-    stride: usize,
+    regions: &Regions,
     first: u64,
     rows: usize,
 ) -> Result<(), Failed>
     requires set { IsTestable geo.now }
-    requires sectors { stride * length geo.now.slots.items ≤ length sectors.now }
-    requires fits { 512 * (rows * geo.now.head.chunk) ≤ stride }
+    requires room { IsRoomFor (length geo.now.slots.items) (rows * geo.now.head.chunk) regions.now }
+    requires short { rows * geo.now.head.chunk < 2 ^ 55 }
     requires first { first + rows < 2 ^ 55 }
     ensures passed { (images : List (List ℕ)) →
-        HoldAll images geo.now stride (first * geo.now.head.chunk) (rows * geo.now.head.chunk) sectors.now →
+        HoldAll images geo.now regions.now.stride (first * geo.now.head.chunk) (rows * geo.now.head.chunk) regions.now.bytes →
         Passed (K.gained sink.old) (K.gained sink.new) pending.old pending.new result
         (rows_of images geo.now first rows) }
     ensures cause { HasCause (K.faults sink.old) (K.faults sink.new) result }
 {
     for r in 0..rows {
         let at = r * geo.head.chunk as usize;
-        put_row(pending, sink, geo, sectors, stride, first + r as u64, at)?;
+        put_row(pending, sink, geo, regions, first + r as u64, at)?;
     }
     Ok(())
 }
@@ -111,7 +108,7 @@ fn write_batch<I: Images, K: Sink>(
     images: &mut I,
     pending: &mut Pending,
     sink: &mut K,
-    room: &mut Room,
+    regions: &mut Regions,
     geo: &Geometry,
     first: u64,
     rows: u64,
@@ -121,32 +118,22 @@ fn write_batch<I: Images, K: Sink>(
         (geo.now.head.offset + (first * geo.now.head.chunk + rows * geo.now.head.chunk))) geo.now.slots.items }
     requires near { geo.now.head.offset + (first * geo.now.head.chunk + rows * geo.now.head.chunk) < 2 ^ 55 }
     requires some { 1 ≤ rows }
-    requires room { IsRoom (length geo.now.slots.items) room.old }
-    requires fits { 512 * (rows * geo.now.head.chunk) ≤ room.old.stride }
+    requires room { IsRoomFor (length geo.now.slots.items) (rows * geo.now.head.chunk) regions.old }
     ensures passed { IfSome (told_all (I.seen images.old).attached) (λ bytes.
         Passed (K.gained sink.old) (K.gained sink.new) pending.old pending.new result (rows_of bytes geo.now first rows)) }
     ensures reads { OnlyReads (I.seen images.old) (I.seen images.new)
         (held geo.now.slots.items * (rows * geo.now.head.chunk)) }
     ensures later { K.faults sink.old ≤ K.faults sink.new }
     ensures ends { IfErr result (Ends (I.seen images.old).faults (I.seen images.new).faults (K.faults sink.old) (K.faults sink.new)) }
-    ensures room { IsRoom (length geo.now.slots.items) room.new }
-    ensures stride { room.new.stride ≡ room.old.stride }
+    ensures room { KeepsRoom regions.old regions.new }
 {
     let count = (rows * geo.head.chunk) as usize;
     let from = first * geo.head.chunk;
-    room.read(images, geo, from, count)
+    regions
+        .read(images, geo, from, count)
         .map_err(|_| VolumeFault::ReadFault)?;
-    room.solve_all(geo, from, count);
-    put_rows(
-        pending,
-        sink,
-        geo,
-        &room.sectors,
-        room.stride,
-        first,
-        rows as usize,
-    )
-    .map_err(|_| VolumeFault::WriteFault)
+    regions.solve(geo, from, count);
+    put_rows(pending, sink, geo, regions, first, rows as usize).map_err(|_| VolumeFault::WriteFault)
 }
 
 /// Writes the volume's part in the first `rows` rows, `batch` rows at a time.
@@ -154,7 +141,7 @@ fn write_rows<I: Images, K: Sink>(
     images: &mut I,
     pending: &mut Pending,
     sink: &mut K,
-    room: &mut Room,
+    regions: &mut Regions,
     geo: &Geometry,
     rows: u64,
     batch: u64,
@@ -163,9 +150,8 @@ fn write_rows<I: Images, K: Sink>(
     requires held { All (Reaches (I.seen images.old).attached
         (geo.now.head.offset + rows * geo.now.head.chunk)) geo.now.slots.items }
     requires near { geo.now.head.offset + rows * geo.now.head.chunk < 2 ^ 55 }
-    requires room { IsRoom (length geo.now.slots.items) room.old }
+    requires room { IsRoomFor (length geo.now.slots.items) (batch * geo.now.head.chunk) regions.old }
     requires batch { 1 ≤ batch }
-    requires fits { 512 * (batch * geo.now.head.chunk) ≤ room.old.stride }
     ensures passed { IfSome (told_all (I.seen images.old).attached) (λ bytes.
         Passed (K.gained sink.old) (K.gained sink.new) pending.old pending.new result (rows_of bytes geo.now 0 rows)) }
     ensures reads { OnlyReads (I.seen images.old) (I.seen images.new)
@@ -176,7 +162,7 @@ fn write_rows<I: Images, K: Sink>(
     let mut first = 0;
     while first < rows {
         let count = batch.min(rows - first);
-        write_batch(images, pending, sink, room, geo, first, count)?;
+        write_batch(images, pending, sink, regions, geo, first, count)?;
         first += count;
     }
     Ok(())
@@ -188,16 +174,15 @@ fn write_all<I: Images, K: Sink>(
     images: &mut I,
     pending: &mut Pending,
     sink: &mut K,
-    room: &mut Room,
+    regions: &mut Regions,
     geo: &Geometry,
     end: u64,
     batch: u64,
 ) -> Result<(), VolumeFault>
     requires set { IsServed geo.now end (I.seen images.old).attached }
     requires empty { pending.old ≡ [] }
-    requires room { IsRoom (length geo.now.slots.items) room.old }
+    requires room { IsRoomFor (length geo.now.slots.items) (batch * geo.now.head.chunk) regions.old }
     requires batch { 1 ≤ batch }
-    requires fits { 512 * (batch * geo.now.head.chunk) ≤ room.old.stride }
     ensures put { IfSome (told_all (I.seen images.old).attached)
         (λ bytes. Puts (K.gained sink.old) (K.gained sink.new) result (volume bytes geo.now end)) }
     ensures reads { OnlyReads (I.seen images.old) (I.seen images.new) (held geo.now.slots.items * area geo.now.head end) }
@@ -205,7 +190,7 @@ fn write_all<I: Images, K: Sink>(
     ensures ends { IfErr result (Ends (I.seen images.old).faults (I.seen images.new).faults (K.faults sink.old) (K.faults sink.new)) }
 {
     let rows = rows(&geo.head, end);
-    write_rows(images, pending, sink, room, geo, rows, batch)?;
+    write_rows(images, pending, sink, regions, geo, rows, batch)?;
     pending.flush(sink).map_err(|_| VolumeFault::WriteFault)
 }
 
@@ -237,9 +222,10 @@ pub fn write_volume<I: Images, K: Sink>(
     ensures later { K.faults sink.old ≤ K.faults sink.new }
 {
     let batch = batch_rows(&geo.head);
-    let mut room = Room::new(alloc, geo.head.members, batch * geo.head.chunk).map_err(
+    let sectors = (batch * geo.head.chunk) as usize;
+    let mut regions = Regions::new(alloc, geo.slots.len(), sectors).map_err(
         |_| VolumeFault::Memory,
     )?;
     let mut pending = Pending::new(alloc).map_err(|_| VolumeFault::Memory)?;
-    write_all(images, &mut pending, sink, &mut room, geo, end, batch)
+    write_all(images, &mut pending, sink, &mut regions, geo, end, batch)
 }

@@ -1,10 +1,9 @@
-use Rattle.std.proofs.Common.{ℕ, ◌*◌, List, length, IfSome, rules, subst, arith}
+use Rattle.std.proofs.Common.{ℕ, ◌*◌, List, length, IfSome, rules, subst}
 use Rattle.image_source.specs.Attached.{told_all}
 use Rattle.image_source.specs.Streams.{Puts}
-use Rattle.row_scan.specs.Block.{HoldRead}
+use Rattle.member_regions.specs.Regions.{HoldRead}
 use Rattle.virtual_volume.proofs.Fronts.{front_none, puts_err}
-use Rattle.row_scan.proofs.IfTold.{if_any, if_told}
-use Rattle.row_scan.proofs.Regions.{region_inside}
+use Rattle.member_regions.proofs.IfTold.{if_any, if_told}
 use Rattle.member_rebuild.specs.Sectors.{sectors_of}
 use Rattle.member_rebuild.proofs.Parts.{part_is, puts_as}
 use Rattle.member_rebuild.proofs.member.write_block.Goals as goal
@@ -18,14 +17,13 @@ returns-in_err-map_err-clause-put g c =
 
 pub returns-clause-put : goal.returns-clause-put
 returns-clause-put g c =
-    let lies = region_inside c.solve.new.self.stride c.args.slot (length c.args.geo.now.slots.items) c.requires.slot in
     let held : IfSome (told_all (g.I.Images.seen c.args.images.now).attached)
-    (λ bytes. HoldRead bytes c.args.geo.now c.read.new.self.stride c.args.first (512 * c.args.count) (length c.args.geo.now.slots.items) c.read.new.self.sectors.items) = search rules in
+    (λ bytes. HoldRead bytes c.args.geo.now c.read.new.self.stride c.args.first (512 * c.args.count) (length c.args.geo.now.slots.items) c.read.new.self.bytes) = search rules in
     if_told (told_all (g.I.Images.seen c.args.images.now).attached)
-    (λ bytes. HoldRead bytes c.args.geo.now c.read.new.self.stride c.args.first (512 * c.args.count) (length c.args.geo.now.slots.items) c.read.new.self.sectors.items)
+    (λ bytes. HoldRead bytes c.args.geo.now c.read.new.self.stride c.args.first (512 * c.args.count) (length c.args.geo.now.slots.items) c.read.new.self.bytes)
     (λ bytes. Puts (g.K.Sink.gained c.args.sink.now) (g.K.Sink.gained c.put.new.self) c.map_err-2.result (sectors_of bytes c.args.geo.now c.args.slot c.args.first c.args.count))
     (λ bytes hold.
     subst (λ (l : List ℕ). Puts (g.K.Sink.gained c.args.sink.now) (g.K.Sink.gained c.put.new.self) c.map_err-2.result l)
-    (part_is bytes c.args.geo.now c.solve.new.self.stride c.args.first c.args.count c.args.slot c.solve.new.self.sectors.items c.region.result.now (c.solve.ensures.found bytes hold) (omega arith) c.region.ensures)
+    (part_is bytes c.args.geo.now c.solve.new.self.stride c.args.first c.args.count c.args.slot c.solve.new.self.bytes c.region.result.now (c.solve.ensures.found bytes hold c.args.slot c.requires.slot) c.region.ensures.long c.region.ensures.sectors)
     (puts_as _ (g.K.Sink.gained c.args.sink.now) (g.K.Sink.gained c.put.new.self) c.region.result.now c.put.result c.map_err-2.result c.map_err-2.ensures.cases c.put.ensures.bytes))
     held

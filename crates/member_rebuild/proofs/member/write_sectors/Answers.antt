@@ -3,10 +3,10 @@ use Rattle.std.specs.Io.KnownBytes.{Appends}
 use Rattle.image_source.specs.Attached.{told_all}
 use Rattle.image_source.specs.Streams.{AppendsFront, Puts}
 use Rattle.image_source.proofs.Reading.{reads_none, reads_up}
-use Rattle.row_scan.proofs.Parity.{reads_on}
-use Rattle.row_scan.specs.Block.{held}
+use Rattle.member_regions.proofs.Held.{reads_on}
+use Rattle.member_regions.specs.Members.{held}
 use Rattle.virtual_volume.proofs.Fronts.{puts_err}
-use Rattle.row_scan.proofs.IfTold.{if_any, if_both}
+use Rattle.member_regions.proofs.IfTold.{if_any, if_both}
 use Rattle.member_rebuild.specs.Sectors.{sectors_of}
 use Rattle.member_rebuild.proofs.Parts.{block_held, sectors_cut, sectors_on, sectors_start}
 use Rattle.member_rebuild.proofs.member.write_sectors.Goals as goal
@@ -20,8 +20,7 @@ loop-first-init g c = record {
   reads = reads_up (g.I.Images.seen c.args.images.now) (g.I.Images.seen c.args.images.now) (reads_none (g.I.Images.seen c.args.images.now)) (omega arith);
   later = omega arith;
   within = omega arith;
-  room = c.requires.room;
-  stride = refl;
+  room = record { members = refl; stride = refl };
 }
 
 pub write_block-requires-clause-held : goal.write_block-requires-clause-held
@@ -65,6 +64,5 @@ loop-first-preserved g c = record {
       c.loop-first.first c.min-count.result (c.loop-first.first + c.min-count.result) c.loop-first.invariant.reads c.write_block.ensures.reads (omega arith);
   later = omega (arith, c.write_block.ensures.later);
   within = omega arith;
-  room = c.write_block.ensures.room;
-  stride = c.write_block.ensures.stride ∙ c.loop-first.invariant.stride;
+  room = record { members = c.write_block.ensures.room.members ∙ c.loop-first.invariant.room.members; stride = c.write_block.ensures.room.stride ∙ c.loop-first.invariant.room.stride };
 }

@@ -5,6 +5,6 @@ use Rattle.row_scan.proofs.rows.rows_left.Given as goal
 
 abbrev pub invariant-loop-j : goal.invariant-loop-j
 invariant-loop-j l = record {
-  counted : unsound_in l.geo l.sectors l.first l.j + l.rest ≡ l.left;
+  counted : unsound_in l.geo l.regions l.first l.j + l.rest ≡ l.left;
   cells : l.cells.items ≡ row_cells l.geo l.at;
 }

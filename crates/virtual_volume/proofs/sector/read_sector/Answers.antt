@@ -2,7 +2,7 @@ use Rattle.std.proofs.Common.{◌≡◌, ℕ, List, length, get_or, None, ap, sy
 use Rattle.std.specs.Option.{is_none}
 use Rattle.std.specs.declared.option.Option.{Option}
 use Rattle.image_source.specs.Attached.{told_all}
-use Rattle.row_scan.proofs.Held.{reads_one}
+use Rattle.member_regions.proofs.Held.{reads_one}
 use Rattle.virtual_volume.proofs.Blocks.{read_told}
 use Rattle.virtual_volume.proofs.sector.read_sector.Goals as goal
 

@@ -1,10 +1,9 @@
 use Rattle.std.proofs.Common.{◌≡◌, ℕ, ◌<◌, length, subst, arith}
 use Rattle.std.proofs.lemmas.Result.{err_from_is_err_and}
 use Rattle.raid_params.specs.Size.{data_blocks}
-use Rattle.row_scan.proofs.Sets.{testable_slots}
+use Rattle.member_regions.proofs.Sets.{testable_slots}
 use Rattle.virtual_volume.specs.Parts.{items_of}
 use Rattle.virtual_volume.specs.Waiting.{Passes}
-use Rattle.row_scan.proofs.Regions.{region_inside}
 use Rattle.virtual_volume.proofs.Puts.{item_part, items_cut, items_on, items_start}
 use Rattle.virtual_volume.proofs.volume.put_row.Goals as goal
 
@@ -18,9 +17,8 @@ pub returns-in_err-put-clause-passed : goal.returns-in_err-put-clause-passed
 returns-in_err-put-clause-passed g c = λ images first count place few hold.
     let slots = testable_slots c.args.geo.now c.requires.set in
     let within : c.slot_of_item-slot.result < length c.args.geo.now.slots.items = omega arith in
-    let lies = region_inside c.args.stride c.slot_of_item-slot.result (length c.args.geo.now.slots.items) within in
     let last : c.loop-item.item < data_blocks c.args.geo.now.head = omega arith in
-    let part = item_part images c.args.geo.now c.args.stride first count c.args.row c.loop-item.item c.slot_of_item-slot.result c.args.at _ c.args.sectors.now c.slot_of_item-slot.ensures.there within hold place few (omega arith) (omega arith) in
+    let part = item_part images c.args.geo.now c.args.regions.now.stride first count c.args.row c.loop-item.item c.slot_of_item-slot.result c.args.at c.args.regions.now.bytes c.region.result.now c.slot_of_item-slot.ensures.there within hold place few c.region.ensures.long c.region.ensures.sectors in
     let p = err_from_is_err_and c.from_residual.result c.from_residual.ensures.1 in
     rw p.1 (
     items_cut images c.args.geo.now c.args.row c.loop-item.item (data_blocks c.args.geo.now.head) (g.K.Sink.gained c.args.sink.now) (g.K.Sink.gained c.loop-item.sink) (g.K.Sink.gained c.put.new.sink) c.args.pending.now c.loop-item.pending _
@@ -30,11 +28,10 @@ pub loop-item-preserved : goal.loop-item-preserved
 loop-item-preserved g c =
     let slots = testable_slots c.args.geo.now c.requires.set in
     let within : c.slot_of_item-slot.result < length c.args.geo.now.slots.items = omega arith in
-    let lies = region_inside c.args.stride c.slot_of_item-slot.result (length c.args.geo.now.slots.items) within in
     record {
       passes = λ images first count place few hold.
           items_on images c.args.geo.now c.args.row c.loop-item.item (g.K.Sink.gained c.args.sink.now) (g.K.Sink.gained c.loop-item.sink) (g.K.Sink.gained c.put.new.sink) c.args.pending.now c.loop-item.pending c.put.new.self _
-          (item_part images c.args.geo.now c.args.stride first count c.args.row c.loop-item.item c.slot_of_item-slot.result c.args.at _ c.args.sectors.now c.slot_of_item-slot.ensures.there within hold place few (omega arith) (omega arith))
+          (item_part images c.args.geo.now c.args.regions.now.stride first count c.args.row c.loop-item.item c.slot_of_item-slot.result c.args.at c.args.regions.now.bytes c.region.result.now c.slot_of_item-slot.ensures.there within hold place few c.region.ensures.long c.region.ensures.sectors)
           (c.loop-item.invariant.passes images first count place few hold) c.in_ok-put.ensures.passed;
       later = omega (arith, c.put.ensures.cause.later);
     }

@@ -33,3 +33,9 @@ loop-r-preserved g c = record {
       (begins c.args.first c.loop-r.r c.args.geo.now.head.chunk) (row_inside c.loop-r.r c.args.rows c.args.geo.now.head.chunk c.loop-r-test.true) hold);
   later = omega (arith, c.put_row.ensures.cause.later);
 }
+
+pub overflow_mul-at : goal.overflow_mul-at
+overflow_mul-at g c =
+    let inside = row_inside c.loop-r.r c.args.rows c.args.geo.now.head.chunk c.loop-r-test.true in
+    let short = c.requires.short in
+    omega arith

@@ -3,11 +3,11 @@ use Rattle.image_source.specs.Attached.{told_all}
 use Rattle.image_source.specs.Streams.{AppendsFront, Puts}
 use Rattle.raid_params.specs.Size.{rows}
 use Rattle.raid_terms.specs.Volume.{volume}
-use Rattle.row_scan.proofs.Sets.{testable_chunk}
+use Rattle.member_regions.proofs.Sets.{testable_chunk}
 use Rattle.virtual_volume.specs.Parts.{rows_of}
 use Rattle.virtual_volume.specs.Waiting.{Passes}
 use Rattle.virtual_volume.proofs.Fronts.{puts_err}
-use Rattle.row_scan.proofs.IfTold.{if_told}
+use Rattle.member_regions.proofs.IfTold.{if_told}
 use Rattle.virtual_volume.proofs.Puts.{rows_flushed, rows_whole}
 use Rattle.virtual_volume.proofs.Sets.{served_end, served_held, served_testable}
 use Rattle.virtual_volume.proofs.volume.write_all.Goals as goal

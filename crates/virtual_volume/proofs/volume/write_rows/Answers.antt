@@ -2,12 +2,12 @@ use Rattle.std.proofs.Common.{◌+◌, ◌*◌, ◌≤◌, ◌++◌, refl, ◌�
 use Rattle.image_source.specs.Attached.{told_all}
 use Rattle.image_source.specs.Streams.{AppendsFront}
 use Rattle.image_source.proofs.Reading.{reads_none, reads_up}
-use Rattle.row_scan.proofs.Parity.{reads_on}
-use Rattle.row_scan.specs.Block.{held}
+use Rattle.member_regions.proofs.Held.{reads_on}
+use Rattle.member_regions.specs.Members.{held}
 use Rattle.virtual_volume.specs.Parts.{rows_of}
 use Rattle.virtual_volume.specs.Waiting.{Passed, Passes}
 use Rattle.virtual_volume.proofs.Fronts.{passed_err, passes_join}
-use Rattle.row_scan.proofs.IfTold.{if_any, if_both}
+use Rattle.member_regions.proofs.IfTold.{if_any, if_both}
 use Rattle.virtual_volume.proofs.Puts.{rows_cut, rows_start}
 use Rattle.virtual_volume.proofs.Sets.{batch_held, batch_inside}
 use Rattle.virtual_volume.proofs.Whole.{rows_join}
@@ -22,8 +22,7 @@ loop-first-init g c = record {
   reads = reads_up (g.I.Images.seen c.args.images.now) (g.I.Images.seen c.args.images.now) (reads_none (g.I.Images.seen c.args.images.now)) (omega arith);
   later = omega arith;
   within = omega arith;
-  room = c.requires.room;
-  stride = refl;
+  room = record { members = refl; stride = refl };
 }
 
 pub write_batch-requires-clause-held : goal.write_batch-requires-clause-held
@@ -78,6 +77,5 @@ loop-first-preserved g c = record {
       (batch_inside c.loop-first.first c.min-count.result (c.loop-first.first + c.min-count.result) c.args.geo.now.head.chunk (omega arith));
   later = omega (arith, c.write_batch.ensures.later);
   within = omega arith;
-  room = c.write_batch.ensures.room;
-  stride = c.write_batch.ensures.stride ∙ c.loop-first.invariant.stride;
+  room = record { members = c.write_batch.ensures.room.members ∙ c.loop-first.invariant.room.members; stride = c.write_batch.ensures.room.stride ∙ c.loop-first.invariant.room.stride };
 }

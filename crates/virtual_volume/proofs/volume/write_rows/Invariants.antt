@@ -1,9 +1,9 @@
-use Rattle.std.proofs.Common.{◌≡◌, ◌-◌, ◌*◌, ◌≤◌, length, IfSome}
+use Rattle.std.proofs.Common.{◌-◌, ◌*◌, ◌≤◌, IfSome}
 use Rattle.image_source.specs.Attached.{told_all}
 use Rattle.image_source.specs.Seen.{OnlyReads}
-use Rattle.row_scan.specs.Block.{held}
+use Rattle.member_regions.specs.Members.{held}
 use Rattle.virtual_volume.specs.Parts.{rows_of}
-use Rattle.virtual_volume.specs.Regions.{IsRoom}
+use Rattle.member_regions.specs.Regions.{KeepsRoom}
 use Rattle.virtual_volume.specs.Waiting.{Passes}
 use Rattle.virtual_volume.proofs.volume.write_rows.Given as goal
 
@@ -13,8 +13,7 @@ invariant-loop-first g l = record {
   reads : OnlyReads (g.I.Images.seen l.fn.images) (g.I.Images.seen l.images) (held l.geo.slots.items * (l.first * l.geo.head.chunk));
   later : g.K.Sink.faults l.fn.sink ≤ g.K.Sink.faults l.sink;
   within : l.first ≤ l.rows;
-  room : IsRoom (length l.geo.slots.items) l.room;
-  stride : l.room.stride ≡ l.fn.room.stride;
+  room : KeepsRoom l.fn.regions l.regions;
 }
 
 abbrev pub decreases-loop-first : goal.decreases-loop-first

@@ -1,0 +1,9 @@
+pub mod Counting
+pub mod Room
+pub mod Sets
+pub mod Held
+pub mod IfTold
+pub mod OneMore
+pub mod Members
+pub mod Alike
+pub mod Solved

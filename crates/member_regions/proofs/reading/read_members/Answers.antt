@@ -1,0 +1,43 @@
+use Rattle.std.proofs.Common.{◌≡◌, ℕ, ◌+◌, ◌*◌, ◌<◌, ◌≤◌, IfSome, length, false, get_or, None, rules, arith, ap, sym}
+use Rattle.std.specs.Option.{is_none}
+use Rattle.image_source.specs.Attached.{told_all}
+use Rattle.raid_terms.specs.Parity.{member_byte}
+use Rattle.member_regions.specs.Regions.{HoldRead}
+use Rattle.member_regions.proofs.IfTold.{if_both}
+use Rattle.member_regions.proofs.Held.{reads_all, reads_member}
+use Rattle.pq_parity.proofs.Regions.{region_inside}
+use Rattle.member_regions.proofs.OneMore.{read_more}
+use borrow.Rule.Slice.PartMut.{put_mid}
+use Rattle.member_regions.proofs.reading.read_members.Goals as goal
+
+pub loop-slot-preserved : goal.loop-slot-preserved
+loop-slot-preserved g c =
+    let same : length c.deref-held-items.result.now ≡ length c.args.geo.now.slots.items = ap length c.deref-held-items.ensures.0 in
+    let lies = region_inside c.args.stride c.loop-slot.slot (length c.args.geo.now.slots.items) (omega arith) in
+    let within : c.args.stride * c.loop-slot.slot ≤ length c.loop-slot.sectors = omega arith in
+    let long : length c.read_member.new.to ≡ 512 * c.args.count = omega arith in
+    let now : IfSome (told_all (g.I.Images.seen c.loop-slot.images).attached) (λ bytes. (y : ℕ) → y < length c.read_member.new.to → is_none (get_or c.args.geo.now.slots.items c.loop-slot.slot None) ≡ false →
+    get_or c.read_member.new.to y 0 ≡ member_byte bytes c.args.geo.now.head.offset c.args.first y (get_or c.args.geo.now.slots.items c.loop-slot.slot None)) = search rules in
+    record {
+      reads =
+          reads_member (g.I.Images.seen c.args.images.now) (g.I.Images.seen c.loop-slot.images) (g.I.Images.seen c.read_member.new.images) c.args.geo.now.slots.items c.loop-slot.slot c.args.count _ None _
+          c.loop-slot.invariant.reads c.read_member.ensures.reads (omega (arith, long)) (omega arith) (sym (ap (λ slots. get_or slots c.loop-slot.slot None) c.deref-held-items.ensures.0));
+      told =
+          if_both (told_all (g.I.Images.seen c.args.images.now).attached)
+          (λ bytes. HoldRead bytes c.args.geo.now c.args.stride c.args.first (512 * c.args.count) c.loop-slot.slot c.loop-slot.sectors)
+          (λ bytes. (y : ℕ) → y < length c.read_member.new.to → is_none (get_or c.args.geo.now.slots.items c.loop-slot.slot None) ≡ false →
+          get_or c.read_member.new.to y 0 ≡ member_byte bytes c.args.geo.now.head.offset c.args.first y (get_or c.args.geo.now.slots.items c.loop-slot.slot None))
+          (λ bytes. HoldRead bytes c.args.geo.now c.args.stride c.args.first (512 * c.args.count) (c.loop-slot.slot + 1) (put_mid (c.args.stride * c.loop-slot.slot) _ c.loop-slot.sectors c.read_member.new.to))
+          (λ bytes hold here. read_more bytes c.args.geo.now c.args.stride c.args.first (512 * c.args.count) _ c.loop-slot.slot c.loop-slot.sectors c.read_member.new.to c.requires.fits long within hold here)
+          c.loop-slot.invariant.told
+          (rw (← c.loop-slot.invariant.reads.attached) now);
+    }
+
+pub returns-in_err-read_member-clause-reads : goal.returns-in_err-read_member-clause-reads
+returns-in_err-read_member-clause-reads g c =
+    let same : length c.deref-held-items.result.now ≡ length c.args.geo.now.slots.items = ap length c.deref-held-items.ensures.0 in
+    let lies = region_inside c.args.stride c.loop-slot.slot (length c.args.geo.now.slots.items) (omega arith) in
+    let long : length c.read_member.new.to ≡ 512 * c.args.count = omega arith in
+    reads_all (g.I.Images.seen c.args.images.now) (g.I.Images.seen c.read_member.new.images) c.args.geo.now.slots.items (c.loop-slot.slot + 1) c.args.count
+    (reads_member (g.I.Images.seen c.args.images.now) (g.I.Images.seen c.loop-slot.images) (g.I.Images.seen c.read_member.new.images) c.args.geo.now.slots.items c.loop-slot.slot c.args.count _ None _
+    c.loop-slot.invariant.reads c.read_member.ensures.reads (omega (arith, long)) (omega arith) (sym (ap (λ slots. get_or slots c.loop-slot.slot None) c.deref-held-items.ensures.0)))

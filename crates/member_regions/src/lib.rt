@@ -1,0 +1,17 @@
+//! The members of a set in memory: a region of sectors for each, read, tested and completed there.
+//!
+//! [`Regions`] takes its memory once, and is filled as often as need be. `row_scan` tests rows in it,
+//! `virtual_volume` and `member_rebuild` find in it what lost members held. [`read_members`] and
+//! [`solve_members`] do the same in bytes that the caller has. What regions hold stands in
+//! `specs/Regions`, what is asked of the members in `specs/Members`.
+#![tactic(auto)]
+
+mod reading;
+mod regions;
+mod solving;
+#[cfg(test)]
+mod tests;
+
+pub use reading::{read_member, read_members};
+pub use regions::{BLOCK, Regions, zeros};
+pub use solving::{solve_members, turn_to};

@@ -1,0 +1,18 @@
+use Rattle.std.proofs.Common.{◌≡◌, ◌≤◌, ◌+◌, ◌*◌, ◌-◌, IfSome}
+use Rattle.image_source.specs.Attached.{told_all}
+use Rattle.image_source.specs.Seen.{OnlyReads}
+use Rattle.raid_terms.specs.Parity.{unsound_rows}
+use Rattle.member_regions.specs.Members.{held}
+use Rattle.member_regions.specs.Regions.{KeepsRoom}
+use Rattle.row_scan.proofs.scan.test_first.Given as goal
+
+abbrev pub invariant-loop-first : goal.invariant-loop-first
+invariant-loop-first g l = record {
+  reads : OnlyReads (g.I.Images.seen l.fn.images) (g.I.Images.seen l.images) (held l.geo.slots.items * l.first);
+  told : IfSome (told_all (g.I.Images.seen l.fn.images).attached) (λ bytes. unsound_rows bytes l.geo l.first + l.rest ≡ l.left);
+  within : l.first ≤ l.rows;
+  room : KeepsRoom l.fn.regions l.regions;
+}
+
+abbrev pub decreases-loop-first : goal.decreases-loop-first
+decreases-loop-first g l = l.rows - l.first

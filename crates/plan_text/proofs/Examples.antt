@@ -5,11 +5,14 @@ use Rattle.raid_params.specs.declared.types.Geometry.{Geometry}
 use Rattle.raid_params.specs.declared.types.Level.TheVariants.{Raid5, Raid6}
 use Rattle.raid_params.specs.declared.types.Pattern.TheVariants.{Ls, NRestart}
 use Rattle.raid_params.specs.declared.types.Syndrome.TheVariants.{NoQ, BySlot}
-use Rattle.plan_text.specs.declared.plan.Plan.{Plan}
+use Rattle.landmark_rules.specs.declared.marks.Kind.TheVariants.{Super, Agf}
+use Rattle.landmark_rules.specs.declared.marks.GroupKind.TheVariants.{Xfs}
+use Rattle.landmark_rules.specs.declared.marks.Rule.TheVariants.{At, Every}
+use Rattle.search_plan.specs.declared.plan.Plan.{Plan}
 use Rattle.plan_text.specs.PlanText.{plan_text}
 use Rattle.plan_text.specs.SetText.{set_line}
 
--- three images of two sectors, left-symmetric, one sector a chunk
+-- three images of two sectors, left-symmetric, one sector a chunk, with two marks of an XFS
 plan : Plan
 plan = record {
   lengths = record { items = 2 ∷ 2 ∷ 2 ∷ [] };
@@ -25,9 +28,14 @@ plan = record {
     foreign = 0;
   };
   limits = record { badrows = 0; window = 2 };
+  tests = record { origins = record { items = 0 ∷ [] }; misfits = 0; least = 1 };
+  groups = record {
+    kind = Xfs;
+    marks = record { kind = Super; image = 0; sector = 0; rule = Every 64 4 0 } ∷ record { kind = Agf; image = 2; sector = 1; rule = At 65 } ∷ [];
+  } ∷ [];
 }
 
-text_of_plan : plan_text plan ≡ codes "reraid-plan 1\nimages 3\nlength 2\nlength 2\nlength 2\nend 2\nlevels 5\nmembers 3\npatterns ls\nsyndromes none\nchunks 1\noffsets 0\norigins 0\nmissing 0\nforeign 0\nbadrows 0\nwindow 2\nmisfits 0\nleast 1\ndone\n"
+text_of_plan : plan_text plan ≡ codes "reraid-plan 1\nimages 3\nlength 2\nlength 2\nlength 2\nend 2\nlevels 5\nmembers 3\npatterns ls\nsyndromes none\nchunks 1\noffsets 0\norigins 0\nmissing 0\nforeign 0\nbadrows 0\nwindow 2\nmisfits 0\nleast 1\ngroup xfs\nmark super 0 0 every:64:4:0\nmark agf 2 1 at:65\ndone\n"
 unfolding plan digits
 text_of_plan = refl
 

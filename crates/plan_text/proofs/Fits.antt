@@ -8,7 +8,7 @@ use Rattle.std.proofs.lemmas.List.Folds.{Any-from_list_any}
 use Rattle.std.proofs.lemmas.List.FromFn.{get_or-range_with_len}
 use Rattle.std.proofs.lemmas.List.Elements.{All-tail, All-nil, All-cons}
 use Rattle.std.proofs.Math.Pow.{pow_mono, pow-lt}
-use Rattle.raid_params.specs.declared.limits.TheConstants.{MOST, MOST_LESS_ONE, MOST_CHUNKS}
+use Rattle.raid_params.specs.declared.limits.TheConstants.{MOST, MOST_CHUNKS, MOST_LESS_ONE, MOST_LEVELS, MOST_PATTERNS, MOST_SYNDROMES}
 use Rattle.raid_params.specs.declared.types.Level.{Level}
 use Rattle.raid_params.specs.declared.types.Level.TheVariants.{Raid0, Raid5, Raid6}
 use Rattle.raid_params.specs.declared.types.Pattern.{Pattern}
@@ -16,7 +16,8 @@ use Rattle.raid_params.specs.declared.types.Pattern.TheVariants.{Plain, La, Ra, 
 use Rattle.raid_params.specs.declared.types.Syndrome.{Syndrome}
 use Rattle.raid_params.specs.declared.types.Syndrome.TheVariants.{NoQ, AfterQ, ByData, BySlot}
 use Rattle.raid_params.specs.Validity.{is_chunk}
-use Rattle.plan_text.specs.PlanText.{AreRising, level_place, pattern_place, syndrome_place}
+use Rattle.search_plan.specs.Places.{level_place, pattern_place, syndrome_place}
+use Rattle.search_plan.specs.Plans.{AreRising}
 
 abbrev IsWithin : ℕ → ℕ → ℕ → Type 0
 IsWithin low high n = (low ≤ n) × (n < high)
@@ -84,13 +85,13 @@ syndrome_below AfterQ = lit< tt
 syndrome_below ByData = lit< tt
 syndrome_below BySlot = lit< tt
 
-pub levels_fit : (xs : List Level) → AreRising (map level_place xs) → length xs ≤ 3
+pub levels_fit : (xs : List Level) → AreRising (map level_place xs) → length xs ≤ MOST_LEVELS
 levels_fit xs rising = place_fits level_place 3 level_below xs rising
 
-pub patterns_fit : (xs : List Pattern) → AreRising (map pattern_place xs) → length xs ≤ 14
+pub patterns_fit : (xs : List Pattern) → AreRising (map pattern_place xs) → length xs ≤ MOST_PATTERNS
 patterns_fit xs rising = place_fits pattern_place 14 pattern_below xs rising
 
-pub syndromes_fit : (xs : List Syndrome) → AreRising (map syndrome_place xs) → length xs ≤ 4
+pub syndromes_fit : (xs : List Syndrome) → AreRising (map syndrome_place xs) → length xs ≤ MOST_SYNDROMES
 syndromes_fit xs rising = place_fits syndrome_place 4 syndrome_below xs rising
 
 -- numbers are their own places
@@ -99,7 +100,7 @@ with_places ns rising = subst AreRising (sym (map-id ns)) rising
 
 pub members_fit : (ns : List ℕ) → AreRising ns → All (λ n. (2 ≤ n) × (n ≤ MOST)) ns → length ns ≤ MOST_LESS_ONE
 members_fit ns rising all =
-    let fits = rising_fits ns 2 17 rising (λ k d lt. let h = all k d lt in (h.0, omega (arith, h.1))) in
+    let fits = rising_fits ns 2 (MOST + 1) rising (λ k d lt. let h = all k d lt in (h.0, omega (arith, h.1))) in
     omega (arith, fits)
 
 pub members_are_bytes : (ns : List ℕ) → All (λ n. (2 ≤ n) × (n ≤ MOST)) ns → All (λ n. n < 2 ^ 8) ns

@@ -1,6 +1,8 @@
 pub mod Spelling
 pub mod NameLaws
-pub mod PlanText
-pub mod PlanParts
 pub mod SetText
+pub mod PlanText
+pub mod Reading
+pub mod Parts
+pub mod Drafts
 pub mod Laws

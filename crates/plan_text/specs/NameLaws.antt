@@ -14,7 +14,9 @@ use Rattle.raid_params.specs.declared.types.Pattern.{Pattern}
 use Rattle.raid_params.specs.declared.types.Pattern.TheVariants.{Plain, La, Ra, Ls, Rs, ParityFirst, ParityLast, NRestart, NContinue, La6, Ra6, Ls6, Rs6, ParityFirst6}
 use Rattle.raid_params.specs.declared.types.Syndrome.{Syndrome}
 use Rattle.raid_params.specs.declared.types.Syndrome.TheVariants.{NoQ, AfterQ, ByData, BySlot}
-use Rattle.plan_text.specs.Spelling.{level_name, pattern_name, syndrome_name, slot_name, is_plain, IsSpelling}
+use Rattle.landmark_rules.specs.declared.marks.Kind.{Kind}
+use Rattle.landmark_rules.specs.declared.marks.Kind.TheVariants.{Gpt, Boot, FileRecord, Super, Agf, Agi}
+use Rattle.plan_text.specs.Spelling.{level_name, pattern_name, syndrome_name, kind_name, slot_name, is_plain, IsSpelling}
 
 -- the level with a name whose bytes have this sum
 level_at : ℕ → Level
@@ -115,6 +117,38 @@ syndrome_has_no_mark BySlot = refl
 
 pub syndrome_law : IsSpelling syndrome_name (λ syndrome. Unit {0})
 syndrome_law = record { one_value = λ x y p q. one_syndrome x y; has_no_mark = λ x p. syndrome_has_no_mark x }
+
+-- the kind of landmark with a name whose bytes have this sum
+kind_at : ℕ → Kind
+kind_at weight =
+    cond (eqb weight 331) Gpt
+    (cond (eqb weight 436) Boot
+    (cond (eqb weight 639) FileRecord
+    (cond (eqb weight 559) Super
+    (cond (eqb weight 302) Agf Agi))))
+
+kind_back : (kind : Kind) → kind_at (sum (kind_name kind)) ≡ kind
+unfolding kind_at
+kind_back Gpt = refl
+kind_back Boot = refl
+kind_back FileRecord = refl
+kind_back Super = refl
+kind_back Agf = refl
+kind_back Agi = refl
+
+one_kind : (x y : Kind) → kind_name x ≡ kind_name y → x ≡ y
+one_kind x y e = sym (kind_back x) ∙ ap (λ (name : List ℕ). kind_at (sum name)) e ∙ kind_back y
+
+kind_has_no_mark : (x : Kind) → list_all is_plain (kind_name x) ≡ true
+kind_has_no_mark Gpt = refl
+kind_has_no_mark Boot = refl
+kind_has_no_mark FileRecord = refl
+kind_has_no_mark Super = refl
+kind_has_no_mark Agf = refl
+kind_has_no_mark Agi = refl
+
+pub kind_law : IsSpelling kind_name (λ kind. Unit {0})
+kind_law = record { one_value = λ x y p q. one_kind x y; has_no_mark = λ x p. kind_has_no_mark x }
 
 plain_digit : (digit : ℕ) → IsInRange 48 57 digit → is_plain digit ≡ true
 plain_digit digit within = grind (arith, nat_tests)

@@ -1,109 +1,118 @@
--- The one text of a plan, and which plans there are.
-use Rattle.std.specs.Prelude.{ℕ, ◌≡◌, ◌^◌, ◌≤◌, ◌<◌, IsTrue, List, [], ◌∷◌, ◌++◌, length, map, All, codes, decimal, Result, IfOk, MatchResult}
+-- The one text of a plan, and the line at which a text that is no plan's is refused.
+use Rattle.std.specs.Prelude.{ℕ, ◌≡◌, ◌≢◌, ◌+◌, List, [], ◌∷◌, ◌++◌, length, map, All, codes, decimal, Result, IfOk, IfErr}
 use Rattle.std.specs.List.{flat_map}
-use Rattle.std.specs.List.Sorted.{IsStrictlyIncreasing}
-use Rattle.raid_params.specs.declared.limits.TheConstants.{MOST, MOST_OFFSETS}
-use Rattle.raid_params.specs.declared.types.Level.{Level}
-use Rattle.raid_params.specs.declared.types.Level.TheVariants.{Raid0, Raid5, Raid6}
-use Rattle.raid_params.specs.declared.types.Pattern.{Pattern}
-use Rattle.raid_params.specs.declared.types.Pattern.TheVariants.{Plain, La, Ra, Ls, Rs, ParityFirst, ParityLast, NRestart, NContinue, La6, Ra6, Ls6, Rs6, ParityFirst6}
-use Rattle.raid_params.specs.declared.types.Syndrome.{Syndrome}
-use Rattle.raid_params.specs.declared.types.Syndrome.TheVariants.{NoQ, AfterQ, ByData, BySlot}
-use Rattle.raid_params.specs.Validity.{is_chunk}
-use Rattle.raid_terms.specs.Product.{Criteria}
-use Rattle.plan_text.specs.declared.plan.Plan.{Plan}
-use Rattle.plan_text.specs.declared.plan.PlanFault.{PlanFault}
-use Rattle.plan_text.specs.declared.plan.PlanFault.TheVariants.{Memory}
-use Rattle.plan_text.specs.Spelling.{level_name, pattern_name, syndrome_name, commas, named, line}
+use Rattle.raid_params.specs.declared.types.Bounds.{Bounds}
+use Rattle.landmark_rules.specs.declared.marks.Group.{Group}
+use Rattle.landmark_rules.specs.declared.marks.Mark.{Mark}
+use Rattle.landmark_rules.specs.declared.marks.MarkTests.{MarkTests}
+use Rattle.landmark_rules.specs.declared.marks.Rule.{Rule}
+use Rattle.landmark_rules.specs.declared.marks.Rule.TheVariants.{At, Either, Every}
+use Rattle.search_plan.specs.declared.plan.Limits.{Limits}
+use Rattle.search_plan.specs.declared.plan.Plan.{Plan}
+use Rattle.search_plan.specs.Plans.{IsPlan}
+use Rattle.plan_text.specs.declared.fault.PlanFault.{PlanFault}
+use Rattle.plan_text.specs.declared.fault.PlanFault.TheVariants.{Line, Memory}
+use Rattle.plan_text.specs.Spelling.{level_name, pattern_name, syndrome_name, group_name, kind_name, commas, colons, spaces, named, line}
+
+-- the number of images, and the length of each
+abbrev pub image_lines : List ℕ → List (List ℕ)
+image_lines lengths =
+    codes "reraid-plan 1"
+    ∷ named (codes "images") (decimal (length lengths))
+    ∷ map (λ n. named (codes "length") (decimal n)) lengths
+
+-- the arrays to try
+abbrev pub kinds_lines : Bounds → List (List ℕ)
+kinds_lines bounds =
+    named (codes "levels") (commas (map level_name bounds.levels.items))
+    ∷ named (codes "members") (commas (map decimal bounds.members.items))
+    ∷ named (codes "patterns") (commas (map pattern_name bounds.patterns.items))
+    ∷ named (codes "syndromes") (commas (map syndrome_name bounds.syndromes.items))
+    ∷ []
+
+-- their chunks, and where data and file systems may begin
+abbrev pub sizes_lines : Bounds → MarkTests → List (List ℕ)
+sizes_lines bounds tests =
+    named (codes "chunks") (commas (map decimal bounds.chunks.items))
+    ∷ named (codes "offsets") (commas (map decimal bounds.offsets.items))
+    ∷ named (codes "origins") (commas (map decimal tests.origins.items))
+    ∷ []
+
+-- what may be missing, foreign or wrong, and how much is tested
+abbrev pub counts_lines : Bounds → Limits → MarkTests → List (List ℕ)
+counts_lines bounds limits tests =
+    named (codes "missing") (decimal bounds.missing)
+    ∷ named (codes "foreign") (decimal bounds.foreign)
+    ∷ named (codes "badrows") (decimal limits.badrows)
+    ∷ named (codes "window") (decimal limits.window)
+    ∷ named (codes "misfits") (decimal tests.misfits)
+    ∷ named (codes "least") (decimal tests.least)
+    ∷ []
+
+-- what is searched in the images, and how it is tested
+abbrev pub search_lines : ℕ → Bounds → Limits → MarkTests → List (List ℕ)
+search_lines end bounds limits tests =
+    named (codes "end") (decimal end) ∷ (kinds_lines bounds ++ (sizes_lines bounds tests ++ counts_lines bounds limits tests))
+
+-- the rule of a mark
+abbrev pub rule_text : Rule → List ℕ
+rule_text (At d) = colons (codes "at" ∷ decimal d ∷ [])
+rule_text (Either d e) = colons (codes "either" ∷ decimal d ∷ decimal e ∷ [])
+rule_text (Every step count plus) = colons (codes "every" ∷ decimal step ∷ decimal count ∷ decimal plus ∷ [])
+
+-- KIND IMAGE SECTOR RULE
+abbrev pub mark_text : Mark → List ℕ
+mark_text mark = spaces (kind_name mark.kind ∷ decimal mark.image ∷ decimal mark.sector ∷ rule_text mark.rule ∷ [])
+
+abbrev pub mark_line : Mark → List ℕ
+mark_line mark = named (codes "mark") (mark_text mark)
+
+-- a group and its marks
+abbrev pub group_lines : Group → List (List ℕ)
+group_lines group = named (codes "group") (group_name group.kind) ∷ map mark_line group.marks
+
+-- groups, and the last line
+abbrev pub groups_lines : List Group → List (List ℕ)
+groups_lines groups = flat_map group_lines groups ++ codes "done" ∷ []
 
 -- the lines of a plan
 abbrev pub plan_lines : Plan → List (List ℕ)
-plan_lines plan =
-    codes "reraid-plan 1"
-    ∷ named (codes "images") (decimal (length plan.lengths.items))
-    ∷ (map (λ n. named (codes "length") (decimal n)) plan.lengths.items
-    ++ named (codes "end") (decimal plan.end)
-    ∷ named (codes "levels") (commas (map level_name plan.bounds.levels.items))
-    ∷ named (codes "members") (commas (map decimal plan.bounds.members.items))
-    ∷ named (codes "patterns") (commas (map pattern_name plan.bounds.patterns.items))
-    ∷ named (codes "syndromes") (commas (map syndrome_name plan.bounds.syndromes.items))
-    ∷ named (codes "chunks") (commas (map decimal plan.bounds.chunks.items))
-    ∷ named (codes "offsets") (commas (map decimal plan.bounds.offsets.items))
-    ∷ codes "origins 0"
-    ∷ named (codes "missing") (decimal plan.bounds.missing)
-    ∷ named (codes "foreign") (decimal plan.bounds.foreign)
-    ∷ named (codes "badrows") (decimal plan.limits.badrows)
-    ∷ named (codes "window") (decimal plan.limits.window)
-    ∷ codes "misfits 0"
-    ∷ codes "least 1"
-    ∷ codes "done"
-    ∷ [])
+plan_lines plan = image_lines plan.lengths.items ++ (search_lines plan.end plan.bounds plan.limits plan.tests ++ groups_lines plan.groups)
 
 -- the text of a plan: its lines, each ended by a line feed
 abbrev pub plan_text : Plan → List ℕ
 plan_text plan = flat_map line (plan_lines plan)
 
--- the place of a level, a pattern and a syndrome among their kind
-abbrev pub level_place : Level → ℕ
-level_place Raid0 = 0
-level_place Raid5 = 1
-level_place Raid6 = 2
+-- bytes of a line: none is a line feed
+abbrev pub IsLine : List ℕ → Type 0
+IsLine bytes = All (λ byte. byte ≢ 10) bytes
 
-abbrev pub pattern_place : Pattern → ℕ
-pattern_place Plain = 0
-pattern_place La = 1
-pattern_place Ra = 2
-pattern_place Ls = 3
-pattern_place Rs = 4
-pattern_place ParityFirst = 5
-pattern_place ParityLast = 6
-pattern_place NRestart = 7
-pattern_place NContinue = 8
-pattern_place La6 = 9
-pattern_place Ra6 = 10
-pattern_place Ls6 = 11
-pattern_place Rs6 = 12
-pattern_place ParityFirst6 = 13
+-- a text begins with these lines, each ended by a line feed
+pub record Begins (text : List ℕ) (lines : List (List ℕ)) : Type 0 where
+  pub plain : All IsLine lines
+  pub rest : List ℕ
+  pub text_is : text ≡ flat_map line lines ++ rest
 
-abbrev pub syndrome_place : Syndrome → ℕ
-syndrome_place NoQ = 0
-syndrome_place AfterQ = 1
-syndrome_place ByData = 2
-syndrome_place BySlot = 3
+-- the text of some plan does
+abbrev pub BeginsPlan : List (List ℕ) → Type 0
+BeginsPlan lines = (plan : Plan) × IsPlan plan × Begins (plan_text plan) lines
 
--- a list of a plan: it has an element, and it rises strictly
-pub record AreRising (numbers : List ℕ) : Type 0 where
-  pub some : 1 ≤ length numbers
-  pub rising : IsStrictlyIncreasing numbers
+-- the number, from 1, of the line at which a text that is no plan's is refused: the lines before it begin some
+-- plan, and together with it they begin none, or the text has no such line that a line feed ends
+pub record IsRefusedLine (text : List ℕ) (n : ℕ) : Type 0 where
+  pub no_plan : (plan : Plan) → IsPlan plan → text ≢ plan_text plan
+  pub lines : List (List ℕ)
+  pub number : length lines + 1 ≡ n
+  pub before : Begins text lines
+  pub begins : BeginsPlan lines
+  pub not_with : (more : List (List ℕ)) → length more ≡ n → Begins text more → BeginsPlan more → ⊥
 
--- the numbers of a plan are within the limits of the tool, and its lists rise
-pub record IsPlan (plan : Plan) : Type 0 where
-  pub some : 1 ≤ length plan.lengths.items
-  pub most : length plan.lengths.items ≤ MOST
-  pub lengths : All (λ n. n < 2 ^ 55) plan.lengths.items
-  pub ends : All (λ n. plan.end ≤ n) plan.lengths.items
-  pub levels : AreRising (map level_place plan.bounds.levels.items)
-  pub members : AreRising plan.bounds.members.items
-  pub few_members : All (λ n. (2 ≤ n) × (n ≤ MOST)) plan.bounds.members.items
-  pub patterns : AreRising (map pattern_place plan.bounds.patterns.items)
-  pub syndromes : AreRising (map syndrome_place plan.bounds.syndromes.items)
-  pub chunks : AreRising plan.bounds.chunks.items
-  pub powers : All (λ chunk. IsTrue (is_chunk chunk)) plan.bounds.chunks.items
-  pub offsets : AreRising plan.bounds.offsets.items
-  pub few_offsets : length plan.bounds.offsets.items ≤ MOST_OFFSETS
-  pub near_offsets : All (λ n. n < 2 ^ 55) plan.bounds.offsets.items
-  pub missing : plan.bounds.missing ≤ 2
-  pub foreign : plan.bounds.foreign ≤ MOST
-  pub badrows : plan.limits.badrows < 2 ^ 55
-  pub some_window : 1 ≤ plan.limits.window
-  pub window : plan.limits.window < 2 ^ 55
+-- a fault is a refused line, or memory ran out
+abbrev pub IsFault : List ℕ → PlanFault → Type 0
+IsFault text (Line n) = IsRefusedLine text n
+IsFault text Memory = Unit {0}
 
--- what reading a text answers: a plan whose text it is, and where it is a plan's text, that plan,
--- unless memory is wanting
+-- what reading a text answers: the plan whose text it is, or the refused line, unless memory runs out
 pub record ReadsPlan (text : List ℕ) (answer : Result Plan PlanFault) : Type 0 where
-  pub sound : IfOk answer (λ plan. IsPlan plan × (text ≡ plan_text plan))
-  pub whole : (plan : Plan) → IsPlan plan → text ≡ plan_text plan → MatchResult answer (λ read. read ≡ plan) (λ fault. fault ≡ Memory)
-
--- what the plan asks of a parameter set
-abbrev pub criteria_of : Plan → Criteria
-criteria_of plan = record { bounds = plan.bounds; end = plan.end; window = plan.limits.window; bad_rows = plan.limits.badrows }
+  pub plan : IfOk answer (λ plan. IsPlan plan × (text ≡ plan_text plan))
+  pub fault : IfErr answer (IsFault text)

@@ -9,6 +9,10 @@ use Rattle.raid_params.specs.declared.types.Pattern.{Pattern}
 use Rattle.raid_params.specs.declared.types.Pattern.TheVariants.{Plain, La, Ra, Ls, Rs, ParityFirst, ParityLast, NRestart, NContinue, La6, Ra6, Ls6, Rs6, ParityFirst6}
 use Rattle.raid_params.specs.declared.types.Syndrome.{Syndrome}
 use Rattle.raid_params.specs.declared.types.Syndrome.TheVariants.{NoQ, AfterQ, ByData, BySlot}
+use Rattle.landmark_rules.specs.declared.marks.GroupKind.{GroupKind}
+use Rattle.landmark_rules.specs.declared.marks.GroupKind.TheVariants.{Gpt as GptGroup, Ntfs, Xfs}
+use Rattle.landmark_rules.specs.declared.marks.Kind.{Kind}
+use Rattle.landmark_rules.specs.declared.marks.Kind.TheVariants.{Gpt, Boot, FileRecord, Super, Agf, Agi}
 
 abbrev pub level_name : Level → List ℕ
 level_name Raid0 = codes "0"
@@ -37,6 +41,19 @@ syndrome_name AfterQ = codes "after-q"
 syndrome_name ByData = codes "by-data"
 syndrome_name BySlot = codes "by-slot"
 
+abbrev pub group_name : GroupKind → List ℕ
+group_name GptGroup = codes "gpt"
+group_name Ntfs = codes "ntfs"
+group_name Xfs = codes "xfs"
+
+abbrev pub kind_name : Kind → List ℕ
+kind_name Gpt = codes "gpt"
+kind_name Boot = codes "boot"
+kind_name FileRecord = codes "record"
+kind_name Super = codes "super"
+kind_name Agf = codes "agf"
+kind_name Agi = codes "agi"
+
 -- a slot: the number of its image, or a dash
 abbrev pub slot_name : Option ℕ → List ℕ
 slot_name None = codes "-"
@@ -50,6 +67,10 @@ commas pieces = join_with_byte 44 pieces
 abbrev pub colons : List (List ℕ) → List ℕ
 colons pieces = join_with_byte 58 pieces
 
+-- pieces with a space between them
+abbrev pub spaces : List (List ℕ) → List ℕ
+spaces pieces = join_with_byte 32 pieces
+
 -- a name, a space and a value
 abbrev pub named : List ℕ → List ℕ → List ℕ
 named name value = name ++ 32 ∷ value
@@ -58,9 +79,9 @@ named name value = name ++ 32 ∷ value
 abbrev pub line : List ℕ → List ℕ
 line text = text ++ 10 ∷ []
 
--- a mark that ends a value: a comma, a colon or a line feed
+-- a mark that ends a value: a comma, a colon, a space or a line feed
 abbrev pub is_mark : ℕ → Bool
-is_mark byte = byte == 44 || byte == 58 || byte == 10
+is_mark byte = byte == 44 || byte == 58 || byte == 32 || byte == 10
 
 -- a byte of a value
 abbrev pub is_plain : ℕ → Bool

@@ -2,32 +2,45 @@
 //!
 //! A plan has one text, and a text is read as a plan exactly where it is that plan's text to its
 //! last byte: a list of lines, each ended by a line feed, with decimal numbers without sign or
-//! leading zero. A parameter set has one word in the same way.
+//! leading zero. Any other text is refused at one of its lines. A parameter set has one word in the same way.
 //!
-//! `command_jobs` reads the plan with it, `command_words` set words, and listings print [`set_line`]. The
-//! text of a plan stands in `specs/PlanText`, that of a set in `specs/SetText`; `docs/FORMATS.md` says the
-//! same for users. The laws: a plan has one spelling, and so has a set.
+//! [`read_plan`] goes through the text once, a line at a time, and [`write_plan`] is its other direction;
+//! [`read_set`], [`write_set`] and [`set_line`] do the same for sets. The text of a plan and its refused
+//! line stand in `specs/PlanText`, that of a set in `specs/SetText`; `docs/FORMATS.md` says the same for
+//! users. The laws: a plan has one spelling, and so has a set; a text has at most one refused line.
 #![tactic(auto)]
 
-mod bounds;
-mod fields;
+mod draft;
+mod drafting;
+mod entry;
+mod fault;
 mod front;
+mod groups;
 mod laws;
+mod lines;
+mod marks;
 mod names;
 mod number;
 mod parts;
-mod places;
 mod plan;
+mod reader;
+mod sections;
 mod set;
 mod set_word;
 mod spelled;
 #[cfg(test)]
 mod tests;
+mod text;
+mod writer;
 
+pub use fault::PlanFault;
 pub use front::cut;
-pub use laws::{one_spelling, set_words_have_one_spelling};
+pub use laws::{one_refused_line, one_spelling, set_words_have_one_spelling};
 pub use number::{after, read_number};
-pub use plan::{Limits, Plan, PlanFault, read_plan};
-pub use set::{Text, set_line, write_set};
+pub use plan::read_plan;
+pub use search_plan::{Limits, Placed, Plan};
+pub use set::{set_line, write_set};
 pub use set_word::read_set;
-pub use spelled::{Placed, Spelled};
+pub use spelled::{Spelled, rising};
+pub use text::Text;
+pub use writer::write_plan;

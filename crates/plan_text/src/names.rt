@@ -1,15 +1,18 @@
 //! The names of levels, patterns, syndromes, slots and numbers.
 ghost use Rattle.std.specs.Prelude.{◌≡◌, ◌<◌, ◌^◌, ◌≢◌, ℕ, decimal, IfSome, MatchOption};
 ghost use Rattle.raid_params.specs.declared.limits.TheConstants.{MOST as MOST_IMAGES};
-ghost use Rattle.plan_text.specs.Spelling.{level_name as level_spelling, pattern_name as pattern_spelling, syndrome_name as syndrome_spelling, slot_name};
-ghost use Rattle.plan_text.specs.NameLaws.{level_law, pattern_law, syndrome_law, byte_law, number_law, slot_law};
+ghost use Rattle.plan_text.specs.Spelling.{level_name, pattern_name, syndrome_name, kind_name, slot_name};
+ghost use Rattle.plan_text.specs.NameLaws.{level_law, pattern_law, syndrome_law, kind_law, byte_law, number_law, slot_law};
 
 use crate::number::read_number;
 use crate::spelled::Spelled;
+use crate::text::{Text, add_number};
+use image_source::Memory;
+use landmark_rules::Kind;
 use raid_params::{Level, MOST, Pattern, Syndrome};
 
 impl Spelled for Level {
-    ghost name = { level_spelling };
+    ghost name = { level_name };
 
     ghost IsSpelled = { λ level. Unit {0} };
 
@@ -22,11 +25,20 @@ impl Spelled for Level {
         }
     }
 
+    fn add_to(&self, text: &mut Text) -> Result<(), Memory> {
+        let name = match self {
+            Level::Raid0 => "0",
+            Level::Raid5 => "5",
+            Level::Raid6 => "6",
+        };
+        text.extend_from_slice(name.as_bytes())
+    }
+
     ghost law = { level_law };
 }
 
 impl Spelled for Pattern {
-    ghost name = { pattern_spelling };
+    ghost name = { pattern_name };
 
     ghost IsSpelled = { λ pattern. Unit {0} };
 
@@ -50,11 +62,31 @@ impl Spelled for Pattern {
         }
     }
 
+    fn add_to(&self, text: &mut Text) -> Result<(), Memory> {
+        let name = match self {
+            Pattern::Plain => "plain",
+            Pattern::La => "la",
+            Pattern::Ra => "ra",
+            Pattern::Ls => "ls",
+            Pattern::Rs => "rs",
+            Pattern::ParityFirst => "parity-first",
+            Pattern::ParityLast => "parity-last",
+            Pattern::NRestart => "n-restart",
+            Pattern::NContinue => "n-continue",
+            Pattern::La6 => "la-6",
+            Pattern::Ra6 => "ra-6",
+            Pattern::Ls6 => "ls-6",
+            Pattern::Rs6 => "rs-6",
+            Pattern::ParityFirst6 => "parity-first-6",
+        };
+        text.extend_from_slice(name.as_bytes())
+    }
+
     ghost law = { pattern_law };
 }
 
 impl Spelled for Syndrome {
-    ghost name = { syndrome_spelling };
+    ghost name = { syndrome_name };
 
     ghost IsSpelled = { λ syndrome. Unit {0} };
 
@@ -68,7 +100,49 @@ impl Spelled for Syndrome {
         }
     }
 
+    fn add_to(&self, text: &mut Text) -> Result<(), Memory> {
+        let name = match self {
+            Syndrome::NoQ => "none",
+            Syndrome::AfterQ => "after-q",
+            Syndrome::ByData => "by-data",
+            Syndrome::BySlot => "by-slot",
+        };
+        text.extend_from_slice(name.as_bytes())
+    }
+
     ghost law = { syndrome_law };
+}
+
+impl Spelled for Kind {
+    ghost name = { kind_name };
+
+    ghost IsSpelled = { λ kind. Unit {0} };
+
+    fn read(text: &[u8]) -> Option<Kind> {
+        match text {
+            b"gpt" => Some(Kind::Gpt),
+            b"boot" => Some(Kind::Boot),
+            b"record" => Some(Kind::FileRecord),
+            b"super" => Some(Kind::Super),
+            b"agf" => Some(Kind::Agf),
+            b"agi" => Some(Kind::Agi),
+            _ => None,
+        }
+    }
+
+    fn add_to(&self, text: &mut Text) -> Result<(), Memory> {
+        let name = match self {
+            Kind::Gpt => "gpt",
+            Kind::Boot => "boot",
+            Kind::FileRecord => "record",
+            Kind::Super => "super",
+            Kind::Agf => "agf",
+            Kind::Agi => "agi",
+        };
+        text.extend_from_slice(name.as_bytes())
+    }
+
+    ghost law = { kind_law };
 }
 
 impl Spelled for u64 {
@@ -78,6 +152,10 @@ impl Spelled for u64 {
 
     fn read(text: &[u8]) -> Option<u64> {
         read_number(text)
+    }
+
+    fn add_to(&self, text: &mut Text) -> Result<(), Memory> {
+        add_number(text, *self)
     }
 
     ghost law = { number_law };
@@ -90,6 +168,10 @@ impl Spelled for u8 {
 
     fn read(text: &[u8]) -> Option<u8> {
         u8::try_from(read_number(text)?).ok()
+    }
+
+    fn add_to(&self, text: &mut Text) -> Result<(), Memory> {
+        add_number(text, u64::from(*self))
     }
 
     ghost law = { byte_law };
@@ -105,6 +187,13 @@ impl Spelled for Option<u8> {
         match text {
             b"-" => Some(None),
             _ => Some(Some(read_image(text)?)),
+        }
+    }
+
+    fn add_to(&self, text: &mut Text) -> Result<(), Memory> {
+        match self {
+            None => text.push(b'-'),
+            Some(image) => image.add_to(text),
         }
     }
 

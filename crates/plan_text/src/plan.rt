@@ -1,83 +1,39 @@
-//! The plan of a search.
-ghost use Rattle.std.specs.Prelude.{◌≡◌, ◌≢◌, ◌≤◌, ◌↔◌, All, IsTrue, MatchOption};
-ghost use Rattle.plan_text.specs.PlanText.{ReadsPlan, IsPlan, plan_text};
-ghost use Rattle.plan_text.specs.declared.plan.Plan.{Plan as PlanOf};
+//! The plan that a text is.
+ghost use Rattle.std.specs.Prelude.{◌≡◌, ◌≤◌, ◌↔◌, ℕ, All, length};
+ghost use Rattle.plan_text.specs.PlanText.{ReadsPlan};
 
-use crate::bounds::read_bounds;
-use crate::fields::sectors;
-use crate::parts::{read_images, read_limits};
-use arrayvec::ArrayVec;
-use raid_params::{Bounds, MOST};
+use crate::fault::PlanFault;
+use crate::reader::PlanReader;
+use search_plan::Plan;
 use std::alloc::Global;
-use thiserror::Error;
 
-/// How much of the members is tested, and how much of it may be unsound.
-#[derive(Clone, Copy)]
-pub struct Limits {
-    /// The most tested sector rows that may be unsound.
-    pub badrows: u64,
-    /// The member sector from which on none is tested.
-    pub window: u64,
-}
-
-/// What a search goes through.
-#[derive(Drop)]
-pub struct Plan {
-    /// The lengths of the images, in sectors.
-    pub lengths: ArrayVec<u64, MOST>,
-    /// The image sector after the last one that may belong to the array.
-    pub end: u64,
-    /// The parameters to try.
-    pub bounds: Bounds,
-    /// How the rows are tested.
-    pub limits: Limits,
-}
-
-/// Why a text gives no plan.
-#[derive(Clone, Copy, Debug, Error, PartialEq, Eq)]
-pub enum PlanFault {
-    /// The text is no plan.
-    #[error("the text is no plan")]
-    NotBuilt,
-    /// Want of memory.
-    #[error("not enough memory")]
-    Memory,
-}
-
-/// Reads the text of a plan, to its last byte.
+/// Reads the text of a plan, to its last byte, in one go through it.
 ///
-/// It answers `NotBuilt` exactly where the text is no plan. It takes no memory today.
-pub fn read_plan(_alloc: Global, text: &[u8]) -> Result<Plan, PlanFault>
+/// It takes memory for the groups and marks alone. A text that is no plan's is refused at a line: those
+/// before it begin some plan, and together with it they begin none, or the text has no such line that a line
+/// feed ends. Text after the last line is refused at the line after it.
+pub fn read_plan(alloc: Global, text: &[u8]) -> Result<Plan, PlanFault>
     ensures { ReadsPlan text.now result }
 {
-    plan_of(text).ok_or(PlanFault::NotBuilt)
+    let mut reader = PlanReader::new(text);
+    let lengths = reader.images()?;
+    let search = reader.search(shortest(&lengths))?;
+    let groups = reader.groups(alloc, &lengths)?;
+    reader.end()?;
+    Ok(Plan {
+        lengths,
+        end: search.end,
+        bounds: search.bounds,
+        limits: search.limits,
+        tests: search.tests,
+        groups,
+    })
 }
 
-/// The plan whose text this is.
-fn plan_of(text: &[u8]) -> Option<Plan>
-    ensures { MatchOption result
-        ((plan : PlanOf) → IsPlan plan → text.now ≢ plan_text plan)
-        (λ plan. IsPlan plan × (text.now ≡ plan_text plan)) }
+/// The least of the lengths.
+fn shortest(lengths: &[u64]) -> u64
+    requires { 1 ≤ length lengths.now }
+    ensures { (n : ℕ) → (n ≤ result) ↔ All (λ length. n ≤ length) lengths.now }
 {
-    let (lengths, after_lengths) = read_images(text)?;
-    let (end, after_end) = sectors(after_lengths, b"end ")?;
-    let (bounds, after_bounds) = read_bounds(after_end)?;
-    let limits = read_limits(after_bounds)?;
-    if is_within(end, &lengths) {
-        Some(Plan {
-            lengths,
-            end,
-            bounds,
-            limits,
-        })
-    } else {
-        None
-    }
-}
-
-/// Whether each image has so many sectors.
-fn is_within(end: u64, lengths: &[u64]) -> bool
-    ensures { IsTrue result ↔ All (λ n. end ≤ n) lengths.now }
-{
-    lengths.iter().all(|length| end <= *length)
+    lengths.iter().copied().min().unwrap_or(0)
 }

@@ -1,12 +1,18 @@
 //! Values with a spelling of their own, and lists of them.
-ghost use Rattle.std.specs.Prelude.{◌≡◌, ◌≢◌, ◌≤◌, ◌∷◌, ◌++◌, ℕ, List, All, length, map, MatchOption, IsTrue};
+ghost use Rattle.std.specs.Prelude.{◌≡◌, ◌≢◌, ◌≤◌, ◌∷◌, ◌++◌, ◌↔◌, ℕ, List, All, length, map, MatchOption, OnOk, IsTrue};
+ghost use Rattle.std.specs.List.{flat_map};
+ghost use Rattle.std.specs.List.Sorted.{IsStrictlyIncreasing};
+ghost use Rattle.search_plan.specs.Plans.{AreRising};
 ghost use Rattle.plan_text.specs.Spelling.{IsSpelling, commas, is_mark};
 
 use crate::front::cut;
+use crate::text::Text;
 use arrayvec::ArrayVec;
+use image_source::Memory;
+use search_plan::Placed;
 
 /// A value that a text spells, in one way alone, without a mark that ends values.
-pub trait Spelled: Default + Drop {
+pub trait Spelled: Drop {
     ghost name: { Self → List ℕ };
 
     ghost IsSpelled: { Self → Type 0 };
@@ -15,16 +21,11 @@ pub trait Spelled: Default + Drop {
     fn read(text: &[u8]) -> Option<Self>
         ensures { MatchOption result ((x : Self) → IsSpelled x → text.now ≢ name x) (λ x. IsSpelled x × (text.now ≡ name x)) };
 
+    /// Appends the spelling of the value.
+    fn add_to(&self, text: &mut Text) -> Result<(), Memory>
+        ensures { OnOk result (text.new ≡ text.old ++ name self.now) };
+
     ghost law: { IsSpelling name IsSpelled };
-}
-
-/// A value with a place among those of its kind, which the lists of a plan follow.
-pub trait Placed: Spelled {
-    ghost place: { Self → ℕ };
-
-    /// The place of the value, from 0.
-    fn place(&self) -> u64
-        ensures { result ≡ place self.now };
 }
 
 /// The value before the first such mark, and what follows the mark.
@@ -40,7 +41,7 @@ pub fn value_until<T: Spelled>(text: &[u8], mark: u8) -> Option<(T, &[u8])>
 }
 
 /// The values that a text spells with a comma between them: at least one, and at most `CAP`.
-pub fn list<T: Spelled, const CAP: usize>(text: &[u8]) -> Option<ArrayVec<T, CAP>>
+pub fn list<T: Spelled + Default, const CAP: usize>(text: &[u8]) -> Option<ArrayVec<T, CAP>>
     ensures { MatchOption result
         ((xs : List T) → 1 ≤ length xs → length xs ≤ CAP → All T.IsSpelled xs → text.now ≢ commas (map T.name xs))
         (λ xs. (1 ≤ length xs.items) × (length xs.items ≤ CAP) × All T.IsSpelled xs.items × (text.now ≡ commas (map T.name xs.items))) }
@@ -53,4 +54,49 @@ pub fn list<T: Spelled, const CAP: usize>(text: &[u8]) -> Option<ArrayVec<T, CAP
     }
     values.try_push(T::read(rest)?).ok()?;
     Some(values)
+}
+
+/// The values that a text spells with a comma between them, at least one and at most `CAP`, each with a
+/// place before the next one's.
+pub fn rising<T: Spelled + Placed + Default, const CAP: usize>(
+    text: &[u8],
+) -> Option<ArrayVec<T, CAP>>
+    ensures { MatchOption result
+        ((xs : List T) → AreRising (map T.place xs) × (length xs ≤ CAP) × All T.IsSpelled xs → text.now ≢ commas (map T.name xs))
+        (λ xs. (AreRising (map T.place xs.items) × (length xs.items ≤ CAP) × All T.IsSpelled xs.items) × (text.now ≡ commas (map T.name xs.items))) }
+{
+    let values = list::<T, CAP>(text)?;
+    if rises(&values) { Some(values) } else { None }
+}
+
+/// Whether each value has a place before the next one's.
+fn rises<T: Placed>(values: &[T]) -> bool
+    ensures { IsTrue result ↔ IsStrictlyIncreasing (map T.place values.now) }
+{
+    values.is_sorted_by(|earlier, later| earlier.place() < later.place())
+}
+
+/// Appends the spellings of values, with a comma between them.
+#[tactic(auto, using(crate::proofs::Commas::with_commas))]
+pub fn add_list<T: Spelled>(text: &mut Text, values: &[T]) -> Result<(), Memory>
+    ensures { OnOk result (text.new ≡ text.old ++ commas (map T.name values.now)) }
+{
+    match values {
+        [] => Ok(()),
+        [first, rest @ ..] => {
+            first.add_to(text)?;
+            add_more(text, rest)
+        }
+    }
+}
+
+/// Appends the spellings of values, with a comma before each.
+fn add_more<T: Spelled>(text: &mut Text, values: &[T]) -> Result<(), Memory>
+    ensures { OnOk result (text.new ≡ text.old ++ flat_map (λ value. 44 ∷ T.name value) values.now) }
+{
+    for value in values {
+        text.push(b',')?;
+        value.add_to(text)?;
+    }
+    Ok(())
 }

@@ -1,26 +1,42 @@
-//! That plans and set words are read, that sets are written, and that texts one step off are
-//! refused.
-use crate::{PlanFault, read_plan, read_set, set_line, write_set};
+//! That plans and sets are read and written, and at which line texts one step off are refused.
+use crate::text::add_number;
+use crate::{PlanFault, Text, read_plan, read_set, set_line, write_plan, write_set};
 use arrayvec::ArrayVec;
 use raid_params::{Geometry, Head, Level, Pattern, Syndrome};
 use std::alloc::Global;
 use std::test::Fail;
 
-const IMAGES: &[u8] =
-    b"reraid-plan 1\nimages 3\nlength 70000\nlength 65536\nlength 66000\nend 65536\n";
+/// The lines before `badrows` of a plan over three images of two sectors: fifteen.
+const FRONT: &[u8] =
+    b"reraid-plan 1\nimages 3\nlength 2\nlength 2\nlength 2\nend 2\nlevels 5\nmembers 3\npatterns ls\nsyndromes none\nchunks 1\noffsets 0\norigins 0\nmissing 0\nforeign 0\n";
 
-const KINDS: &[u8] =
-    b"levels 5,6\nmembers 3,4\npatterns la,ls,parity-first-6\nsyndromes none,by-slot\n";
+const BADROWS: &[u8] = b"badrows 0\n";
 
-const SIZES: &[u8] = b"chunks 8,128\noffsets 0,2048\n";
+const WINDOW: &[u8] = b"window 2\n";
 
-const LIMITS: &[u8] = b"origins 0\nmissing 1\nforeign 2\nbadrows 3\nwindow 64\n";
+const TESTS: &[u8] = b"misfits 0\nleast 1\n";
 
-const TAIL: &[u8] = b"misfits 0\nleast 1\ndone\n";
+const DONE: &[u8] = b"done\n";
 
-const SEVENTEEN_IMAGES: &[u8] =
-    b"reraid-plan 1\nimages 17\nlength 2\nlength 2\nlength 2\nlength 2\nlength 2\nlength 2\nlength 2\nlength 2\nlength 2\nlength 2\nlength 2\nlength 2\nlength 2\nlength 2\nlength 2\nlength 2\nlength 2\nend 2\n";
+/// A plan with each kind of group, mark and rule.
+const MARKED: &[u8] =
+    b"reraid-plan 1\nimages 2\nlength 70000\nlength 65536\nend 65536\nlevels 0,5,6\nmembers 2,3\npatterns plain,la,parity-first-6\nsyndromes none,by-slot\nchunks 8,128\noffsets 0,2048\norigins 0,2048\nmissing 1\nforeign 0\nbadrows 3\nwindow 64\nmisfits 2\nleast 0\ngroup gpt\nmark gpt 1 0 at:1\ngroup ntfs\nmark boot 0 5 either:0:65535\nmark record 1 5 either:32:33\ngroup xfs\ngroup xfs\nmark super 0 0 every:4096:4:0\nmark agf 1 1 at:1\nmark agi 0 2 at:2\ndone\n";
 
+#[test]
+fn a_plan_is_read_and_written(rt: HostRuntime) -> Result<(), Fail> {
+    let alloc = rt.alloc();
+    let plan = read_plan(alloc, MARKED)?;
+    assert_eq!(rt;
+        (plan.limits.window, plan.tests.misfits, plan.tests.least),
+        (64, 2, 0)
+    );
+    assert_eq!(rt; plan.groups.as_slice().len(), 4);
+    let text = write_plan(alloc, &plan)?;
+    assert_eq!(rt; text.as_slice(), MARKED);
+    Ok(())
+}
+
+/// Why the joined parts are no plan.
 fn fault(alloc: Global, parts: &[&[u8]]) -> Result<Option<PlanFault>, Fail> {
     let mut text = Vec::new(alloc);
     for part in parts {
@@ -30,98 +46,71 @@ fn fault(alloc: Global, parts: &[&[u8]]) -> Result<Option<PlanFault>, Fail> {
 }
 
 #[test]
-fn a_plan_is_read(rt: HostRuntime) -> Result<(), Fail> {
+fn numbers_out_of_range_are_refused_at_their_line(rt: HostRuntime) -> Result<(), Fail> {
     let alloc = rt.alloc();
-    let mut text = Vec::new(alloc);
-    for part in [IMAGES, KINDS, SIZES, LIMITS, TAIL] {
-        text.extend_from_slice(part)?;
-    }
-    let plan = read_plan(alloc, &text)?;
-    assert_eq!(rt; plan.lengths.as_slice(), [70000, 65536, 66000].as_slice());
-    assert_eq!(rt; plan.end, 65536);
-    let bounds = &plan.bounds;
-    assert!(rt; matches!(bounds.levels.as_slice(), [Level::Raid5, Level::Raid6]));
-    assert_eq!(rt; bounds.members.as_slice(), [3, 4].as_slice());
-    assert!(rt;
-        matches!(
-            bounds.patterns.as_slice(),
-            [Pattern::La, Pattern::Ls, Pattern::ParityFirst6]
-        )
+    let badrows = b"badrows 36028797018963968\n";
+    assert_eq!(rt;
+        fault(alloc, &[FRONT, badrows, WINDOW, TESTS, DONE])?,
+        Some(PlanFault::Line(16))
     );
-    assert!(rt;
-        matches!(
-            bounds.syndromes.as_slice(),
-            [Syndrome::NoQ, Syndrome::BySlot]
-        )
+    assert_eq!(rt;
+        fault(alloc, &[FRONT, BADROWS, b"window 0\n", TESTS, DONE])?,
+        Some(PlanFault::Line(17))
     );
-    assert_eq!(rt; bounds.chunks.as_slice(), [8, 128].as_slice());
-    assert_eq!(rt; bounds.offsets.as_slice(), [0, 2048].as_slice());
-    assert_eq!(rt; (bounds.missing, bounds.foreign), (1, 2));
-    assert_eq!(rt; (plan.limits.badrows, plan.limits.window), (3, 64));
+    let marks = b"group xfs\nmark super 0 0 every:18014398509481984:2:0\n";
+    assert_eq!(rt;
+        fault(alloc, &[FRONT, BADROWS, WINDOW, TESTS, marks, DONE])?,
+        Some(PlanFault::Line(21))
+    );
     Ok(())
 }
 
 #[test]
-fn other_texts_are_refused(rt: HostRuntime) -> Result<(), Fail> {
+fn texts_one_step_off_are_refused_at_their_line(rt: HostRuntime) -> Result<(), Fail> {
     let alloc = rt.alloc();
-    let refused = Some(PlanFault::NotBuilt);
-    assert_eq!(rt;
-        fault(
-            alloc,
-            &[IMAGES, KINDS, SIZES, LIMITS, b"misfits 0\nleast 1\ndone"]
-        )?,
-        refused
-    );
-    assert_eq!(rt;
-        fault(alloc, &[IMAGES, KINDS, SIZES, LIMITS, TAIL, b"\n"])?,
-        refused
-    );
+    assert!(rt; fault(alloc, &[FRONT, BADROWS, WINDOW, TESTS, DONE])?.is_none());
+    assert_eq!(rt; fault(alloc, &[])?, Some(PlanFault::Line(1)));
     assert_eq!(rt;
         fault(
             alloc,
             &[
-                b"reraid-plan 1\r",
-                &IMAGES[13..],
-                KINDS,
-                SIZES,
-                LIMITS,
-                TAIL
+                b"reraid-plan 1\r\n",
+                &FRONT[14..],
+                BADROWS,
+                WINDOW,
+                TESTS,
+                DONE
             ]
         )?,
-        refused
+        Some(PlanFault::Line(1))
     );
     assert_eq!(rt;
-        fault(alloc, &[SEVENTEEN_IMAGES, KINDS, SIZES, LIMITS, TAIL])?,
-        refused
+        fault(alloc, &[FRONT, BADROWS, WINDOW, TESTS, b"done"])?,
+        Some(PlanFault::Line(20))
     );
     assert_eq!(rt;
-        fault(
-            alloc,
-            &[IMAGES, b"levels 6,5\n", &KINDS[11..], SIZES, LIMITS, TAIL]
-        )?,
-        refused
+        fault(alloc, &[FRONT, BADROWS, WINDOW, TESTS, DONE, b"\n"])?,
+        Some(PlanFault::Line(21))
     );
-    assert_eq!(rt;
-        fault(
-            alloc,
-            &[IMAGES, KINDS, b"chunks 3\n", &SIZES[13..], LIMITS, TAIL]
-        )?,
-        refused
-    );
-    assert_eq!(rt;
-        fault(
-            alloc,
-            &[IMAGES, KINDS, SIZES, &LIMITS[..40], b"window 0\n", TAIL]
-        )?,
-        refused
-    );
-    assert_eq!(rt;
-        fault(
-            alloc,
-            &[&IMAGES[..62], b"end 65537\n", KINDS, SIZES, LIMITS, TAIL]
-        )?,
-        refused
-    );
+    Ok(())
+}
+
+/// The lines before the groups of a plan over one image: seventeen.
+const ONE_IMAGE: &[u8] =
+    b"reraid-plan 1\nimages 1\nlength 70000\nend 65536\nlevels 0\nmembers 2\npatterns plain\nsyndromes none\nchunks 8\noffsets 0\norigins 0\nmissing 1\nforeign 0\nbadrows 0\nwindow 1\nmisfits 0\nleast 1\n";
+
+#[test]
+fn one_mark_too_many_is_refused_at_its_line(rt: HostRuntime) -> Result<(), Fail> {
+    let mut text = Text::new(rt.alloc());
+    text.extend_from_slice(ONE_IMAGE)?;
+    text.extend_from_slice(b"group xfs\n")?;
+    for sector in 0..4097u64 {
+        text.extend_from_slice(b"mark agf 0 ")?;
+        add_number(&mut text, sector)?;
+        text.extend_from_slice(b" at:0\n")?;
+    }
+    let fault = read_plan(rt.alloc(), text.as_slice()).err();
+    assert_eq!(rt; fault, Some(PlanFault::Line(18 + 4097)));
     Ok(())
 }
 

@@ -1,4 +1,4 @@
-use Rattle.plan_text.proofs.PlanTexts.{one_spelling}
+use Rattle.plan_text.proofs.PlanEnds.{one_spelling}
 use Rattle.plan_text.proofs.laws.one_spelling.Goals as goal
 
 pub returns : goal.returns

@@ -1,5 +1,70 @@
-use Rattle.plan_text.proofs.PlanTexts.{reads}
+use Rattle.std.proofs.lemmas.Result.{err_from_is_err_and}
+use Rattle.search_plan.specs.Plans.{IsPlan}
+use Rattle.plan_text.specs.PlanText.{plan_lines}
+use Rattle.plan_text.proofs.PlanEnds.{end_refused, whole_text}
+use Rattle.plan_text.proofs.PlanLines.{IsShortest, is_plan, plan_of, stands_images, stands_search, stands_groups}
+use Rattle.plan_text.proofs.RefusedLines.{fault_of}
+use Rattle.plan_text.proofs.Refusals.{went, went_on, nowhere, refused}
 use Rattle.plan_text.proofs.plan.read_plan.Goals as goal
 
+pub returns-in_err-lengths : goal.returns-in_err-lengths
+returns-in_err-lengths c =
+    let p = err_from_is_err_and c.from_residual.result c.from_residual.ensures.1 in
+    let from = c.new-reader.result in
+    rw (p.1, p.2) record {
+      plan = tt;
+      fault = fault_of c.args.text.now from c.in_err-lengths.field-0.0 c.new-reader.ensures.rest c.new-reader.ensures.taken (refused _ _ IsPlan plan_lines _ from from c.in_err-lengths.field-0.0 stands_images (nowhere _) c.in_err-lengths.ensures);
+    }
+
+pub returns-in_err-search : goal.returns-in_err-search
+returns-in_err-search c =
+    let p = err_from_is_err_and c.from_residual-in_err-search.result c.from_residual-in_err-search.ensures.1 in
+    let from = c.new-reader.result in
+    let lengths = c.in_ok-lengths.lengths in
+    let least : IsShortest lengths.items c.shortest.result = rw c.deref.ensures.0 at c.shortest.ensures in
+    rw (p.1, p.2) record {
+      plan = tt;
+      fault = fault_of c.args.text.now from c.in_err-search.field-0.0 c.new-reader.ensures.rest c.new-reader.ensures.taken
+          (refused _ _ IsPlan plan_lines _ from c.images.new.self c.in_err-search.field-0.0 (stands_search lengths c.shortest.result c.in_ok-lengths.ensures.is_value least) (went c.in_ok-lengths.ensures) c.in_err-search.ensures);
+    }
+
+pub returns-in_err-groups : goal.returns-in_err-groups
+returns-in_err-groups c =
+    let p = err_from_is_err_and c.from_residual-in_err-groups.result c.from_residual-in_err-groups.ensures.1 in
+    let from = c.new-reader.result in
+    let lengths = c.in_ok-lengths.lengths in
+    let least : IsShortest lengths.items c.shortest.result = rw c.deref.ensures.0 at c.shortest.ensures in
+    let refusal = rw c.deref-2.ensures.0 at c.in_err-groups.ensures in
+    rw (p.1, p.2) record {
+      plan = tt;
+      fault = fault_of c.args.text.now from c.in_err-groups.field-0.0 c.new-reader.ensures.rest c.new-reader.ensures.taken
+          (refused _ _ IsPlan plan_lines _ from c.search.new.self c.in_err-groups.field-0.0 (stands_groups lengths c.shortest.result c.in_ok-search.search c.in_ok-lengths.ensures.is_value least c.in_ok-search.ensures.is_value)
+          (went_on (went c.in_ok-lengths.ensures) (went c.in_ok-search.ensures)) refusal);
+    }
+
+pub returns-in_err-end : goal.returns-in_err-end
+returns-in_err-end c =
+    let p = err_from_is_err_and c.from_residual-in_err-end.result c.from_residual-in_err-end.ensures.1 in
+    let from = c.new-reader.result in
+    let lengths = c.in_ok-lengths.lengths in
+    let least : IsShortest lengths.items c.shortest.result = rw c.deref.ensures.0 at c.shortest.ensures in
+    let groups = rw c.deref-2.ensures.0 at c.in_ok-groups.ensures in
+    rw (p.1, p.2) record {
+      plan = tt;
+      fault = end_refused c.args.text.now from c.groups.new.self c.in_err-end.field-0.0 (plan_of lengths c.in_ok-search.search c.in_ok-groups.groups)
+          (is_plan lengths c.shortest.result c.in_ok-search.search c.in_ok-groups.groups c.in_ok-lengths.ensures.is_value least c.in_ok-search.ensures.is_value groups.is_value) c.new-reader.ensures.rest c.new-reader.ensures.taken
+          (went_on (went c.in_ok-lengths.ensures) (went_on (went c.in_ok-search.ensures) (went c.in_ok-groups.ensures))) c.in_err-end.ensures;
+    }
+
 pub returns : goal.returns
-returns c = reads c.args.text.now c.plan_of.result c.ok_or.result c.ok_or.ensures.value c.plan_of.ensures
+returns c =
+    let lengths = c.in_ok-lengths.lengths in
+    let least : IsShortest lengths.items c.shortest.result = rw c.deref.ensures.0 at c.shortest.ensures in
+    let groups = rw c.deref-2.ensures.0 at c.in_ok-groups.ensures in
+    record {
+      plan = (
+        is_plan lengths c.shortest.result c.in_ok-search.search c.in_ok-groups.groups c.in_ok-lengths.ensures.is_value least c.in_ok-search.ensures.is_value groups.is_value,
+        whole_text c.args.text.now c.new-reader.result c.groups.new.self (plan_of lengths c.in_ok-search.search c.in_ok-groups.groups) c.new-reader.ensures.rest (went_on (went c.in_ok-lengths.ensures) (went_on (went c.in_ok-search.ensures) (went c.in_ok-groups.ensures))) c.in_ok-end.ensures,
+      );
+      fault = tt;
+    }

@@ -1,0 +1,138 @@
+-- The end of a plan's text, and that a plan has one text.
+use Rattle.std.proofs.Common.{◌≡◌, ◌≢◌, ◌<◌, ◌≤◌, ◌+◌, ◌^◌, ℕ, List, [], ◌∷◌, ◌++◌, All, drop, take, get_or, length, map, codes, decimal, refl, sym, ap, subst, ◌∙◌, arith, append_assoc, append-nil, length-append}
+use Rattle.std.proofs.lemmas.List.{append_cancel_left}
+use Rattle.std.proofs.lemmas.Fmt.{decimal_injective}
+use Rattle.raid_params.specs.declared.types.Bounds.{Bounds}
+use Rattle.raid_params.specs.declared.types.Level.{Level}
+use Rattle.raid_params.specs.declared.types.Pattern.{Pattern}
+use Rattle.raid_params.specs.declared.types.Syndrome.{Syndrome}
+use Rattle.landmark_rules.specs.declared.marks.Group.{Group}
+use Rattle.landmark_rules.specs.declared.marks.MarkTests.{MarkTests}
+use Rattle.search_plan.specs.declared.plan.Limits.{Limits}
+use Rattle.search_plan.specs.declared.plan.Plan.{Plan}
+use Rattle.search_plan.specs.Places.{level_place, pattern_place, syndrome_place}
+use Rattle.search_plan.specs.Plans.{IsPlan}
+use Rattle.plan_text.specs.declared.fault.PlanFault.{PlanFault}
+use Rattle.plan_text.specs.declared.fault.PlanFault.TheVariants.{Line}
+use Rattle.plan_text.specs.NameLaws.{level_law, pattern_law, syndrome_law, byte_law, number_law}
+use Rattle.plan_text.specs.PlanText.{IsFault, IsRefusedLine, groups_lines, image_lines, plan_lines, plan_text, search_lines}
+use Rattle.plan_text.specs.Reading.{Cursor, followed}
+use Rattle.plan_text.specs.Spelling.{IsSpelling, level_name, pattern_name, syndrome_name, commas}
+use Rattle.plan_text.proofs.Fits.{members_are_bytes, chunks_are_short, offsets_are_short}
+use Rattle.plan_text.proofs.GroupSteps.{are_spelled}
+use Rattle.plan_text.proofs.Lists.{some_value}
+use Rattle.plan_text.proofs.PlanLines.{one_end, same_groups, same_images}
+use Rattle.plan_text.proofs.RefusedLines.{IsOther, end_is_short, following, plain_lines, refused_line, text_of}
+use Rattle.plan_text.proofs.Refusals.{Went}
+use Rattle.plan_text.proofs.Spellings.{same_list}
+
+-- no plan goes on after the last line of another
+no_more : (p q : Plan) (l : List ℕ) (ls : List (List ℕ)) → IsPlan p → IsPlan q → plan_lines q ≡ plan_lines p ++ l ∷ ls → ⊥
+no_more p q l ls is_p is_q e =
+    let images_p = image_lines p.lengths.items in
+    let search_p = search_lines p.end p.bounds p.limits p.tests in
+    let search_q = search_lines q.end q.bounds q.limits q.tests in
+    let both = same_images q.lengths.items p.lengths.items (search_q ++ groups_lines q.groups) ((search_p ++ groups_lines p.groups) ++ l ∷ ls) is_q.lengths is_p.lengths (e ∙ append_assoc images_p (search_p ++ groups_lines p.groups) (l ∷ ls)) in
+    let rest : groups_lines q.groups ≡ groups_lines p.groups ++ l ∷ ls = ap (λ (xs : List (List ℕ)). drop 14 xs) both.1 in
+    one_end q.groups p.groups l ls (are_spelled q.lengths.items q.groups is_q.lengths is_q.groups) (are_spelled p.lengths.items p.groups is_p.lengths is_p.groups) rest
+
+ends_there : (p q : Plan) (rest : List ℕ) (others : List (List ℕ)) → IsPlan p → IsPlan q → rest ≢ [] → plan_lines q ≡ plan_lines p ++ others → IsOther rest others
+ends_there p q rest [] is_p is_q some e = some
+ends_there p q rest (l ∷ ls) is_p is_q some e = absurd (no_more p q l ls is_p is_q e)
+
+-- text after the last line is refused at the line after it
+pub end_refused : (text : List ℕ) (from to : Cursor) (fault : PlanFault) (plan : Plan) → IsPlan plan → from.rest ≡ text → from.taken ≡ 0 → Went from to (plan_lines plan) → (fault ≡ Line (to.taken + 1)) × (to.rest ≢ []) → IsFault text fault
+end_refused text from to fault plan is rest taken w h =
+    let number : length (plan_lines plan) + 1 ≡ to.taken + 1 = (let over = w.taken in omega arith) in
+    subst (IsFault text) (sym h.0) (subst (IsRefusedLine text) number (refused_line text to.rest (plan_lines plan) w.plain (sym rest ∙ w.rest) plan is [] (sym (append-nil (plan_lines plan))) (λ q others is_q e. ends_there plan q to.rest others is is_q h.1 e)))
+
+-- a text that was read to its end
+pub whole_text : (text : List ℕ) (from to : Cursor) (plan : Plan) → from.rest ≡ text → Went from to (plan_lines plan) → to.rest ≡ [] → text ≡ plan_text plan
+whole_text text from to plan rest w end = sym rest ∙ w.rest ∙ ap (λ (ds : List ℕ). followed (plan_lines plan) ds) end ∙ sym (text_of plan)
+
+bounds_with : List Level → List ℕ → List Pattern → List Syndrome → List ℕ → List ℕ → ℕ → ℕ → Bounds
+bounds_with levels members patterns syndromes chunks offsets missing foreign = record {
+  levels = record { items = levels };
+  members = record { items = members };
+  patterns = record { items = patterns };
+  syndromes = record { items = syndromes };
+  chunks = record { items = chunks };
+  offsets = record { items = offsets };
+  missing = missing;
+  foreign = foreign;
+}
+
+eq_bounds : (b d : Bounds) → b.levels.items ≡ d.levels.items → b.members.items ≡ d.members.items → b.patterns.items ≡ d.patterns.items → b.syndromes.items ≡ d.syndromes.items → b.chunks.items ≡ d.chunks.items → b.offsets.items ≡ d.offsets.items → b.missing ≡ d.missing → b.foreign ≡ d.foreign → b ≡ d
+unfolding bounds_with
+eq_bounds b d l m p s c o i f =
+    let same : bounds_with b.levels.items b.members.items b.patterns.items b.syndromes.items b.chunks.items b.offsets.items b.missing b.foreign
+    ≡ bounds_with d.levels.items d.members.items d.patterns.items d.syndromes.items d.chunks.items d.offsets.items d.missing d.foreign = cc in
+    same
+
+limits_with : ℕ → ℕ → Limits
+limits_with badrows window = record { badrows = badrows; window = window }
+
+eq_limits : (s t : Limits) → s.badrows ≡ t.badrows → s.window ≡ t.window → s ≡ t
+unfolding limits_with
+eq_limits s t a b = let same : limits_with s.badrows s.window ≡ limits_with t.badrows t.window = cc in same
+
+tests_with : List ℕ → ℕ → ℕ → MarkTests
+tests_with origins misfits least = record { origins = record { items = origins }; misfits = misfits; least = least }
+
+eq_tests : (s t : MarkTests) → s.origins.items ≡ t.origins.items → s.misfits ≡ t.misfits → s.least ≡ t.least → s ≡ t
+unfolding tests_with
+eq_tests s t a b c = let same : tests_with s.origins.items s.misfits s.least ≡ tests_with t.origins.items t.misfits t.least = cc in same
+
+plan_with : List ℕ → ℕ → Bounds → Limits → MarkTests → List Group → Plan
+plan_with lengths end bounds limits tests groups = record { lengths = record { items = lengths }; end = end; bounds = bounds; limits = limits; tests = tests; groups = groups }
+
+eq_plan : (p q : Plan) → p.lengths.items ≡ q.lengths.items → p.end ≡ q.end → p.bounds ≡ q.bounds → p.limits ≡ q.limits → p.tests ≡ q.tests → p.groups ≡ q.groups → p ≡ q
+unfolding plan_with
+eq_plan p q a b c d e f = let same : plan_with p.lengths.items p.end p.bounds p.limits p.tests p.groups ≡ plan_with q.lengths.items q.end q.bounds q.limits q.tests q.groups = cc in same
+
+number : (word : List ℕ) (m n : ℕ) → m < 2 ^ 55 → n < 2 ^ 55 → word ++ decimal m ≡ word ++ decimal n → m ≡ n
+number word m n p q e = decimal_injective m n (omega arith) (omega arith) (append_cancel_left word (decimal m) (decimal n) e)
+
+listed : {A : Type 0} (name : A → List ℕ) (IsSpelled : A → Type 0) → IsSpelling name IsSpelled → (word : List ℕ) (xs ys : List A) → 1 ≤ length xs → 1 ≤ length ys → All IsSpelled xs → All IsSpelled ys → word ++ commas (map name xs) ≡ word ++ commas (map name ys) → xs ≡ ys
+listed name IsSpelled s word xs ys some more p q e = same_list name IsSpelled s xs ys some more p q (append_cancel_left word (commas (map name xs)) (commas (map name ys)) e)
+
+abbrev line_at : ℕ → List (List ℕ) → List ℕ
+line_at i lines = get_or lines i []
+
+same_bounds : (p q : Plan) → IsPlan p → IsPlan q → search_lines p.end p.bounds p.limits p.tests ≡ search_lines q.end q.bounds q.limits q.tests → p.bounds ≡ q.bounds
+same_bounds p q is_p is_q e =
+    let a = is_p.bounds in
+    let b = is_q.bounds in
+    eq_bounds p.bounds q.bounds
+    (listed level_name (λ x. Unit {0}) level_law (codes "levels ") p.bounds.levels.items q.bounds.levels.items (some_value level_place p.bounds.levels.items a.levels) (some_value level_place q.bounds.levels.items b.levels) (λ k d lt. tt) (λ k d lt. tt) (ap (line_at 1) e))
+    (listed decimal (λ n. n < 2 ^ 8) byte_law (codes "members ") p.bounds.members.items q.bounds.members.items a.members.some b.members.some (members_are_bytes p.bounds.members.items a.few_members) (members_are_bytes q.bounds.members.items b.few_members) (ap (line_at 2) e))
+    (listed pattern_name (λ x. Unit {0}) pattern_law (codes "patterns ") p.bounds.patterns.items q.bounds.patterns.items (some_value pattern_place p.bounds.patterns.items a.patterns) (some_value pattern_place q.bounds.patterns.items b.patterns) (λ k d lt. tt) (λ k d lt. tt) (ap (line_at 3) e))
+    (listed syndrome_name (λ x. Unit {0}) syndrome_law (codes "syndromes ") p.bounds.syndromes.items q.bounds.syndromes.items (some_value syndrome_place p.bounds.syndromes.items a.syndromes) (some_value syndrome_place q.bounds.syndromes.items b.syndromes) (λ k d lt. tt) (λ k d lt. tt) (ap (line_at 4) e))
+    (listed decimal (λ n. n < 2 ^ 64) number_law (codes "chunks ") p.bounds.chunks.items q.bounds.chunks.items a.chunks.some b.chunks.some (chunks_are_short p.bounds.chunks.items a.powers) (chunks_are_short q.bounds.chunks.items b.powers) (ap (line_at 5) e))
+    (listed decimal (λ n. n < 2 ^ 64) number_law (codes "offsets ") p.bounds.offsets.items q.bounds.offsets.items a.offsets.some b.offsets.some (offsets_are_short p.bounds.offsets.items a.near_offsets) (offsets_are_short q.bounds.offsets.items b.near_offsets) (ap (line_at 6) e))
+    (number (codes "missing ") p.bounds.missing q.bounds.missing (let small = a.missing in omega arith) (let small = b.missing in omega arith) (ap (line_at 8) e))
+    (number (codes "foreign ") p.bounds.foreign q.bounds.foreign (let small = a.foreign in omega arith) (let small = b.foreign in omega arith) (ap (line_at 9) e))
+
+-- plans with the same text are the same plan
+pub one_spelling : (p q : Plan) → IsPlan p → IsPlan q → plan_text p ≡ plan_text q → p ≡ q
+one_spelling p q is_p is_q e =
+    let after = following (plan_lines p) (plan_lines q) [] (plain_lines p is_p) (plain_lines q is_q) (sym (text_of p) ∙ e ∙ text_of q) in
+    let none = nothing after.0 after.2 in
+    let lines : plan_lines q ≡ plan_lines p = after.1 ∙ ap (λ (ls : List (List ℕ)). plan_lines p ++ ls) none ∙ append-nil (plan_lines p) in
+    let search_p = search_lines p.end p.bounds p.limits p.tests in
+    let search_q = search_lines q.end q.bounds q.limits q.tests in
+    let both = same_images p.lengths.items q.lengths.items (search_p ++ groups_lines p.groups) (search_q ++ groups_lines q.groups) is_p.lengths is_q.lengths (sym lines) in
+    let search : search_p ≡ search_q = ap (λ (ls : List (List ℕ)). take 14 ls) both.1 in
+    let groups : groups_lines p.groups ≡ groups_lines q.groups = ap (λ (ls : List (List ℕ)). drop 14 ls) both.1 in
+    let a = is_p.tests in
+    let b = is_q.tests in
+    eq_plan p q both.0 (number (codes "end ") p.end q.end (end_is_short p is_p) (end_is_short q is_q) (ap (line_at 0) search)) (same_bounds p q is_p is_q search)
+    (eq_limits p.limits q.limits (number (codes "badrows ") p.limits.badrows q.limits.badrows is_p.limits.badrows is_q.limits.badrows (ap (line_at 10) search)) (number (codes "window ") p.limits.window q.limits.window is_p.limits.window is_q.limits.window (ap (line_at 11) search)))
+    (eq_tests p.tests q.tests
+    (listed decimal (λ n. n < 2 ^ 64) number_law (codes "origins ") p.tests.origins.items q.tests.origins.items a.origins.some b.origins.some (offsets_are_short p.tests.origins.items a.near_origins) (offsets_are_short q.tests.origins.items b.near_origins) (ap (line_at 7) search))
+    (number (codes "misfits ") p.tests.misfits q.tests.misfits a.misfits b.misfits (ap (line_at 12) search)) (number (codes "least ") p.tests.least q.tests.least a.least b.least (ap (line_at 13) search)))
+    (same_groups p.groups q.groups (are_spelled p.lengths.items p.groups is_p.lengths is_p.groups) (are_spelled q.lengths.items q.groups is_q.lengths is_q.groups) groups)
+  where
+    nothing : (others : List (List ℕ)) → [] ≡ followed others [] → others ≡ []
+    nothing [] e = refl
+    nothing (l ∷ ls) e = let same = ap length e in let more = length-append l (10 ∷ followed ls []) in absurd (omega arith)

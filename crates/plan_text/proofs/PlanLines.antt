@@ -1,0 +1,157 @@
+-- The lines of plans: those before the groups are of one plan alone, and none has a line feed.
+use Rattle.std.proofs.Common.{◌≡◌, ◌<◌, ◌≤◌, ◌^◌, ℕ, List, [], ◌∷◌, ◌++◌, All, drop, get_or, length, map, codes, decimal, refl, sym, ap, subst, ◌∙◌, arith, append_assoc, append-nil, inl, inr, min}
+use Rattle.std.specs.List.{flat_map}
+use Rattle.std.proofs.lemmas.List.{append_cancel_left}
+use Rattle.std.proofs.lemmas.List.Elements.{All-head, All-tail, All-nil, All-cons}
+use Rattle.landmark_rules.specs.declared.marks.Group.{Group}
+use Rattle.landmark_rules.specs.Groups.{AreGroups}
+use Rattle.search_plan.specs.declared.plan.Plan.{Plan}
+use Rattle.search_plan.specs.Plans.{AreLengths, IsPlan}
+use Rattle.plan_text.specs.declared.parts.Search.{Search}
+use Rattle.plan_text.specs.NameLaws.{number_law}
+use Rattle.plan_text.specs.Parts.{IsSearch, lines_of_search}
+use Rattle.plan_text.specs.PlanText.{group_lines, groups_lines, image_lines, plan_lines}
+use Rattle.plan_text.proofs.GroupSteps.{are_spelled}
+use Rattle.plan_text.proofs.Grouping.{AreSpelled, goes}
+use Rattle.plan_text.proofs.ImageLines.{Lengths, images_line, length_line, same_count}
+use Rattle.plan_text.proofs.Refusals.{StandsIn}
+use Rattle.plan_text.proofs.SearchLines.{search_of_none, is_search_of_none}
+
+abbrev Same : ℕ → ℕ → Type 0
+Same m n = m ≡ n
+
+abbrev IsShort : ℕ → Type 0
+IsShort n = n < 2 ^ 55
+
+-- as many lengths have the same lines only where they are the same
+same_lengths : (ls ms : List ℕ) (x y : List (List ℕ)) → All IsShort ls → All IsShort ms → length ls ≡ length ms → map length_line ls ++ x ≡ map length_line ms ++ y → (ls ≡ ms) × (x ≡ y)
+same_lengths [] [] x y p q many e = (refl, e)
+same_lengths [] (m ∷ ms) x y p q many e = absurd (omega arith)
+same_lengths (l ∷ ls) [] x y p q many e = absurd (omega arith)
+same_lengths (l ∷ ls) (m ∷ ms) x y p q many e =
+    let first : length_line l ≡ length_line m = ap (λ (xs : List (List ℕ)). get_or xs 0 []) e in
+    let others : map length_line ls ++ x ≡ map length_line ms ++ y = ap (λ (xs : List (List ℕ)). drop 1 xs) e in
+    let small_l = All-head IsShort l ls p in
+    let small_m = All-head IsShort m ms q in
+    let same : l ≡ m = number_law.one_value l m (omega arith) (omega arith) (append_cancel_left (codes "length ") (decimal l) (decimal m) first) in
+    let more = same_lengths ls ms x y (All-tail IsShort l ls p) (All-tail IsShort m ms q) (omega arith) others in
+    let tail : ls ≡ ms = more.0 in
+    (cc, more.1)
+
+pub same_images : (ls ms : List ℕ) (x y : List (List ℕ)) → AreLengths ls → AreLengths ms → image_lines ls ++ x ≡ image_lines ms ++ y → (ls ≡ ms) × (x ≡ y)
+same_images ls ms x y p q e =
+    let count : images_line (length ls) ≡ images_line (length ms) = ap (λ (xs : List (List ℕ)). get_or xs 1 []) e in
+    same_lengths ls ms x y p.short q.short (same_count (length ls) (length ms) p.most q.most count) (ap (λ (xs : List (List ℕ)). drop 2 xs) e)
+
+-- a plan of parts, and the parts of a plan
+abbrev pub plan_of : Lengths → Search → List Group → Plan
+plan_of lengths search groups = record {
+  lengths = lengths;
+  end = search.end;
+  bounds = search.bounds;
+  limits = search.limits;
+  tests = search.tests;
+  groups = groups;
+}
+
+abbrev pub search_of : Plan → Search
+search_of plan = record { end = plan.end; bounds = plan.bounds; limits = plan.limits; tests = plan.tests }
+
+-- a number is at most the shortest of lengths
+abbrev pub IsShortest : List ℕ → ℕ → Type 0
+IsShortest lengths shortest = (n : ℕ) → (n ≤ shortest → All (λ m. n ≤ m) lengths) × (All (λ m. n ≤ m) lengths → n ≤ shortest)
+
+pub is_plan : (lengths : Lengths) (shortest : ℕ) (search : Search) (groups : List Group) → AreLengths lengths.items → IsShortest lengths.items shortest → IsSearch shortest search → AreGroups lengths.items groups → IsPlan (plan_of lengths search groups)
+is_plan lengths shortest search groups p least q r = record {
+  lengths = p;
+  ends = (least search.end).0 q.ends;
+  bounds = q.bounds;
+  limits = q.limits;
+  tests = q.tests;
+  groups = r;
+}
+
+pub is_search : (shortest : ℕ) (plan : Plan) → IsShortest plan.lengths.items shortest → IsPlan plan → IsSearch shortest (search_of plan)
+is_search shortest plan least is = record {
+  ends = (least plan.end).1 is.ends;
+  bounds = is.bounds;
+  limits = is.limits;
+  tests = is.tests;
+}
+
+pub no_groups : (lengths : List ℕ) → AreGroups lengths []
+no_groups lengths = record {
+  order = λ i j d le lt. absurd (omega arith);
+  few = λ k. omega arith;
+  marks = λ k d lt. absurd (omega arith);
+  rising = λ k d lt. absurd (omega arith);
+  few_marks = λ k. omega arith;
+}
+
+least_of : (ls : List ℕ) → 1 ≤ length ls → (n : ℕ) × IsShortest ls n
+least_of [] some = absurd (omega arith)
+least_of (l ∷ []) some = (l, λ n. (λ le. All-cons (λ m. n ≤ m) l [] le (All-nil (λ m. n ≤ m)), λ all. All-head (λ m. n ≤ m) l [] all))
+least_of (l ∷ m ∷ ms) some =
+    let more = least_of (m ∷ ms) (omega arith) in (
+      min l more.0,
+      λ n. (
+        λ le. All-cons (λ k. n ≤ k) l (m ∷ ms) (omega arith) ((more.1 n).0 (omega arith)),
+        λ all. (let a = All-head (λ k. n ≤ k) l (m ∷ ms) all in let b = (more.1 n).1 (All-tail (λ k. n ≤ k) l (m ∷ ms) all) in omega arith),
+      ),
+    )
+
+-- groups go on after no last line
+pub one_end : (x y : List Group) (m : List ℕ) (more : List (List ℕ)) → All AreSpelled x → All AreSpelled y → groups_lines x ≡ groups_lines y ++ m ∷ more → ⊥
+one_end x y m more p q e =
+    elim (goes y x (codes "done" ∷ m ∷ more) q p (e ∙ append_assoc (flat_map group_lines y) (codes "done" ∷ []) (m ∷ more))) [
+      | inl h ↦ (let many = ap length h.1 in absurd (omega arith))
+      | inr h ↦ elim h [
+        | inl g ↦ (let first : Same 100 103 = ap (λ (ls : List (List ℕ)). get_or (get_or ls 0 []) 0 0) g.5 in absurd (omega arith))
+        | inr g ↦ (let first : Same 100 109 = ap (λ (ls : List (List ℕ)). get_or (get_or ls 0 []) 0 0) g.8 in absurd (omega arith))
+      ]
+    ]
+
+-- and have one spelling
+pub same_groups : (x y : List Group) → All AreSpelled x → All AreSpelled y → groups_lines x ≡ groups_lines y → x ≡ y
+same_groups x y p q e =
+    elim (goes y x (codes "done" ∷ []) q p e) [
+      | inl h ↦ h.0
+      | inr h ↦ elim h [
+        | inl g ↦ (let first : Same 100 103 = ap (λ (ls : List (List ℕ)). get_or (get_or ls 0 []) 0 0) g.5 in absurd (omega arith))
+        | inr g ↦ (let first : Same 100 109 = ap (λ (ls : List (List ℕ)). get_or (get_or ls 0 []) 0 0) g.8 in absurd (omega arith))
+      ]
+    ]
+
+-- the parts of a plan's text, each refused in the plan
+pub stands_images : StandsIn {X = Lengths} (λ xs. AreLengths xs.items) (λ xs. image_lines xs.items) IsPlan plan_lines []
+stands_images = record {
+  made = λ x p. let least = least_of x.items p.some in (plan_of x search_of_none [], lines_of_search search_of_none ++ groups_lines [], is_plan x least.0 search_of_none [] p least.1 (is_search_of_none least.0) (no_groups x.items), refl);
+  shape = λ w tail is e. (w.lengths, _, is.lengths, sym e);
+  apart = λ x y m more p q e. let same = (same_images x.items y.items [] (m ∷ more) p q (append-nil (image_lines x.items) ∙ e)).1 in let many = ap length same in absurd (omega arith);
+}
+
+pub stands_search : (lengths : Lengths) (shortest : ℕ) → AreLengths lengths.items → IsShortest lengths.items shortest → StandsIn (IsSearch shortest) lines_of_search IsPlan plan_lines (image_lines lengths.items)
+stands_search lengths shortest p least = record {
+  made = λ x q. (plan_of lengths x [], groups_lines [], is_plan lengths shortest x [] p least q (no_groups lengths.items), refl);
+  shape = λ w tail is e.
+      let both = same_images w.lengths.items lengths.items (lines_of_search (search_of w) ++ groups_lines w.groups) tail is.lengths p e in
+      let least_w : IsShortest w.lengths.items shortest = subst (λ (ls : List ℕ). IsShortest ls shortest) (sym both.0) least in
+      (search_of w, groups_lines w.groups, is_search shortest w least_w is, sym both.1);
+  apart = λ x y m more p q e. let same = ap length e in absurd (omega arith);
+}
+
+pub stands_groups : (lengths : Lengths) (shortest : ℕ) (search : Search) → AreLengths lengths.items → IsShortest lengths.items shortest → IsSearch shortest search →
+    StandsIn (AreGroups lengths.items) groups_lines IsPlan plan_lines (image_lines lengths.items ++ lines_of_search search)
+stands_groups lengths shortest search p least q = record {
+  made = λ x r. (
+    plan_of lengths search x,
+    [],
+    is_plan lengths shortest search x p least q r,
+    sym (append_assoc (image_lines lengths.items) (lines_of_search search) (groups_lines x)) ∙ ap (λ (ls : List (List ℕ)). (image_lines lengths.items ++ lines_of_search search) ++ ls) (sym (append-nil (groups_lines x))),
+  );
+  shape = λ w tail is e.
+      let both = same_images w.lengths.items lengths.items (lines_of_search (search_of w) ++ groups_lines w.groups) (lines_of_search search ++ tail) is.lengths p (e ∙ append_assoc (image_lines lengths.items) (lines_of_search search) tail) in
+      let rest : groups_lines w.groups ≡ tail = ap (λ (ls : List (List ℕ)). drop 14 ls) both.1 in
+      (w.groups, [], subst (λ (ls : List ℕ). AreGroups ls w.groups) both.0 is.groups, sym rest ∙ sym (append-nil (groups_lines w.groups)));
+  apart = λ x y m more r s e. one_end x y m more (are_spelled lengths.items x p r) (are_spelled lengths.items y p s) e;
+}

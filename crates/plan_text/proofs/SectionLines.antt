@@ -1,0 +1,170 @@
+-- The lists of a plan, line by line.
+use Rattle.std.proofs.Common.{◌≡◌, ◌≢◌, ◌≤◌, ◌<◌, ◌^◌, ℕ, IsTrue, List, [], ◌∷◌, ◌++◌, All, drop, length, map, codes, decimal, refl, sym, ap, subst, arith, lit≤, lit<, Option, None, Some, MatchOption}
+use Rattle.std.proofs.lemmas.List.{append_cancel_left}
+use Rattle.std.proofs.lemmas.List.Elements.{All-nil, All-cons}
+use Rattle.arrayvec.specs.declared.array_vec.ArrayVec.{ArrayVec}
+use Rattle.raid_params.specs.declared.limits.TheConstants.{MOST, MOST_CHUNKS, MOST_LESS_ONE, MOST_LEVELS, MOST_OFFSETS, MOST_ORIGINS, MOST_PATTERNS, MOST_SYNDROMES}
+use Rattle.raid_params.specs.declared.types.Level.{Level}
+use Rattle.raid_params.specs.declared.types.Pattern.{Pattern}
+use Rattle.raid_params.specs.declared.types.Pattern.TheVariants.{Plain}
+use Rattle.raid_params.specs.declared.types.Syndrome.{Syndrome}
+use Rattle.raid_params.specs.declared.types.Syndrome.TheVariants.{NoQ}
+use Rattle.raid_params.specs.Validity.{is_chunk}
+use Rattle.search_plan.specs.Places.{level_place, pattern_place, syndrome_place}
+use Rattle.search_plan.specs.Plans.{AreRising}
+use Rattle.plan_text.specs.declared.fault.PlanFault.TheVariants.{Line}
+use Rattle.plan_text.specs.declared.parts.Kinds.{Kinds}
+use Rattle.plan_text.specs.declared.parts.Sizes.{Sizes}
+use Rattle.plan_text.specs.Parts.{AreMembers, AreChunks, AreSectors, AreKinds, AreSizes, lines_of_kinds, lines_of_sizes}
+use Rattle.plan_text.specs.PlanText.{IsLine}
+use Rattle.plan_text.specs.Reading.{Cursor, IsRead, IsRefusal}
+use Rattle.plan_text.specs.Spelling.{IsSpelling, level_name, pattern_name, syndrome_name, commas, named}
+use Rattle.plan_text.proofs.Fits.{levels_fit, patterns_fit, syndromes_fit}
+use Rattle.plan_text.proofs.Lists.{word_line}
+use Rattle.plan_text.proofs.OneLine.{off_line, read_at}
+use Rattle.plan_text.proofs.Refusals.{StandsIn, one_line}
+use Rattle.plan_text.proofs.Spellings.{same_list}
+
+pub one_rises : (n : ℕ) → AreRising (n ∷ [])
+one_rises n = record { some = lit≤ tt; rising = λ k lt. absurd (omega arith) }
+
+pub of_one : {A : Type 0} (P : A → Type 0) (x : A) → P x → All P (x ∷ [])
+of_one P x p = All-cons P x [] p (All-nil P)
+
+-- what a line says of lists, said of vectors
+pub of_items : {A V : Type 0} (items : V → List A) (IsList : List A → Type 0) (name : List A → List ℕ) (line : List ℕ) (r : Option V) →
+    MatchOption r ((xs : List A) → IsList xs → line ≢ name xs) (λ v. IsList (items v) × (line ≡ name (items v))) →
+    MatchOption r ((v : V) → IsList (items v) → line ≢ name (items v)) (λ v. IsList (items v) × (line ≡ name (items v)))
+of_items items IsList name line None h = λ v is. h (items v) is
+of_items items IsList name line (Some v) h = h
+
+-- a list that was read and is not one of fewer
+pub off_fewer : {A V : Type 0} (items : V → List A) (name : A → List ℕ) (IsSpelled : A → Type 0) → IsSpelling name IsSpelled → (IsX IsY : List A → Type 0) (word : List ℕ) → IsLine word → (y : V) → IsY (items y) →
+    ((xs : List A) → IsX xs → (1 ≤ length xs) × All IsSpelled xs) → ((xs : List A) → IsY xs → (1 ≤ length xs) × All IsSpelled xs) →
+    (from to : Cursor) (x : V) → IsRead (λ v. IsX (items v)) (λ v. (word ++ commas (map name (items v))) ∷ []) from to x → (IsY (items x) → ⊥) →
+    IsRefusal (λ v. IsY (items v)) (λ v. (word ++ commas (map name (items v))) ∷ []) from (Line to.taken)
+off_fewer items name IsSpelled s IsX IsY word is_word y is_y of_x of_y from to x read none =
+    off_line (λ v. IsY (items v)) (λ v. word ++ commas (map name (items v))) y is_y (λ z is. word_line name IsSpelled s word is_word (items z) (of_y (items z) is).1) from to (word ++ commas (map name (items x)))
+    (read_at (λ v. IsX (items v)) (λ v. word ++ commas (map name (items v))) from to x read)
+    (λ z is e.
+    let at_x = of_x (items x) read.is_value in
+    let at_z = of_y (items z) is in
+    let same : items x ≡ items z = same_list name IsSpelled s (items x) (items z) at_x.0 at_z.0 at_x.1 at_z.1 (append_cancel_left word (commas (map name (items x))) (commas (map name (items z))) e) in
+    none (subst IsY (sym same) is))
+
+abbrev Levels : Type 0
+Levels = ArrayVec Level MOST_LEVELS (Unit {0})
+
+abbrev Members : Type 0
+Members = ArrayVec ℕ MOST_LESS_ONE (Unit {0})
+
+abbrev Patterns : Type 0
+Patterns = ArrayVec Pattern MOST_PATTERNS (Unit {0})
+
+abbrev Syndromes : Type 0
+Syndromes = ArrayVec Syndrome MOST_SYNDROMES (Unit {0})
+
+abbrev Chunks : Type 0
+Chunks = ArrayVec ℕ MOST_CHUNKS (Unit {0})
+
+abbrev Sectors : Type 0
+Sectors = ArrayVec ℕ MOST_OFFSETS (Unit {0})
+
+abbrev kinds_with : Levels → Members → Patterns → Syndromes → Kinds
+kinds_with l m p s = record { levels = l; members = m; patterns = p; syndromes = s }
+
+pub are_kinds : (l : Levels) (m : Members) (p : Patterns) (s : Syndromes) → AreRising (map level_place l.items) → AreMembers m.items → AreRising (map pattern_place p.items) → AreRising (map syndrome_place s.items) → AreKinds (kinds_with l m p s)
+are_kinds l m p s a b c d = record { levels = a; members = b; patterns = c; syndromes = d }
+
+members : Members
+members = record { items = 2 ∷ [] }
+
+pub are_members : AreMembers (2 ∷ [])
+are_members = (one_rises 2, of_one (λ n. (2 ≤ n) × (n ≤ MOST)) 2 (lit≤ tt, lit≤ tt))
+
+patterns : Patterns
+patterns = record { items = Plain ∷ [] }
+
+syndromes : Syndromes
+syndromes = record { items = NoQ ∷ [] }
+
+abbrev AreListed : {A : Type 0} (most : ℕ) (place : A → ℕ) → List A → Type 0
+AreListed most place xs = AreRising (map place xs) × (length xs ≤ most) × All (λ x. Unit {0}) xs
+
+pub stands_levels : StandsIn {X = Levels} (λ xs. AreListed MOST_LEVELS level_place xs.items) (λ xs. named (codes "levels") (commas (map level_name xs.items)) ∷ []) AreKinds lines_of_kinds []
+unfolding members patterns syndromes
+stands_levels = record {
+  made = λ x p. (kinds_with x members patterns syndromes, _, are_kinds x members patterns syndromes p.0 are_members (one_rises 0) (one_rises 0), refl);
+  shape = λ w tail is e. (w.levels, _, (is.levels, levels_fit w.levels.items is.levels, λ k d lt. tt), sym e);
+  apart = λ x y m more p q e. one_line (λ (xs : Levels). named (codes "levels") (commas (map level_name xs.items))) x y m more e;
+}
+
+pub stands_members : (l : Levels) → AreRising (map level_place l.items) →
+    StandsIn {X = Members} (λ xs. AreMembers xs.items) (λ xs. named (codes "members") (commas (map decimal xs.items)) ∷ []) AreKinds lines_of_kinds (named (codes "levels") (commas (map level_name l.items)) ∷ [])
+unfolding patterns syndromes
+stands_members l pl = record {
+  made = λ x p. (kinds_with l x patterns syndromes, _, are_kinds l x patterns syndromes pl p (one_rises 0) (one_rises 0), refl);
+  shape = λ w tail is e. (w.members, _, is.members, ap (λ (ls : List (List ℕ)). drop 1 ls) (sym e));
+  apart = λ x y m more p q e. one_line (λ (xs : Members). named (codes "members") (commas (map decimal xs.items))) x y m more e;
+}
+
+pub stands_patterns : (l : Levels) (n : Members) → AreRising (map level_place l.items) → AreMembers n.items →
+    StandsIn {X = Patterns} (λ xs. AreListed MOST_PATTERNS pattern_place xs.items) (λ xs. named (codes "patterns") (commas (map pattern_name xs.items)) ∷ []) AreKinds lines_of_kinds
+    (named (codes "levels") (commas (map level_name l.items)) ∷ named (codes "members") (commas (map decimal n.items)) ∷ [])
+unfolding syndromes
+stands_patterns l n pl pn = record {
+  made = λ x p. (kinds_with l n x syndromes, _, are_kinds l n x syndromes pl pn p.0 (one_rises 0), refl);
+  shape = λ w tail is e. (w.patterns, _, (is.patterns, patterns_fit w.patterns.items is.patterns, λ k d lt. tt), ap (λ (ls : List (List ℕ)). drop 2 ls) (sym e));
+  apart = λ x y m more p q e. one_line (λ (xs : Patterns). named (codes "patterns") (commas (map pattern_name xs.items))) x y m more e;
+}
+
+pub stands_syndromes : (l : Levels) (n : Members) (o : Patterns) → AreRising (map level_place l.items) → AreMembers n.items → AreRising (map pattern_place o.items) →
+    StandsIn {X = Syndromes} (λ xs. AreListed MOST_SYNDROMES syndrome_place xs.items) (λ xs. named (codes "syndromes") (commas (map syndrome_name xs.items)) ∷ []) AreKinds lines_of_kinds
+    (named (codes "levels") (commas (map level_name l.items)) ∷ named (codes "members") (commas (map decimal n.items)) ∷ named (codes "patterns") (commas (map pattern_name o.items)) ∷ [])
+stands_syndromes l n o pl pn po = record {
+  made = λ x p. (kinds_with l n o x, _, are_kinds l n o x pl pn po p.0, refl);
+  shape = λ w tail is e. (w.syndromes, _, (is.syndromes, syndromes_fit w.syndromes.items is.syndromes, λ k d lt. tt), ap (λ (ls : List (List ℕ)). drop 3 ls) (sym e));
+  apart = λ x y m more p q e. one_line (λ (xs : Syndromes). named (codes "syndromes") (commas (map syndrome_name xs.items))) x y m more e;
+}
+
+abbrev sizes_with : Chunks → Sectors → Sectors → Sizes
+sizes_with c o r = record { chunks = c; offsets = o; origins = r }
+
+pub are_sizes : (c : Chunks) (o r : Sectors) → AreChunks c.items → AreSectors MOST_OFFSETS o.items → AreSectors MOST_ORIGINS r.items → AreSizes (sizes_with c o r)
+are_sizes c o r p q s = record { chunks = p; offsets = q; origins = s }
+
+sectors : Sectors
+sectors = record { items = 0 ∷ [] }
+
+pub are_sectors : (most : ℕ) → 1 ≤ most → AreSectors most (0 ∷ [])
+are_sectors most some = (one_rises 0, some, of_one (λ n. n < 2 ^ 55) 0 (lit< tt))
+
+pub are_chunks : AreChunks (1 ∷ [])
+unfolding is_chunk
+are_chunks = (one_rises 1, of_one (λ n. IsTrue (is_chunk n)) 1 refl)
+
+pub stands_chunks : StandsIn {X = Chunks} (λ xs. AreChunks xs.items) (λ xs. named (codes "chunks") (commas (map decimal xs.items)) ∷ []) AreSizes lines_of_sizes []
+unfolding sectors
+stands_chunks = record {
+  made = λ x p. (sizes_with x sectors sectors, _, are_sizes x sectors sectors p (are_sectors MOST_OFFSETS (lit≤ tt)) (are_sectors MOST_OFFSETS (lit≤ tt)), refl);
+  shape = λ w tail is e. (w.chunks, _, is.chunks, sym e);
+  apart = λ x y m more p q e. one_line (λ (xs : Chunks). named (codes "chunks") (commas (map decimal xs.items))) x y m more e;
+}
+
+pub stands_offsets : (c : Chunks) → AreChunks c.items →
+    StandsIn {X = Sectors} (λ xs. AreSectors MOST_OFFSETS xs.items) (λ xs. named (codes "offsets") (commas (map decimal xs.items)) ∷ []) AreSizes lines_of_sizes (named (codes "chunks") (commas (map decimal c.items)) ∷ [])
+unfolding sectors
+stands_offsets c pc = record {
+  made = λ x p. (sizes_with c x sectors, _, are_sizes c x sectors pc p (are_sectors MOST_OFFSETS (lit≤ tt)), refl);
+  shape = λ w tail is e. (w.offsets, _, is.offsets, ap (λ (ls : List (List ℕ)). drop 1 ls) (sym e));
+  apart = λ x y m more p q e. one_line (λ (xs : Sectors). named (codes "offsets") (commas (map decimal xs.items))) x y m more e;
+}
+
+pub stands_origins : (c : Chunks) (o : Sectors) → AreChunks c.items → AreSectors MOST_OFFSETS o.items →
+    StandsIn {X = Sectors} (λ xs. AreSectors MOST_OFFSETS xs.items) (λ xs. named (codes "origins") (commas (map decimal xs.items)) ∷ []) AreSizes lines_of_sizes
+    (named (codes "chunks") (commas (map decimal c.items)) ∷ named (codes "offsets") (commas (map decimal o.items)) ∷ [])
+stands_origins c o pc po = record {
+  made = λ x p. (sizes_with c o x, _, are_sizes c o x pc po p, refl);
+  shape = λ w tail is e. (w.origins, _, is.origins, ap (λ (ls : List (List ℕ)). drop 2 ls) (sym e));
+  apart = λ x y m more p q e. one_line (λ (xs : Sectors). named (codes "origins") (commas (map decimal xs.items))) x y m more e;
+}

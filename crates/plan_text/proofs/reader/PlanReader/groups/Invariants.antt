@@ -1,0 +1,17 @@
+use Rattle.std.proofs.Common.{length}
+use Rattle.std.specs.List.{flat_map}
+use Rattle.landmark_rules.specs.Groups.{AreGroups}
+use Rattle.plan_text.specs.Drafts.{IsDraft, drafted}
+use Rattle.plan_text.specs.PlanText.{group_lines}
+use Rattle.plan_text.proofs.Refusals.{Went}
+use Rattle.plan_text.proofs.reader.PlanReader.groups.Given as goal
+
+abbrev pub invariant-loop-draft : goal.invariant-loop-draft
+invariant-loop-draft l = record {
+  draft : IsDraft l.draft;
+  groups : AreGroups l.lengths (drafted l.draft);
+  went : Went l.fn.self l.self (flat_map group_lines (drafted l.draft));
+}
+
+abbrev pub decreases-loop-draft : goal.decreases-loop-draft
+decreases-loop-draft l = length l.self.rest

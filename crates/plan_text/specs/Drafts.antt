@@ -1,0 +1,80 @@
+-- Groups as they are read, and which line may come next.
+use Rattle.std.specs.Prelude.{ℕ, ◌≡◌, ◌^◌, ◌<◌, ◌≤◌, ◌-◌, ◌⊎◌, ◌==◌, List, [], ◌∷◌, ◌++◌, codes, count_by, length, slice_index, slice_index_or, IfSome, MatchOption}
+use Rattle.std.specs.declared.option.Option.{Option}
+use Rattle.std.specs.declared.option.Option.TheVariants.{None, Some}
+use Rattle.raid_params.specs.declared.limits.TheConstants.{MOST_MARKS}
+use Rattle.landmark_rules.specs.declared.marks.Group.{Group}
+use Rattle.landmark_rules.specs.declared.marks.GroupKind.{GroupKind}
+use Rattle.landmark_rules.specs.declared.marks.Mark.{Mark}
+use Rattle.landmark_rules.specs.Groups.{IsMark, group_place, kind_place, marks_in, most_groups}
+use Rattle.landmark_rules.specs.Rules.{IsRule}
+use Rattle.plan_text.specs.declared.draft.Draft.{Draft}
+use Rattle.plan_text.specs.declared.entry.Entry.{Entry}
+use Rattle.plan_text.specs.declared.entry.Entry.TheVariants.{Done, Group as GroupEntry, Mark as MarkEntry}
+use Rattle.plan_text.specs.PlanText.{mark_line}
+use Rattle.plan_text.specs.Spelling.{group_name, named}
+
+-- a group of no marks
+abbrev pub empty_group : GroupKind → Group
+empty_group kind = record { kind = kind; marks = [] }
+
+-- a group with one more mark
+abbrev pub with_mark : Group → Mark → Group
+with_mark group mark = record { kind = group.kind; marks = group.marks ++ mark ∷ [] }
+
+-- groups, and one that is open
+abbrev pub with_open : List Group → Option Group → List Group
+with_open groups None = groups
+with_open groups (Some group) = groups ++ group ∷ []
+
+-- all groups of a draft
+abbrev pub drafted : Draft → List Group
+drafted draft = with_open draft.closed draft.last
+
+-- what a draft counts: groups and marks, by the place of their kind. Without an open group there is none
+pub record IsDraft (draft : Draft) : Type 0 where
+  pub none : draft.last ≡ None → draft.closed ≡ []
+  pub kinds : length draft.marks ≡ 6
+  pub groups : (place : ℕ) → place < 3 → slice_index draft.groups place ≡ count_by (λ group. group_place group.kind == place) (drafted draft)
+  pub marks : (place : ℕ) → place < 6 → slice_index draft.marks place ≡ count_by (λ mark. kind_place mark.kind == place) (marks_in (drafted draft))
+
+-- the numbers of a mark have a spelling
+pub record IsSpelledMark (mark : Mark) : Type 0 where
+  pub image : mark.image < 2 ^ 8
+  pub sector : mark.sector < 2 ^ 64
+  pub rule : IsRule mark.rule
+
+abbrev pub IsEntry : Entry → Type 0
+IsEntry Done = Unit {0}
+IsEntry (GroupEntry kind) = Unit {0}
+IsEntry (MarkEntry mark) = IsSpelledMark mark
+
+-- the line of an entry
+abbrev pub entry_line : Entry → List ℕ
+entry_line Done = codes "done"
+entry_line (GroupEntry kind) = named (codes "group") (group_name kind)
+entry_line (MarkEntry mark) = mark_line mark
+
+-- a group of this kind may begin: kinds come in order, and of each there are at most so many
+pub record MayBegin (draft : Draft) (kind : GroupKind) : Type 0 where
+  pub order : IfSome draft.last (λ group. group_place group.kind ≤ group_place kind)
+  pub few : slice_index draft.groups (group_place kind) < most_groups kind
+
+-- a mark comes before another of its group: by sector, and on one sector by image
+abbrev pub IsBefore : Mark → Mark → Type 0
+IsBefore mark other = (mark.sector < other.sector) ⊎ ((mark.sector ≡ other.sector) × (mark.image < other.image))
+
+-- a mark may be added to the open group of a plan over images of these lengths
+pub record MayAddTo (lengths : List ℕ) (draft : Draft) (group : Group) (mark : Mark) : Type 0 where
+  pub is_mark : IsMark lengths group.kind mark
+  pub rises : 0 < length group.marks → IsBefore (slice_index_or group.marks (length group.marks - 1) mark) mark
+  pub few : slice_index draft.marks (kind_place mark.kind) < MOST_MARKS
+
+abbrev pub MayAdd : List ℕ → Draft → Mark → Type 0
+MayAdd lengths draft mark = MatchOption draft.last ⊥ (λ group. MayAddTo lengths draft group mark)
+
+-- an entry may follow the groups of a draft
+abbrev pub MayFollow : List ℕ → Draft → Entry → Type 0
+MayFollow lengths draft Done = Unit {0}
+MayFollow lengths draft (GroupEntry kind) = MayBegin draft kind
+MayFollow lengths draft (MarkEntry mark) = MayAdd lengths draft mark

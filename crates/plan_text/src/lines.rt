@@ -1,0 +1,35 @@
+//! The value that a line spells after its name.
+ghost use Rattle.std.specs.Prelude.{◌≡◌, ◌≢◌, ◌≤◌, ◌++◌, ℕ, List, All, decimal, length, map, MatchOption};
+ghost use Rattle.search_plan.specs.Plans.{AreRising};
+ghost use Rattle.plan_text.specs.Spelling.{commas};
+
+use crate::number::{after, read_number};
+use crate::spelled::{Spelled, rising};
+use arrayvec::ArrayVec;
+use search_plan::Placed;
+
+/// The number from `least` to `most` that a line spells after the word.
+pub fn number_after(line: &[u8], word: &[u8], least: u64, most: u64) -> Option<u64>
+    ensures { MatchOption result
+        ((n : ℕ) → (least ≤ n) × (n ≤ most) → line.now ≢ word.now ++ decimal n)
+        (λ n. ((least ≤ n) × (n ≤ most)) × (line.now ≡ word.now ++ decimal n)) }
+{
+    let number = read_number(after(line, word)?)?;
+    if least <= number && number <= most {
+        Some(number)
+    } else {
+        None
+    }
+}
+
+/// The list that a line spells after the word, of values in strictly rising order.
+pub fn list_after<T: Spelled + Placed + Default, const CAP: usize>(
+    line: &[u8],
+    word: &[u8],
+) -> Option<ArrayVec<T, CAP>>
+    ensures { MatchOption result
+        ((xs : List T) → AreRising (map T.place xs) × (length xs ≤ CAP) × All T.IsSpelled xs → line.now ≢ word.now ++ commas (map T.name xs))
+        (λ xs. (AreRising (map T.place xs.items) × (length xs.items ≤ CAP) × All T.IsSpelled xs.items) × (line.now ≡ word.now ++ commas (map T.name xs.items))) }
+{
+    rising(after(line, word)?)
+}

@@ -1,0 +1,219 @@
+//! The lines of a plan before its groups, one after the other.
+ghost use Rattle.std.specs.Prelude.{◌≡◌, ◌≤◌, ◌<◌, ◌^◌, ◌↔◌, ◌++◌, ◌∷◌, [], All, IsTrue, codes, decimal, length, map};
+ghost use Rattle.raid_params.specs.Validity.{is_chunk as is_chunk_size};
+ghost use Rattle.search_plan.specs.Plans.{AreRising, AreLengths};
+ghost use Rattle.plan_text.specs.Parts.{AreMembers, AreChunks, AreSectors, AreKinds, AreSizes, AreCounts, IsSearch, lines_of_kinds, lines_of_sizes, lines_of_counts, lines_of_search};
+ghost use Rattle.plan_text.specs.PlanText.{image_lines};
+ghost use Rattle.plan_text.specs.Reading.{Reads, is_line};
+ghost use Rattle.plan_text.specs.Spelling.{commas, named};
+
+use crate::fault::PlanFault;
+use crate::lines::{list_after, number_after};
+use crate::parts::{Counts, Kinds, Search, Sizes};
+use crate::reader::PlanReader;
+use crate::spelled::Spelled;
+use arrayvec::ArrayVec;
+use landmark_rules::MarkTests;
+use raid_params::{
+    Bounds, MOST, MOST_CHUNKS, MOST_LESS_ONE, MOST_MISSING, MOST_OFFSETS, MOST_ORIGINS,
+    SECTORS_END, is_chunk,
+};
+use search_plan::{Limits, Placed};
+
+/// The fewest members of an array: at level 0 two.
+const FEWEST_MEMBERS: u8 = 2;
+
+impl<'a> PlanReader<'a> {
+    /// The number of images, from 1 to `MOST`, and their lengths in sectors.
+    pub fn images(&mut self) -> Result<ArrayVec<u64, MOST>, PlanFault>
+        ensures { Reads (λ lengths. AreLengths lengths.items) (λ lengths. image_lines lengths.items) self.old self.new result }
+    {
+        self.fixed(b"reraid-plan 1")?;
+        let count = self.number(b"images ", 1, MOST as u64)?;
+        let mut lengths = ArrayVec::new();
+        for _ in 0..count {
+            lengths.push(self.number(b"length ", 0, SECTORS_END - 1)?);
+        }
+        Ok(lengths)
+    }
+
+    /// What is searched, and how it is tested: `end` is at most the shortest length.
+    pub fn search(&mut self, shortest: u64) -> Result<Search, PlanFault>
+        ensures { Reads (IsSearch shortest) lines_of_search self.old self.new result }
+    {
+        let end = self.number(b"end ", 0, shortest)?;
+        let kinds = self.kinds()?;
+        let sizes = self.sizes()?;
+        let counts = self.counts()?;
+        let bounds = Bounds {
+            levels: kinds.levels,
+            members: kinds.members,
+            patterns: kinds.patterns,
+            syndromes: kinds.syndromes,
+            chunks: sizes.chunks,
+            offsets: sizes.offsets,
+            missing: counts.missing,
+            foreign: counts.foreign,
+        };
+        let limits = Limits {
+            badrows: counts.badrows,
+            window: counts.window,
+        };
+        let tests = MarkTests {
+            origins: sizes.origins,
+            misfits: counts.misfits,
+            least: counts.least,
+        };
+        Ok(Search {
+            end,
+            bounds,
+            limits,
+            tests,
+        })
+    }
+
+    /// The levels, members, patterns and orders of Q.
+    fn kinds(&mut self) -> Result<Kinds, PlanFault>
+        ensures { Reads AreKinds lines_of_kinds self.old self.new result }
+    {
+        let levels = self.list(b"levels ")?;
+        let members = self.members()?;
+        let patterns = self.list(b"patterns ")?;
+        let syndromes = self.list(b"syndromes ")?;
+        Ok(Kinds {
+            levels,
+            members,
+            patterns,
+            syndromes,
+        })
+    }
+
+    /// The chunk sizes, the offsets and the origins.
+    fn sizes(&mut self) -> Result<Sizes, PlanFault>
+        ensures { Reads AreSizes lines_of_sizes self.old self.new result }
+    {
+        let chunks = self.chunks()?;
+        let offsets = self.sectors(b"offsets ")?;
+        let origins = self.sectors(b"origins ")?;
+        Ok(Sizes {
+            chunks,
+            offsets,
+            origins,
+        })
+    }
+
+    /// The numbers between the origins and the groups.
+    fn counts(&mut self) -> Result<Counts, PlanFault>
+        ensures { Reads AreCounts lines_of_counts self.old self.new result }
+    {
+        let missing = self.number(b"missing ", 0, MOST_MISSING as u64)? as u8;
+        let foreign = self.number(b"foreign ", 0, MOST as u64)? as u8;
+        let badrows = self.number(b"badrows ", 0, SECTORS_END - 1)?;
+        let window = self.number(b"window ", 1, SECTORS_END - 1)?;
+        let misfits = self.number(b"misfits ", 0, SECTORS_END - 1)?;
+        let least = self.number(b"least ", 0, SECTORS_END - 1)?;
+        Ok(Counts {
+            missing,
+            foreign,
+            badrows,
+            window,
+            misfits,
+            least,
+        })
+    }
+
+    /// The numbers of members.
+    fn members(&mut self) -> Result<ArrayVec<u8, MOST_LESS_ONE>, PlanFault>
+        ensures { Reads (λ ns. AreMembers ns.items) (λ ns. named (codes "members") (commas (map decimal ns.items)) ∷ []) self.old self.new result }
+    {
+        let members = self.list(b"members ")?;
+        if are_members(&members) {
+            Ok(members)
+        } else {
+            Err(self.refusal())
+        }
+    }
+
+    /// The chunk sizes in sectors.
+    fn chunks(&mut self) -> Result<ArrayVec<u64, MOST_CHUNKS>, PlanFault>
+        ensures { Reads (λ ns. AreChunks ns.items) (λ ns. named (codes "chunks") (commas (map decimal ns.items)) ∷ []) self.old self.new result }
+    {
+        let chunks = self.list(b"chunks ")?;
+        if are_chunks(&chunks) {
+            Ok(chunks)
+        } else {
+            Err(self.refusal())
+        }
+    }
+
+    /// Numbers of sectors, after the word.
+    fn sectors<const CAP: usize>(&mut self, word: &[u8]) -> Result<ArrayVec<u64, CAP>, PlanFault>
+        requires word { IsTrue (is_line word.now) }
+        requires room { 1 ≤ CAP }
+        ensures { Reads (λ ns. AreSectors CAP ns.items) (λ ns. (word.now ++ commas (map decimal ns.items)) ∷ []) self.old self.new result }
+    {
+        let sectors = self.list(word)?;
+        if are_sectors(&sectors) {
+            Ok(sectors)
+        } else {
+            Err(self.refusal())
+        }
+    }
+
+    /// The list after the word, of values in strictly rising order.
+    fn list<T: Spelled + Placed + Default, const CAP: usize>(
+        &mut self,
+        word: &[u8],
+    ) -> Result<ArrayVec<T, CAP>, PlanFault>
+        requires word { IsTrue (is_line word.now) }
+        requires some { (x : T) × T.IsSpelled x }
+        requires room { 1 ≤ CAP }
+        ensures { Reads
+            (λ xs. AreRising (map T.place xs.items) × (length xs.items ≤ CAP) × All T.IsSpelled xs.items)
+            (λ xs. (word.now ++ commas (map T.name xs.items)) ∷ []) self.old self.new result }
+    {
+        let line = self.next_line()?;
+        list_after(line, word).ok_or(self.refusal())
+    }
+
+    /// The number after the word, from `least` to `most`.
+    fn number(&mut self, word: &[u8], least: u64, most: u64) -> Result<u64, PlanFault>
+        requires word { IsTrue (is_line word.now) }
+        requires some { least ≤ most }
+        ensures { Reads (λ n. (least ≤ n) × (n ≤ most)) (λ n. (word.now ++ decimal n) ∷ []) self.old self.new result }
+    {
+        let line = self.next_line()?;
+        number_after(line, word, least, most).ok_or(self.refusal())
+    }
+
+    /// The line that is the word.
+    fn fixed(&mut self, word: &[u8]) -> Result<(), PlanFault>
+        requires { IsTrue (is_line word.now) }
+        ensures { Reads (λ _. Unit {0}) (λ _. word.now ∷ []) self.old self.new result }
+    {
+        let line = self.next_line()?;
+        if line == word {
+            Ok(())
+        } else {
+            Err(self.refusal())
+        }
+    }
+}
+
+fn are_members(members: &[u8]) -> bool
+    ensures { IsTrue result ↔ All (λ n. (2 ≤ n) × (n ≤ MOST)) members.now }
+{
+    members.iter().all(|count| FEWEST_MEMBERS <= *count && usize::from(*count) <= MOST)
+}
+
+fn are_chunks(chunks: &[u64]) -> bool
+    ensures { IsTrue result ↔ All (λ n. IsTrue (is_chunk_size n)) chunks.now }
+{
+    chunks.iter().all(|chunk| is_chunk(*chunk))
+}
+
+fn are_sectors(sectors: &[u64]) -> bool
+    ensures { IsTrue result ↔ All (λ n. n < 2 ^ 55) sectors.now }
+{
+    sectors.iter().all(|sector| *sector < SECTORS_END)
+}

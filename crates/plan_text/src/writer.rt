@@ -1,0 +1,173 @@
+//! The text of a plan.
+ghost use Rattle.std.specs.Prelude.{◌≡◌, ◌∷◌, ◌++◌, [], IfOk, OnOk, codes, decimal, map};
+ghost use Rattle.std.specs.List.{flat_map};
+ghost use Rattle.plan_text.specs.PlanText.{plan_text, image_lines, search_lines, kinds_lines, sizes_lines, counts_lines, groups_lines, mark_line, mark_text, rule_text};
+ghost use Rattle.plan_text.specs.Spelling.{commas, group_name, line as line_of, named};
+
+use crate::spelled::{Spelled, add_list};
+use crate::text::{Text, add_number};
+use image_source::Memory;
+use landmark_rules::{Group, GroupKind, Mark, MarkTests, Rule};
+use raid_params::Bounds;
+use search_plan::{Limits, Plan};
+use std::alloc::Global;
+
+/// The one text of a plan, from which `read_plan` gives the plan again. It fails only out of memory.
+pub fn write_plan(alloc: Global, plan: &Plan) -> Result<Text, Memory>
+    ensures { IfOk result (λ text. text ≡ plan_text plan.now) }
+{
+    let mut text = Text::new(alloc);
+    add_images(&mut text, &plan.lengths)?;
+    add_search(&mut text, plan)?;
+    add_groups(&mut text, plan.groups.as_slice())?;
+    Ok(text)
+}
+
+/// Appends the lines of the images.
+fn add_images(text: &mut Text, lengths: &[u64]) -> Result<(), Memory>
+    ensures { OnOk result (text.new ≡ text.old ++ flat_map line_of (image_lines lengths.now)) }
+{
+    text.extend_from_slice(b"reraid-plan 1\n")?;
+    add_number_line(text, b"images ", lengths.len() as u64)?;
+    for length in lengths {
+        add_number_line(text, b"length ", *length)?;
+    }
+    Ok(())
+}
+
+/// Appends the lines between the images and the groups.
+fn add_search(text: &mut Text, plan: &Plan) -> Result<(), Memory>
+    ensures { OnOk result (text.new ≡ text.old ++ flat_map line_of (search_lines plan.now.end plan.now.bounds plan.now.limits plan.now.tests)) }
+{
+    add_number_line(text, b"end ", plan.end)?;
+    add_kinds(text, &plan.bounds)?;
+    add_sizes(text, &plan.bounds, &plan.tests)?;
+    add_counts(text, &plan.bounds, &plan.limits, &plan.tests)
+}
+
+/// Appends the lines of levels, members, patterns and orders of Q.
+fn add_kinds(text: &mut Text, bounds: &Bounds) -> Result<(), Memory>
+    ensures { OnOk result (text.new ≡ text.old ++ flat_map line_of (kinds_lines bounds.now)) }
+{
+    add_list_line(text, b"levels ", &bounds.levels)?;
+    add_list_line(text, b"members ", &bounds.members)?;
+    add_list_line(text, b"patterns ", &bounds.patterns)?;
+    add_list_line(text, b"syndromes ", &bounds.syndromes)
+}
+
+/// Appends the lines of chunk sizes, offsets and origins.
+fn add_sizes(text: &mut Text, bounds: &Bounds, tests: &MarkTests) -> Result<(), Memory>
+    ensures { OnOk result (text.new ≡ text.old ++ flat_map line_of (sizes_lines bounds.now tests.now)) }
+{
+    add_list_line(text, b"chunks ", &bounds.chunks)?;
+    add_list_line(text, b"offsets ", &bounds.offsets)?;
+    add_list_line(text, b"origins ", &tests.origins)
+}
+
+/// Appends the lines of the numbers after them.
+fn add_counts(
+    text: &mut Text,
+    bounds: &Bounds,
+    limits: &Limits,
+    tests: &MarkTests,
+) -> Result<(), Memory>
+    ensures { OnOk result (text.new ≡ text.old ++ flat_map line_of (counts_lines bounds.now limits.now tests.now)) }
+{
+    add_number_line(text, b"missing ", u64::from(bounds.missing))?;
+    add_number_line(text, b"foreign ", u64::from(bounds.foreign))?;
+    add_number_line(text, b"badrows ", limits.badrows)?;
+    add_number_line(text, b"window ", limits.window)?;
+    add_number_line(text, b"misfits ", tests.misfits)?;
+    add_number_line(text, b"least ", tests.least)
+}
+
+/// Appends the lines of groups, and the last line.
+fn add_groups(text: &mut Text, groups: &[Group]) -> Result<(), Memory>
+    ensures { OnOk result (text.new ≡ text.old ++ flat_map line_of (groups_lines groups.now)) }
+{
+    for group in groups {
+        text.extend_from_slice(group_line(group.kind).as_bytes())?;
+        add_marks(text, group.marks.as_slice())?;
+    }
+    text.extend_from_slice(b"done\n")
+}
+
+/// The line that begins a group.
+fn group_line(kind: GroupKind) -> &'static str
+    ensures { result.now ≡ line_of (named (codes "group") (group_name kind)) }
+{
+    match kind {
+        GroupKind::Gpt => "group gpt\n",
+        GroupKind::Ntfs => "group ntfs\n",
+        GroupKind::Xfs => "group xfs\n",
+    }
+}
+
+/// Appends the lines of marks.
+fn add_marks(text: &mut Text, marks: &[Mark]) -> Result<(), Memory>
+    ensures { OnOk result (text.new ≡ text.old ++ flat_map line_of (map mark_line marks.now)) }
+{
+    for mark in marks {
+        text.extend_from_slice(b"mark ")?;
+        add_mark(text, mark)?;
+        text.push(b'\n')?;
+    }
+    Ok(())
+}
+
+/// Appends `KIND IMAGE SECTOR RULE`.
+fn add_mark(text: &mut Text, mark: &Mark) -> Result<(), Memory>
+    ensures { OnOk result (text.new ≡ text.old ++ mark_text mark.now) }
+{
+    mark.kind.add_to(text)?;
+    text.push(b' ')?;
+    mark.image.add_to(text)?;
+    text.push(b' ')?;
+    mark.sector.add_to(text)?;
+    text.push(b' ')?;
+    add_rule(text, mark.rule)
+}
+
+/// Appends the rule of a mark.
+fn add_rule(text: &mut Text, rule: Rule) -> Result<(), Memory>
+    ensures { OnOk result (text.new ≡ text.old ++ rule_text rule) }
+{
+    match rule {
+        Rule::At(distance) => {
+            text.extend_from_slice(b"at:")?;
+            add_number(text, distance)
+        }
+        Rule::Either(first, second) => {
+            text.extend_from_slice(b"either:")?;
+            add_number(text, first)?;
+            text.push(b':')?;
+            add_number(text, second)
+        }
+        Rule::Every { step, count, plus } => {
+            text.extend_from_slice(b"every:")?;
+            add_number(text, step)?;
+            text.push(b':')?;
+            add_number(text, count)?;
+            text.push(b':')?;
+            add_number(text, plus)
+        }
+    }
+}
+
+/// Appends the line of a number after a word.
+fn add_number_line(text: &mut Text, word: &[u8], number: u64) -> Result<(), Memory>
+    ensures { OnOk result (text.new ≡ text.old ++ line_of (word.now ++ decimal number)) }
+{
+    text.extend_from_slice(word)?;
+    add_number(text, number)?;
+    text.push(b'\n')
+}
+
+/// Appends the line of a list after a word.
+fn add_list_line<T: Spelled>(text: &mut Text, word: &[u8], values: &[T]) -> Result<(), Memory>
+    ensures { OnOk result (text.new ≡ text.old ++ line_of (word.now ++ commas (map T.name values.now))) }
+{
+    text.extend_from_slice(word)?;
+    add_list(text, values)?;
+    text.push(b'\n')
+}

@@ -1,3 +1,15 @@
+pub mod Commas
+pub mod RisingLists
+pub mod ReadValues
+pub mod Drops
+pub mod NameTexts
 pub mod Spelled
-pub mod Going
+pub mod LookUps
+pub mod LineStarts
+pub mod Completions
+pub mod Refusals
+pub mod OperandLoop
 pub mod Said
+pub mod OneReading
+pub mod Limits
+pub mod WhatWasRead

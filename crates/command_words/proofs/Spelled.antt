@@ -1,17 +1,32 @@
 -- Operands by their names and values.
-use Rattle.std.proofs.Common.{◌≡◌, ◌≢◌, ℕ, ◌≤◌, ◌<◌, ◌^◌, true, not, ◌==◌, List, [], ◌∷◌, ◌++◌, Option, None, Some, refl, sym, ap, ap₂, ◌∙◌, subst, arith, All, decimal, if◌then◌else◌, MatchOption}
-use Rattle.std.specs.List.{list_all}
+use Rattle.std.proofs.Common.{◌≡◌, ◌≢◌, ℕ, ◌<◌, ◌^◌, Bool, true, false, List, [], ◌∷◌, ◌++◌, All, Contains, Option, None, MatchOption, get_or, refl, sym, ap, ap₂, ◌∙◌, subst, arith, decimal, if◌then◌else◌}
 use Rattle.std.specs.Str.{bytes_eq}
-use Rattle.std.proofs.lemmas.Bool.{and_parts}
 use Rattle.std.proofs.lemmas.Fmt.{decimal_injective}
-use Rattle.std.proofs.lemmas.List.Elements.{All-head, All-tail, All-cons, All-nil}
-use Rattle.raid_params.specs.declared.types.Geometry.{Geometry}
+use Rattle.std.proofs.lemmas.List.Elements.{All-head, All-tail}
+use Rattle.raid_params.specs.declared.types.Level.{Level}
+use Rattle.raid_params.specs.declared.types.Pattern.{Pattern}
+use Rattle.raid_params.specs.declared.types.Syndrome.{Syndrome}
 use Rattle.plan_text.proofs.SetWords.{one_spelling}
-use Rattle.command_words.specs.declared.operands.Name.{Name}
-use Rattle.command_words.specs.declared.operands.Name.TheVariants.{From as FromName, Size as SizeName, Span as SpanName, Set as SetName, Sector as SectorName, Slot as SlotName, End as EndName}
+use Rattle.plan_text.specs.Spelling.{level_name, pattern_name, syndrome_name}
+use Rattle.search_plan.specs.Places.{level_place, pattern_place, syndrome_place}
+use Rattle.search_plan.specs.declared.looking.DropAt.{DropAt}
+use Rattle.command_words.specs.Items.{IsDrop, drop_name, drop_place, landmark_name, landmark_place}
+use Rattle.command_words.specs.ItemLaws.{byte_law, drop_law, landmark_law, level_law, number_law, pattern_law, syndrome_law}
+use Rattle.command_words.specs.Operands.{IsOperand, IsValueOf, form_text, kind_of, marks_text, name_text, operand_word, operands_of, value_text}
+use Rattle.command_words.specs.declared.command.Form.{Form}
+use Rattle.command_words.specs.declared.command.Form.TheVariants.{Text, Json}
+use Rattle.command_words.specs.declared.command.Verb.{Verb}
+use Rattle.command_words.specs.declared.items.Landmark.{Landmark}
 use Rattle.command_words.specs.declared.operands.Operand.{Operand}
-use Rattle.command_words.specs.declared.operands.Operand.TheVariants.{From, Size, Span, Set, Sector, Slot, End}
-use Rattle.command_words.specs.Operands.{IsInLimits, ReadsOperand, name_of, operand_name, operand_word, value_text}
+use Rattle.command_words.specs.declared.table.Name.{Name}
+use Rattle.command_words.specs.declared.table.ValueKind.{ValueKind}
+use Rattle.command_words.specs.declared.table.ValueKind.TheVariants.{Number as NumberKind, Levels as LevelsKind, Members as MembersKind, Patterns as PatternsKind, Syndromes as SyndromesKind, Chunks as ChunksKind, Sectors as SectorsKind, Landmarks as LandmarksKind, Drops as DropsKind, Form as FormKind, Marks as MarksKind, Set as SetKind}
+use Rattle.command_words.specs.declared.values.Value.{Value}
+use Rattle.command_words.specs.declared.values.Value.TheVariants.{Number, Levels, Members, Patterns, Syndromes, Chunks, Sectors, Landmarks, Drops, Form as FormValue, Marks, Set}
+use Rattle.command_words.proofs.Commas.{same_list}
+use Rattle.command_words.proofs.NameTexts.{IsShort, one_name, plain_name, short_kind}
+use Rattle.command_words.proofs.ReadValues.{chunks_are_short, members_are_bytes, sectors_are_short}
+use Rattle.command_words.proofs.RisingLists.{some_value}
 
 -- two texts that are cut at the first `=` are the same where their parts are
 pub cut_once : (a b v w : List ℕ) → All (λ x. x ≢ 61) a → All (λ x. x ≢ 61) b → a ++ 61 ∷ v ≡ b ++ 61 ∷ w → (a ≡ b) × (v ≡ w)
@@ -22,142 +37,120 @@ cut_once (x ∷ a) (y ∷ b) v w na nb e =
     let rest = cut_once a b v w (All-tail (λ x. x ≢ 61) x a na) (All-tail (λ x. x ≢ 61) y b nb) (cc) in
     (ap₂ (λ (k : ℕ) (ks : List ℕ). k ∷ ks) (cc) rest.0, rest.1)
 
-differs : (x : ℕ) → not (x == 61) ≡ true → x ≢ 61
-differs x h e = absurd (let f : not (61 == 61) ≡ true = ap (λ (k : ℕ). not (k == 61)) (sym e) ∙ h in cc)
+form_of : List ℕ → Form
+form_of text = if bytes_eq text (form_text Text) then Text else Json
 
-no_equals : (xs : List ℕ) → list_all (λ x. not (x == 61)) xs ≡ true → All (λ x. x ≢ 61) xs
-no_equals [] h = All-nil (λ x. x ≢ 61)
-no_equals (x ∷ xs) h =
-    let parts = and_parts (not (x == 61)) (list_all (λ x. not (x == 61)) xs) h in
-    All-cons (λ x. x ≢ 61) x xs (differs x parts.0) (no_equals xs parts.1)
+form_back : (form : Form) → form_of (form_text form) ≡ form
+unfolding form_of
+form_back Text = refl
+form_back Json = refl
 
--- names have no `=`
-pub plain_name : (n : Name) → All (λ x. x ≢ 61) (operand_name n)
-plain_name FromName = no_equals (operand_name FromName) refl
-plain_name SizeName = no_equals (operand_name SizeName) refl
-plain_name SpanName = no_equals (operand_name SpanName) refl
-plain_name SetName = no_equals (operand_name SetName) refl
-plain_name SectorName = no_equals (operand_name SectorName) refl
-plain_name SlotName = no_equals (operand_name SlotName) refl
-plain_name EndName = no_equals (operand_name EndName) refl
+one_form : (x y : Form) → form_text x ≡ form_text y → x ≡ y
+one_form x y e = sym (form_back x) ∙ ap form_of e ∙ form_back y
 
--- the name that a text is
-named_by : List ℕ → Option Name
-named_by text =
-    if bytes_eq text (operand_name FromName) then Some FromName
-    else if bytes_eq text (operand_name SizeName) then Some SizeName
-    else if bytes_eq text (operand_name SpanName) then Some SpanName
-    else if bytes_eq text (operand_name SetName) then Some SetName
-    else if bytes_eq text (operand_name SectorName) then Some SectorName
-    else if bytes_eq text (operand_name SlotName) then Some SlotName
-    else if bytes_eq text (operand_name EndName) then Some EndName
-    else None
+marks_of : List ℕ → Bool
+marks_of text = bytes_eq text (marks_text true)
 
-is_named : (n : Name) → named_by (operand_name n) ≡ Some n
-unfolding named_by
-is_named FromName = refl
-is_named SizeName = refl
-is_named SpanName = refl
-is_named SetName = refl
-is_named SectorName = refl
-is_named SlotName = refl
-is_named EndName = refl
+marks_back : (xfs : Bool) → marks_of (marks_text xfs) ≡ xfs
+unfolding marks_of
+marks_back true = refl
+marks_back false = refl
 
--- names are spelled differently
-pub one_name : (m n : Name) → operand_name m ≡ operand_name n → m ≡ n
-one_name m n e = let same : Some m ≡ Some n = sym (is_named m) ∙ ap named_by e ∙ is_named n in cc
+one_marks : (x y : Bool) → marks_text x ≡ marks_text y → x ≡ y
+one_marks x y e = sym (marks_back x) ∙ ap marks_of e ∙ marks_back y
 
--- the operands of a name
-abbrev pub OfName : Name → Operand → Type 0
-OfName FromName o = (n : ℕ) × (o ≡ From n)
-OfName SizeName o = (n : ℕ) × (o ≡ Size n)
-OfName SpanName o = (n : ℕ) × (o ≡ Span n)
-OfName SetName o = (geo : Geometry) × (o ≡ Set geo)
-OfName SectorName o = (n : ℕ) × (o ≡ Sector n)
-OfName SlotName o = (n : ℕ) × (o ≡ Slot n)
-OfName EndName o = (n : ℕ) × (o ≡ End n)
+-- the texts of two values are those of what they hold
+texts : {A : Type 0} (make : A → Value) (x y : A) (v w : Value) → v ≡ make x → w ≡ make y → value_text v ≡ value_text w → value_text (make x) ≡ value_text (make y)
+texts make x y v w a b e = ap value_text (sym a) ∙ e ∙ ap value_text b
 
-pub of_name : (name : Name) (o : Operand) → name_of o ≡ name → OfName name o
-of_name name (From n) e = subst (λ m. OfName m (From n)) e (n, refl)
-of_name name (Size n) e = subst (λ m. OfName m (Size n)) e (n, refl)
-of_name name (Span n) e = subst (λ m. OfName m (Span n)) e (n, refl)
-of_name name (Set n) e = subst (λ m. OfName m (Set n)) e (n, refl)
-of_name name (Sector n) e = subst (λ m. OfName m (Sector n)) e (n, refl)
-of_name name (Slot n) e = subst (λ m. OfName m (Slot n)) e (n, refl)
-of_name name (End n) e = subst (λ m. OfName m (End n)) e (n, refl)
+-- two values that hold the same
+same_held : {A : Type 0} (make : A → Value) (x y : A) (v w : Value) → v ≡ make x → w ≡ make y → x ≡ y → v ≡ w
+same_held make x y v w a b same = a ∙ ap make same ∙ sym b
 
--- an operand has one value
-pub one_value : (a b : Operand) → name_of a ≡ name_of b → IsInLimits a → IsInLimits b → value_text a ≡ value_text b → a ≡ b
-one_value (From m) b names la lb e =
-    let is = of_name FromName b (sym names) in
-    let within : IsInLimits (From is.0) = subst IsInLimits is.1 lb in
-    ap (λ (k : ℕ). From k) (decimal_injective m is.0 la within (e ∙ ap value_text is.1)) ∙ sym is.1
-one_value (Size m) b names la lb e =
-    let is = of_name SizeName b (sym names) in
-    let within : IsInLimits (Size is.0) = subst IsInLimits is.1 lb in
-    let ma = la.1 in
-    let mb = within.1 in
-    ap (λ (k : ℕ). Size k) (decimal_injective m is.0 (omega arith) (omega arith) (e ∙ ap value_text is.1)) ∙ sym is.1
-one_value (Span m) b names la lb e =
-    let is = of_name SpanName b (sym names) in
-    let within : IsInLimits (Span is.0) = subst IsInLimits is.1 lb in
-    ap (λ (k : ℕ). Span k) (decimal_injective m is.0 la.1 within.1 (e ∙ ap value_text is.1)) ∙ sym is.1
-one_value (Set geo) b names la lb e =
-    let is = of_name SetName b (sym names) in
-    let within : IsInLimits (Set is.0) = subst IsInLimits is.1 lb in
-    ap (λ (g : Geometry). Set g) (one_spelling geo is.0 la within (e ∙ ap value_text is.1)) ∙ sym is.1
-one_value (Sector m) b names la lb e =
-    let is = of_name SectorName b (sym names) in
-    let within : IsInLimits (Sector is.0) = subst IsInLimits is.1 lb in
-    ap (λ (k : ℕ). Sector k) (decimal_injective m is.0 la within (e ∙ ap value_text is.1)) ∙ sym is.1
-one_value (Slot m) b names la lb e =
-    let is = of_name SlotName b (sym names) in
-    let within : IsInLimits (Slot is.0) = subst IsInLimits is.1 lb in
-    let ma = la in
-    let mb = within in
-    ap (λ (k : ℕ). Slot k) (decimal_injective m is.0 (omega arith) (omega arith) (e ∙ ap value_text is.1)) ∙ sym is.1
-one_value (End m) b names la lb e =
-    let is = of_name EndName b (sym names) in
-    let within : IsInLimits (End is.0) = subst IsInLimits is.1 lb in
-    let ma = la in
-    let mb = within in
-    ap (λ (k : ℕ). End k) (decimal_injective m is.0 (omega arith) (omega arith) (e ∙ ap value_text is.1)) ∙ sym is.1
+-- a value of a kind has one text
+pub one_value : (kind : ValueKind) → IsShort kind → (v w : Value) → IsValueOf v kind → IsValueOf w kind → value_text v ≡ value_text w → v ≡ w
+one_value (NumberKind least most) short v w a b e =
+    let top : most < 2 ^ 64 = short in
+    let m = a.3 in
+    let n = b.3 in
+    same_held (λ n. Number n) a.0 b.0 v w a.1 b.1 (decimal_injective a.0 b.0 (omega arith) (omega arith) (texts (λ n. Number n) a.0 b.0 v w a.1 b.1 e))
+one_value LevelsKind short v w a b e =
+    let same = same_list level_name (λ x. Unit {0}) level_law a.0.items b.0.items (some_value level_place a.0.items a.2.rising) (some_value level_place b.0.items b.2.rising) (λ k d lt. tt) (λ k d lt. tt) (texts (λ xs. Levels xs) a.0 b.0 v w a.1 b.1 e) in
+    same_held (λ (xs : List Level). Levels (record { items = xs })) a.0.items b.0.items v w a.1 b.1 same
+one_value MembersKind short v w a b e =
+    let same = same_list decimal (λ n. n < 2 ^ 8) byte_law a.0.items b.0.items (some_value (λ n. n) a.0.items a.2.list.rising) (some_value (λ n. n) b.0.items b.2.list.rising) (members_are_bytes a.0.items a.2.all) (members_are_bytes b.0.items b.2.all) (texts (λ xs. Members xs) a.0 b.0 v w a.1 b.1 e) in
+    same_held (λ (xs : List ℕ). Members (record { items = xs })) a.0.items b.0.items v w a.1 b.1 same
+one_value PatternsKind short v w a b e =
+    let same = same_list pattern_name (λ x. Unit {0}) pattern_law a.0.items b.0.items (some_value pattern_place a.0.items a.2.rising) (some_value pattern_place b.0.items b.2.rising) (λ k d lt. tt) (λ k d lt. tt) (texts (λ xs. Patterns xs) a.0 b.0 v w a.1 b.1 e) in
+    same_held (λ (xs : List Pattern). Patterns (record { items = xs })) a.0.items b.0.items v w a.1 b.1 same
+one_value SyndromesKind short v w a b e =
+    let same = same_list syndrome_name (λ x. Unit {0}) syndrome_law a.0.items b.0.items (some_value syndrome_place a.0.items a.2.rising) (some_value syndrome_place b.0.items b.2.rising) (λ k d lt. tt) (λ k d lt. tt) (texts (λ xs. Syndromes xs) a.0 b.0 v w a.1 b.1 e) in
+    same_held (λ (xs : List Syndrome). Syndromes (record { items = xs })) a.0.items b.0.items v w a.1 b.1 same
+one_value ChunksKind short v w a b e =
+    let same = same_list decimal (λ n. n < 2 ^ 64) number_law a.0.items b.0.items (some_value (λ n. n) a.0.items a.2.list.rising) (some_value (λ n. n) b.0.items b.2.list.rising) (chunks_are_short a.0.items a.2.all) (chunks_are_short b.0.items b.2.all) (texts (λ xs. Chunks xs) a.0 b.0 v w a.1 b.1 e) in
+    same_held (λ (xs : List ℕ). Chunks (record { items = xs })) a.0.items b.0.items v w a.1 b.1 same
+one_value SectorsKind short v w a b e =
+    let same = same_list decimal (λ n. n < 2 ^ 64) number_law a.0.items b.0.items (some_value (λ n. n) a.0.items a.2.list.rising) (some_value (λ n. n) b.0.items b.2.list.rising) (sectors_are_short a.0.items a.2.all) (sectors_are_short b.0.items b.2.all) (texts (λ xs. Sectors xs) a.0 b.0 v w a.1 b.1 e) in
+    same_held (λ (xs : List ℕ). Sectors (record { items = xs })) a.0.items b.0.items v w a.1 b.1 same
+one_value LandmarksKind short v w a b e =
+    let same = same_list landmark_name (λ x. Unit {0}) landmark_law a.0.items b.0.items (some_value landmark_place a.0.items a.2.rising) (some_value landmark_place b.0.items b.2.rising) (λ k d lt. tt) (λ k d lt. tt) (texts (λ xs. Landmarks xs) a.0 b.0 v w a.1 b.1 e) in
+    same_held (λ (xs : List Landmark). Landmarks (record { items = xs })) a.0.items b.0.items v w a.1 b.1 same
+one_value DropsKind short v w a b e =
+    let same = same_list drop_name IsDrop drop_law a.0.items b.0.items (some_value drop_place a.0.items a.2.list.rising) (some_value drop_place b.0.items b.2.list.rising) a.2.all b.2.all (texts (λ xs. Drops xs) a.0 b.0 v w a.1 b.1 e) in
+    same_held (λ (xs : List DropAt). Drops (record { items = xs })) a.0.items b.0.items v w a.1 b.1 same
+one_value FormKind short v w a b e = same_held (λ x. FormValue x) a.0 b.0 v w a.1 b.1 (one_form a.0 b.0 (texts (λ x. FormValue x) a.0 b.0 v w a.1 b.1 e))
+one_value MarksKind short v w a b e = same_held (λ x. Marks x) a.0 b.0 v w a.1 b.1 (one_marks a.0 b.0 (texts (λ x. Marks x) a.0 b.0 v w a.1 b.1 e))
+one_value SetKind short v w a b e = same_held (λ x. Set x) a.0 b.0 v w a.1 b.1 (one_spelling a.0 b.0 a.2 b.2 (texts (λ x. Set x) a.0 b.0 v w a.1 b.1 e))
+
+operand_with : Name → Value → Operand
+operand_with name value = record { name = name; value = value }
 
 -- a word spells one operand
-pub one_operand : (a b : Operand) → IsInLimits a → IsInLimits b → operand_word a ≡ operand_word b → a ≡ b
-unfolding operand_word
-one_operand a b la lb e =
-    let cut = cut_once (operand_name (name_of a)) (operand_name (name_of b)) (value_text a) (value_text b) (plain_name (name_of a)) (plain_name (name_of b)) e in
-    one_value a b (one_name (name_of a) (name_of b) cut.0) la lb cut.1
+pub one_operand : (verb : Verb) (a b : Operand) → IsOperand verb a → IsOperand verb b → operand_word a ≡ operand_word b → a ≡ b
+unfolding operand_word operand_with
+one_operand verb a b is_a is_b e =
+    let cut = cut_once (name_text a.name) (name_text b.name) (value_text a.value) (value_text b.value) (plain_name a.name) (plain_name b.name) e in
+    let name : a.name ≡ b.name = one_name a.name b.name cut.0 in
+    let fitting : IsValueOf b.value (kind_of a.name) = subst (λ n. IsValueOf b.value (kind_of n)) (sym name) is_b.fitting in
+    let value : a.value ≡ b.value = one_value (kind_of a.name) (short_kind a.name) a.value b.value is_a.fitting fitting cut.1 in
+    let same : operand_with a.name a.value ≡ operand_with b.name b.value = ap₂ operand_with name value in
+    same
+
+-- what a reading of a word says
+abbrev pub ReadsOperand : Verb → List ℕ → Option Operand → Type 0
+ReadsOperand verb word result = MatchOption result ((o : Operand) → IsOperand verb o → word ≢ operand_word o) (λ o. IsOperand verb o × (word ≡ operand_word o))
 
 -- a word without `=` spells no operand
-pub without_equals : (word : List ℕ) → All (λ x. x ≢ 61) word → ReadsOperand word None
+pub without_equals : (verb : Verb) (word : List ℕ) → All (λ x. x ≢ 61) word → ReadsOperand verb word None
 unfolding operand_word
-without_equals word none o limits e = absurd (past (operand_name (name_of o)) (value_text o) (subst (λ w. All (λ x. x ≢ 61) w) e none))
+without_equals verb word none o is e = absurd (past (name_text o.name) (value_text o.value) (subst (λ w. All (λ x. x ≢ 61) w) e none))
   where
     past : (a v : List ℕ) → All (λ x. x ≢ 61) (a ++ 61 ∷ v) → ⊥
     past [] v h = All-head (λ x. x ≢ 61) 61 v h refl
     past (x ∷ a) v h = past a v (All-tail (λ x. x ≢ 61) x (a ++ 61 ∷ v) h)
 
--- nor does one with another name
-pub another_name : (word name value : List ℕ) → All (λ x. x ≢ 61) name → word ≡ name ++ 61 ∷ value → ((n : Name) → name ≢ operand_name n) → ReadsOperand word None
+-- nor does one with a name that the command does not take
+pub another_name : (verb : Verb) (word name value : List ℕ) → All (λ x. x ≢ 61) name → word ≡ name ++ 61 ∷ value → All (λ n. name ≢ name_text n) (operands_of verb) → ReadsOperand verb word None
 unfolding operand_word
-another_name word name value plain is none o limits e =
-    none (name_of o) (cut_once name (operand_name (name_of o)) value (value_text o) plain (plain_name (name_of o)) (sym is ∙ e)).0
+another_name verb word name value plain is none o taken e =
+    let cut = cut_once name (name_text o.name) value (value_text o.value) plain (plain_name o.name) (sym is ∙ e) in
+    let at = taken.taken in
+    let here : name ≢ name_text (get_or (operands_of verb) at.0 o.name) = none at.0 o.name at.1 in
+    here (cut.0 ∙ ap name_text (sym at.2))
 
--- a name and a value
-pub name_and_value : (word name value : List ℕ) (n : Name) (r : Option Operand) → All (λ x. x ≢ 61) name → word ≡ name ++ 61 ∷ value → name ≡ operand_name n →
-    MatchOption r ((o : Operand) → name_of o ≡ n → IsInLimits o → value ≢ value_text o) (λ o. (name_of o ≡ n) × IsInLimits o × (value ≡ value_text o)) → ReadsOperand word r
+-- nor one with a value that the operand does not take
+pub another_value : (verb : Verb) (word text value : List ℕ) (name : Name) (kind : ValueKind) → All (λ x. x ≢ 61) text → word ≡ text ++ 61 ∷ value → text ≡ name_text name → kind ≡ kind_of name → ((v : Value) → IsValueOf v kind → value ≢ value_text v) → ReadsOperand verb word None
 unfolding operand_word
-name_and_value word name value n None plain is named none = λ o limits e.
-    let cut = cut_once name (operand_name (name_of o)) value (value_text o) plain (plain_name (name_of o)) (sym is ∙ e) in
-    none o (one_name (name_of o) n (sym cut.0 ∙ named)) limits cut.1
-name_and_value word name value n (Some o) plain is named found =
-    (found.1, is ∙ ap₂ (λ (a b : List ℕ). a ++ 61 ∷ b) (named ∙ ap operand_name (sym found.0)) found.2)
+another_value verb word text value name kind plain is named same none o taken e =
+    let cut = cut_once text (name_text o.name) value (value_text o.value) plain (plain_name o.name) (sym is ∙ e) in
+    let name_is : o.name ≡ name = one_name o.name name (sym cut.0 ∙ named) in
+    none o.value (subst (λ k. IsValueOf o.value k) (ap kind_of name_is ∙ sym same) taken.fitting) cut.1
 
--- a number out of these bounds is none within them
-pub out_of_bounds : (text : List ℕ) (low high number n : ℕ) → high < 2 ^ 64 → number < 2 ^ 64 → text ≡ decimal number → (low ≤ number → high < number) → low ≤ n → n ≤ high → text ≢ decimal n
-out_of_bounds text low high number n top small is out above below e =
-    let same : number ≡ n = decimal_injective number n small (omega arith) (sym is ∙ e) in
-    let far = out (omega arith) in
-    absurd (omega arith)
+-- a name and a value are an operand
+pub name_and_value : (verb : Verb) (word text value_text_ : List ℕ) (name : Name) (kind : ValueKind) (value : Value) → word ≡ text ++ 61 ∷ value_text_ → Contains (operands_of verb) name → text ≡ name_text name → kind ≡ kind_of name →
+    IsValueOf value kind × (value_text_ ≡ value_text value) → IsOperand verb (record { name = name; value = value }) × (word ≡ operand_word (record { name = name; value = value }))
+unfolding operand_word
+name_and_value verb word text value_text_ name kind value is taken named same found = (
+  record { taken = taken; fitting = subst (λ k. IsValueOf value k) same found.0 },
+  is ∙ ap₂ (λ (a b : List ℕ). a ++ 61 ∷ b) named found.1,
+)

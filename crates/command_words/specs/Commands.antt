@@ -1,90 +1,232 @@
--- What the words of a command line say.
-use Rattle.std.specs.Prelude.{ℕ, ◌-◌, ◌≡◌, ◌≤◌, ◌<◌, ◌^◌, ◌+◌, true, List, [], ◌∷◌, ◌++◌, length, map, drop, All, codes, if◌then◌else◌, unwrap_or, option_and_then, option_map, IfSome}
+-- What the words of a command line say, and which word is refused.
+use Rattle.std.specs.Prelude.{ℕ, ◌-◌, ◌*◌, ◌≡◌, ◌≤◌, ◌<◌, ◌^◌, ◌+◌, ◌⊎◌, Bool, true, false, IsTrue, nat_eq, nat_le, ◌||◌, List, [], ◌∷◌, ◌++◌, length, map, take, drop, codes, if◌then◌else◌, unwrap_or, option_and_then, option_map, IfSome, MatchOption, Result, Ok, Err}
+use Rattle.std.specs.List.{list_any}
 use Rattle.std.specs.declared.option.Option.{Option}
 use Rattle.std.specs.declared.option.Option.TheVariants.{None, Some}
 use Rattle.std.specs.Str.{bytes_eq}
+use Rattle.arrayvec.specs.ArrayVec.{ArrayVec}
+use Rattle.raid_params.specs.declared.limits.TheConstants.{MOST}
+use Rattle.raid_params.specs.declared.types.Bounds.{Bounds}
+use Rattle.raid_params.specs.declared.types.Geometry.{Geometry}
+use Rattle.raid_params.specs.declared.types.Level.{Level}
+use Rattle.raid_params.specs.declared.types.Level.TheVariants.{Raid0, Raid5, Raid6}
+use Rattle.raid_params.specs.declared.types.Pattern.{Pattern}
+use Rattle.raid_params.specs.declared.types.Pattern.TheVariants.{Plain, La, Ra, Ls, Rs, ParityFirst, ParityLast, NRestart, NContinue, La6, Ra6, Ls6, Rs6, ParityFirst6}
+use Rattle.raid_params.specs.declared.types.Syndrome.{Syndrome}
+use Rattle.raid_params.specs.declared.types.Syndrome.TheVariants.{NoQ, AfterQ, ByData, BySlot}
+use Rattle.landmark_rules.specs.declared.marks.MarkTests.{MarkTests}
 use Rattle.plan_text.specs.SetText.{HasWord}
+use Rattle.search_plan.specs.Plans.{AreBounds, AreTests}
+use Rattle.search_plan.specs.declared.looking.DropAt.{DropAt}
+use Rattle.search_plan.specs.declared.looking.Kinds.{Kinds}
+use Rattle.command_words.specs.Items.{landmark_place}
+use Rattle.command_words.specs.Operands.{AreDrops, AreMembers, AreOperands, operand_word, value_of}
 use Rattle.command_words.specs.declared.command.Command.{Command}
-use Rattle.command_words.specs.declared.command.Command.TheVariants.{List as ListCommand, Check as CheckCommand, Map as MapCommand, Write as WriteCommand, Rebuild as RebuildCommand}
+use Rattle.command_words.specs.declared.command.Command.TheVariants.{Survey as SurveyCommand, List as ListCommand, Check as CheckCommand, Map as MapCommand, Write as WriteCommand, Rebuild as RebuildCommand, Sample as SampleCommand}
+use Rattle.command_words.specs.declared.command.Form.{Form}
+use Rattle.command_words.specs.declared.command.Form.TheVariants.{Text}
+use Rattle.command_words.specs.declared.command.SurveyWords.{SurveyWords}
 use Rattle.command_words.specs.declared.command.Verb.{Verb}
-use Rattle.command_words.specs.declared.command.Verb.TheVariants.{List as ListVerb, Check, Map, Write, Rebuild}
-use Rattle.command_words.specs.declared.operands.Given.{Given}
+use Rattle.command_words.specs.declared.command.Verb.TheVariants.{Survey, List as ListVerb, Check, Map, Write, Rebuild, Sample}
+use Rattle.command_words.specs.declared.items.Landmark.{Landmark}
+use Rattle.command_words.specs.declared.items.Landmark.TheVariants.{Gpt, Ntfs, Xfs}
 use Rattle.command_words.specs.declared.operands.Operand.{Operand}
-use Rattle.command_words.specs.Operands.{IsInLimits, all_given, name_of, nothing_given, operand_word, takes}
+use Rattle.command_words.specs.declared.table.Name.TheVariants.{Levels as LevelsName, Members as MembersName, Patterns as PatternsName, Syndromes as SyndromesName, Chunks as ChunksName, Offsets as OffsetsName, Origins as OriginsName, Missing as MissingName, Foreign as ForeignName, Badrows as BadrowsName, Misfits as MisfitsName, Least as LeastName, Window as WindowName, End as EndName, Kinds as KindsName, Dropped as DropName, From as FromName, Size as SizeName, Span as SpanName, Pages as PagesName, Form as FormName, Set as SetName, Sector as SectorName, Slot as SlotName, Number as NumberName, Rows as RowsName, Marks as MarksName}
+use Rattle.command_words.specs.declared.values.Value.{Value}
+use Rattle.command_words.specs.declared.values.Value.TheVariants.{Number, Levels, Members, Patterns, Syndromes, Chunks, Sectors, Landmarks, Drops, Form as FormValue, Marks, Set}
+
+-- the word of a command
+abbrev pub verb_word : Verb → List ℕ
+verb_word Survey = codes "survey"
+verb_word ListVerb = codes "list"
+verb_word Check = codes "check"
+verb_word Map = codes "map"
+verb_word Write = codes "write"
+verb_word Rebuild = codes "rebuild"
+verb_word Sample = codes "sample"
+
+-- the values of operands that were given, and the defaults of those that were not
+abbrev pub number_in : Option Value → Option ℕ
+number_in (Some (Number n)) = Some n
+number_in _ = None
+
+abbrev pub set_in : Option Value → Option Geometry
+set_in (Some (Set set)) = Some set
+set_in _ = None
+
+abbrev pub levels_or : Option Value → ArrayVec Level
+levels_or (Some (Levels xs)) = xs
+levels_or _ = record { items = Raid0 ∷ Raid5 ∷ Raid6 ∷ [] }
+
+abbrev pub members_or : Option Value → ArrayVec ℕ
+members_or (Some (Members ns)) = ns
+members_or _ = record { items = [] }
+
+abbrev pub patterns_or : Option Value → ArrayVec Pattern
+patterns_or (Some (Patterns xs)) = xs
+patterns_or _ = record { items = Plain ∷ La ∷ Ra ∷ Ls ∷ Rs ∷ ParityFirst ∷ ParityLast ∷ NRestart ∷ NContinue ∷ La6 ∷ Ra6 ∷ Ls6 ∷ Rs6 ∷ ParityFirst6 ∷ [] }
+
+abbrev pub syndromes_or : Option Value → ArrayVec Syndrome
+syndromes_or (Some (Syndromes xs)) = xs
+syndromes_or _ = record { items = NoQ ∷ AfterQ ∷ ByData ∷ BySlot ∷ [] }
+
+abbrev pub chunks_or : Option Value → ArrayVec ℕ
+chunks_or (Some (Chunks ns)) = ns
+chunks_or _ = record { items = 8 ∷ 16 ∷ 32 ∷ 64 ∷ 128 ∷ 256 ∷ 512 ∷ 1024 ∷ 2048 ∷ [] }
+
+abbrev pub sectors_or : List ℕ → Option Value → ArrayVec ℕ
+sectors_or others (Some (Sectors ns)) = ns
+sectors_or others _ = record { items = others }
+
+abbrev pub drops_or : Option Value → ArrayVec DropAt
+drops_or (Some (Drops ds)) = ds
+drops_or _ = record { items = [] }
+
+-- a landmark is among these
+abbrev pub has_landmark : Landmark → List Landmark → Bool
+has_landmark landmark landmarks = list_any (λ other. nat_eq (landmark_place landmark) (landmark_place other)) landmarks
+
+abbrev pub kinds_or : Option Value → Kinds
+kinds_or (Some (Landmarks xs)) = record { gpt = has_landmark Gpt xs.items; ntfs = has_landmark Ntfs xs.items; xfs = has_landmark Xfs xs.items }
+kinds_or _ = record { gpt = true; ntfs = true; xfs = true }
+
+abbrev pub form_or : Option Value → Form
+form_or (Some (FormValue form)) = form
+form_or _ = Text
+
+abbrev pub marks_or : Option Value → Bool
+marks_or (Some (Marks xfs)) = xfs
+marks_or _ = false
+
+-- the number of the operand of a name
+abbrev pub number_or : ℕ → Option Value → ℕ
+number_or other value = unwrap_or (number_in value) other
+
+-- what a survey is asked for. The numbers of members are none where they were not given
+abbrev pub bounds_of : List Operand → Bounds
+bounds_of operands = record {
+  levels = levels_or (value_of LevelsName operands);
+  members = members_or (value_of MembersName operands);
+  patterns = patterns_or (value_of PatternsName operands);
+  syndromes = syndromes_or (value_of SyndromesName operands);
+  chunks = chunks_or (value_of ChunksName operands);
+  offsets = sectors_or (0 ∷ 2048 ∷ 262144 ∷ 264192 ∷ []) (value_of OffsetsName operands);
+  missing = number_or 0 (value_of MissingName operands);
+  foreign = number_or 0 (value_of ForeignName operands);
+}
+
+abbrev pub tests_of : List Operand → MarkTests
+tests_of operands = record {
+  origins = sectors_or (0 ∷ 2048 ∷ []) (value_of OriginsName operands);
+  misfits = number_or 0 (value_of MisfitsName operands);
+  least = number_or 1 (value_of LeastName operands);
+}
+
+abbrev pub survey_of : List Operand → ℕ → SurveyWords
+survey_of operands names = record {
+  bounds = bounds_of operands;
+  end = number_in (value_of EndName operands);
+  badrows = number_or 0 (value_of BadrowsName operands);
+  window = number_in (value_of WindowName operands);
+  tests = tests_of operands;
+  kinds = kinds_or (value_of KindsName operands);
+  drops = drops_or (value_of DropName operands);
+  names = names;
+}
+
+-- the command with these operands and so many words up to the names, unless an operand is missing that it
+-- asks for. A listing has 4,000,000 lines at most on all its pages together
+abbrev pub command_of : Verb → List Operand → ℕ → Option Command
+command_of Survey operands names = Some (SurveyCommand (survey_of operands names))
+command_of ListVerb operands names =
+    if nat_le (number_or 100 (value_of SizeName operands) * number_or 1 (value_of PagesName operands)) 4000000
+    then Some (ListCommand (number_or 0 (value_of FromName operands)) (number_or 100 (value_of SizeName operands)) (number_or (2 ^ 64 - 1) (value_of SpanName operands)) (number_or 1 (value_of PagesName operands)) (form_or (value_of FormName operands)) names)
+    else None
+command_of Check operands names = option_map (λ set. CheckCommand set names) (set_in (value_of SetName operands))
+command_of Map operands names =
+    option_and_then (λ set. option_map (λ sector. MapCommand set sector (number_in (value_of EndName operands)) names) (number_in (value_of SectorName operands))) (set_in (value_of SetName operands))
+command_of Write operands names = option_map (λ set. WriteCommand set (number_in (value_of EndName operands)) names) (set_in (value_of SetName operands))
+command_of Rebuild operands names =
+    option_and_then (λ set. option_map (λ slot. RebuildCommand set slot (number_in (value_of EndName operands)) names) (number_in (value_of SlotName operands))) (set_in (value_of SetName operands))
+command_of Sample operands names =
+    option_and_then (λ number. option_and_then (λ set. option_map (λ rows. SampleCommand number set rows (marks_or (value_of MarksName operands))) (number_in (value_of RowsName operands))) (set_in (value_of SetName operands))) (number_in (value_of NumberName operands))
+
+-- names may follow the `--` of each command but `sample`
+abbrev pub MayFollow : List (List ℕ) → Verb → Type 0
+MayFollow names Sample = names ≡ []
+MayFollow names _ = Unit {0}
+
+-- a command, operands, `--` and names
+abbrev pub line_of : Verb → List Operand → List (List ℕ) → List (List ℕ)
+line_of verb operands names = verb_word verb ∷ (map operand_word operands ++ codes "--" ∷ names)
+
+-- the words are a command with its operands, in any order, `--` and the names of the images
+pub record IsCommandLine (words : List (List ℕ)) (command : Command) : Type 0 where
+  pub verb : Verb
+  pub operands : List Operand
+  pub names : List (List ℕ)
+  pub spelled : words ≡ line_of verb operands names
+  pub are : AreOperands verb operands
+  pub follow : MayFollow names verb
+  pub says : command_of verb operands (length operands + 2) ≡ Some command
+
+-- with some words after them, these are a command line
+abbrev pub BeginsLine : List (List ℕ) → Type 0
+BeginsLine start = (rest : List (List ℕ)) × (command : Command) × IsCommandLine (start ++ rest) command
+
+-- word n, counted from 1, is the refused one: with those before it some command line begins, and with it
+-- none. Where all begin one but are none, it is the word after the last
+pub record IsRefusedWord (words : List (List ℕ)) (n : ℕ) : Type 0 where
+  pub counted : (1 ≤ n) × (n ≤ length words + 1)
+  pub begins : BeginsLine (take (n - 1) words)
+  pub stops : n ≤ length words → BeginsLine (take n words) → ⊥
+  pub none : (command : Command) → IsCommandLine words command → ⊥
+
+-- what the words are: a command, or a list that is refused at a word
+abbrev pub Reads : List (List ℕ) → Result Command ℕ → Type 0
+Reads words (Ok command) = IsCommandLine words command
+Reads words (Err n) = IsRefusedWord words n
 
 -- the words after the first `--`: the names of the images
 abbrev pub names_after : List (List ℕ) → List (List ℕ)
 names_after [] = []
 names_after (word ∷ words) = if bytes_eq word (codes "--") then words else names_after words
 
--- the word of a command
-abbrev pub verb_word : Verb → List ℕ
-verb_word ListVerb = codes "list"
-verb_word Check = codes "check"
-verb_word Map = codes "map"
-verb_word Write = codes "write"
-verb_word Rebuild = codes "rebuild"
+-- the names are the last words, from the one of this number on
+abbrev pub EndFrom : List (List ℕ) → ℕ → Type 0
+EndFrom words names = (names ≤ length words) × (names_after words ≡ drop names words)
 
--- the command with these operands and so many words up to the names, unless an operand is missing
--- that it asks for. Where they were not given, a listing goes from rank 0 on, over all ranks, in
--- pages of 100 lines, and the members end with the shortest image
-abbrev pub command_of : Verb → Given → ℕ → Option Command
-command_of ListVerb given names = Some (ListCommand (unwrap_or given.from 0) (unwrap_or given.size 100) (unwrap_or given.span (2 ^ 64 - 1)) names)
-command_of Check given names = option_map (λ set. CheckCommand set names) given.set
-command_of Map given names = option_and_then (λ set. option_map (λ sector. MapCommand set sector given.end names) given.sector) given.set
-command_of Write given names = option_map (λ set. WriteCommand set given.end names) given.set
-command_of Rebuild given names = option_and_then (λ set. option_map (λ slot. RebuildCommand set slot given.end names) given.slot) given.set
+-- how many words a command has up to the names of its images. `sample` has no names
+abbrev pub names_of : Command → Option ℕ
+names_of (SurveyCommand asked) = Some asked.names
+names_of (ListCommand from size span pages form names) = Some names
+names_of (CheckCommand set names) = Some names
+names_of (MapCommand set sector end names) = Some names
+names_of (WriteCommand set end names) = Some names
+names_of (RebuildCommand set slot end names) = Some names
+names_of (SampleCommand number set rows xfs) = None
 
--- the words go on with operands that the command takes, in any order, none of them given before or
--- twice, then `--` and the names of the images. They begin at word `place`, counted from 0
-pub record GoOn (verb : Verb) (given : Given) (place : ℕ) (words : List (List ℕ)) (command : Command) : Type 0 where
-  pub operands : List Operand
-  pub names : List (List ℕ)
-  pub all : Given
-  pub limits : All IsInLimits operands
-  pub taken : All (λ operand. takes verb (name_of operand) ≡ true) operands
-  pub once : all_given given operands ≡ Some all
-  pub spelled : words ≡ map operand_word operands ++ codes "--" ∷ names
-  pub says : command_of verb all (place + length operands + 1) ≡ Some command
+-- the names of a command's images are the last words, from the one of this number on, or there are none
+abbrev pub EndsInNames : List (List ℕ) → Command → Type 0
+EndsInNames words command = MatchOption (names_of command) (names_after words ≡ []) (EndFrom words)
 
--- the words are a command with its operands, `--` and the names of the images
-pub record IsCommandLine (words : List (List ℕ)) (command : Command) : Type 0 where
-  pub verb : Verb
-  pub rest : List (List ℕ)
-  pub first : words ≡ verb_word verb ∷ rest
-  pub onward : GoOn verb nothing_given 1 rest command
-
--- what the words are: a command, or none
-abbrev pub AreRead : List (List ℕ) → Option Command → Type 0
-AreRead words None = (command : Command) → IsCommandLine words command → ⊥
-AreRead words (Some command) = IsCommandLine words command
-
--- a reading of words finds their command, and just one
-pub record ReadsWords (words : List (List ℕ)) (result : Option Command) : Type 0 where
-  pub sound : IfSome result (IsCommandLine words)
-  pub whole : (command : Command) → IsCommandLine words command → result ≡ Some command
-
--- a reading of the words from `place` on finds what they say, and just that
-pub record ReadsOn (verb : Verb) (given : Given) (place : ℕ) (words : List (List ℕ)) (result : Option Command) : Type 0 where
-  pub sound : IfSome result (GoOn verb given place words)
-  pub whole : (command : Command) → GoOn verb given place words command → result ≡ Some command
-
--- how many words a command has up to the names of its images
-abbrev pub names_of : Command → ℕ
-names_of (ListCommand from size span names) = names
-names_of (CheckCommand set names) = names
-names_of (MapCommand set sector end names) = names
-names_of (WriteCommand set end names) = names
-names_of (RebuildCommand set slot end names) = names
+-- what a survey is asked for is within the limits of a plan, whatever numbers of members it then takes
+pub record AreAsked (asked : SurveyWords) : Type 0 where
+  pub bounds : (members : ArrayVec ℕ) → AreMembers members.items → AreBounds (record asked.bounds { members = members })
+  pub members : (asked.bounds.members.items ≡ []) ⊎ AreMembers asked.bounds.members.items
+  pub end : IfSome asked.end (λ n. n < 2 ^ 55)
+  pub badrows : asked.badrows < 2 ^ 55
+  pub window : IfSome asked.window (λ n. (1 ≤ n) × (n < 2 ^ 55))
+  pub tests : AreTests asked.tests
+  pub kinds : IsTrue (asked.kinds.gpt || asked.kinds.ntfs || asked.kinds.xfs)
+  pub drops : (asked.drops.items ≡ []) ⊎ AreDrops asked.drops.items
 
 -- the values of a command are within the limits of its operands
 abbrev pub IsWithin : Command → Type 0
-IsWithin (ListCommand from size span names) = 1 ≤ size
+IsWithin (SurveyCommand asked) = AreAsked asked
+IsWithin (ListCommand from size span pages form names) = (1 ≤ size) × (size ≤ 1000000) × (1 ≤ span) × (1 ≤ pages) × (pages ≤ 1000000) × (size * pages ≤ 4000000)
 IsWithin (CheckCommand set names) = HasWord set
 IsWithin (MapCommand set sector end names) = HasWord set × IfSome end (λ n. n < 2 ^ 55)
 IsWithin (WriteCommand set end names) = HasWord set × IfSome end (λ n. n < 2 ^ 55)
-IsWithin (RebuildCommand set slot end names) = HasWord set × IfSome end (λ n. n < 2 ^ 55)
-
--- the names of a command's images are the last words, from the one of this number on
-abbrev pub EndsInNames : List (List ℕ) → Command → Type 0
-EndsInNames words command = (names_of command ≤ length words) × (names_after words ≡ drop (names_of command) words)
+IsWithin (RebuildCommand set slot end names) = HasWord set × (slot < MOST) × IfSome end (λ n. n < 2 ^ 55)
+IsWithin (SampleCommand number set rows xfs) = HasWord set × (1 ≤ rows) × (rows ≤ 65536)

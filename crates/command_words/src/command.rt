@@ -1,10 +1,15 @@
 //! The commands.
-use raid_params::Geometry;
+use arrayvec::ArrayVec;
+use landmark_rules::MarkTests;
+use raid_params::{Bounds, Geometry, MOST_DROPS};
+use search_plan::{DropAt, Kinds};
 
 /// The first word: which command it is.
 #[derive(Clone, Copy)]
 pub enum Verb {
-    /// `list`: a page of the sets that pass.
+    /// `survey`: the plan of a search over the images.
+    Survey,
+    /// `list`: pages of the sets that pass.
     List,
     /// `check`: the tests of one set.
     Check,
@@ -14,21 +19,60 @@ pub enum Verb {
     Write,
     /// `rebuild`: the member of an empty slot.
     Rebuild,
+    /// `sample`: an array that is generated.
+    Sample,
 }
 
-/// What the words ask for. In each, `names` is the number of words up to the names of the images.
-/// `end` is the image sector after the last one that may belong to the array; where it is None the
-/// members end with the shortest image.
+/// How a listing is written.
+#[derive(Clone, Copy)]
+pub enum Form {
+    /// Lines of words.
+    Text,
+    /// Lines of JSON objects.
+    Json,
+}
+
+/// What a survey is asked for. What depends on the images where it is not among the words is empty or
+/// None here: the numbers of members in `bounds`, `end` and `window`.
+#[derive(Drop)]
+pub struct SurveyWords {
+    /// The parameters to try.
+    pub bounds: Bounds,
+    /// The image sector after the last one that may belong to the array.
+    pub end: Option<u64>,
+    /// The most tested sector rows that may be unsound.
+    pub badrows: u64,
+    /// The member sector from which on none is tested.
+    pub window: Option<u64>,
+    /// How the landmarks are to be tested.
+    pub tests: MarkTests,
+    /// Which landmarks are looked for.
+    pub kinds: Kinds,
+    /// The sectors that are passed over, by image, then sector. An image may be none of those given.
+    pub drops: ArrayVec<DropAt, MOST_DROPS>,
+    /// The number of words up to the names of the images.
+    pub names: usize,
+}
+
+/// What the words ask for. In each, `names` is the number of words up to `--` and with it: the names of
+/// the images follow. `end` is the image sector after the last one that may belong to the array; where it
+/// is None the members end with the shortest image.
 #[derive(Drop)]
 pub enum Command {
-    /// A page of the sets that pass.
+    /// The plan of a search over the images.
+    Survey(SurveyWords),
+    /// Pages of the sets that pass.
     List {
         /// The first rank.
         from: u64,
-        /// The most lines.
+        /// The most lines of a page.
         size: u64,
-        /// The most ranks to go through.
+        /// The most ranks that a page goes through.
         span: u64,
+        /// The most pages.
+        pages: u64,
+        /// How they are written.
+        form: Form,
         names: usize,
     },
     /// The tests of one set.
@@ -61,5 +105,16 @@ pub enum Command {
         slot: u8,
         end: Option<u64>,
         names: usize,
+    },
+    /// An array that is generated. It reads no images.
+    Sample {
+        /// The number from which its bytes are made.
+        number: u64,
+        /// The set of its volume.
+        set: Geometry,
+        /// The number of its rows of chunks.
+        rows: u64,
+        /// Whether it gets the landmarks of an XFS file system.
+        xfs: bool,
     },
 }

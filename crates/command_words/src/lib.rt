@@ -1,17 +1,29 @@
 //! The command line: its words, and what they ask for.
 //!
 //! The words are a command, its operands `name=value` in any order, each at most once, the word
-//! `--`, and the names of the images. Any other list of words asks for nothing.
+//! `--`, and the names of the images. Any other list of words asks for nothing, and the first word
+//! with which no such list goes on is the refused one.
 //!
-//! `reraid_cli` calls [`read_words`] first of all. The words of a command stand in `specs/Commands`, the
-//! operands and their limits in `specs/Operands`; `docs/FORMATS.md` has them for users.
+//! `reraid_cli` calls [`read_words`] first of all. The operands, their values and their limits stand in
+//! `specs/Operands`, the commands with their defaults and the refused word in `specs/Commands`;
+//! `docs/FORMATS.md` has them for users. A new operand is a line in each table of `table.rt`, and one field of
+//! the command that it belongs to, looked up in `building.rt`.
 #![tactic(auto)]
 
+mod building;
 mod command;
+mod items;
+mod laws;
+mod lists;
 mod operands;
 mod reading;
+mod table;
+#[cfg(test)]
+mod tests;
+mod values;
 mod word;
 
-pub use command::Command;
+pub use command::{Command, Form, SurveyWords};
+pub use laws::words_have_one_reading;
 pub use reading::read_words;
 pub use word::Word;

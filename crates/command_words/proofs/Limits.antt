@@ -1,0 +1,246 @@
+-- The values of a command are within the limits of its operands.
+use Rattle.std.proofs.Common.{◌≡◌, ℕ, zero, suc, ◌+◌, ◌-◌, ◌*◌, ◌≤◌, ◌<◌, ◌^◌, ◌⊎◌, inl, inr, Bool, true, false, IsTrue, ◌&&◌, ◌||◌, nat_le, nat_lt, List, [], ◌∷◌, length, map, get_or, None, Some, Option, IfSome, unwrap_or, refl, sym, ap, ◌∙◌, subst, arith, All, lit<, lit≤}
+use Rattle.std.specs.List.{list_all}
+use Rattle.std.specs.List.Sorted.{IsStrictlyIncreasing}
+use Rattle.std.proofs.lemmas.Bool.{and_parts, leb-true}
+use Rattle.std.proofs.lemmas.Bool.Decides.{nat_tests}
+use Rattle.std.proofs.lemmas.List.Elements.{All-cons, All-nil}
+use Rattle.arrayvec.specs.ArrayVec.{ArrayVec}
+use Rattle.raid_params.specs.Validity.{is_chunk}
+use Rattle.raid_params.specs.declared.limits.TheConstants.{MOST, MOST_MISSING}
+use Rattle.raid_params.specs.declared.types.Geometry.{Geometry}
+use Rattle.plan_text.specs.SetText.{HasWord}
+use Rattle.search_plan.specs.Places.{level_place, pattern_place, syndrome_place}
+use Rattle.search_plan.specs.Plans.{AreBounds, AreRising, AreTests}
+use Rattle.command_words.specs.Commands.{AreAsked, IsCommandLine, IsWithin, bounds_of, chunks_or, command_of, drops_or, has_landmark, kinds_or, levels_or, members_or, number_in, number_or, patterns_or, sectors_or, set_in, survey_of, syndromes_or, tests_of}
+use Rattle.command_words.specs.Items.{landmark_place}
+use Rattle.command_words.specs.Operands.{AreDrops, AreFitting, AreMembers, IsValueOf, kind_of, value_of}
+use Rattle.command_words.specs.declared.command.Command.{Command}
+use Rattle.command_words.specs.declared.command.Verb.{Verb}
+use Rattle.command_words.specs.declared.command.Verb.TheVariants.{Survey, List as ListVerb, Check, Map, Write, Rebuild, Sample}
+use Rattle.command_words.specs.declared.items.Landmark.{Landmark}
+use Rattle.command_words.specs.declared.items.Landmark.TheVariants.{Gpt, Ntfs, Xfs}
+use Rattle.command_words.specs.declared.operands.Operand.{Operand}
+use Rattle.command_words.specs.declared.table.Name.{Name}
+use Rattle.command_words.specs.declared.table.Name.TheVariants.{Levels as LevelsName, Members as MembersName, Patterns as PatternsName, Syndromes as SyndromesName, Chunks as ChunksName, Offsets as OffsetsName, Origins as OriginsName, Missing as MissingName, Foreign as ForeignName, Badrows as BadrowsName, Misfits as MisfitsName, Least as LeastName, Window as WindowName, End as EndName, Kinds as KindsName, Dropped as DropName, Size as SizeName, Span as SpanName, Pages as PagesName, Set as SetName, Slot as SlotName, Rows as RowsName}
+use Rattle.command_words.specs.declared.table.ValueKind.TheVariants.{Number as NumberKind, Levels as LevelsKind, Members as MembersKind, Patterns as PatternsKind, Syndromes as SyndromesKind, Chunks as ChunksKind, Sectors as SectorsKind, Landmarks as LandmarksKind, Drops as DropsKind, Set as SetKind}
+use Rattle.command_words.specs.declared.table.ValueKind.{ValueKind}
+use Rattle.command_words.specs.declared.values.Value.{Value}
+use Rattle.command_words.proofs.LookUps.{fitting_value, number_below, number_within, operands_fit}
+use Rattle.command_words.proofs.RisingLists.{without_places}
+use Rattle.command_words.proofs.Said.{made_check, made_list, made_map, made_rebuild, made_sample, made_survey, made_write}
+
+-- numbers that rise, tested
+rises : List ℕ → Bool
+rises [] = true
+rises (n ∷ []) = true
+rises (n ∷ m ∷ ns) = nat_lt n m && rises (m ∷ ns)
+
+first_below : (n m : ℕ) → nat_lt n m ≡ true → n < m
+first_below n m is = grind (arith, nat_tests)
+
+rising_if : (ns : List ℕ) → rises ns ≡ true → IsStrictlyIncreasing ns
+unfolding rises
+rising_if [] is k lt = absurd (omega arith)
+rising_if (n ∷ []) is k lt = absurd (omega arith)
+rising_if (n ∷ m ∷ ns) is zero lt = first_below n m (and_parts (nat_lt n m) (rises (m ∷ ns)) is).0
+rising_if (n ∷ m ∷ ns) is (suc k) lt =
+    let next : suc (k + 1) ≡ suc k + 1 = omega arith in
+    let P : ℕ → Type 0 = λ j. get_or (m ∷ ns) k 0 < get_or (n ∷ m ∷ ns) j 0 in
+    subst P next (rising_if (m ∷ ns) (and_parts (nat_lt n m) (rises (m ∷ ns)) is).1 k (omega arith))
+
+are_rising : (ns : List ℕ) → 1 ≤ length ns → rises ns ≡ true → AreRising ns
+are_rising ns some is = record { some = some; rising = rising_if ns is }
+
+all_if : {A : Type 0} (P : A → Type 0) (test : A → Bool) → ((x : A) → test x ≡ true → P x) → (xs : List A) → list_all test xs ≡ true → All P xs
+all_if P test holds [] is = All-nil P
+all_if P test holds (x ∷ xs) is =
+    let parts = and_parts (test x) (list_all test xs) is in
+    All-cons P x xs (holds x parts.0) (all_if P test holds xs parts.1)
+
+-- what is found of a kind
+abbrev Fits : Option Value → ValueKind → Type 0
+Fits r kind = (v : Value) → r ≡ Some v → IsValueOf v kind
+
+levels_rise : (r : Option Value) → Fits r LevelsKind → AreRising (map level_place (levels_or r).items)
+unfolding rises
+levels_rise None fits = are_rising (map level_place (levels_or None).items) (lit≤ tt) refl
+levels_rise (Some v) fits = let is = fits v refl in subst (λ w. AreRising (map level_place (levels_or (Some w)).items)) (sym is.1) is.2.rising
+
+patterns_rise : (r : Option Value) → Fits r PatternsKind → AreRising (map pattern_place (patterns_or r).items)
+unfolding rises
+patterns_rise None fits = are_rising (map pattern_place (patterns_or None).items) (lit≤ tt) refl
+patterns_rise (Some v) fits = let is = fits v refl in subst (λ w. AreRising (map pattern_place (patterns_or (Some w)).items)) (sym is.1) is.2.rising
+
+syndromes_rise : (r : Option Value) → Fits r SyndromesKind → AreRising (map syndrome_place (syndromes_or r).items)
+unfolding rises
+syndromes_rise None fits = are_rising (map syndrome_place (syndromes_or None).items) (lit≤ tt) refl
+syndromes_rise (Some v) fits = let is = fits v refl in subst (λ w. AreRising (map syndrome_place (syndromes_or (Some w)).items)) (sym is.1) is.2.rising
+
+abbrev AreSizes : List ℕ → Type 0
+AreSizes ns = AreRising ns × All (λ n. IsTrue (is_chunk n)) ns
+
+abbrev IsPower : ℕ → Type 0
+IsPower n = IsTrue (is_chunk n)
+
+chunks_are : (r : Option Value) → Fits r ChunksKind → AreSizes (chunks_or r).items
+unfolding rises is_chunk
+chunks_are None fits = (are_rising (chunks_or None).items (lit≤ tt) refl, all_if IsPower is_chunk (λ n is. is) (chunks_or None).items refl)
+chunks_are (Some v) fits = let is = fits v refl in subst (λ w. AreSizes (chunks_or (Some w)).items) (sym is.1) (without_places is.0.items is.2.list.rising, is.2.all)
+
+abbrev ArePlaces : List ℕ → Type 0
+ArePlaces ns = AreRising ns × (length ns ≤ 64) × All (λ n. n < 2 ^ 55) ns
+
+abbrev IsNear : ℕ → Type 0
+IsNear n = n < 2 ^ 55
+
+sectors_are : (others : List ℕ) (r : Option Value) → ArePlaces others → Fits r SectorsKind → ArePlaces (sectors_or others r).items
+sectors_are others None are fits = are
+sectors_are others (Some v) are fits = let is = fits v refl in subst (λ w. ArePlaces (sectors_or others (Some w)).items) (sym is.1) (without_places is.0.items is.2.list.rising, is.2.list.few, is.2.all)
+
+near_if : (n : ℕ) → nat_lt n 4194304 ≡ true → IsNear n
+near_if n is = let below = first_below n 4194304 is in omega arith
+
+offsets_are : ArePlaces (0 ∷ 2048 ∷ 262144 ∷ 264192 ∷ [])
+unfolding rises
+offsets_are = (are_rising (0 ∷ 2048 ∷ 262144 ∷ 264192 ∷ []) (lit≤ tt) refl, (lit≤ tt), all_if IsNear (λ n. nat_lt n 4194304) near_if (0 ∷ 2048 ∷ 262144 ∷ 264192 ∷ []) refl)
+
+origins_are : ArePlaces (0 ∷ 2048 ∷ [])
+unfolding rises
+origins_are = (are_rising (0 ∷ 2048 ∷ []) (lit≤ tt) refl, (lit≤ tt), all_if IsNear (λ n. nat_lt n 4194304) near_if (0 ∷ 2048 ∷ []) refl)
+
+members_are : (r : Option Value) → Fits r MembersKind → ((members_or r).items ≡ []) ⊎ AreMembers (members_or r).items
+members_are None fits = inl refl
+members_are (Some v) fits = let is = fits v refl in subst (λ w. ((members_or (Some w)).items ≡ []) ⊎ AreMembers (members_or (Some w)).items) (sym is.1) (inr is.2)
+
+drops_are : (r : Option Value) → Fits r DropsKind → ((drops_or r).items ≡ []) ⊎ AreDrops (drops_or r).items
+drops_are None fits = inl refl
+drops_are (Some v) fits = let is = fits v refl in subst (λ w. ((drops_or (Some w)).items ≡ []) ⊎ AreDrops (drops_or (Some w)).items) (sym is.1) (inr is.2)
+
+-- some landmark is looked for
+abbrev AreSought : Option Value → Type 0
+AreSought r = IsTrue ((kinds_or r).gpt || (kinds_or r).ntfs || (kinds_or r).xfs)
+
+second_of : (b c : Bool) → (b || true || c) ≡ true
+second_of true c = refl
+second_of false c = refl
+
+third_of : (b c : Bool) → (b || c || true) ≡ true
+third_of true c = refl
+third_of false true = refl
+third_of false false = refl
+
+one_sought : (xs : List Landmark) → 1 ≤ length (map landmark_place xs) → (has_landmark Gpt xs || has_landmark Ntfs xs || has_landmark Xfs xs) ≡ true
+one_sought [] some = absurd (omega arith)
+one_sought (Gpt ∷ xs) some = refl
+one_sought (Ntfs ∷ xs) some = second_of (has_landmark Gpt xs) (has_landmark Xfs (Ntfs ∷ xs))
+one_sought (Xfs ∷ xs) some = third_of (has_landmark Gpt xs) (has_landmark Ntfs xs)
+
+kinds_are : (r : Option Value) → Fits r LandmarksKind → AreSought r
+kinds_are None fits = refl
+kinds_are (Some v) fits = let is = fits v refl in subst (λ w. AreSought (Some w)) (sym is.1) (one_sought is.0.items is.2.rising.some)
+
+-- a number that was given, or its default
+or_within : (r : Option ℕ) (other : ℕ) (P : ℕ → Type 0) → IfSome r P → P other → P (unwrap_or r other)
+or_within None other P is be = be
+or_within (Some n) other P is be = is
+
+abbrev LiesIn : ℕ → ℕ → ℕ → Type 0
+LiesIn low high n = (low ≤ n) × (n ≤ high)
+
+number_or_within : (name : Name) (os : List Operand) (low high other : ℕ) → kind_of name ≡ NumberKind low high → AreFitting os → LiesIn low high other → LiesIn low high (number_or other (value_of name os))
+number_or_within name os low high other kind fit be = or_within (number_in (value_of name os)) other (LiesIn low high) (number_within name os low high kind fit) be
+
+fits_of : (os : List Operand) → AreFitting os → (name : Name) → Fits (value_of name os) (kind_of name)
+fits_of os fit name v e = fitting_value name os v fit e
+
+bounds_are : (os : List Operand) → AreFitting os → (members : ArrayVec ℕ) → AreMembers members.items → AreBounds (record (bounds_of os) { members = members })
+bounds_are os fit members are =
+    let chunks = chunks_are (value_of ChunksName os) (fits_of os fit ChunksName) in
+    let offsets = sectors_are (0 ∷ 2048 ∷ 262144 ∷ 264192 ∷ []) (value_of OffsetsName os) offsets_are (fits_of os fit OffsetsName) in
+    record {
+      levels = levels_rise (value_of LevelsName os) (fits_of os fit LevelsName);
+      members = without_places members.items are.list.rising;
+      few_members = are.all;
+      patterns = patterns_rise (value_of PatternsName os) (fits_of os fit PatternsName);
+      syndromes = syndromes_rise (value_of SyndromesName os) (fits_of os fit SyndromesName);
+      chunks = chunks.0;
+      powers = chunks.1;
+      offsets = offsets.0;
+      few_offsets = offsets.1;
+      near_offsets = offsets.2;
+      missing = (number_or_within MissingName os 0 MOST_MISSING 0 refl fit ((lit≤ tt), (lit≤ tt))).1;
+      foreign = (number_or_within ForeignName os 0 MOST 0 refl fit ((lit≤ tt), (lit≤ tt))).1;
+    }
+
+-- a number below 2^55
+below_end : (name : Name) (os : List Operand) (low other : ℕ) → kind_of name ≡ NumberKind low (2 ^ 55 - 1) → AreFitting os → low ≤ other → other < 2 ^ 55 → number_or other (value_of name os) < 2 ^ 55
+below_end name os low other kind fit least most =
+    let is = (number_or_within name os low (2 ^ 55 - 1) other kind fit (least, (omega arith))).1 in omega arith
+
+tests_are : (os : List Operand) → AreFitting os → AreTests (tests_of os)
+tests_are os fit =
+    let origins = sectors_are (0 ∷ 2048 ∷ []) (value_of OriginsName os) origins_are (fits_of os fit OriginsName) in
+    record {
+      origins = origins.0;
+      few_origins = origins.1;
+      near_origins = origins.2;
+      misfits = below_end MisfitsName os 0 0 refl fit (lit≤ tt) (lit< tt);
+      least = below_end LeastName os 0 1 refl fit (lit≤ tt) (lit< tt);
+    }
+
+window_is : (r : Option ℕ) → IfSome r (LiesIn 1 (2 ^ 55 - 1)) → IfSome r (λ n. (1 ≤ n) × (n < 2 ^ 55))
+window_is None is = tt
+window_is (Some n) is = let top = is.1 in (is.0, (omega arith))
+
+end_is : (os : List Operand) → AreFitting os → IfSome (number_in (value_of EndName os)) (λ n. n < 2 ^ 55)
+end_is os fit = number_below EndName os 0 (2 ^ 55 - 1) (2 ^ 55) refl (lit< tt) fit
+
+asked_are : (os : List Operand) (n : ℕ) → AreFitting os → AreAsked (survey_of os n)
+asked_are os n fit = record {
+  bounds = bounds_are os fit;
+  members = members_are (value_of MembersName os) (fits_of os fit MembersName);
+  end = end_is os fit;
+  badrows = below_end BadrowsName os 0 0 refl fit (lit≤ tt) (lit< tt);
+  window = window_is (number_in (value_of WindowName os)) (number_within WindowName os 1 (2 ^ 55 - 1) refl fit);
+  tests = tests_are os fit;
+  kinds = kinds_are (value_of KindsName os) (fits_of os fit KindsName);
+  drops = drops_are (value_of DropName os) (fits_of os fit DropName);
+}
+
+set_fits : (r : Option Value) (set : Geometry) → Fits r SetKind → set_in r ≡ Some set → HasWord set
+set_fits None set fits e = cc
+set_fits (Some v) set fits e =
+    let is = fits v refl in
+    let both : Some is.0 ≡ Some set = sym (ap (λ w. set_in (Some w)) is.1) ∙ e in
+    let same : is.0 ≡ set = cc in
+    subst HasWord same is.2
+
+set_is : (os : List Operand) (set : Geometry) → AreFitting os → set_in (value_of SetName os) ≡ Some set → HasWord set
+set_is os set fit e = set_fits (value_of SetName os) set (fits_of os fit SetName) e
+
+number_is : (name : Name) (os : List Operand) (low high n : ℕ) → kind_of name ≡ NumberKind low high → AreFitting os → number_in (value_of name os) ≡ Some n → LiesIn low high n
+number_is name os low high n kind fit e = subst (λ r. IfSome r (LiesIn low high)) e (number_within name os low high kind fit)
+
+lines_are : (m n : ℕ) → nat_le (m * n) 4000000 ≡ true → m * n ≤ 4000000
+lines_are m n is = leb-true (m * n) 4000000 is
+
+within : (verb : Verb) (os : List Operand) (n : ℕ) (command : Command) → AreFitting os → command_of verb os n ≡ Some command → IsWithin command
+within Survey os n command fit e = made_survey os n command IsWithin e (asked_are os n fit)
+within ListVerb os n command fit e = made_list os n command IsWithin e (λ short.
+    let size = number_or_within SizeName os 1 1000000 100 refl fit ((lit≤ tt), (lit≤ tt)) in
+    let span = number_or_within SpanName os 1 (2 ^ 64 - 1) (2 ^ 64 - 1) refl fit ((lit≤ tt), (lit≤ tt)) in
+    let pages = number_or_within PagesName os 1 1000000 1 refl fit ((lit≤ tt), (lit≤ tt)) in
+    (size.0, size.1, span.0, pages.0, pages.1, lines_are (number_or 100 (value_of SizeName os)) (number_or 1 (value_of PagesName os)) short))
+within Check os n command fit e = made_check os n command IsWithin e (λ set is. set_is os set fit is)
+within Map os n command fit e = made_map os n command IsWithin e (λ set sector is had. (set_is os set fit is, end_is os fit))
+within Write os n command fit e = made_write os n command IsWithin e (λ set is. (set_is os set fit is, end_is os fit))
+within Rebuild os n command fit e = made_rebuild os n command IsWithin e (λ set slot is had.
+    let lies = (number_is SlotName os 0 (MOST - 1) slot refl fit had).1 in
+    (set_is os set fit is, (omega arith), end_is os fit))
+within Sample os n command fit e = made_sample os n command IsWithin e (λ number set rows is had.
+    let lies = number_is RowsName os 1 65536 rows refl fit had in
+    (set_is os set fit is, lies.0, lies.1))
+
+pub line_within : (words : List (List ℕ)) (command : Command) → IsCommandLine words command → IsWithin command
+line_within words command line = within line.verb line.operands (length line.operands + 2) command (operands_fit line.verb line.operands line.are.each) line.says

@@ -1,0 +1,143 @@
+-- Names of operands: each has a text of its own, without `=`.
+use Rattle.std.proofs.Common.{◌≡◌, ◌≢◌, ℕ, ◌<◌, ◌^◌, Bool, true, false, not, ◌==◌, List, [], ◌∷◌, All, Option, Some, refl, sym, ap, ◌∙◌, lit<}
+use Rattle.std.specs.Bool.{Decides}
+use Rattle.std.specs.Cmp.{IsEquivalence, decided}
+use Rattle.std.specs.List.{find, list_all}
+use Rattle.std.specs.Str.{bytes_eq}
+use Rattle.std.proofs.lemmas.Bool.{and_parts}
+use Rattle.std.proofs.lemmas.List.Elements.{All-nil, All-cons}
+use Rattle.std.proofs.lemmas.Slice.Eq.{bytes_eq-Decides}
+use Rattle.command_words.specs.Operands.{kind_of, name_text, same_name}
+use Rattle.command_words.specs.declared.table.Name.{Name}
+use Rattle.command_words.specs.declared.table.Name.TheVariants.{Levels as LevelsName, Members as MembersName, Patterns as PatternsName, Syndromes as SyndromesName, Chunks as ChunksName, Offsets as OffsetsName, Origins as OriginsName, Missing as MissingName, Foreign as ForeignName, Badrows as BadrowsName, Misfits as MisfitsName, Least as LeastName, Window as WindowName, End as EndName, Kinds as KindsName, Dropped as DropName, From as FromName, Size as SizeName, Span as SpanName, Pages as PagesName, Form as FormName, Set as SetName, Sector as SectorName, Slot as SlotName, Number as NumberName, Rows as RowsName, Marks as MarksName}
+use Rattle.command_words.specs.declared.table.ValueKind.{ValueKind}
+use Rattle.command_words.specs.declared.table.ValueKind.TheVariants.{Number as NumberKind}
+
+differs : (x : ℕ) → not (x == 61) ≡ true → x ≢ 61
+differs x h e = absurd (let f : not (61 == 61) ≡ true = ap (λ (k : ℕ). not (k == 61)) (sym e) ∙ h in cc)
+
+no_equals : (xs : List ℕ) → list_all (λ x. not (x == 61)) xs ≡ true → All (λ x. x ≢ 61) xs
+no_equals [] h = All-nil (λ x. x ≢ 61)
+no_equals (x ∷ xs) h =
+    let parts = and_parts (not (x == 61)) (list_all (λ x. not (x == 61)) xs) h in
+    All-cons (λ x. x ≢ 61) x xs (differs x parts.0) (no_equals xs parts.1)
+
+-- names have no `=`
+pub plain_name : (n : Name) → All (λ x. x ≢ 61) (name_text n)
+plain_name LevelsName = no_equals (name_text LevelsName) refl
+plain_name MembersName = no_equals (name_text MembersName) refl
+plain_name PatternsName = no_equals (name_text PatternsName) refl
+plain_name SyndromesName = no_equals (name_text SyndromesName) refl
+plain_name ChunksName = no_equals (name_text ChunksName) refl
+plain_name OffsetsName = no_equals (name_text OffsetsName) refl
+plain_name OriginsName = no_equals (name_text OriginsName) refl
+plain_name MissingName = no_equals (name_text MissingName) refl
+plain_name ForeignName = no_equals (name_text ForeignName) refl
+plain_name BadrowsName = no_equals (name_text BadrowsName) refl
+plain_name MisfitsName = no_equals (name_text MisfitsName) refl
+plain_name LeastName = no_equals (name_text LeastName) refl
+plain_name WindowName = no_equals (name_text WindowName) refl
+plain_name EndName = no_equals (name_text EndName) refl
+plain_name KindsName = no_equals (name_text KindsName) refl
+plain_name DropName = no_equals (name_text DropName) refl
+plain_name FromName = no_equals (name_text FromName) refl
+plain_name SizeName = no_equals (name_text SizeName) refl
+plain_name SpanName = no_equals (name_text SpanName) refl
+plain_name PagesName = no_equals (name_text PagesName) refl
+plain_name FormName = no_equals (name_text FormName) refl
+plain_name SetName = no_equals (name_text SetName) refl
+plain_name SectorName = no_equals (name_text SectorName) refl
+plain_name SlotName = no_equals (name_text SlotName) refl
+plain_name NumberName = no_equals (name_text NumberName) refl
+plain_name RowsName = no_equals (name_text RowsName) refl
+plain_name MarksName = no_equals (name_text MarksName) refl
+
+-- all names
+all_names : List Name
+all_names = LevelsName ∷ MembersName ∷ PatternsName ∷ SyndromesName ∷ ChunksName ∷ OffsetsName ∷ OriginsName ∷ MissingName ∷ ForeignName ∷ BadrowsName ∷ MisfitsName ∷ LeastName ∷ WindowName ∷ EndName ∷ KindsName ∷ DropName ∷ FromName ∷ SizeName ∷ SpanName ∷ PagesName ∷ FormName ∷ SetName ∷ SectorName ∷ SlotName ∷ NumberName ∷ RowsName ∷ MarksName ∷ []
+
+-- the name that a text is
+named_by : List ℕ → Option Name
+named_by text = find (λ name. bytes_eq text (name_text name)) all_names
+
+is_named : (n : Name) → named_by (name_text n) ≡ Some n
+unfolding named_by all_names
+is_named LevelsName = refl
+is_named MembersName = refl
+is_named PatternsName = refl
+is_named SyndromesName = refl
+is_named ChunksName = refl
+is_named OffsetsName = refl
+is_named OriginsName = refl
+is_named MissingName = refl
+is_named ForeignName = refl
+is_named BadrowsName = refl
+is_named MisfitsName = refl
+is_named LeastName = refl
+is_named WindowName = refl
+is_named EndName = refl
+is_named KindsName = refl
+is_named DropName = refl
+is_named FromName = refl
+is_named SizeName = refl
+is_named SpanName = refl
+is_named PagesName = refl
+is_named FormName = refl
+is_named SetName = refl
+is_named SectorName = refl
+is_named SlotName = refl
+is_named NumberName = refl
+is_named RowsName = refl
+is_named MarksName = refl
+
+-- names are spelled differently
+pub one_name : (m n : Name) → name_text m ≡ name_text n → m ≡ n
+one_name m n e = let same : Some m ≡ Some n = sym (is_named m) ∙ ap named_by e ∙ is_named n in cc
+
+pub same_name_decides : (m n : Name) → Decides (same_name m n) (m ≡ n)
+same_name_decides m n =
+    let texts = bytes_eq-Decides (name_text m) (name_text n) in
+    (λ is. one_name m n (texts.0 is), λ e. texts.1 (ap name_text e))
+
+pub same_name_equiv : IsEquivalence same_name
+same_name_equiv = decided same_name same_name_decides
+
+-- the numbers that an operand takes are below 2^64
+abbrev pub IsShort : ValueKind → Type 0
+IsShort (NumberKind least most) = most < 2 ^ 64
+IsShort _ = Unit {0}
+
+pub short_kind : (n : Name) → IsShort (kind_of n)
+short_kind LevelsName = tt
+short_kind MembersName = tt
+short_kind PatternsName = tt
+short_kind SyndromesName = tt
+short_kind ChunksName = tt
+short_kind OffsetsName = tt
+short_kind OriginsName = tt
+short_kind MissingName = lit< tt
+short_kind ForeignName = lit< tt
+short_kind BadrowsName = lit< tt
+short_kind MisfitsName = lit< tt
+short_kind LeastName = lit< tt
+short_kind WindowName = lit< tt
+short_kind EndName = lit< tt
+short_kind KindsName = tt
+short_kind DropName = tt
+short_kind FromName = lit< tt
+short_kind SizeName = lit< tt
+short_kind SpanName = lit< tt
+short_kind PagesName = lit< tt
+short_kind FormName = tt
+short_kind SetName = tt
+short_kind SectorName = lit< tt
+short_kind SlotName = lit< tt
+short_kind NumberName = lit< tt
+short_kind RowsName = lit< tt
+short_kind MarksName = tt
+
+-- a text that was compared with a name, and differs
+pub is_other : (name text bytes : List ℕ) (r : Bool) → bytes ≡ name → r ≡ bytes_eq bytes text → r ≡ false → text ≢ name
+is_other name text bytes r same test differ e =
+    let yes : bytes_eq bytes text ≡ true = (bytes_eq-Decides bytes text).1 (same ∙ sym e) in
+    absurd (let f : true ≡ false = sym yes ∙ sym test ∙ differ in cc)

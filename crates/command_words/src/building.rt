@@ -1,0 +1,355 @@
+//! The commands, from their operands and defaults.
+ghost use Rattle.std.specs.Prelude.{◌≡◌, ◌≤◌, ◌<◌, ◌^◌, IfSome, length};
+ghost use Rattle.command_words.specs.Commands.{bounds_of, chunks_or, command_of, drops_or, form_or, kinds_or, levels_or, marks_or, members_or, number_in, patterns_or, sectors_or, set_in, survey_of, syndromes_or, tests_of, has_landmark};
+ghost use Rattle.command_words.specs.Operands.{AreFitting, value_of};
+ghost use Rattle.command_words.specs.Steps.{lines_fit};
+
+use crate::command::{Command, Form, SurveyWords, Verb};
+use crate::items::Landmark;
+use crate::operands::{Operand, find_value};
+use crate::table::Name;
+use crate::values::Value;
+use arrayvec::ArrayVec;
+use landmark_rules::MarkTests;
+use raid_params::{
+    Bounds, Geometry, Level, MOST_CHUNKS, MOST_DROPS, MOST_LESS_ONE, MOST_LEVELS, MOST_OFFSETS,
+    MOST_PATTERNS, MOST_SYNDROMES, Pattern, Syndrome,
+};
+use search_plan::{DropAt, Kinds};
+
+/// The most lines of a page where `size` is not given: few enough to look through.
+const DEFAULT_PAGE: u64 = 100;
+
+/// The most lines of all pages of a listing together, since it is kept whole before it is put.
+const MOST_LINES: u64 = 4_000_000;
+
+/// The levels that are tried where `levels` is not given: all.
+const LEVELS: [Level; MOST_LEVELS] = [Level::Raid0, Level::Raid5, Level::Raid6];
+
+/// The patterns that are tried where `patterns` is not given: all.
+const PATTERNS: [Pattern; MOST_PATTERNS] = [
+    Pattern::Plain,
+    Pattern::La,
+    Pattern::Ra,
+    Pattern::Ls,
+    Pattern::Rs,
+    Pattern::ParityFirst,
+    Pattern::ParityLast,
+    Pattern::NRestart,
+    Pattern::NContinue,
+    Pattern::La6,
+    Pattern::Ra6,
+    Pattern::Ls6,
+    Pattern::Rs6,
+    Pattern::ParityFirst6,
+];
+
+/// The orders of Q that are tried where `syndromes` is not given: all.
+const SYNDROMES: [Syndrome; MOST_SYNDROMES] = [
+    Syndrome::NoQ,
+    Syndrome::AfterQ,
+    Syndrome::ByData,
+    Syndrome::BySlot,
+];
+
+/// The chunks that are tried where `chunks` is not given: from 4 KiB to 1 MiB, which controllers offer.
+const CHUNKS: [u64; 9] = [8, 16, 32, 64, 128, 256, 512, 1024, 2048];
+
+/// The places at which the data are tried to begin where `offsets` is not given: at once, after 1 MiB, and
+/// where md begins them on large members.
+const OFFSETS: [u64; 4] = [0, 2048, 262_144, 264_192];
+
+/// The places at which a file system may begin where `origins` is not given: at once, and after 1 MiB, as in
+/// the first partition.
+const ORIGINS: [u64; 2] = [0, 2048];
+
+/// The command with these operands and so many words up to the names, unless one is missing that it asks
+/// for, or a listing becomes too long.
+pub fn build(verb: Verb, operands: &[Operand], names: usize) -> Option<Command>
+    requires { AreFitting operands.now }
+    ensures { result ≡ command_of verb operands.now names }
+{
+    match verb {
+        Verb::Survey => Some(Command::Survey(survey(operands, names))),
+        Verb::List => list(operands, names),
+        Verb::Check => Some(Command::Check {
+            set: set(operands)?,
+            names,
+        }),
+        Verb::Map => Some(Command::Map {
+            set: set(operands)?,
+            sector: number(operands, Name::Sector)?,
+            end: number(operands, Name::End),
+            names,
+        }),
+        Verb::Write => Some(Command::Write {
+            set: set(operands)?,
+            end: number(operands, Name::End),
+            names,
+        }),
+        Verb::Rebuild => Some(Command::Rebuild {
+            set: set(operands)?,
+            slot: small_number(operands, Name::Slot)?,
+            end: number(operands, Name::End),
+            names,
+        }),
+        Verb::Sample => Some(Command::Sample {
+            number: number(operands, Name::Number)?,
+            set: set(operands)?,
+            rows: number(operands, Name::Rows)?,
+            xfs: marks(operands),
+        }),
+    }
+}
+
+/// A listing, unless it becomes too long.
+fn list(operands: &[Operand], names: usize) -> Option<Command>
+    ensures { result ≡ command_of Verb.List operands.now names }
+{
+    let size = number(operands, Name::Size).unwrap_or(DEFAULT_PAGE);
+    let pages = number(operands, Name::Pages).unwrap_or(1);
+    if size.saturating_mul(pages) > MOST_LINES {
+        return None;
+    }
+    Some(Command::List {
+        from: number(operands, Name::From).unwrap_or(0),
+        size,
+        span: number(operands, Name::Span).unwrap_or(u64::MAX),
+        pages,
+        form: form(operands),
+        names,
+    })
+}
+
+/// Whether a listing may still be short enough, whatever operands come: one of `size` and `pages` that was
+/// not given can still be 1.
+pub fn can_be_short(operands: &[Operand]) -> bool
+    ensures { result ≡ lines_fit (number_in (value_of Name.Size operands.now)) (number_in (value_of Name.Pages operands.now)) }
+{
+    both_fit(number(operands, Name::Size), number(operands, Name::Pages))
+}
+
+/// Whether so many lines a page and so many pages are few enough, as far as they are known.
+fn both_fit(size: Option<u64>, pages: Option<u64>) -> bool
+    ensures { result ≡ lines_fit size pages }
+{
+    match size {
+        Some(size) => match pages {
+            Some(pages) => size.saturating_mul(pages) <= MOST_LINES,
+            None => true,
+        },
+        None => true,
+    }
+}
+
+/// What a survey is asked for.
+fn survey(operands: &[Operand], names: usize) -> SurveyWords
+    requires { AreFitting operands.now }
+    ensures { result ≡ survey_of operands.now names }
+{
+    SurveyWords {
+        bounds: bounds(operands),
+        end: number(operands, Name::End),
+        badrows: number(operands, Name::Badrows).unwrap_or(0),
+        window: number(operands, Name::Window),
+        tests: tests(operands),
+        kinds: kinds(operands),
+        drops: drops(operands),
+        names,
+    }
+}
+
+/// The parameters to try.
+fn bounds(operands: &[Operand]) -> Bounds
+    requires { AreFitting operands.now }
+    ensures { result ≡ bounds_of operands.now }
+{
+    Bounds {
+        levels: levels(operands),
+        members: members(operands),
+        patterns: patterns(operands),
+        syndromes: syndromes(operands),
+        chunks: chunks(operands),
+        offsets: sectors(operands, Name::Offsets, &OFFSETS),
+        missing: small_number(operands, Name::Missing).unwrap_or(0),
+        foreign: small_number(operands, Name::Foreign).unwrap_or(0),
+    }
+}
+
+/// How the landmarks are to be tested.
+fn tests(operands: &[Operand]) -> MarkTests
+    ensures { result ≡ tests_of operands.now }
+{
+    MarkTests {
+        origins: sectors(operands, Name::Origins, &ORIGINS),
+        misfits: number(operands, Name::Misfits).unwrap_or(0),
+        least: number(operands, Name::Least).unwrap_or(1),
+    }
+}
+
+/// Which landmarks are looked for: all where `kinds` is not given.
+fn kinds(operands: &[Operand]) -> Kinds
+    ensures { result ≡ kinds_or (value_of Name.Kinds operands.now) }
+{
+    if let Some(Value::Landmarks(landmarks)) = find_value(operands, Name::Kinds) {
+        Kinds {
+            gpt: is_among(Landmark::Gpt, landmarks),
+            ntfs: is_among(Landmark::Ntfs, landmarks),
+            xfs: is_among(Landmark::Xfs, landmarks),
+        }
+    } else {
+        Kinds {
+            gpt: true,
+            ntfs: true,
+            xfs: true,
+        }
+    }
+}
+
+/// Whether this landmark is among the others.
+fn is_among(landmark: Landmark, others: &[Landmark]) -> bool
+    ensures { result ≡ has_landmark landmark others.now }
+{
+    others.iter().any(|other| other.order() == landmark.order())
+}
+
+fn levels(operands: &[Operand]) -> ArrayVec<Level, MOST_LEVELS>
+    ensures { result ≡ levels_or (value_of Name.Levels operands.now) }
+{
+    if let Some(Value::Levels(levels)) = find_value(operands, Name::Levels) {
+        list_of(levels)
+    } else {
+        list_of(&LEVELS)
+    }
+}
+
+/// None where `members` is not given: they depend on the images.
+fn members(operands: &[Operand]) -> ArrayVec<u8, MOST_LESS_ONE>
+    ensures { result ≡ members_or (value_of Name.Members operands.now) }
+{
+    if let Some(Value::Members(members)) = find_value(operands, Name::Members) {
+        list_of(members)
+    } else {
+        ArrayVec::new()
+    }
+}
+
+fn patterns(operands: &[Operand]) -> ArrayVec<Pattern, MOST_PATTERNS>
+    ensures { result ≡ patterns_or (value_of Name.Patterns operands.now) }
+{
+    if let Some(Value::Patterns(patterns)) = find_value(operands, Name::Patterns) {
+        list_of(patterns)
+    } else {
+        list_of(&PATTERNS)
+    }
+}
+
+fn syndromes(operands: &[Operand]) -> ArrayVec<Syndrome, MOST_SYNDROMES>
+    ensures { result ≡ syndromes_or (value_of Name.Syndromes operands.now) }
+{
+    if let Some(Value::Syndromes(syndromes)) = find_value(operands, Name::Syndromes) {
+        list_of(syndromes)
+    } else {
+        list_of(&SYNDROMES)
+    }
+}
+
+fn chunks(operands: &[Operand]) -> ArrayVec<u64, MOST_CHUNKS>
+    ensures { result ≡ chunks_or (value_of Name.Chunks operands.now) }
+{
+    if let Some(Value::Chunks(chunks)) = find_value(operands, Name::Chunks) {
+        list_of(chunks)
+    } else {
+        list_of(&CHUNKS)
+    }
+}
+
+/// The places of the operand of this name, or others where it is not given.
+fn sectors(operands: &[Operand], name: Name, others: &[u64]) -> ArrayVec<u64, MOST_OFFSETS>
+    requires { length others.now ≤ MOST_OFFSETS }
+    ensures { result ≡ sectors_or others.now (value_of name operands.now) }
+{
+    if let Some(Value::Sectors(sectors)) = find_value(operands, name) {
+        list_of(sectors)
+    } else {
+        list_of(others)
+    }
+}
+
+fn drops(operands: &[Operand]) -> ArrayVec<DropAt, MOST_DROPS>
+    ensures { result ≡ drops_or (value_of Name.Dropped operands.now) }
+{
+    if let Some(Value::Drops(drops)) = find_value(operands, Name::Dropped) {
+        list_of(drops)
+    } else {
+        ArrayVec::new()
+    }
+}
+
+fn form(operands: &[Operand]) -> Form
+    ensures { result ≡ form_or (value_of Name.Form operands.now) }
+{
+    if let Some(Value::Form(form)) = find_value(operands, Name::Form) {
+        *form
+    } else {
+        Form::Text
+    }
+}
+
+/// Whether the landmarks of an XFS file system are made: not where `marks` is not given.
+fn marks(operands: &[Operand]) -> bool
+    ensures { result ≡ marks_or (value_of Name.Marks operands.now) }
+{
+    if let Some(Value::Marks(xfs)) = find_value(operands, Name::Marks) {
+        *xfs
+    } else {
+        false
+    }
+}
+
+fn set(operands: &[Operand]) -> Option<Geometry>
+    ensures { result ≡ set_in (value_of Name.Set operands.now) }
+{
+    if let Some(Value::Set(set)) = find_value(operands, Name::Set) {
+        Some(Geometry {
+            head: set.head,
+            slots: list_of(&set.slots),
+        })
+    } else {
+        None
+    }
+}
+
+/// The number of the operand of this name.
+fn number(operands: &[Operand], name: Name) -> Option<u64>
+    ensures { result ≡ number_in (value_of name operands.now) }
+{
+    if let Some(Value::Number(number)) = find_value(operands, name) {
+        Some(*number)
+    } else {
+        None
+    }
+}
+
+/// The number of the operand of this name, which takes numbers below 2^8 alone.
+fn small_number(operands: &[Operand], name: Name) -> Option<u8>
+    requires { IfSome (number_in (value_of name operands.now)) (λ n. n < 2 ^ 8) }
+    ensures { result ≡ number_in (value_of name operands.now) }
+{
+    match number(operands, name) {
+        Some(number) => Some(number as u8),
+        None => None,
+    }
+}
+
+/// These values, as a list of their own.
+fn list_of<T: Copy + Default, const CAP: usize>(values: &[T]) -> ArrayVec<T, CAP>
+    requires { length values.now ≤ CAP }
+    ensures { result.items ≡ values.now }
+{
+    let mut list = ArrayVec::new();
+    for value in values {
+        list.push(*value);
+    }
+    list
+}

@@ -1,0 +1,232 @@
+//! The operands: how they are named, what values they take, and which command takes which.
+ghost use Rattle.std.specs.Prelude.{◌≡◌};
+ghost use Rattle.command_words.specs.Operands.{kind_of, name_text, operands_of};
+
+use crate::command::Verb;
+use raid_params::{MOST, MOST_MISSING, SECTORS_END};
+
+/// The most lines of a page.
+pub const LARGEST_PAGE: u64 = 1_000_000;
+
+/// The most pages of a listing.
+pub const MOST_PAGES: u64 = 1_000_000;
+
+/// The most rows of chunks of a generated array.
+pub const MOST_ROWS: u64 = 65_536;
+
+/// The most operands that a command takes.
+pub const MOST_OPERANDS: usize = 16;
+
+/// The name of an operand.
+#[derive(Clone, Copy)]
+pub enum Name {
+    /// The levels to try.
+    Levels,
+    /// The numbers of members to try.
+    Members,
+    /// The patterns to try.
+    Patterns,
+    /// The orders of Q to try.
+    Syndromes,
+    /// The chunks to try, in sectors.
+    Chunks,
+    /// The image sectors to try at which the data may begin.
+    Offsets,
+    /// The volume sectors at which a file system may begin.
+    Origins,
+    /// The most empty slots.
+    Missing,
+    /// The most images that stand in no slot.
+    Foreign,
+    /// The most tested sector rows that may be unsound.
+    Badrows,
+    /// The most marks of a group that may lie where their rules do not let them.
+    Misfits,
+    /// The fewest marks of a group that have to lie where their rules let them.
+    Least,
+    /// The member sector from which on none is tested.
+    Window,
+    /// The image sector after the last one that may belong to the array.
+    End,
+    /// Which landmarks are looked for.
+    Kinds,
+    /// The sectors that are passed over.
+    Dropped,
+    /// The first rank of a listing.
+    From,
+    /// The most lines of a page.
+    Size,
+    /// The most ranks that a page goes through.
+    Span,
+    /// The most pages.
+    Pages,
+    /// How a listing is written.
+    Form,
+    /// A parameter set.
+    Set,
+    /// A sector of the volume.
+    Sector,
+    /// A slot of the array.
+    Slot,
+    /// The number from which an array is generated.
+    Number,
+    /// The number of rows of chunks of a generated array.
+    Rows,
+    /// Which landmarks a generated array gets.
+    Marks,
+}
+
+/// What values an operand takes. Lists rise strictly.
+#[derive(Clone, Copy)]
+pub enum ValueKind {
+    /// A number between these two, both included.
+    Number {
+        /// The smallest number.
+        least: u64,
+        /// The largest number.
+        most: u64,
+    },
+    /// Levels.
+    Levels,
+    /// Numbers of members.
+    Members,
+    /// Patterns.
+    Patterns,
+    /// Orders of Q.
+    Syndromes,
+    /// Chunks.
+    Chunks,
+    /// Places on an image or on the volume.
+    Sectors,
+    /// Kinds of landmarks.
+    Landmarks,
+    /// Sectors of images.
+    Drops,
+    /// A form of listings.
+    Form,
+    /// The landmarks of a generated array.
+    Marks,
+    /// A parameter set.
+    Set,
+}
+
+static SURVEY_OPERANDS: [Name; MOST_OPERANDS] = [
+    Name::Levels,
+    Name::Members,
+    Name::Patterns,
+    Name::Syndromes,
+    Name::Chunks,
+    Name::Offsets,
+    Name::Origins,
+    Name::Missing,
+    Name::Foreign,
+    Name::Badrows,
+    Name::Misfits,
+    Name::Least,
+    Name::Window,
+    Name::End,
+    Name::Kinds,
+    Name::Dropped,
+];
+
+static LIST_OPERANDS: [Name; 5] = [Name::From, Name::Size, Name::Span, Name::Pages, Name::Form];
+
+static CHECK_OPERANDS: [Name; 1] = [Name::Set];
+
+static MAP_OPERANDS: [Name; 3] = [Name::Set, Name::Sector, Name::End];
+
+static WRITE_OPERANDS: [Name; 2] = [Name::Set, Name::End];
+
+static REBUILD_OPERANDS: [Name; 3] = [Name::Set, Name::Slot, Name::End];
+
+static SAMPLE_OPERANDS: [Name; 4] = [Name::Number, Name::Set, Name::Rows, Name::Marks];
+
+impl Verb {
+    /// The names of the operands that the command takes.
+    pub fn operands(&self) -> &'static [Name]
+        ensures { result.now ≡ operands_of self.now }
+    {
+        match self {
+            Verb::Survey => &SURVEY_OPERANDS,
+            Verb::List => &LIST_OPERANDS,
+            Verb::Check => &CHECK_OPERANDS,
+            Verb::Map => &MAP_OPERANDS,
+            Verb::Write => &WRITE_OPERANDS,
+            Verb::Rebuild => &REBUILD_OPERANDS,
+            Verb::Sample => &SAMPLE_OPERANDS,
+        }
+    }
+}
+
+impl Name {
+    /// How the name is spelled.
+    pub fn text(&self) -> &'static str
+        ensures { result.now ≡ name_text self.now }
+    {
+        match self {
+            Name::Levels => "levels",
+            Name::Members => "members",
+            Name::Patterns => "patterns",
+            Name::Syndromes => "syndromes",
+            Name::Chunks => "chunks",
+            Name::Offsets => "offsets",
+            Name::Origins => "origins",
+            Name::Missing => "missing",
+            Name::Foreign => "foreign",
+            Name::Badrows => "badrows",
+            Name::Misfits => "misfits",
+            Name::Least => "least",
+            Name::Window => "window",
+            Name::End => "end",
+            Name::Kinds => "kinds",
+            Name::Dropped => "drop",
+            Name::From => "from",
+            Name::Size => "size",
+            Name::Span => "span",
+            Name::Pages => "pages",
+            Name::Form => "form",
+            Name::Set => "set",
+            Name::Sector => "sector",
+            Name::Slot => "slot",
+            Name::Number => "number",
+            Name::Rows => "rows",
+            Name::Marks => "marks",
+        }
+    }
+
+    /// What values the operand takes.
+    pub fn kind(&self) -> ValueKind
+        ensures { result ≡ kind_of self.now }
+    {
+        match self {
+            Name::Levels => ValueKind::Levels,
+            Name::Members => ValueKind::Members,
+            Name::Patterns => ValueKind::Patterns,
+            Name::Syndromes => ValueKind::Syndromes,
+            Name::Chunks => ValueKind::Chunks,
+            Name::Offsets | Name::Origins => ValueKind::Sectors,
+            Name::Missing => number(0, MOST_MISSING as u64),
+            Name::Foreign => number(0, MOST as u64),
+            Name::Badrows | Name::Misfits | Name::Least | Name::End => number(0, SECTORS_END - 1),
+            Name::Window => number(1, SECTORS_END - 1),
+            Name::Kinds => ValueKind::Landmarks,
+            Name::Dropped => ValueKind::Drops,
+            Name::From | Name::Sector | Name::Number => number(0, u64::MAX),
+            Name::Size => number(1, LARGEST_PAGE),
+            Name::Span => number(1, u64::MAX),
+            Name::Pages => number(1, MOST_PAGES),
+            Name::Form => ValueKind::Form,
+            Name::Set => ValueKind::Set,
+            Name::Slot => number(0, MOST as u64 - 1),
+            Name::Rows => number(1, MOST_ROWS),
+            Name::Marks => ValueKind::Marks,
+        }
+    }
+}
+
+/// Numbers between these two, both included.
+fn number(least: u64, most: u64) -> ValueKind
+    ensures { result ≡ ValueKind.Number least most }
+{
+    ValueKind::Number { least, most }
+}

@@ -1,0 +1,174 @@
+//! The values of operands, each read from its whole text.
+ghost use Rattle.std.specs.Prelude.{◌≡◌, ◌≢◌, ◌≤◌, ◌<◌, ◌^◌, ◌↔◌, ℕ, Bool, List, All, IsTrue, MatchOption, decimal, map};
+ghost use Rattle.raid_params.specs.Validity.{is_chunk as is_chunk_size};
+ghost use Rattle.plan_text.specs.Spelling.{commas};
+ghost use Rattle.command_words.specs.Operands.{AreChunks, AreMembers, AreSectors, IsValueOf, form_text, marks_text, value_text};
+ghost use Rattle.command_words.specs.declared.command.Form.{Form as FormOf};
+ghost use Rattle.command_words.specs.declared.values.Value.{Value as ValueOf};
+
+use crate::command::Form;
+use crate::items::Landmark;
+use crate::lists::rising;
+use crate::table::ValueKind;
+use arrayvec::ArrayVec;
+use plan_text::{read_number, read_set};
+use raid_params::{
+    Geometry, Level, MOST, MOST_CHUNKS, MOST_DROPS, MOST_LESS_ONE, MOST_LEVELS, MOST_OFFSETS,
+    MOST_PATTERNS, MOST_SYNDROMES, Pattern, SECTORS_END, Syndrome, is_chunk,
+};
+use search_plan::DropAt;
+
+/// The kinds of landmarks: there are three.
+pub const MOST_LANDMARKS: usize = 3;
+
+/// The fewest members of an array: at level 0 two.
+const FEWEST_MEMBERS: u8 = 2;
+
+/// The value of an operand.
+#[derive(Drop)]
+pub enum Value {
+    /// A number.
+    Number(u64),
+    /// Levels.
+    Levels(ArrayVec<Level, MOST_LEVELS>),
+    /// Numbers of members.
+    Members(ArrayVec<u8, MOST_LESS_ONE>),
+    /// Patterns.
+    Patterns(ArrayVec<Pattern, MOST_PATTERNS>),
+    /// Orders of Q.
+    Syndromes(ArrayVec<Syndrome, MOST_SYNDROMES>),
+    /// Chunks, in sectors.
+    Chunks(ArrayVec<u64, MOST_CHUNKS>),
+    /// Places on an image or on the volume, in sectors: as many as a plan may have offsets or origins.
+    Sectors(ArrayVec<u64, MOST_OFFSETS>),
+    /// Kinds of landmarks.
+    Landmarks(ArrayVec<Landmark, MOST_LANDMARKS>),
+    /// Sectors of images.
+    Drops(ArrayVec<DropAt, MOST_DROPS>),
+    /// A form of listings.
+    Form(Form),
+    /// Whether the landmarks of an XFS file system are made.
+    Marks(bool),
+    /// A parameter set.
+    Set(Geometry),
+}
+
+/// The value of this kind that the whole text spells.
+pub fn read_value(kind: ValueKind, text: &[u8]) -> Option<Value>
+    ensures { MatchOption result
+        ((value : ValueOf) → IsValueOf value kind → text.now ≢ value_text value)
+        (λ value. IsValueOf value kind × (text.now ≡ value_text value)) }
+{
+    match kind {
+        ValueKind::Number { least, most } => Some(Value::Number(number_within(text, least, most)?)),
+        ValueKind::Levels => Some(Value::Levels(rising(text)?)),
+        ValueKind::Members => Some(Value::Members(read_members(text)?)),
+        ValueKind::Patterns => Some(Value::Patterns(rising(text)?)),
+        ValueKind::Syndromes => Some(Value::Syndromes(rising(text)?)),
+        ValueKind::Chunks => Some(Value::Chunks(read_chunks(text)?)),
+        ValueKind::Sectors => Some(Value::Sectors(read_sectors(text)?)),
+        ValueKind::Landmarks => Some(Value::Landmarks(rising(text)?)),
+        ValueKind::Drops => Some(Value::Drops(rising(text)?)),
+        ValueKind::Form => Some(Value::Form(read_form(text)?)),
+        ValueKind::Marks => Some(Value::Marks(read_marks(text)?)),
+        ValueKind::Set => Some(Value::Set(read_set(text)?)),
+    }
+}
+
+/// The number that the text spells, where it lies between these, both included.
+fn number_within(text: &[u8], least: u64, most: u64) -> Option<u64>
+    ensures { MatchOption result
+        ((n : ℕ) → least ≤ n → n ≤ most → text.now ≢ decimal n)
+        (λ n. (least ≤ n) × (n ≤ most) × (text.now ≡ decimal n)) }
+{
+    let number = read_number(text)?;
+    if number < least {
+        return None;
+    }
+    if most < number {
+        return None;
+    }
+    Some(number)
+}
+
+/// The numbers of members.
+fn read_members(text: &[u8]) -> Option<ArrayVec<u8, MOST_LESS_ONE>>
+    ensures { MatchOption result
+        ((ns : List ℕ) → AreMembers ns → text.now ≢ commas (map decimal ns))
+        (λ ns. AreMembers ns.items × (text.now ≡ commas (map decimal ns.items))) }
+{
+    let members = rising(text)?;
+    if are_members(&members) {
+        Some(members)
+    } else {
+        None
+    }
+}
+
+/// The chunks, in sectors.
+fn read_chunks(text: &[u8]) -> Option<ArrayVec<u64, MOST_CHUNKS>>
+    ensures { MatchOption result
+        ((ns : List ℕ) → AreChunks ns → text.now ≢ commas (map decimal ns))
+        (λ ns. AreChunks ns.items × (text.now ≡ commas (map decimal ns.items))) }
+{
+    let chunks = rising(text)?;
+    if are_chunks(&chunks) {
+        Some(chunks)
+    } else {
+        None
+    }
+}
+
+/// Places, in sectors.
+fn read_sectors(text: &[u8]) -> Option<ArrayVec<u64, MOST_OFFSETS>>
+    ensures { MatchOption result
+        ((ns : List ℕ) → AreSectors ns → text.now ≢ commas (map decimal ns))
+        (λ ns. AreSectors ns.items × (text.now ≡ commas (map decimal ns.items))) }
+{
+    let sectors = rising(text)?;
+    if are_sectors(&sectors) {
+        Some(sectors)
+    } else {
+        None
+    }
+}
+
+fn are_members(members: &[u8]) -> bool
+    ensures { IsTrue result ↔ All (λ n. (2 ≤ n) × (n ≤ MOST)) members.now }
+{
+    members.iter().all(|count| FEWEST_MEMBERS <= *count && usize::from(*count) <= MOST)
+}
+
+fn are_chunks(chunks: &[u64]) -> bool
+    ensures { IsTrue result ↔ All (λ n. IsTrue (is_chunk_size n)) chunks.now }
+{
+    chunks.iter().all(|chunk| is_chunk(*chunk))
+}
+
+fn are_sectors(sectors: &[u64]) -> bool
+    ensures { IsTrue result ↔ All (λ n. n < 2 ^ 55) sectors.now }
+{
+    sectors.iter().all(|sector| *sector < SECTORS_END)
+}
+
+/// The form of listings.
+fn read_form(text: &[u8]) -> Option<Form>
+    ensures { MatchOption result ((form : FormOf) → text.now ≢ form_text form) (λ form. text.now ≡ form_text form) }
+{
+    match text {
+        b"text" => Some(Form::Text),
+        b"json" => Some(Form::Json),
+        _ => None,
+    }
+}
+
+/// Whether the landmarks of an XFS file system are made.
+fn read_marks(text: &[u8]) -> Option<bool>
+    ensures { MatchOption result ((xfs : Bool) → text.now ≢ marks_text xfs) (λ xfs. text.now ≡ marks_text xfs) }
+{
+    match text {
+        b"none" => Some(false),
+        b"xfs" => Some(true),
+        _ => None,
+    }
+}

@@ -1,0 +1,164 @@
+-- Plans of the tests: a test of each rule, and images in memory of the planned lengths.
+use Rattle.std.proofs.Common.{ℕ, zero, suc, ◌≡◌, ◌<◌, ◌≤◌, ◌+◌, ◌^◌, Bool, true, ◌&&◌, nat_le, nat_lt, List, [], ◌∷◌, length, map, refl, sym, arith, All, IsTrue, subst, get_or}
+use Rattle.std.specs.List.{slice_index}
+use Rattle.std.specs.List.Sorted.{IsStrictlyIncreasing}
+use Rattle.std.proofs.lemmas.Bool.{and_parts, leb-true, ltb-true}
+use Rattle.std.proofs.lemmas.List.Elements.{All-cons, All-nil}
+use Rattle.std.proofs.lemmas.List.Sorted.{IsNonDecreasingBy-short}
+use Rattle.landmark_rules.specs.Groups.{group_place, mark_place, AreGroups, IsMark}
+use Rattle.landmark_rules.specs.declared.marks.Group.{Group}
+use Rattle.raid_params.specs.declared.limits.TheConstants.{MOST, MOST_MISSING, MOST_OFFSETS, MOST_ORIGINS}
+use Rattle.raid_params.specs.declared.types.Level.{Level}
+use Rattle.raid_params.specs.declared.types.Pattern.{Pattern}
+use Rattle.raid_params.specs.declared.types.Syndrome.{Syndrome}
+use Rattle.raid_params.specs.Validity.{is_chunk}
+use Rattle.search_plan.specs.Plans.{AreRising, IsPlan}
+use Rattle.search_plan.specs.Places.{level_place, pattern_place, syndrome_place}
+use Rattle.search_plan.specs.declared.plan.Plan.{Plan}
+
+abbrev every : (ℕ → Bool) → List ℕ → Bool
+every p [] = true
+every p (x ∷ xs) = p x && every p xs
+
+abbrev rises : List ℕ → Bool
+rises [] = true
+rises (x ∷ []) = true
+rises (x ∷ y ∷ ys) = nat_lt x y && rises (y ∷ ys)
+
+all_of : (p : ℕ → Bool) (P : ℕ → Type 0) (xs : List ℕ) → ((x : ℕ) → p x ≡ true → P x) → every p xs ≡ true → All P xs
+all_of p P [] h e = All-nil P
+all_of p P (x ∷ xs) h e = let parts = and_parts (p x) (every p xs) e in All-cons P x xs (h x parts.0) (all_of p P xs h parts.1)
+
+rising : (xs : List ℕ) → rises xs ≡ true → IsStrictlyIncreasing xs
+rising [] e k lt = absurd (omega arith)
+rising (x ∷ []) e k lt = absurd (omega arith)
+rising (x ∷ y ∷ ys) e zero lt = ltb-true x y (and_parts (nat_lt x y) (rises (y ∷ ys)) e).0
+rising (x ∷ y ∷ ys) e (suc k) lt =
+    let next : suc (k + 1) ≡ suc k + 1 = omega arith in
+    let P : ℕ → Type 0 = λ n. slice_index (y ∷ ys) k < slice_index (x ∷ y ∷ ys) n in
+    subst P next (rising (y ∷ ys) (and_parts (nat_lt x y) (rises (y ∷ ys)) e).1 k (omega arith))
+
+abbrev are_rising : List ℕ → Bool
+are_rising xs = nat_le 1 (length xs) && rises xs
+
+rising_list : (xs : List ℕ) → are_rising xs ≡ true → AreRising xs
+rising_list xs e = let parts = and_parts (nat_le 1 (length xs)) (rises xs) e in record { some = leb-true 1 (length xs) parts.0; rising = rising xs parts.1 }
+
+abbrev all_true : List Bool → Bool
+all_true [] = true
+all_true (b ∷ bs) = b && all_true bs
+
+each_true : (bs : List Bool) → all_true bs ≡ true → (k : ℕ) → get_or bs k true ≡ true
+each_true [] e k = refl
+each_true (b ∷ bs) e zero = (and_parts b (all_true bs) e).0
+each_true (b ∷ bs) e (suc k) = each_true bs (and_parts b (all_true bs) e).1 k
+
+-- the rules of a plan without groups, as tests
+abbrev rules_of : Plan → List Bool
+rules_of plan =
+    nat_le 1 (length plan.lengths.items)
+    ∷ nat_le (length plan.lengths.items) MOST
+    ∷ every (λ n. nat_lt n (2 ^ 55)) plan.lengths.items
+    ∷ every (λ n. nat_le plan.end n) plan.lengths.items
+    ∷ are_rising (map level_place plan.bounds.levels.items)
+    ∷ are_rising plan.bounds.members.items
+    ∷ every (λ n. nat_le 2 n && nat_le n MOST) plan.bounds.members.items
+    ∷ are_rising (map pattern_place plan.bounds.patterns.items)
+    ∷ are_rising (map syndrome_place plan.bounds.syndromes.items)
+    ∷ are_rising plan.bounds.chunks.items
+    ∷ every is_chunk plan.bounds.chunks.items
+    ∷ are_rising plan.bounds.offsets.items
+    ∷ nat_le (length plan.bounds.offsets.items) MOST_OFFSETS
+    ∷ every (λ n. nat_lt n (2 ^ 55)) plan.bounds.offsets.items
+    ∷ nat_le plan.bounds.missing MOST_MISSING
+    ∷ nat_le plan.bounds.foreign MOST
+    ∷ nat_lt plan.limits.badrows (2 ^ 55)
+    ∷ nat_le 1 plan.limits.window
+    ∷ nat_lt plan.limits.window (2 ^ 55)
+    ∷ are_rising plan.tests.origins.items
+    ∷ nat_le (length plan.tests.origins.items) MOST_ORIGINS
+    ∷ every (λ n. nat_lt n (2 ^ 55)) plan.tests.origins.items
+    ∷ nat_lt plan.tests.misfits (2 ^ 55)
+    ∷ nat_lt plan.tests.least (2 ^ 55)
+    ∷ []
+
+unfoldable pub keeps_rules : Plan → Bool
+keeps_rules plan = all_true (rules_of plan)
+
+no_groups : (lengths : List ℕ) → AreGroups lengths []
+no_groups lengths = record {
+  order = IsNonDecreasingBy-short (λ x. x) (map (λ (group : Group). group_place group.kind) []) (omega arith);
+  few = λ kind. omega arith;
+  marks = All-nil (λ group. All (IsMark lengths group.kind) group.marks);
+  rising = All-nil (λ group. IsStrictlyIncreasing (map mark_place group.marks));
+  few_marks = λ kind. omega arith;
+}
+
+from_rules : (plan : Plan) → plan.groups ≡ [] → ((k : ℕ) → get_or (rules_of plan) k true ≡ true) → IsPlan plan
+from_rules plan none t = record {
+  lengths = record {
+    some = leb-true 1 (length plan.lengths.items) (t 0);
+    most = leb-true (length plan.lengths.items) MOST (t 1);
+    short = all_of (λ n. nat_lt n (2 ^ 55)) (λ n. n < 2 ^ 55) plan.lengths.items (λ n e. ltb-true n (2 ^ 55) e) (t 2);
+  };
+  ends = all_of (λ n. nat_le plan.end n) (λ n. plan.end ≤ n) plan.lengths.items (λ n e. leb-true plan.end n e) (t 3);
+  bounds = record {
+    levels = rising_list (map level_place plan.bounds.levels.items) (t 4);
+    members = rising_list plan.bounds.members.items (t 5);
+    few_members = all_of (λ n. nat_le 2 n && nat_le n MOST) (λ n. (2 ≤ n) × (n ≤ MOST)) plan.bounds.members.items
+        (λ n e. let parts = and_parts (nat_le 2 n) (nat_le n MOST) e in (leb-true 2 n parts.0, leb-true n MOST parts.1)) (t 6);
+    patterns = rising_list (map pattern_place plan.bounds.patterns.items) (t 7);
+    syndromes = rising_list (map syndrome_place plan.bounds.syndromes.items) (t 8);
+    chunks = rising_list plan.bounds.chunks.items (t 9);
+    powers = all_of is_chunk (λ n. IsTrue (is_chunk n)) plan.bounds.chunks.items (λ n e. e) (t 10);
+    offsets = rising_list plan.bounds.offsets.items (t 11);
+    few_offsets = leb-true (length plan.bounds.offsets.items) MOST_OFFSETS (t 12);
+    near_offsets = all_of (λ n. nat_lt n (2 ^ 55)) (λ n. n < 2 ^ 55) plan.bounds.offsets.items (λ n e. ltb-true n (2 ^ 55) e) (t 13);
+    missing = leb-true plan.bounds.missing MOST_MISSING (t 14);
+    foreign = leb-true plan.bounds.foreign MOST (t 15);
+  };
+  limits = record {
+    badrows = ltb-true plan.limits.badrows (2 ^ 55) (t 16);
+    some_window = leb-true 1 plan.limits.window (t 17);
+    window = ltb-true plan.limits.window (2 ^ 55) (t 18);
+  };
+  tests = record {
+    origins = rising_list plan.tests.origins.items (t 19);
+    few_origins = leb-true (length plan.tests.origins.items) MOST_ORIGINS (t 20);
+    near_origins = all_of (λ n. nat_lt n (2 ^ 55)) (λ n. n < 2 ^ 55) plan.tests.origins.items (λ n e. ltb-true n (2 ^ 55) e) (t 21);
+    misfits = ltb-true plan.tests.misfits (2 ^ 55) (t 22);
+    least = ltb-true plan.tests.least (2 ^ 55) (t 23);
+  };
+  groups = (let P : List Group → Type 0 = λ groups. AreGroups plan.lengths.items groups in subst P (sym none) (no_groups plan.lengths.items));
+}
+
+-- the plan of these lists and numbers, without groups
+abbrev pub plan_with : List ℕ → ℕ → List Level → List ℕ → List Pattern → List Syndrome → List ℕ → List ℕ → ℕ → ℕ → ℕ → ℕ → List ℕ → ℕ → ℕ → List Group → Plan
+plan_with lengths end levels members patterns syndromes chunks offsets missing foreign badrows window origins misfits least groups = record {
+  lengths = record { items = lengths };
+  end = end;
+  bounds = record {
+    levels = record { items = levels };
+    members = record { items = members };
+    patterns = record { items = patterns };
+    syndromes = record { items = syndromes };
+    chunks = record { items = chunks };
+    offsets = record { items = offsets };
+    missing = missing;
+    foreign = foreign;
+  };
+  limits = record { badrows = badrows; window = window };
+  tests = record { origins = record { items = origins }; misfits = misfits; least = least };
+  groups = groups;
+}
+
+-- a plan of lists that keep the rules
+pub plan_is : (lengths ls : List ℕ) (end : ℕ) (levels vs : List Level) (members ms : List ℕ) (patterns ps : List Pattern) (syndromes ss : List Syndrome) (chunks cs offsets os : List ℕ) (missing foreign badrows window : ℕ)
+    (origins rs : List ℕ) (misfits least : ℕ) (groups : List Group) →
+    lengths ≡ ls → levels ≡ vs → members ≡ ms → patterns ≡ ps → syndromes ≡ ss → chunks ≡ cs → offsets ≡ os → origins ≡ rs → groups ≡ [] →
+    keeps_rules (plan_with ls end vs ms ps ss cs os missing foreign badrows window rs misfits least []) ≡ true →
+    IsPlan (plan_with lengths end levels members patterns syndromes chunks offsets missing foreign badrows window origins misfits least groups)
+unfolding keeps_rules
+plan_is lengths ls end levels vs members ms patterns ps syndromes ss chunks cs offsets os missing foreign badrows window origins rs misfits least groups el ev em ep es ec eo er eg kept =
+    let made : plan_with lengths end levels members patterns syndromes chunks offsets missing foreign badrows window origins misfits least groups ≡ plan_with ls end vs ms ps ss cs os missing foreign badrows window rs misfits least [] = rw (el, ev, em, ep, es, ec, eo, er, eg) refl in
+    subst IsPlan (sym made) (from_rules (plan_with ls end vs ms ps ss cs os missing foreign badrows window rs misfits least []) refl (each_true (rules_of (plan_with ls end vs ms ps ss cs os missing foreign badrows window rs misfits least [])) kept))

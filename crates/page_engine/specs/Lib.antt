@@ -1,4 +1,2 @@
-pub mod Sets
-pub mod Pairs
-pub mod Blocks
-pub mod Laws
+pub mod Pages
+pub mod Walk

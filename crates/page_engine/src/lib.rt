@@ -1,24 +1,28 @@
-//! The product of a plan: every parameter set within its bounds, in one order.
+//! Pages of the parameter sets of a plan that pass.
 //!
-//! A set's rank is its position there. The product is counted, and each set found by its rank and
-//! ranked, from the numbers of values and of slot lists: no set is kept, and none is walked past.
-//! A [`page`] has the sets of a range of ranks whose parity holds on the images.
+//! A [`page`] has the sets of a range of ranks that have a whole row and meet the landmark test and the
+//! parity test on the images. [`pages`] gives page after page.
 //!
-//! `command_jobs` prints pages for `list` and ranks for `check`. The sets of a plan stand in `specs/Sets`
-//! and in `Product` of `raid_terms`, pages in its `Page`. The laws: ranks and sets undo each other, and two
-//! sets are the same exactly where they are equal.
+//! A page is walked head by head, and of each head place by place. A prefix of a slot list is passed over
+//! with all that begins so where some group of marks cannot hold any more, or where the images differ in
+//! more rows than may be unsound; so is a head without a whole row. No set that passes is left out: that
+//! is a law of `prune_filters`. A table of marks is held at a time, and the tables of rows, each of a chunk
+//! and an offset, are made where the first head needs them and kept for the page.
+//!
+//! `plan_jobs` prints pages for `list`. The sets of a plan stand in `Sets` of `search_plan`, a page by
+//! its ranks in `Page` of `raid_terms`, pages with what is read for them in `specs/Pages`, and what the
+//! walk keeps in `specs/Walk`.
 #![tactic(auto)]
 
-mod block;
-mod laws;
+mod hopeful;
+mod page_parts;
 mod paging;
-mod pairing;
-mod product;
-mod slot_space;
+mod row_tables;
+mod testing;
+mod walking;
 
-pub use laws::{ranks_and_sets_undo, same_sets_are_equal};
-pub use paging::{CursorFault, Line, Lines, ListPage, PageFault, page};
-pub use product::{product_rank, product_set, product_total};
+pub use page_parts::{CursorFault, Line, Lines, ListPage, PageFault, PageList};
+pub use paging::{page, pages};
 
 #[cfg(test)]
 mod tests;

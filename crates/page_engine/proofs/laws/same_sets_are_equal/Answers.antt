@@ -1,5 +1,0 @@
-use Rattle.page_engine.proofs.Equal.{equal_sets, same_sets}
-use Rattle.page_engine.proofs.laws.same_sets_are_equal.Goals as goal
-
-pub returns : goal.returns
-returns c = λ a b. (same_sets a b, equal_sets a b)

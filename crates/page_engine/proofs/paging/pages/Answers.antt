@@ -1,0 +1,92 @@
+use Rattle.std.proofs.Common.{rules, ◌≡◌, ◌<◌, ◌+◌, ◌*◌, ◌^◌, ◌++◌, ◌∷◌, [], inl, inr, ℕ, List, length, length-append, add-one, refl, sym, ap, ◌∙◌, subst, arith}
+use Rattle.std.proofs.Math.Nat.{suc-mul}
+use Rattle.std.proofs.lemmas.Bool.{cases_lt}
+use Rattle.image_source.specs.Attached.{told_all}
+use Rattle.image_source.specs.Seen.{Image, OnlyReads}
+use Rattle.raid_terms.specs.Page.{stop_of}
+use Rattle.search_plan.specs.Sets.{total_of}
+use Rattle.page_engine.specs.Pages.{ArePagesFrom, IsPageFrom, last_next, page_reads}
+use Rattle.page_engine.specs.declared.page_parts.ListPage.{ListPage}
+use Rattle.page_engine.specs.declared.page_parts.PageFault.TheVariants.{Many}
+use Rattle.page_engine.proofs.PageByPage.{all_made, below_total, goes_on_at, Going, last_is, none_made, not_an_error, one_more, reads_ended, reads_made, the_last, to_all}
+use Rattle.page_engine.proofs.Readings.{reads_nothing, reads_on}
+use Rattle.page_engine.proofs.paging.pages.Goals as goal
+
+pub loop-init : goal.loop-init
+loop-init g c = record {
+  going = (let P : List ListPage → Type 0 = λ made. Going (told_all (g.I.Images.seen c.args.images.now).attached) c.args.plan.now c.args.size c.args.span c.args.from c.args.from made in
+      subst P (sym c.new-made.ensures) (none_made (told_all (g.I.Images.seen c.args.images.now).attached) c.args.plan.now c.args.size c.args.span c.args.from));
+  made = ap length c.new-made.ensures;
+  forward = omega arith;
+  near = omega arith;
+  begun = inl (refl, refl, refl);
+  reads = reads_nothing (g.I.Images.seen c.args.images.now) (page_reads c.args.plan.now c.args.from c.args.from);
+}
+
+pub returns-in_err-found-clause-reads : goal.returns-in_err-found-clause-reads
+returns-in_err-found-clause-reads g c =
+    let far = c.loop.invariant in
+    rw (to_all (stop_of (total_of c.args.plan.now) c.args.from (c.args.count * c.args.span)) c.args.from c.from_residual.result c.from_residual.ensures.0)
+    (reads_ended _ _ _ c.args.plan.now c.args.from c.loop.at c.loop.counter c.args.count c.args.span far.forward far.near (omega arith) far.begun far.reads c.in_err-found.ensures.reads)
+
+pub returns-in_err-map_err-clause-reads : goal.returns-in_err-map_err-clause-reads
+returns-in_err-map_err-clause-reads g c =
+    let far = c.loop.invariant in
+    rw (to_all (stop_of (total_of c.args.plan.now) c.args.from (c.args.count * c.args.span)) c.args.from c.from_residual-in_err-map_err.result c.from_residual-in_err-map_err.ensures.0)
+    (reads_made _ _ _ c.args.plan.now c.args.from c.loop.at c.loop.counter c.args.count c.args.span c.in_ok-found.found.next far.forward far.near (omega arith) c.in_ok-found.ensures.forward c.in_ok-found.ensures.within far.reads c.in_ok-found.ensures.reads)
+
+pub returns-then-next-total-clause-pages : goal.returns-then-next-total-clause-pages
+returns-then-next-total-clause-pages g c =
+    let far = c.loop.invariant in
+    let told = told_all (g.I.Images.seen c.args.images.now).attached in
+    let pushed : c.push.new.self ≡ c.loop.made ++ c.in_ok-found.found ∷ [] = search rules in
+    let P : List ListPage → Type 0 = λ made. ArePagesFrom (told_all (g.I.Images.seen c.args.images.now).attached) c.args.plan.now c.args.size c.args.span c.args.count c.args.from made in
+    let Q : List Image → Type 0 = λ attached. IsPageFrom (told_all attached) c.args.plan.now c.loop.at c.args.size c.args.span c.in_ok-found.found in
+    let is_page = subst Q far.reads.attached (record { page = c.in_ok-found.ensures.page; sets = c.in_ok-found.ensures.sets; total = c.in_ok-found.ensures.total; forward = c.in_ok-found.ensures.forward; within = c.in_ok-found.ensures.within }) in
+    subst P (sym pushed)
+    (the_last told c.args.plan.now c.args.size c.args.span c.args.count c.args.from c.loop.at c.loop.made c.in_ok-found.found far.going is_page (c.if-next-total.true ∙ c.in_ok-found.ensures.total) (let made = far.made in omega arith))
+
+pub returns-then-next-total-clause-reads : goal.returns-then-next-total-clause-reads
+returns-then-next-total-clause-reads g c =
+    let far = c.loop.invariant in
+    let pushed : c.push.new.self ≡ c.loop.made ++ c.in_ok-found.found ∷ [] = search rules in
+    let last : last_next c.args.from c.push.new.self ≡ c.in_ok-found.found.next = ap (last_next c.args.from) pushed ∙ last_is c.args.from c.loop.made c.in_ok-found.found in
+    let P : ℕ → Type 0 = λ n. OnlyReads (g.I.Images.seen c.args.images.now) (g.I.Images.seen c.page.new.images) (page_reads c.args.plan.now c.args.from n) in
+    subst P (sym last) (reads_on _ _ _ c.args.plan.now c.args.from c.loop.at c.in_ok-found.found.next far.forward c.in_ok-found.ensures.forward far.reads c.in_ok-found.ensures.reads)
+
+pub loop-preserved : goal.loop-preserved
+loop-preserved g c =
+    let far = c.loop.invariant in
+    let told = told_all (g.I.Images.seen c.args.images.now).attached in
+    let pushed : c.push.new.self ≡ c.loop.made ++ c.in_ok-found.found ∷ [] = search rules in
+    let Q : List Image → Type 0 = λ attached. IsPageFrom (told_all attached) c.args.plan.now c.loop.at c.args.size c.args.span c.in_ok-found.found in
+    let is_page = subst Q far.reads.attached (record { page = c.in_ok-found.ensures.page; sets = c.in_ok-found.ensures.sets; total = c.in_ok-found.ensures.total; forward = c.in_ok-found.ensures.forward; within = c.in_ok-found.ensures.within }) in
+    let within = c.in_ok-found.ensures.within in
+    let total = c.in_ok-found.ensures.total in
+    let small : total_of c.args.plan.now < 2 ^ 64 =
+    (elim (cases_lt (total_of c.args.plan.now) (2 ^ 64)) [
+      | inl few ↦ few
+      | inr many ↦ absurd (not_an_error c.in_ok-found.found Many (c.in_ok-found.ensures.many many))
+    ]) in
+    record {
+      going = (let P : List ListPage → Type 0 = λ made. Going (told_all (g.I.Images.seen c.args.images.now).attached) c.args.plan.now c.args.size c.args.span c.args.from c.in_ok-found.found.next made in
+          subst P (sym pushed) (one_more told c.args.plan.now c.args.size c.args.span c.args.from c.loop.at c.loop.made c.in_ok-found.found far.going is_page
+          (below_total c.in_ok-found.found.next c.in_ok-found.found.total (total_of c.args.plan.now) c.args.span c.loop.at c.if-next-total.false total within)));
+      made = ap length pushed ∙ length-append c.loop.made (c.in_ok-found.found ∷ []) ∙ ap (λ (n : ℕ). n + 1) far.made;
+      forward = (let low = far.forward in let up = c.in_ok-found.ensures.forward in omega arith);
+      near = (let near = far.near in let one : (c.loop.counter + 1) * c.args.span ≡ c.loop.counter * c.args.span + c.args.span = ap (λ (n : ℕ). n * c.args.span) (add-one c.loop.counter) ∙ suc-mul c.loop.counter c.args.span in omega arith);
+      begun = inr ((omega arith), (omega arith), small);
+      reads = reads_on _ _ _ c.args.plan.now c.args.from c.loop.at c.in_ok-found.found.next far.forward c.in_ok-found.ensures.forward far.reads c.in_ok-found.ensures.reads;
+    }
+
+pub returns-clause-pages : goal.returns-clause-pages
+returns-clause-pages g c =
+    let far = c.loop.invariant in
+    all_made (told_all (g.I.Images.seen c.args.images.now).attached) c.args.plan.now c.args.size c.args.span c.args.count c.args.from c.loop.at c.loop.made far.going
+    (let made = far.made in let end = c.loop-test.false in let most = c.loop.auto.counter-end in omega arith)
+
+pub returns-clause-reads : goal.returns-clause-reads
+returns-clause-reads g c =
+    let far = c.loop.invariant in
+    let P : ℕ → Type 0 = λ n. OnlyReads (g.I.Images.seen c.args.images.now) (g.I.Images.seen c.loop.images) (page_reads c.args.plan.now c.args.from n) in
+    subst P (sym (goes_on_at (told_all (g.I.Images.seen c.args.images.now).attached) c.args.plan.now c.args.size c.args.span c.args.from c.loop.at c.loop.made far.going)) far.reads

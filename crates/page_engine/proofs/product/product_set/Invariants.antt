@@ -1,6 +1,0 @@
-use Rattle.std.proofs.Common.{◌≡◌, ◌+◌, length}
-use Rattle.page_engine.proofs.Walks.{sets_before}
-use Rattle.page_engine.proofs.product.product_set.Given as goal
-
-abbrev pub invariant-loop-at : goal.invariant-loop-at
-invariant-loop-at l = l.fn.rank ≡ length (sets_before l.plan l.at) + l.rest

@@ -1,0 +1,99 @@
+-- A walk over the heads of a plan, and over the slot lists of each that are admitted.
+use Rattle.std.specs.Prelude.{ℕ, Result, Ok, Err, ◌≡◌, ◌+◌, ◌-◌, ◌<◌, ◌≤◌, ◌^◌, Bool, true, IfSome, IsSomeAnd, List, ◌++◌, length, map, slice_get, All}
+use Rattle.std.specs.declared.option.Option.{Option}
+use Rattle.std.specs.declared.option.Option.TheVariants.{None, Some}
+use Rattle.raid_params.specs.Validity.{is_valid_head}
+use Rattle.raid_params.specs.declared.types.Head.{Head}
+use Rattle.raid_terms.specs.Page.{passing, stop_of, IsPage}
+use Rattle.search_plan.specs.Sets.{passes_at, sets_of, total_of}
+use Rattle.search_plan.specs.declared.plan.Plan.{Plan}
+use Rattle.set_product.specs.declared.heads.HeadSets.{HeadSets}
+use Rattle.search_plan.specs.Plans.{IsPlan}
+use Rattle.slot_math.specs.declared.space.Space.{Space}
+use Rattle.slot_math.specs.Space.{lists_of}
+use Rattle.candidate_enum.specs.Survivors.{all_admitted}
+use Rattle.page_engine.specs.Pages.{HoldsSet}
+use Rattle.prune_filters.specs.Xors.{IsXorTable, RowTable}
+use Rattle.page_engine.specs.declared.page_parts.Line.{Line}
+use Rattle.page_engine.specs.declared.row_tables.KeptTable.{KeptTable}
+use Rattle.page_engine.specs.declared.page_parts.PageFault.{PageFault}
+
+-- a head of the plan, whose sets stand at the ranks from its first on
+pub record IsHeadOf (plan : Plan) (sets : HeadSets) : Type 0 where
+  pub head : is_valid_head sets.head ≡ true
+  pub offset : sets.head.offset < 2 ^ 55
+  pub images : sets.space.images ≡ length plan.lengths.items
+  pub members : sets.space.members ≡ sets.head.members
+  pub count : sets.count ≡ length (lists_of sets.space)
+  pub stand : (k : ℕ) (slots : List (Option ℕ)) → slice_get (lists_of sets.space) k ≡ Some slots →
+      slice_get (sets_of plan) (sets.first + k) ≡ Some (record { head = sets.head; slots = record { items = slots } })
+  pub within : sets.first + sets.count ≤ total_of plan
+
+-- what is asked of a walk over the slot lists of a head
+pub record Asked : Type 0 where
+  pub plan : Plan
+  pub head : Head
+  pub space : Space
+  pub xors : Option RowTable
+
+-- they are those of a head that makes sense
+pub record IsAsked (plan : Plan) (head : Head) (space : Space) : Type 0 where
+  pub is_plan : IsPlan plan
+  pub valid : is_valid_head head ≡ true
+  pub images : space.images ≡ length plan.lengths.items
+  pub members : space.members ≡ head.members
+
+-- a table of rows that is kept, over the bytes of the images where they are told
+abbrev pub IsKept : Option (List (List ℕ)) → Plan → KeptTable → Type 0
+IsKept told plan kept = IfSome told (λ bytes. IsXorTable bytes plan kept.chunk kept.offset kept.table)
+
+-- the table of a head stands at this place
+abbrev pub StandsFor : Head → ℕ → List KeptTable → Type 0
+StandsFor head place kept = IsSomeAnd (slice_get kept place) (λ one. (one.chunk ≡ head.chunk) × (one.offset ≡ head.offset))
+
+-- of a head's sets that pass, each prefix of the slots is admitted, over the bytes of the images where they are told
+abbrev pub LeavesOutNone : Option (List (List ℕ)) → Plan → Head → (List (Option ℕ) → Bool) → Type 0
+LeavesOutNone told plan head admits = IfSome told (λ bytes. (rank : ℕ) (slots : List (Option ℕ)) →
+    slice_get (sets_of plan) rank ≡ Some (record { head = head; slots = record { items = slots } }) → passes_at bytes plan rank ≡ true → all_admitted admits slots ≡ true)
+
+-- the sets that pass of the ranks from one up to another were appended
+pub record AddsRange (told : Option (List (List ℕ))) (plan : Plan) (from to : ℕ) (old new : List Line) : Type 0 where
+  pub lines : IfSome told (λ bytes. map (λ held. held.rank) new ≡ map (λ held. held.rank) old ++ passing (passes_at bytes plan) from to)
+  pub sets : All (HoldsSet plan) old → All (HoldsSet plan) new
+
+-- they were appended up to this rank, and with the last of them the page is full
+pub record FillsPage (told : Option (List (List ℕ))) (plan : Plan) (from to size next : ℕ) (old new : List Line) : Type 0 where
+  pub forward : from < next
+  pub within : next ≤ to
+  pub adds : AddsRange told plan from next old new
+  pub last : IfSome told (λ bytes. passes_at bytes plan (next - 1) ≡ true)
+  pub many : length new ≡ size
+
+-- they were appended up to the end of the range, and the page is not full
+pub record AddsAll (told : Option (List (List ℕ))) (plan : Plan) (from to size : ℕ) (old new : List Line) : Type 0 where
+  pub adds : AddsRange told plan from to old new
+  pub few : length new < size
+
+-- a range of the ranks of a head
+pub record IsPart (sets : HeadSets) (from stop : ℕ) : Type 0 where
+  pub begins : sets.first ≤ from
+  pub ordered : from ≤ stop
+  pub ends : stop ≤ sets.first + sets.count
+
+-- the rank up to which sets were tested: where the page is full, or else the end of the range
+abbrev pub added_to : ℕ → Result (Option ℕ) PageFault → ℕ
+added_to stop (Ok (Some next)) = next
+added_to stop (Ok None) = stop
+added_to stop (Err fault) = stop
+
+-- the lines are those of a page, and the next page goes on at this rank
+pub record IsFilled (told : Option (List (List ℕ))) (plan : Plan) (from size span : ℕ) (lines : List Line) (next : ℕ) : Type 0 where
+  pub page : IfSome told (λ bytes. IsPage (passes_at bytes plan) (total_of plan) from size span (map (λ held. held.rank) lines) next)
+  pub sets : All (HoldsSet plan) lines
+  pub forward : from ≤ next
+  pub within : next ≤ stop_of (total_of plan) from span
+
+-- the rank up to which sets were tested for a page
+abbrev pub filled_to : ℕ → Result ℕ PageFault → ℕ
+filled_to stop (Ok next) = next
+filled_to stop (Err fault) = stop

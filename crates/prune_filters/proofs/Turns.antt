@@ -1,0 +1,228 @@
+-- The rows in which a prefix puts an image on Q, counted by their place among as many as there are members.
+use Rattle.std.proofs.Common.{◌≡◌, ◌≢◌, ℕ, zero, suc, ◌+◌, ◌-◌, ◌*◌, ◌/◌, ◌%◌, ◌^◌, ◌<◌, ◌≤◌, min, List, [], ◌∷◌, length, cond, arith, ap, ap₂, sym, refl, ◌∙◌, Bool, true, false, not, ◌==◌, ◌&&◌, ◌||◌, nat_le, Option, Some, None, inl, inr}
+use Rattle.std.proofs.Math.Nat.{mod-eq_of_lt}
+use Rattle.std.proofs.lemmas.Bool.{and_parts, cases_eq, cases_lt, eq-eqb, eqb-true, ne_eqb, le-leb}
+use Rattle.std.proofs.lemmas.Bool.Decides.{nat_tests}
+use Rattle.std.proofs.lemmas.Nat.{div-add-mod', mod-mul-add, mod_below}
+use Rattle.std.specs.List.{count_by, range_with_len, slice_index, slice_index_or, sum_by}
+use Rattle.std.specs.Option.{option_and_then, option_map_or}
+use Rattle.std.specs.Prelude.{IsTrue}
+use Rattle.raid_layouts.proofs.Counts.{count_cons}
+use Rattle.raid_layouts.proofs.Levels.{enough}
+use Rattle.raid_params.specs.Size.{redundancy}
+use Rattle.raid_params.specs.Validity.{fewest, is_valid_head}
+use Rattle.raid_params.specs.declared.types.Head.{Head}
+use Rattle.raid_params.specs.declared.types.Level.{Level}
+use Rattle.raid_params.specs.declared.types.Level.TheVariants.{Raid0, Raid5, Raid6}
+use Rattle.raid_params.specs.declared.types.Pattern.{Pattern}
+use Rattle.raid_params.specs.declared.types.Pattern.TheVariants.{Plain, La, Ra, Ls, Rs, ParityFirst, ParityLast, NRestart, NContinue, La6, Ra6, Ls6, Rs6, ParityFirst6}
+use Rattle.raid_terms.specs.Role.{after, double_q, q_at, q_of}
+use Rattle.slot_math.specs.Ways.{AllImages}
+use Rattle.search_plan.specs.Plans.{IsPlan}
+use Rattle.search_plan.specs.declared.plan.Plan.{Plan}
+use Rattle.prune_filters.specs.Hopeful.{IsPrefix}
+use Rattle.prune_filters.specs.Rows.{broken_rows, differ, differ_beside_q, holds_every, needs_table, on_q, others, rows_may_hold, tested}
+use Rattle.prune_filters.specs.Xors.{beside_q, broken_in, IsXorTable, RowTable}
+use Rattle.prune_filters.proofs.Prefixes.{image_below}
+use Rattle.prune_filters.proofs.Totals.{total, total_same, total_sum}
+
+-- the image on Q is one of the prefix
+pub on_q_below : (n : ℕ) (head : Head) (prefix : List (Option ℕ)) (row i : ℕ) → AllImages n prefix → on_q head prefix row ≡ Some i → i < n
+on_q_below n head prefix row i all e = by_slot (q_of head row) e
+  where
+    by_slot : (q : Option ℕ) → option_and_then (λ s. slice_index_or prefix s None) q ≡ Some i → i < n
+    by_slot None e = (cc)
+    by_slot (Some q) e = image_below n q i prefix all e
+
+-- Q stands on the same slot again after as many rows as there are members
+mod_twice : (row n : ℕ) → 0 < n → row % n % n ≡ row % n
+mod_twice row n some = let lt : row % n < n = mod_below row n some in mod-eq_of_lt lt
+
+next_again : (row n : ℕ) → 0 < n → (row + 1) % n ≡ (row % n + 1) % n
+next_again row n some =
+    let split : row / n * n + row % n ≡ row = div-add-mod' row n in
+    let below : row % n < n = mod_below row n some in
+    elim (cases_lt (row % n + 1) n) [
+      | inl lt ↦
+          let e : row + 1 ≡ row / n * n + (row % n + 1) = omega arith in
+          ap (λ (x : ℕ). x % n) e ∙ mod-mul-add (row / n) n (row % n + 1) lt ∙ sym (mod-eq_of_lt lt)
+      | inr le ↦
+          let full : row % n + 1 ≡ n = omega arith in
+          let turn : (row / n + 1) * n + 0 ≡ row / n * n + n = grind arith in
+          let e : row + 1 ≡ (row / n + 1) * n + 0 = omega arith in
+          let one : row % n + 1 ≡ 1 * n + 0 = omega arith in
+          ap (λ (x : ℕ). x % n) e ∙ mod-mul-add (row / n + 1) n 0 some ∙ sym (ap (λ (x : ℕ). x % n) one ∙ mod-mul-add 1 n 0 some)
+    ]
+
+double_again : (pattern : Pattern) (n row : ℕ) → 0 < n → double_q pattern n row ≡ double_q pattern n (row % n)
+double_again La n row some = ap (λ (m : ℕ). after n (n - 1 - m)) (sym (mod_twice row n some))
+double_again Ra n row some = ap (λ (m : ℕ). after n m) (sym (mod_twice row n some))
+double_again Ls n row some = ap (λ (m : ℕ). (n - 1 - m + 1) % n) (sym (mod_twice row n some))
+double_again Rs n row some = ap (λ (m : ℕ). (m + 1) % n) (sym (mod_twice row n some))
+double_again NRestart n row some = ap (λ (m : ℕ). after n (n - 1 - m)) (next_again row n some)
+double_again NContinue n row some = ap (λ (m : ℕ). (n - 1 - m + n - 1) % n) (sym (mod_twice row n some))
+double_again Plain n row some = refl
+double_again ParityFirst n row some = refl
+double_again ParityLast n row some = refl
+double_again La6 n row some = refl
+double_again Ra6 n row some = refl
+double_again Ls6 n row some = refl
+double_again Rs6 n row some = refl
+double_again ParityFirst6 n row some = refl
+
+q_again : (level : Level) (pattern : Pattern) (n row : ℕ) → 0 < n → q_at level pattern n row ≡ q_at level pattern n (row % n)
+q_again Raid0 pattern n row some = refl
+q_again Raid5 pattern n row some = refl
+q_again Raid6 pattern n row some = ap (λ (s : ℕ). Some s) (double_again pattern n row some)
+
+on_q_again : (head : Head) (prefix : List (Option ℕ)) (row : ℕ) → 0 < head.members → on_q head prefix row ≡ on_q head prefix (row % head.members)
+on_q_again head prefix row some = ap (λ (q : Option ℕ). option_and_then (λ s. slice_index_or prefix s None) q) (q_again head.level head.pattern head.members row some)
+
+abbrev zero_of : ℕ
+zero_of = 0
+
+-- a row counts at its own place alone
+miss : (f : ℕ → Bool) (at a n : ℕ) → at < a → total ◌+◌ (λ k. cond ((at == k) && f k) 1 0) (range_with_len a n) ≡ 0
+unfolding total
+miss f at a zero lt = refl
+miss f at a (suc n) lt =
+    let here : cond ((at == a) && f a) 1 0 ≡ zero_of = ap (λ (b : Bool). cond (b && f a) 1 0) (ne_eqb at a (λ e. let x : at ≡ a = e in omega arith)) in
+    let rest = miss f at (a + 1) n (omega arith) in
+    omega arith
+
+hit : (f : ℕ → Bool) (at a n : ℕ) → a ≤ at → at < a + n → total ◌+◌ (λ k. cond ((at == k) && f k) 1 0) (range_with_len a n) ≡ cond (f at) 1 0
+unfolding total
+hit f at a zero low high = absurd (omega arith)
+hit f at a (suc n) low high = elim (cases_eq at a) [
+  | inl e ↦
+      let here : ◌≡◌ {A = ℕ} (cond ((at == a) && f a) 1 0) (cond (f at) 1 0) = ap (λ (b : Bool). cond (b && f a) 1 0) (eq-eqb at a e) ∙ sym (ap (λ (k : ℕ). cond (f k) 1 0) e) in
+      let rest = miss f at (a + 1) n (omega arith) in
+      omega arith
+  | inr ne ↦
+      let here : cond ((at == a) && f a) 1 0 ≡ zero_of = ap (λ (b : Bool). cond (b && f a) 1 0) (ne_eqb at a ne) in
+      let rest = hit f at (a + 1) n (let x : at ≢ a = ne in omega arith) (omega arith) in
+      omega arith
+]
+
+total_add : (f g : ℕ → ℕ) (xs : List ℕ) → total ◌+◌ (λ k. f k + g k) xs ≡ total ◌+◌ f xs + total ◌+◌ g xs
+unfolding total
+total_add f g [] = refl
+total_add f g (x ∷ xs) = let h = total_add f g xs in omega arith
+
+total_nothing : (a n : ℕ) → total ◌+◌ (λ k. 0) (range_with_len a n) ≡ 0
+unfolding total
+total_nothing a zero = refl
+total_nothing a (suc n) = let h = total_nothing (a + 1) n in omega arith
+
+-- so all rows are counted by their places
+by_turn : (turn : ℕ → ℕ) (p : ℕ → ℕ → Bool) (n : ℕ) (rows : List ℕ) → ((t : ℕ) → turn t < n) →
+    total ◌+◌ (λ k. count_by (λ t. (turn t == k) && p k t) rows) (range_with_len 0 n) ≡ count_by (λ t. p (turn t) t) rows
+by_turn turn p n [] below = total_nothing 0 n
+by_turn turn p n (t ∷ rows) below =
+    total_same ◌+◌ (λ k. count_by (λ s. (turn s == k) && p k s) (t ∷ rows)) (λ k. cond ((turn t == k) && p k t) 1 0 + count_by (λ s. (turn s == k) && p k s) rows) 0 n
+    (λ k low high. count_cons (λ (s : ℕ). (turn s == k) && p k s) t rows)
+    ∙ total_add (λ k. cond ((turn t == k) && p k t) 1 0) (λ k. count_by (λ s. (turn s == k) && p k s) rows) (range_with_len 0 n)
+    ∙ ap₂ (λ (a b : ℕ). a + b) (hit (λ k. p k t) (turn t) 0 n (omega arith) (let low = below t in omega arith)) (by_turn turn p n rows below)
+    ∙ sym (count_cons (λ (s : ℕ). p (turn s) s) t rows)
+
+count_alike : (p q : ℕ → Bool) (rows : List ℕ) → ((t : ℕ) → p t ≡ q t) → count_by p rows ≡ count_by q rows
+count_alike p q [] same = refl
+count_alike p q (t ∷ rows) same =
+    count_cons p t rows ∙ ap₂ (λ (b : Bool) (k : ℕ). cond b 1 0 + k) (same t) (count_alike p q rows same) ∙ sym (count_cons q t rows)
+
+and_none : (b : Bool) → (b && false) ≡ false
+and_none true = refl
+and_none false = refl
+
+count_none : (rows : List ℕ) (p : ℕ → Bool) → ((t : ℕ) → p t ≡ false) → count_by p rows ≡ 0
+count_none [] p none = refl
+count_none (t ∷ rows) p none = let h = count_cons p t rows in let e : cond (p t) 1 0 ≡ zero_of = ap (λ (b : Bool). cond b 1 0) (none t) in let rest = count_none rows p none in omega arith
+
+-- the sum over the places is the count of the rows
+pub sum_rows : (images : List (List ℕ)) (plan : Plan) (head : Head) (prefix : List (Option ℕ)) (table : RowTable) → IsPrefix plan head prefix → length plan.lengths.items ≡ head.members → 0 < head.members →
+    IsXorTable images plan head.chunk head.offset table →
+    sum_by (beside_q table head prefix) (range_with_len 0 head.members) ≡ count_by (differ_beside_q images plan head prefix) (range_with_len 0 (tested plan head))
+sum_rows images plan head prefix table is count some known =
+    sym (total_sum (beside_q table head prefix) (range_with_len 0 head.members))
+    ∙ total_same ◌+◌ (beside_q table head prefix) (λ k. count_by (λ t. (turn t == k) && p k t) rows) 0 head.members (λ k low high. each k (omega arith) (on_q head prefix k) refl)
+    ∙ by_turn turn p head.members rows (λ t. mod_below (t / head.chunk) head.members some)
+    ∙ count_alike (λ t. p (turn t) t) (differ_beside_q images plan head prefix) rows
+    (λ t. ap (λ (o : Option ℕ). option_map_or (λ i. differ images (others (length plan.lengths.items) i) (head.offset + t)) o false) (sym (on_q_again head prefix (t / head.chunk) some)))
+  where
+    rows : List ℕ
+    rows = range_with_len 0 (tested plan head)
+
+    turn : ℕ → ℕ
+    turn t = t / head.chunk % head.members
+
+    p : ℕ → ℕ → Bool
+    p k t = option_map_or (λ i. differ images (others (length plan.lengths.items) i) (head.offset + t)) (on_q head prefix k) false
+
+    each : (k : ℕ) → k < head.members → (o : Option ℕ) → on_q head prefix k ≡ o →
+        option_map_or (λ i. slice_index (slice_index_or table.beside k []) i) (on_q head prefix k) 0
+        ≡ count_by (λ t. (t / head.chunk % head.members == k) && option_map_or (λ i. differ images (others (length plan.lengths.items) i) (head.offset + t)) (on_q head prefix k) false) (range_with_len 0 (tested plan head))
+    each k low None e =
+        ap (λ (o : Option ℕ). option_map_or (λ i. slice_index (slice_index_or table.beside k []) i) o 0) e
+        ∙ sym (count_none (range_with_len 0 (tested plan head))
+        (λ t. (t / head.chunk % head.members == k) && option_map_or (λ i. differ images (others (length plan.lengths.items) i) (head.offset + t)) (on_q head prefix k) false)
+        (λ t. ap (λ (o : Option ℕ). (t / head.chunk % head.members == k) && option_map_or (λ i. differ images (others (length plan.lengths.items) i) (head.offset + t)) o false) e
+        ∙ and_none (t / head.chunk % head.members == k)))
+    each k low (Some i) e =
+        let below : i < length plan.lengths.items = on_q_below (length plan.lengths.items) head prefix k i is.images e in
+        ap (λ (o : Option ℕ). option_map_or (λ i. slice_index (slice_index_or table.beside k []) i) o 0) e
+        ∙ known.beside k i (omega arith) below
+        ∙ count_alike (λ t. (t / head.chunk % length plan.lengths.items == k) && differ images (others (length plan.lengths.items) i) (head.offset + t))
+        (λ t. (t / head.chunk % head.members == k) && option_map_or (λ i. differ images (others (length plan.lengths.items) i) (head.offset + t)) (on_q head prefix k) false)
+        (range_with_len 0 (tested plan head))
+        (λ t. ap₂ (λ (n : ℕ) (o : Option ℕ). (t / head.chunk % n == k) && option_map_or (λ j. differ images (others (length plan.lengths.items) j) (head.offset + t)) o false) count (sym e))
+
+-- numbers past the largest are past any limit
+past : (s b : ℕ) → b < 2 ^ 64 - 1 → nat_le (min s (2 ^ 64 - 1)) b ≡ nat_le s b
+past s b below = grind (arith, nat_tests)
+
+not_of : (a b : Bool) → a ≡ true → (not a || b) ≡ b
+not_of true b e = refl
+not_of false b e = (cc)
+
+broken_same : (level : Level) (images : List (List ℕ)) (plan : Plan) (head : Head) (prefix : List (Option ℕ)) (table : RowTable) → IsPlan plan → IsPrefix plan head prefix →
+    length plan.lengths.items ≡ head.members → 0 < head.members → IsXorTable images plan head.chunk head.offset table →
+    nat_le (broken_in table level head prefix) plan.limits.badrows ≡ nat_le (broken_rows level images plan head prefix) plan.limits.badrows
+unfolding broken_rows
+broken_same Raid0 images plan head prefix table is_plan is count some known = refl
+broken_same Raid5 images plan head prefix table is_plan is count some known = ap (λ (n : ℕ). nat_le n plan.limits.badrows) known.all
+broken_same Raid6 images plan head prefix table is_plan is count some known =
+    let few = is_plan.limits.badrows in
+    past (sum_by (beside_q table head prefix) (range_with_len 0 head.members)) plan.limits.badrows (omega arith)
+    ∙ ap (λ (n : ℕ). nat_le n plan.limits.badrows) (sum_rows images plan head prefix table is count some known)
+
+-- the answer where a table is asked, and where none is
+pub rows_known : (images : List (List ℕ)) (plan : Plan) (head : Head) (prefix : List (Option ℕ)) (table : RowTable) → IsTrue (is_valid_head head) → IsPlan plan → IsPrefix plan head prefix →
+    needs_table plan head ≡ true → IsXorTable images plan head.chunk head.offset table →
+    nat_le (broken_in table head.level head prefix) plan.limits.badrows ≡ rows_may_hold images plan head prefix
+unfolding rows_may_hold
+rows_known images plan head prefix table valid is_plan is needs known =
+    let parts = and_parts (holds_every plan head) (nat_le 1 (redundancy head.level)) needs in
+    let both = and_parts (length plan.lengths.items == head.members) ((plan.bounds.foreign == 0) || (min plan.bounds.missing (redundancy head.level) == 0)) parts.0 in
+    let count : length plan.lengths.items ≡ head.members = eqb-true (length plan.lengths.items) head.members both.0 in
+    let low : fewest head.level ≤ head.members = enough head valid in
+    broken_same head.level images plan head prefix table is_plan is count (omega arith) known
+    ∙ sym (not_of (holds_every plan head) (nat_le (broken_rows head.level images plan head prefix) plan.limits.badrows) parts.0)
+
+no_rows : (level : Level) (images : List (List ℕ)) (plan : Plan) (head : Head) (prefix : List (Option ℕ)) → nat_le 1 (redundancy level) ≡ false → broken_rows level images plan head prefix ≡ 0
+unfolding broken_rows
+no_rows Raid0 images plan head prefix e = refl
+no_rows Raid5 images plan head prefix e = (cc)
+no_rows Raid6 images plan head prefix e = (cc)
+
+pub rows_unasked : (images : List (List ℕ)) (plan : Plan) (head : Head) (prefix : List (Option ℕ)) → needs_table plan head ≡ false → rows_may_hold images plan head prefix ≡ true
+unfolding rows_may_hold
+rows_unasked images plan head prefix unasked = by_case (holds_every plan head) (nat_le 1 (redundancy head.level)) refl refl unasked
+  where
+    by_case : (a b : Bool) → holds_every plan head ≡ a → nat_le 1 (redundancy head.level) ≡ b → (holds_every plan head && nat_le 1 (redundancy head.level)) ≡ false →
+        (not (holds_every plan head) || nat_le (broken_rows head.level images plan head prefix) plan.limits.badrows) ≡ true
+    by_case false b e f none = ap (λ (t : Bool). not t || nat_le (broken_rows head.level images plan head prefix) plan.limits.badrows) e
+    by_case true true e f none = let bad : true ≡ false = sym (ap₂ (λ (x y : Bool). x && y) e f) ∙ none in (cc)
+    by_case true false e f none =
+        not_of (holds_every plan head) (nat_le (broken_rows head.level images plan head prefix) plan.limits.badrows) e
+        ∙ ap (λ (n : ℕ). nat_le n plan.limits.badrows) (no_rows head.level images plan head prefix f)
+        ∙ le-leb 0 plan.limits.badrows (omega arith)

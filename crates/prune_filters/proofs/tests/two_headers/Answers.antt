@@ -1,0 +1,18 @@
+use Rattle.std.proofs.Common.{◌≡◌, List, [], ◌∷◌, ◌++◌, length, ap, ap₂, refl, ◌∙◌}
+use Rattle.raid_params.specs.Validity.{is_chunk}
+use Rattle.landmark_rules.specs.declared.marks.Group.{Group}
+use Rattle.landmark_rules.specs.declared.marks.GroupKind.TheVariants.{Gpt as GptGroup}
+use Rattle.landmark_rules.specs.declared.marks.Mark.{Mark}
+use Rattle.prune_filters.proofs.TestPlans.{a_header, headers, keeps_rules, plan_is, two_headers_are}
+use Rattle.prune_filters.proofs.tests.two_headers.Goals as goal
+
+pub returns : goal.returns
+unfolding keeps_rules is_chunk
+returns c =
+    let one : c.push.new.self ≡ a_header 1 ∷ [] = c.in_ok-push.ensures.ok ∙ ap₂ (λ (l : List Mark) (m : Mark). l ++ m ∷ []) c.new-marks.ensures c.header.ensures in
+    let both : c.push-2.new.self ≡ a_header 1 ∷ a_header 2 ∷ [] = c.in_ok-push-2.ensures.ok ∙ ap₂ (λ (l : List Mark) (m : Mark). l ++ m ∷ []) one c.header-2.ensures in
+    let groups : c.push-3.new.self ≡ headers
+    = c.in_ok-push-3.ensures.ok ∙ ap₂ (λ (l : List Group) (marks : List Mark). l ++ record { kind = GptGroup; marks = marks } ∷ []) c.new-groups.ensures both in (
+      plan_is _ _ _ _ _ _ _ _ _ _ _ _ _ _ _ _ _ _ _ _ _ _ _ _ _ c.filled.ensures c.filled-2.ensures c.filled-3.ensures c.filled-4.ensures c.filled-5.ensures c.filled-6.ensures c.filled-7.ensures c.filled-8.ensures groups two_headers_are refl,
+      ap length c.filled.ensures,
+    )

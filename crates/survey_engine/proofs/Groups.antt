@@ -1,0 +1,121 @@
+-- Owners, marks and groups, one sighting after the other.
+use Rattle.std.proofs.Common.{◌≡◌, ℕ, ◌+◌, ◌<◌, ◌≤◌, List, [], ◌∷◌, ◌++◌, Bool, length, map, take, get_or, refl, sym, ap, ◌∙◌, All, Option, Some, None}
+use Rattle.std.specs.Prelude.{◌==◌}
+use Rattle.std.specs.List.{filter_map, cons_option}
+use Rattle.std.proofs.lemmas.List.{append-nil, append_assoc, take_all, take_more, map_more}
+use Rattle.std.proofs.lemmas.List.Elements.{All-get_or, filter_map-append}
+use Rattle.std.proofs.lemmas.List.Sums.{fold-append}
+use Rattle.landmark_rules.specs.declared.marks.Group.{Group}
+use Rattle.landmark_rules.specs.declared.marks.GroupKind.{GroupKind}
+use Rattle.landmark_rules.specs.declared.marks.GroupKind.TheVariants.{Gpt as GptGroup, Ntfs as NtfsGroup, Xfs as XfsGroup}
+use Rattle.landmark_rules.specs.declared.marks.Mark.{Mark}
+use Rattle.landmark_rules.specs.declared.marks.Rule.{Rule}
+use Rattle.survey_engine.specs.Kept.{kept, kept_with}
+use Rattle.survey_engine.specs.Landmarks.{kind_of, IsSound}
+use Rattle.survey_engine.specs.Owners.{group_for, groups_in, groups_of, is_new, mark_in, owner_among, owners_of, rule_in, IsSoundOwner}
+use Rattle.survey_engine.specs.declared.owner.Owner.{Owner}
+use Rattle.survey_engine.specs.declared.sighting.Sighting.{Sighting}
+
+-- an element of a list
+pub sound_at : (found : List Sighting) (i : ℕ) (s : Sighting) → All (λ t. IsSound t.landmark) found → i < length found → s ≡ get_or found i s → IsSound s.landmark
+sound_at found i s all below is = rw is (All-get_or (λ t. IsSound t.landmark) found i s below all)
+
+pub owner_at : (owners : List Owner) (i : ℕ) (o : Owner) → All IsSoundOwner owners → i < length owners → o ≡ get_or owners i o → IsSoundOwner o
+owner_at owners i o all below is = rw is (All-get_or IsSoundOwner owners i o below all)
+
+maps_more : {X Y : Type 0} (h : X → Option Y) (xs : List X) (i : ℕ) (x : X) (one : Option Y) → i < length xs → x ≡ get_or xs i x → h x ≡ one → filter_map h (take (i + 1) xs) ≡ filter_map h (take i xs) ++ cons_option one []
+maps_more {X} {Y} h xs i x one below is at =
+    ap (filter_map h) (take_more xs i x below) ∙ filter_map-append h (take i xs) (get_or xs i x ∷ [])
+    ∙ ap (λ (y : X). filter_map h (take i xs) ++ cons_option (h y) []) (sym is) ∙ ap (λ (o : Option Y). filter_map h (take i xs) ++ cons_option o []) at
+
+-- ---- owners
+
+-- those of the first sightings
+pub owners_to : GroupKind → List Sighting → ℕ → List Owner
+owners_to kind found n = kept (is_new kind) (filter_map (owner_among kind) (take n found))
+
+pub owners_none : (kind : GroupKind) (found : List Sighting) → owners_to kind found 0 ≡ []
+unfolding owners_to
+owners_none kind found = refl
+
+pub owners_some : (kind : GroupKind) (found : List Sighting) (i : ℕ) (s : Sighting) (o : Owner) → i < length found → s ≡ get_or found i s → owner_among kind s ≡ Some o →
+    owners_to kind found (i + 1) ≡ kept_with (is_new kind) (owners_to kind found i) o
+unfolding owners_to
+owners_some kind found i s o below is at =
+    ap (kept (is_new kind)) (maps_more (owner_among kind) found i s (Some o) below is at) ∙ fold-append (kept_with (is_new kind)) [] (filter_map (owner_among kind) (take i found)) (o ∷ [])
+
+pub owners_same : (kind : GroupKind) (found : List Sighting) (i : ℕ) (s : Sighting) → i < length found → s ≡ get_or found i s → owner_among kind s ≡ None →
+    owners_to kind found (i + 1) ≡ owners_to kind found i
+unfolding owners_to
+owners_same kind found i s below is at =
+    ap (kept (is_new kind)) (maps_more (owner_among kind) found i s None below is at ∙ append-nil (filter_map (owner_among kind) (take i found)))
+
+pub owners_all : (kind : GroupKind) (found : List Sighting) (n : ℕ) → length found ≤ n → owners_to kind found n ≡ owners_of kind found
+unfolding owners_to owners_of
+owners_all kind found n all = ap (λ (l : List Sighting). kept (is_new kind) (filter_map (owner_among kind) l)) (take_all n found all)
+
+-- ---- marks
+
+pub marks_to : Owner → Bool → List Sighting → ℕ → List Mark
+marks_to owner alone found n = filter_map (mark_in owner alone) (take n found)
+
+pub marks_none : (owner : Owner) (alone : Bool) (found : List Sighting) → marks_to owner alone found 0 ≡ []
+unfolding marks_to
+marks_none owner alone found = refl
+
+-- the mark of a sighting by its rule
+ruled : (s : Sighting) → Option Rule → Option Mark
+ruled s None = None
+ruled s (Some rule) = Some (record { kind = kind_of s.landmark; image = s.image; sector = s.sector; rule = rule })
+
+mark_is : (owner : Owner) (alone : Bool) (s : Sighting) (rule : Option Rule) → rule_in owner alone s.landmark ≡ rule → mark_in owner alone s ≡ ruled s rule
+unfolding ruled
+mark_is owner alone s None is = rw is refl
+mark_is owner alone s (Some rule) is = rw is refl
+
+pub marks_some : (owner : Owner) (alone : Bool) (found : List Sighting) (i : ℕ) (s : Sighting) (rule : Rule) → i < length found → s ≡ get_or found i s → rule_in owner alone s.landmark ≡ Some rule →
+    marks_to owner alone found (i + 1) ≡ marks_to owner alone found i ++ (record { kind = kind_of s.landmark; image = s.image; sector = s.sector; rule = rule }) ∷ []
+unfolding marks_to ruled
+marks_some owner alone found i s rule below is at =
+    maps_more (mark_in owner alone) found i s (Some (record { kind = kind_of s.landmark; image = s.image; sector = s.sector; rule = rule })) below is (mark_is owner alone s (Some rule) at)
+
+pub marks_same : (owner : Owner) (alone : Bool) (found : List Sighting) (i : ℕ) (s : Sighting) → i < length found → s ≡ get_or found i s → rule_in owner alone s.landmark ≡ None →
+    marks_to owner alone found (i + 1) ≡ marks_to owner alone found i
+unfolding marks_to ruled
+marks_same owner alone found i s below is at =
+    maps_more (mark_in owner alone) found i s None below is (mark_is owner alone s None at) ∙ append-nil (filter_map (mark_in owner alone) (take i found))
+
+pub marks_all : (owner : Owner) (alone : Bool) (found : List Sighting) (n : ℕ) → length found ≤ n → marks_to owner alone found n ≡ filter_map (mark_in owner alone) found
+unfolding marks_to
+marks_all owner alone found n all = ap (filter_map (mark_in owner alone)) (take_all n found all)
+
+-- ---- groups
+
+pub groups_to : List Sighting → Bool → List Owner → List Group → ℕ → List Group
+groups_to found alone owners old n = old ++ map (group_for found alone) (take n owners)
+
+pub groups_none : (found : List Sighting) (alone : Bool) (owners : List Owner) (old : List Group) → groups_to found alone owners old 0 ≡ old
+unfolding groups_to
+groups_none found alone owners old = append-nil old
+
+pub groups_more : (found : List Sighting) (alone : Bool) (owners : List Owner) (old : List Group) (i : ℕ) (o : Owner) → i < length owners → o ≡ get_or owners i o →
+    groups_to found alone owners old (i + 1) ≡ groups_to found alone owners old i ++ group_for found alone o ∷ []
+unfolding groups_to
+groups_more found alone owners old i o below is =
+    ap (λ (l : List Group). old ++ l) (map_more (group_for found alone) owners i o below)
+    ∙ sym (append_assoc old (map (group_for found alone) (take i owners)) (group_for found alone (get_or owners i o) ∷ []))
+    ∙ ap (λ (x : Owner). (old ++ map (group_for found alone) (take i owners)) ++ group_for found alone x ∷ []) (sym is)
+
+pub groups_all : (found : List Sighting) (kind : GroupKind) (owners : List Owner) (alone : Bool) (old : List Group) (n : ℕ) → length owners ≤ n → owners ≡ owners_of kind found → alone ≡ (length owners == 1) →
+    groups_to found alone owners old n ≡ old ++ groups_in found kind
+unfolding groups_to groups_in
+groups_all found kind owners alone old n all are single =
+    ap (λ (l : List Owner). old ++ map (group_for found alone) l) (take_all n owners all)
+    ∙ ap (λ (b : Bool). old ++ map (group_for found b) owners) single
+    ∙ ap (λ (l : List Owner). old ++ map (group_for found (length l == 1)) l) are
+
+-- the groups of the three kinds
+pub three_kinds : (found : List Sighting) → (([] ++ groups_in found GptGroup) ++ groups_in found NtfsGroup) ++ groups_in found XfsGroup ≡ groups_of found
+three_kinds found =
+    append_assoc (groups_in found GptGroup) (groups_in found NtfsGroup) (groups_in found XfsGroup)
+    ∙ ap (λ (l : List Group). groups_in found GptGroup ++ (groups_in found NtfsGroup ++ l)) (sym (append-nil (groups_in found XfsGroup)))

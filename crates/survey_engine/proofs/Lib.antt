@@ -1,0 +1,14 @@
+pub mod Landmarks
+pub mod Rules
+pub mod Order
+pub mod Rows
+pub mod Sweeping
+pub mod Groups
+pub mod Numbers
+pub mod Firsts
+pub mod Lengths
+pub mod Owners
+pub mod Marks
+pub mod Once
+pub mod Law
+pub mod TestAsks

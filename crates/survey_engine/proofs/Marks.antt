@@ -1,0 +1,137 @@
+-- The marks of a group are those of a plan.
+use Rattle.std.proofs.Common.{◌≡◌, ℕ, ◌+◌, ◌*◌, ◌/◌, ◌^◌, ◌<◌, ◌≤◌, List, [], ◌∷◌, Bool, true, false, cond, map, refl, arith, All, IfSome, Option, Some, None}
+use Rattle.std.specs.List.{cons_option, filter_map}
+use Rattle.std.specs.Option.{option_map}
+use Rattle.std.specs.List.Sorted.{IsStrictlyIncreasing}
+use Rattle.std.proofs.lemmas.Nat.{mul-le}
+use Rattle.std.proofs.lemmas.Bool.Decides.{nat_tests}
+use Rattle.std.proofs.lemmas.List.Elements.{All-cons, All-head, All-nil, All-tail}
+use Rattle.ntfs_marks.specs.Boot.{is_within_limit}
+use Rattle.ntfs_marks.specs.declared.boot.NtfsBoot.{NtfsBoot}
+use Rattle.ntfs_marks.specs.declared.file_record.NtfsRecord.{NtfsRecord}
+use Rattle.xfs_marks.specs.Superblock.{end_sector, group_sectors, is_sound}
+use Rattle.xfs_marks.specs.declared.superblock.XfsSuper.{XfsSuper}
+use Rattle.landmark_rules.specs.Groups.{group_of, mark_place, IsMark}
+use Rattle.landmark_rules.specs.Rules.{IsRule}
+use Rattle.landmark_rules.specs.declared.marks.Mark.{Mark}
+use Rattle.landmark_rules.specs.declared.marks.Rule.{Rule}
+use Rattle.landmark_rules.specs.declared.marks.Rule.TheVariants.{Either, Every}
+use Rattle.survey_engine.specs.Landmarks.{kind_of, IsSound}
+use Rattle.survey_engine.specs.Owners.{group_kind, group_rule, is_same_boot, is_same_super, mark_in, record_rule, rule_in, IsSoundOwner}
+use Rattle.survey_engine.specs.Sightings.{sighting_place, AreRising, IsSighting}
+use Rattle.survey_engine.specs.declared.landmark.Landmark.{Landmark}
+use Rattle.survey_engine.specs.declared.landmark.Landmark.TheVariants.{Gpt, Boot, FileRecord, Super, Agf, Agi}
+use Rattle.survey_engine.specs.declared.owner.Owner.{Owner}
+use Rattle.survey_engine.specs.declared.owner.Owner.TheVariants.{Table, Ntfs, Xfs}
+use Rattle.survey_engine.specs.declared.sighting.Sighting.{Sighting}
+use Rattle.survey_engine.proofs.Numbers.{rising_from, Rises}
+use Rattle.survey_engine.proofs.Owners.{mapped_each}
+use Rattle.survey_engine.proofs.Rules.{head_near, in_mirror, in_table}
+
+-- ---- rules
+
+-- what a plan asks of a rule, where the test that lets it in is passed
+abbrev no_rule : Option Rule
+no_rule = None
+
+if_passed : (b : Bool) (rule : Rule) → (b ≡ true → IsRule rule) → IfSome (cond b (Some rule) no_rule) IsRule
+if_passed true rule is = is refl
+if_passed false rule is = tt
+
+total_near : (b : NtfsBoot) → is_within_limit b ≡ true → b.total < 2 ^ 55
+unfolding is_within_limit
+total_near b sound = grind (arith, nat_tests)
+
+some_sectors : (x : XfsSuper) → 512 ≤ x.block → 1 ≤ x.ag_blocks → 1 ≤ group_sectors x
+unfolding group_sectors
+some_sectors x block blocks =
+    let most : 1 * 512 ≤ x.ag_blocks * x.block = mul-le 1 512 x.ag_blocks x.block blocks block in
+    omega arith
+
+steps_near : (x : XfsSuper) → is_sound x ≡ true → (group_sectors x < 2 ^ 55) × (x.ag_count < 2 ^ 55) × (0 < 2 ^ 55) × (group_sectors x * x.ag_count + 0 < 2 ^ 55)
+unfolding is_sound end_sector
+steps_near x sound =
+    let block : 512 ≤ x.block = grind (arith, nat_tests) in
+    let blocks : 1 ≤ x.ag_blocks = grind (arith, nat_tests) in
+    let groups : 1 ≤ x.ag_count = grind (arith, nat_tests) in
+    let last : group_sectors x * x.ag_count + 2 * (x.sector / 512) < 2 ^ 55 = grind (arith, nat_tests) in
+    let step = some_sectors x block blocks in
+    let by_count : group_sectors x * 1 ≤ group_sectors x * x.ag_count = mul-le (group_sectors x) 1 (group_sectors x) x.ag_count (omega arith) groups in
+    let by_step : 1 * x.ag_count ≤ group_sectors x * x.ag_count = mul-le 1 x.ag_count (group_sectors x) x.ag_count step (omega arith) in
+    (omega arith, omega arith, omega arith, omega arith)
+
+record_rule_is : (b : NtfsBoot) (r : NtfsRecord) → is_within_limit b ≡ true → r.number < 16 → IfSome (record_rule b r) IsRule
+unfolding record_rule
+record_rule_is b r sound below = if_passed _ _ (λ same. (in_table b r.number sound below, in_mirror b r.number sound below))
+
+group_rule_is : (x : XfsSuper) (g s : ℕ) → is_sound x ≡ true → s ≤ 2 → IfSome (group_rule x g s) IsRule
+unfolding group_rule
+group_rule_is x g s sound few = if_passed _ _ (λ less. head_near x g s sound (grind (arith, nat_tests)) few)
+
+if_alone : (alone : Bool) (rule : Option Rule) → IfSome rule IsRule → IfSome (cond alone rule None) IsRule
+if_alone true rule is = is
+if_alone false rule is = tt
+
+rule_is : (o : Owner) (alone : Bool) (l : Landmark) → IsSoundOwner o → IsSound l → IfSome (rule_in o alone l) IsRule
+unfolding rule_in
+rule_is Table alone (Gpt h) so sl = sl
+rule_is (Ntfs b) alone (Boot c) so sl = if_passed (is_same_boot b c) (Either 0 b.total) (λ same. (omega arith, total_near b so))
+rule_is (Ntfs b) alone (FileRecord r) so sl = if_alone alone (record_rule b r) (record_rule_is b r so sl)
+rule_is (Xfs x) alone (Super y) so sl = if_passed (is_same_super x y) (Every (group_sectors x) x.ag_count 0) (λ same. steps_near x so)
+rule_is (Xfs x) alone (Agf g) so sl = if_alone alone (group_rule x g 1) (group_rule_is x g 1 so (omega arith))
+rule_is (Xfs x) alone (Agi g) so sl = if_alone alone (group_rule x g 2) (group_rule_is x g 2 so (omega arith))
+rule_is o alone l so sl = tt
+
+any_rule : (P : Type 0) (rule : Option Rule) → P → IfSome rule (λ r. P)
+any_rule P None is = tt
+any_rule P (Some r) is = is
+
+kind_is : (o : Owner) (alone : Bool) (l : Landmark) → IfSome (rule_in o alone l) (λ rule. group_of (kind_of l) ≡ group_kind o)
+unfolding rule_in
+kind_is Table alone (Gpt h) = refl
+kind_is (Ntfs b) alone (Boot c) = any_rule _ (cond (is_same_boot b c) (Some (Either 0 b.total)) None) refl
+kind_is (Ntfs b) alone (FileRecord r) = any_rule _ (cond alone (record_rule b r) None) refl
+kind_is (Xfs x) alone (Super y) = any_rule _ (cond (is_same_super x y) (Some (Every (group_sectors x) x.ag_count 0)) None) refl
+kind_is (Xfs x) alone (Agf g) = any_rule _ (cond alone (group_rule x g 1) None) refl
+kind_is (Xfs x) alone (Agi g) = any_rule _ (cond alone (group_rule x g 2) None) refl
+kind_is o alone l = tt
+
+-- ---- marks
+
+of_rule : (lengths : List ℕ) (o : Owner) (s : Sighting) (rule : Option Rule) → IsSighting lengths s → IfSome rule IsRule → IfSome rule (λ r. group_of (kind_of s.landmark) ≡ group_kind o) →
+    IfSome (option_map (λ r. record { kind = kind_of s.landmark; image = s.image; sector = s.sector; rule = r }) rule) (IsMark lengths (group_kind o))
+of_rule lengths o s None is rule kind = tt
+of_rule lengths o s (Some r) is rule kind = record { kind_of = kind; image = is.image; sector = is.sector; rule = rule }
+
+pub are_marks : (lengths : List ℕ) (o : Owner) (alone : Bool) (found : List Sighting) → IsSoundOwner o → All (IsSighting lengths) found → All (IsMark lengths (group_kind o)) (filter_map (mark_in o alone) found)
+are_marks lengths o alone found so each =
+    mapped_each (IsSighting lengths) (IsMark lengths (group_kind o)) (mark_in o alone) (λ s is. of_rule lengths o s (rule_in o alone s.landmark) is (rule_is o alone s.landmark so is.sound) (kind_is o alone s.landmark)) found each
+
+-- ---- they rise
+
+placed : (s : Sighting) (rule : Option Rule) → IfSome (option_map (λ r. record { kind = kind_of s.landmark; image = s.image; sector = s.sector; rule = r }) rule) (λ m. mark_place m ≡ sighting_place s)
+placed s None = tt
+placed s (Some r) = refl
+
+above_one : (n : ℕ) (s : Sighting) (one : Option Mark) (rest : List Mark) → IfSome one (λ m. mark_place m ≡ sighting_place s) → n < sighting_place s → All (λ k. n < k) (map mark_place rest) → All (λ k. n < k) (map mark_place (cons_option one rest))
+above_one n s None rest at less all = all
+above_one n s (Some m) rest at less all = All-cons (λ k. n < k) (mark_place m) (map mark_place rest) (omega arith) all
+
+above : (n : ℕ) (o : Owner) (alone : Bool) (found : List Sighting) → All (λ t. n < sighting_place t) found → All (λ k. n < k) (map mark_place (filter_map (mark_in o alone) found))
+above n o alone [] all = All-nil (λ k. n < k)
+above n o alone (s ∷ found) all =
+    above_one n s (mark_in o alone s) (filter_map (mark_in o alone) found) (placed s (rule_in o alone s.landmark)) (All-head (λ t. n < sighting_place t) s found all) (above n o alone found (All-tail (λ t. n < sighting_place t) s found all))
+
+rise_one : (s : Sighting) (one : Option Mark) (rest : List Mark) → IfSome one (λ m. mark_place m ≡ sighting_place s) → All (λ k. sighting_place s < k) (map mark_place rest) → Rises (map mark_place rest) → Rises (map mark_place (cons_option one rest))
+unfolding Rises
+rise_one s None rest at all rises = rises
+rise_one s (Some m) rest at all rises = (rw at all, rises)
+
+marks_rise : (o : Owner) (alone : Bool) (found : List Sighting) → AreRising found → Rises (map mark_place (filter_map (mark_in o alone) found))
+unfolding Rises
+marks_rise o alone [] rising = tt
+marks_rise o alone (s ∷ found) rising =
+    rise_one s (mark_in o alone s) (filter_map (mark_in o alone) found) (placed s (rule_in o alone s.landmark)) (above (sighting_place s) o alone found rising.0) (marks_rise o alone found rising.1)
+
+pub are_rising : (o : Owner) (alone : Bool) (found : List Sighting) → AreRising found → IsStrictlyIncreasing (map mark_place (filter_map (mark_in o alone) found))
+are_rising o alone found rising = rising_from (map mark_place (filter_map (mark_in o alone) found)) (marks_rise o alone found rising)

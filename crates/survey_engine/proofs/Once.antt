@@ -1,0 +1,185 @@
+-- Each sighting gives one mark at most.
+use Rattle.std.proofs.Common.{◌≡◌, ℕ, ◌+◌, ◌≤◌, List, [], ◌∷◌, Bool, true, false, cond, eqb, length, refl, sym, ap, ◌∙◌, arith, Option, Some, None}
+use Rattle.std.specs.Prelude.{count_by, ◌==◌}
+use Rattle.std.specs.List.{cons_option, filter_map, flat_map, sum_by}
+use Rattle.std.specs.Option.{is_some, option_map}
+use Rattle.std.proofs.lemmas.Bool.{eqb-true}
+use Rattle.std.proofs.lemmas.List.Sums.{count_by-le-length, sum_by-append, sum_by-cons}
+use Rattle.ntfs_marks.specs.declared.boot.NtfsBoot.{NtfsBoot}
+use Rattle.ntfs_marks.specs.declared.file_record.NtfsRecord.{NtfsRecord}
+use Rattle.xfs_marks.specs.Superblock.{group_sectors}
+use Rattle.xfs_marks.specs.declared.superblock.XfsSuper.{XfsSuper}
+use Rattle.gpt_marks.specs.declared.header.GptHeader.{GptHeader}
+use Rattle.landmark_rules.specs.Groups.{kind_place}
+use Rattle.landmark_rules.specs.declared.marks.GroupKind.{GroupKind}
+use Rattle.landmark_rules.specs.declared.marks.Kind.{Kind}
+use Rattle.landmark_rules.specs.declared.marks.Mark.{Mark}
+use Rattle.landmark_rules.specs.declared.marks.Rule.{Rule}
+use Rattle.landmark_rules.specs.declared.marks.Rule.TheVariants.{Either, Every}
+use Rattle.survey_engine.specs.Landmarks.{kind_of}
+use Rattle.survey_engine.specs.Owners.{is_same_boot, is_same_owner, is_same_super, mark_in, owners_of, rule_in}
+use Rattle.survey_engine.specs.Sightings.{is_same_kind}
+use Rattle.survey_engine.specs.declared.landmark.Landmark.{Landmark}
+use Rattle.survey_engine.specs.declared.landmark.Landmark.TheVariants.{Gpt, Boot, FileRecord, Super, Agf, Agi}
+use Rattle.survey_engine.specs.declared.owner.Owner.{Owner}
+use Rattle.survey_engine.specs.declared.owner.Owner.TheVariants.{Table, Ntfs, Xfs}
+use Rattle.survey_engine.specs.declared.sighting.Sighting.{Sighting}
+use Rattle.survey_engine.proofs.Owners.{owners_once}
+
+abbrev one_if : Bool → ℕ
+one_if b = cond b 1 0
+
+-- a weaker test passes no fewer
+fewer : (p q : Owner → Bool) → ((o : Owner) → p o ≡ true → q o ≡ true) → (owners : List Owner) → count_by p owners ≤ count_by q owners
+fewer p q weaker [] = omega arith
+fewer p q weaker (o ∷ owners) =
+    omega (arith, sum_by-cons (λ o. one_if (p o)) o owners, sum_by-cons (λ o. one_if (q o)) o owners, here (p o) (q o) (weaker o), fewer p q weaker owners)
+  where
+    here : (a b : Bool) → (a ≡ true → b ≡ true) → one_if a ≤ one_if b
+    here true b h = let is : b ≡ true = h refl in rw is (omega arith)
+    here false b h = omega arith
+
+none_pass : (p : Owner → Bool) → ((o : Owner) → p o ≡ false) → (owners : List Owner) → count_by p owners ≡ 0
+none_pass p fails [] = refl
+none_pass p fails (o ∷ owners) =
+    let none : ◌≡◌ {A = ℕ} (one_if (p o)) 0 = ap one_if (fails o) in
+    omega (arith, sum_by-cons (λ o. one_if (p o)) o owners, none, none_pass p fails owners)
+
+-- ---- who takes a landmark
+
+passed : (b : Bool) (rule : Rule) → is_some (cond b (Some rule) None) ≡ b
+passed true rule = refl
+passed false rule = refl
+
+takes_boot : (alone : Bool) (c : NtfsBoot) (o : Owner) → is_some (rule_in o alone (Boot c)) ≡ true → is_same_owner o (Ntfs c) ≡ true
+unfolding rule_in
+takes_boot alone c Table takes = takes
+takes_boot alone c (Ntfs b) takes = sym (passed (is_same_boot b c) (Either 0 b.total)) ∙ takes
+takes_boot alone c (Xfs x) takes = takes
+
+takes_super : (alone : Bool) (y : XfsSuper) (o : Owner) → is_some (rule_in o alone (Super y)) ≡ true → is_same_owner o (Xfs y) ≡ true
+unfolding rule_in
+takes_super alone y Table takes = takes
+takes_super alone y (Ntfs b) takes = takes
+takes_super alone y (Xfs x) takes = sym (passed (is_same_super x y) (Every (group_sectors x) x.ag_count 0)) ∙ takes
+
+takes_header : (alone : Bool) (h : GptHeader) (o : Owner) → is_some (rule_in o alone (Gpt h)) ≡ true → is_same_owner o Table ≡ true
+unfolding rule_in
+takes_header alone h Table takes = takes
+takes_header alone h (Ntfs b) takes = takes
+takes_header alone h (Xfs x) takes = takes
+
+none_alone_record : (r : NtfsRecord) (o : Owner) → is_some (rule_in o false (FileRecord r)) ≡ false
+unfolding rule_in
+none_alone_record r Table = refl
+none_alone_record r (Ntfs b) = refl
+none_alone_record r (Xfs x) = refl
+
+none_alone_agf : (g : ℕ) (o : Owner) → is_some (rule_in o false (Agf g)) ≡ false
+unfolding rule_in
+none_alone_agf g Table = refl
+none_alone_agf g (Ntfs b) = refl
+none_alone_agf g (Xfs x) = refl
+
+none_alone_agi : (g : ℕ) (o : Owner) → is_some (rule_in o false (Agi g)) ≡ false
+unfolding rule_in
+none_alone_agi g Table = refl
+none_alone_agi g (Ntfs b) = refl
+none_alone_agi g (Xfs x) = refl
+
+alone_or : (owners : List Owner) (l : Landmark) (alone : Bool) → eqb (length owners) 1 ≡ alone → ((o : Owner) → is_some (rule_in o false l) ≡ false) → count_by (λ o. is_some (rule_in o alone l)) owners ≤ 1
+alone_or owners l true e none = let one : length owners ≡ 1 = eqb-true (length owners) 1 e in omega (arith, count_by-le-length (λ o. is_some (rule_in o true l)) owners)
+alone_or owners l false e none = omega (arith, none_pass (λ o. is_some (rule_in o false l)) none owners)
+
+-- one owner of a kind at most
+taken_once : (kind : GroupKind) (found : List Sighting) (l : Landmark) → count_by (λ o. is_some (rule_in o (length (owners_of kind found) == 1) l)) (owners_of kind found) ≤ 1
+taken_once kind found (Gpt h) =
+    omega (arith, fewer (λ o. is_some (rule_in o (length (owners_of kind found) == 1) (Gpt h))) (λ o. is_same_owner o Table) (takes_header (length (owners_of kind found) == 1) h) (owners_of kind found), owners_once kind found Table)
+taken_once kind found (Boot c) =
+    omega (arith, fewer (λ o. is_some (rule_in o (length (owners_of kind found) == 1) (Boot c))) (λ o. is_same_owner o (Ntfs c)) (takes_boot (length (owners_of kind found) == 1) c) (owners_of kind found), owners_once kind found (Ntfs c))
+taken_once kind found (Super y) =
+    omega (arith, fewer (λ o. is_some (rule_in o (length (owners_of kind found) == 1) (Super y))) (λ o. is_same_owner o (Xfs y)) (takes_super (length (owners_of kind found) == 1) y) (owners_of kind found), owners_once kind found (Xfs y))
+taken_once kind found (FileRecord r) = alone_or (owners_of kind found) (FileRecord r) (length (owners_of kind found) == 1) refl (none_alone_record r)
+taken_once kind found (Agf g) = alone_or (owners_of kind found) (Agf g) (length (owners_of kind found) == 1) refl (none_alone_agf g)
+taken_once kind found (Agi g) = alone_or (owners_of kind found) (Agi g) (length (owners_of kind found) == 1) refl (none_alone_agi g)
+
+-- ---- marks of a kind
+
+abbrev is_of : Kind → Mark → Bool
+is_of kind mark = kind_place mark.kind == kind_place kind
+
+-- what a sighting adds to the count, with an owner
+weight : Kind → Option Mark → ℕ
+weight kind None = 0
+weight kind (Some m) = one_if (is_of kind m)
+
+cons_count : (kind : Kind) (one : Option Mark) (rest : List Mark) → count_by (is_of kind) (cons_option one rest) ≡ weight kind one + count_by (is_of kind) rest
+unfolding weight
+cons_count kind None rest = omega arith
+cons_count kind (Some m) rest = sum_by-cons (λ m. one_if (is_of kind m)) m rest
+
+-- the marks of owners, among these sightings
+marks_with : List Owner → Bool → List Sighting → List Mark
+marks_with owners alone found = flat_map (λ o. filter_map (mark_in o alone) found) owners
+
+with_next : (kind : Kind) (owners : List Owner) (alone : Bool) (s : Sighting) (found : List Sighting) →
+    count_by (is_of kind) (marks_with owners alone (s ∷ found)) ≡ sum_by (λ o. weight kind (mark_in o alone s)) owners + count_by (is_of kind) (marks_with owners alone found)
+unfolding marks_with
+with_next kind [] alone s found = omega arith
+with_next kind (o ∷ owners) alone s found =
+    omega (
+      arith,
+      sum_by-append (λ m. one_if (is_of kind m)) (filter_map (mark_in o alone) (s ∷ found)) (flat_map (λ o. filter_map (mark_in o alone) (s ∷ found)) owners),
+      sum_by-append (λ m. one_if (is_of kind m)) (filter_map (mark_in o alone) found) (flat_map (λ o. filter_map (mark_in o alone) found) owners),
+      cons_count kind (mark_in o alone s) (filter_map (mark_in o alone) found),
+      sum_by-cons (λ o. weight kind (mark_in o alone s)) o owners,
+      with_next kind owners alone s found,
+    )
+
+weight_is : (kind : Kind) (s : Sighting) (rule : Option Rule) →
+    weight kind (option_map (λ r. record { kind = kind_of s.landmark; image = s.image; sector = s.sector; rule = r }) rule) ≤ one_if (is_some rule)
+unfolding weight
+weight_is kind s None = omega arith
+weight_is kind s (Some r) = at_most (is_same_kind kind s)
+  where
+    at_most : (b : Bool) → one_if b ≤ 1
+    at_most true = omega arith
+    at_most false = omega arith
+
+weight_none : (kind : Kind) (s : Sighting) (rule : Option Rule) → is_same_kind kind s ≡ false →
+    weight kind (option_map (λ r. record { kind = kind_of s.landmark; image = s.image; sector = s.sector; rule = r }) rule) ≡ 0
+unfolding weight
+weight_none kind s None other = refl
+weight_none kind s (Some r) other = ap one_if other
+
+sum_none : (f : Owner → ℕ) → ((o : Owner) → f o ≡ 0) → (owners : List Owner) → sum_by f owners ≡ 0
+sum_none f none [] = refl
+sum_none f none (o ∷ owners) = omega (arith, sum_by-cons f o owners, none o, sum_none f none owners)
+
+sum_less : (f g : Owner → ℕ) → ((o : Owner) → f o ≤ g o) → (owners : List Owner) → sum_by f owners ≤ sum_by g owners
+sum_less f g less [] = omega arith
+sum_less f g less (o ∷ owners) = omega (arith, sum_by-cons f o owners, sum_by-cons g o owners, less o, sum_less f g less owners)
+
+one_each : (kind : Kind) (owners : List Owner) (alone : Bool) (s : Sighting) (b : Bool) → is_same_kind kind s ≡ b → count_by (λ o. is_some (rule_in o alone s.landmark)) owners ≤ 1 →
+    sum_by (λ o. weight kind (mark_in o alone s)) owners ≤ one_if b
+one_each kind owners alone s true e once =
+    omega (arith, once, sum_less (λ o. weight kind (mark_in o alone s)) (λ o. one_if (is_some (rule_in o alone s.landmark))) (λ o. weight_is kind s (rule_in o alone s.landmark)) owners)
+one_each kind owners alone s false e once = omega (arith, sum_none (λ o. weight kind (mark_in o alone s)) (λ o. weight_none kind s (rule_in o alone s.landmark) e) owners)
+
+no_marks : (owners : List Owner) (alone : Bool) → marks_with owners alone [] ≡ []
+unfolding marks_with
+no_marks [] alone = refl
+no_marks (o ∷ owners) alone = no_marks owners alone
+
+as_many : (kind : Kind) (owners : List Owner) (alone : Bool) → ((l : Landmark) → count_by (λ o. is_some (rule_in o alone l)) owners ≤ 1) → (found : List Sighting) →
+    count_by (is_of kind) (marks_with owners alone found) ≤ count_by (is_same_kind kind) found
+as_many kind owners alone once [] = omega (arith, ap (count_by (is_of kind)) (no_marks owners alone))
+as_many kind owners alone once (s ∷ found) =
+    let rest = as_many kind owners alone once found in
+    omega (arith, with_next kind owners alone s found, sum_by-cons (λ s. one_if (is_same_kind kind s)) s found, one_each kind owners alone s (is_same_kind kind s) refl (once s.landmark), rest)
+
+-- no more marks of a kind than sightings
+pub few_marks : (kind : Kind) (group : GroupKind) (found : List Sighting) →
+    count_by (λ mark. kind_place mark.kind == kind_place kind) (flat_map (λ o. filter_map (mark_in o (length (owners_of group found) == 1)) found) (owners_of group found)) ≤ count_by (is_same_kind kind) found
+unfolding marks_with
+few_marks kind group found = as_many kind (owners_of group found) (length (owners_of group found) == 1) (taken_once group found) found

@@ -1,0 +1,177 @@
+-- The owners of a kind: they are of it, few, and no two are one.
+use Rattle.std.proofs.Common.{◌≡◌, ℕ, ◌<◌, ◌≤◌, List, [], ◌∷◌, ◌++◌, Bool, true, false, not, cond, eqb, ltb, length, fold, refl, sym, ap, subst, ◌∙◌, arith, All, IfSome, Option, Some, None}
+use Rattle.std.specs.Prelude.{◌||◌, count_by, option_and_then}
+use Rattle.std.specs.List.{cons_option, filter_map, list_any}
+use Rattle.std.proofs.lemmas.Bool.{and_parts, eqb-true, false≢true}
+use Rattle.std.proofs.lemmas.Bool.Decides.{nat_tests}
+use Rattle.std.proofs.lemmas.List.{length_push}
+use Rattle.std.proofs.lemmas.List.Elements.{All-cons, All-head, All-nil, All-push, All-tail}
+use Rattle.std.proofs.lemmas.List.Sums.{sum_by-cons, sum_by_push}
+use Rattle.std.proofs.lemmas.Slice.Eq.{bytes_eq-Decides}
+use Rattle.std.specs.Str.{bytes_eq}
+use Rattle.ntfs_marks.specs.declared.boot.NtfsBoot.{NtfsBoot}
+use Rattle.xfs_marks.specs.declared.superblock.XfsSuper.{XfsSuper}
+use Rattle.landmark_rules.specs.Groups.{group_place, most_groups}
+use Rattle.landmark_rules.specs.declared.marks.GroupKind.{GroupKind}
+use Rattle.survey_engine.specs.Kept.{kept_with}
+use Rattle.survey_engine.specs.Landmarks.{IsSound}
+use Rattle.survey_engine.specs.Owners.{group_kind, is_new, is_same_boot, is_same_owner, is_same_super, owner_among, owner_in, owners_of, IsSoundOwner}
+use Rattle.survey_engine.specs.declared.landmark.Landmark.{Landmark}
+use Rattle.survey_engine.specs.declared.landmark.Landmark.TheVariants.{Gpt, Boot, FileRecord, Super, Agf, Agi}
+use Rattle.survey_engine.specs.declared.owner.Owner.{Owner}
+use Rattle.survey_engine.specs.declared.owner.Owner.TheVariants.{Table, Ntfs, Xfs}
+use Rattle.survey_engine.specs.declared.sighting.Sighting.{Sighting}
+
+-- ---- what is kept
+
+keeps_one : {A : Type 0} (Q : List A → Type 0) (start : List A) (x : A) (b : Bool) → Q start → (b ≡ true → Q (start ++ x ∷ [])) → Q (cond b (start ++ x ∷ []) start)
+keeps_one Q start x true held step = step refl
+keeps_one Q start x false held step = held
+
+kept_keeps : {A : Type 0} (Q : List A → Type 0) (admits : List A → A → Bool) → ((before : List A) (x : A) → Q before → admits before x ≡ true → Q (before ++ x ∷ [])) → (xs start : List A) → Q start → Q (fold (kept_with admits) start xs)
+kept_keeps Q admits step [] start held = held
+kept_keeps Q admits step (x ∷ xs) start held = kept_keeps Q admits step xs (kept_with admits start x) (keeps_one Q start x (admits start x) held (λ admitted. step start x held admitted))
+
+kept_each : {A : Type 0} (P : A → Type 0) (admits : List A → A → Bool) (xs start : List A) → All P xs → All P start → All P (fold (kept_with admits) start xs)
+kept_each P admits [] start all held = held
+kept_each P admits (x ∷ xs) start all held =
+    kept_each P admits xs (kept_with admits start x) (All-tail P x xs all) (keeps_one (All P) start x (admits start x) held (λ admitted. All-push P start x held (All-head P x xs all)))
+
+cons_each : {Y : Type 0} (P : Y → Type 0) (one : Option Y) (rest : List Y) → IfSome one P → All P rest → All P (cons_option one rest)
+cons_each P None rest here all = all
+cons_each P (Some y) rest here all = All-cons P y rest here all
+
+-- what holds of each that a list gives
+pub mapped_each : {X Y : Type 0} (R : X → Type 0) (P : Y → Type 0) (h : X → Option Y) → ((x : X) → R x → IfSome (h x) P) → (xs : List X) → All R xs → All P (filter_map h xs)
+mapped_each R P h gives [] all = All-nil P
+mapped_each R P h gives (x ∷ xs) all = cons_each P (h x) (filter_map h xs) (gives x (All-head R x xs all)) (mapped_each R P h gives xs (All-tail R x xs all))
+
+-- ---- they are of the kind
+
+abbrev no_owner : Option Owner
+no_owner = None
+
+tested : (kind : GroupKind) (o : Owner) (b : Bool) → eqb (group_place (group_kind o)) (group_place kind) ≡ b → IfSome (cond b (Some o) no_owner) (λ o. group_place (group_kind o) ≡ group_place kind)
+tested kind o true e = eqb-true (group_place (group_kind o)) (group_place kind) e
+tested kind o false e = tt
+
+among : (kind : GroupKind) (one : Option Owner) → IfSome (option_and_then (λ o. cond (eqb (group_place (group_kind o)) (group_place kind)) (Some o) None) one) (λ o. group_place (group_kind o) ≡ group_place kind)
+among kind None = tt
+among kind (Some o) = tested kind o (eqb (group_place (group_kind o)) (group_place kind)) refl
+
+any : Sighting → Type 0
+any s = Unit {0}
+
+all_any : (found : List Sighting) → All any found
+unfolding any
+all_any found = λ k d h. tt
+
+pub owners_kind : (kind : GroupKind) (found : List Sighting) → All (λ o. group_place (group_kind o) ≡ group_place kind) (owners_of kind found)
+unfolding owners_of
+owners_kind kind found =
+    kept_each (λ o. group_place (group_kind o) ≡ group_place kind) (is_new kind) (filter_map (owner_among kind) found) []
+    (mapped_each any (λ o. group_place (group_kind o) ≡ group_place kind) (owner_among kind) (λ s h. among kind (owner_in s.landmark)) found (all_any found))
+    (All-nil (λ o. group_place (group_kind o) ≡ group_place kind))
+
+-- ---- they are sound where the sightings are
+
+sound_tested : (o : Owner) (b : Bool) → IsSoundOwner o → IfSome (cond b (Some o) no_owner) IsSoundOwner
+sound_tested o true is = is
+sound_tested o false is = tt
+
+sound_among : (kind : GroupKind) (one : Option Owner) → IfSome one IsSoundOwner → IfSome (option_and_then (λ o. cond (eqb (group_place (group_kind o)) (group_place kind)) (Some o) None) one) IsSoundOwner
+sound_among kind None is = tt
+sound_among kind (Some o) is = sound_tested o (eqb (group_place (group_kind o)) (group_place kind)) is
+
+sound_in : (l : Landmark) → IsSound l → IfSome (owner_in l) IsSoundOwner
+sound_in (Gpt h) is = tt
+sound_in (Boot b) is = is
+sound_in (FileRecord r) is = tt
+sound_in (Super x) is = is
+sound_in (Agf g) is = tt
+sound_in (Agi g) is = tt
+
+pub owners_sound : (kind : GroupKind) (found : List Sighting) → All (λ s. IsSound s.landmark) found → All IsSoundOwner (owners_of kind found)
+unfolding owners_of
+owners_sound kind found sound =
+    kept_each IsSoundOwner (is_new kind) (filter_map (owner_among kind) found) []
+    (mapped_each (λ s. IsSound s.landmark) IsSoundOwner (owner_among kind) (λ s is. sound_among kind (owner_in s.landmark) (sound_in s.landmark is)) found sound)
+    (All-nil IsSoundOwner)
+
+-- ---- they are few
+
+pub owners_few : (kind : GroupKind) (found : List Sighting) → length (owners_of kind found) ≤ most_groups kind
+unfolding owners_of
+owners_few kind found =
+    kept_keeps (λ l. length l ≤ most_groups kind) (is_new kind)
+    (λ before o held fresh.
+    let room : ltb (length before) (most_groups kind) ≡ true = (and_parts (ltb (length before) (most_groups kind)) (not (list_any (is_same_owner o) before)) fresh).0 in
+    let less : length before < most_groups kind = grind (arith, nat_tests) in
+    omega (arith, length_push before o))
+    (filter_map (owner_among kind) found) [] (omega arith)
+
+-- ---- no two are one
+
+boot_is : (a b : NtfsBoot) → a.cluster ≡ b.cluster → a.total ≡ b.total → a.mft ≡ b.mft → a.mirror ≡ b.mirror → a.record_bytes ≡ b.record_bytes → a.serial ≡ b.serial → a ≡ b
+boot_is a b c t m i r s = λ j. record { cluster = c j; total = t j; mft = m j; mirror = i j; record_bytes = r j; serial = s j }
+
+boot_means : (a b : NtfsBoot) → is_same_boot a b ≡ true → a ≡ b
+boot_means a b same = boot_is a b (grind (arith, nat_tests)) (grind (arith, nat_tests)) (grind (arith, nat_tests)) (grind (arith, nat_tests)) (grind (arith, nat_tests)) (grind (arith, nat_tests))
+
+super_is : (a b : XfsSuper) → a.uuid ≡ b.uuid → a.block ≡ b.block → a.ag_blocks ≡ b.ag_blocks → a.ag_count ≡ b.ag_count → a.sector ≡ b.sector → a ≡ b
+super_is a b u k n c s = λ j. record { uuid = u j; block = k j; ag_blocks = n j; ag_count = c j; sector = s j }
+
+super_means : (a b : XfsSuper) → is_same_super a b ≡ true → a ≡ b
+super_means a b same =
+    let bytes : bytes_eq a.uuid b.uuid ≡ true = grind arith in
+    super_is a b ((bytes_eq-Decides a.uuid b.uuid).0 bytes) (grind (arith, nat_tests)) (grind (arith, nat_tests)) (grind (arith, nat_tests)) (grind (arith, nat_tests))
+
+same_means : (a b : Owner) → is_same_owner a b ≡ true → a ≡ b
+same_means Table Table same = refl
+same_means Table (Ntfs b) same = absurd (false≢true same)
+same_means Table (Xfs b) same = absurd (false≢true same)
+same_means (Ntfs a) Table same = absurd (false≢true same)
+same_means (Ntfs a) (Ntfs b) same = ap Ntfs (boot_means a b same)
+same_means (Ntfs a) (Xfs b) same = absurd (false≢true same)
+same_means (Xfs a) Table same = absurd (false≢true same)
+same_means (Xfs a) (Ntfs b) same = absurd (false≢true same)
+same_means (Xfs a) (Xfs b) same = ap Xfs (super_means a b same)
+
+same_self : (a : Owner) → is_same_owner a a ≡ true
+same_self Table = refl
+same_self (Ntfs a) = grind (arith, nat_tests)
+same_self (Xfs a) = let bytes : bytes_eq a.uuid a.uuid ≡ true = (bytes_eq-Decides a.uuid a.uuid).1 refl in grind (arith, nat_tests)
+
+same_back : (a b : Owner) → is_same_owner a b ≡ true → is_same_owner b a ≡ true
+same_back a b same = subst (λ (o : Owner). is_same_owner o a ≡ true) (same_means a b same) (same_self a)
+
+or_parts : (a b : Bool) → (a || b) ≡ false → (a ≡ false) × (b ≡ false)
+or_parts true b neither = absurd (false≢true (sym neither))
+or_parts false b neither = (refl, neither)
+
+none_more : (c o : Owner) (before : List Owner) (b : Bool) → is_same_owner o c ≡ b → is_same_owner c o ≡ false → count_by (λ p. is_same_owner p c) (o ∷ before) ≡ count_by (λ p. is_same_owner p c) before
+none_more c o before true e other = absurd (false≢true (sym other ∙ same_back o c e))
+none_more c o before false e other =
+    let none : ◌≡◌ {A = ℕ} (cond (is_same_owner o c) 1 0) 0 = ap (λ (t : Bool). cond t 1 0) e in
+    omega (arith, sum_by-cons (λ p. cond (is_same_owner p c) 1 0) o before, none)
+
+none_same : (c : Owner) (before : List Owner) → list_any (is_same_owner c) before ≡ false → count_by (λ o. is_same_owner o c) before ≡ 0
+none_same c [] other = refl
+none_same c (o ∷ before) other =
+    let parts = or_parts (is_same_owner c o) (list_any (is_same_owner c) before) other in
+    none_more c o before (is_same_owner o c) refl parts.0 ∙ none_same c before parts.1
+
+once_more : (kind : GroupKind) (c : Owner) (before : List Owner) (o : Owner) (b : Bool) → is_same_owner o c ≡ b → count_by (λ p. is_same_owner p c) before ≤ 1 → is_new kind before o ≡ true → count_by (λ p. is_same_owner p c) (before ++ o ∷ []) ≤ 1
+once_more kind c before o false e held fresh =
+    let none : ◌≡◌ {A = ℕ} (cond (is_same_owner o c) 1 0) 0 = ap (λ (t : Bool). cond t 1 0) e in
+    omega (arith, sum_by_push (λ p. cond (is_same_owner p c) 1 0) before o, none)
+once_more kind c before o true e held fresh =
+    let other : not (list_any (is_same_owner o) before) ≡ true = (and_parts (ltb (length before) (most_groups kind)) (not (list_any (is_same_owner o) before)) fresh).1 in
+    let none : list_any (is_same_owner c) before ≡ false = subst (λ (p : Owner). list_any (is_same_owner p) before ≡ false) (same_means o c e) (grind arith) in
+    let one : ◌≡◌ {A = ℕ} (cond (is_same_owner o c) 1 0) 1 = ap (λ (t : Bool). cond t 1 0) e in
+    omega (arith, sum_by_push (λ p. cond (is_same_owner p c) 1 0) before o, one, none_same c before none)
+
+pub owners_once : (kind : GroupKind) (found : List Sighting) (c : Owner) → count_by (λ o. is_same_owner o c) (owners_of kind found) ≤ 1
+unfolding owners_of
+owners_once kind found c =
+    kept_keeps (λ l. count_by (λ o. is_same_owner o c) l ≤ 1) (is_new kind) (λ before o held fresh. once_more kind c before o (is_same_owner o c) refl held fresh) (filter_map (owner_among kind) found) [] (omega arith)

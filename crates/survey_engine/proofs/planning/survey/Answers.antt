@@ -1,0 +1,30 @@
+use Rattle.std.proofs.Common.{◌≡◌, ◌^◌, ◌<◌, ◌≤◌, rules}
+use Rattle.std.proofs.lemmas.List.Elements.{All-same}
+use Rattle.survey_engine.specs.Origins.{AreOrigins}
+use Rattle.survey_engine.specs.Owners.{groups_of}
+use Rattle.survey_engine.specs.Sightings.{AreSightings}
+use Rattle.survey_engine.specs.Surveys.{lengths_of}
+use Rattle.survey_engine.proofs.Law.{are_groups}
+use Rattle.survey_engine.proofs.Lengths.{are_lengths, are_short, reach_end}
+use Rattle.survey_engine.proofs.planning.survey.Goals as goal
+
+pub origins-requires-clause-short : goal.origins-requires-clause-short
+origins-requires-clause-short g c =
+    All-same (λ n. n < 2 ^ 55) c.deref-2.result.now (lengths_of (g.I.Images.seen c.args.images.now).attached) (search rules) (are_short (g.I.Images.seen c.args.images.now).attached c.requires.short)
+
+pub returns-clause-plan : goal.returns-clause-plan
+returns-clause-plan g c =
+    let attached = (g.I.Images.seen c.args.images.now).attached in
+    let lengths : c.lengths-lengths.result.items ≡ lengths_of attached = search rules in
+    let made : c.in_ok-groups.groups ≡ groups_of c.in_ok-found.found = search rules in
+    let are : AreSightings c.deref.result.now c.in_ok-found.found = search rules in
+    let same : c.deref.result.now ≡ c.lengths-lengths.result.items = search rules in
+    let origins : AreOrigins c.in_ok-origins.origins.items = search rules in
+    record {
+      lengths = rw lengths (are_lengths attached c.requires.some c.requires.most c.requires.short);
+      ends = All-same (λ n. c.args.ask.now.end ≤ n) c.lengths-lengths.result.items (lengths_of attached) lengths (reach_end attached c.args.ask.now.end c.requires.long);
+      bounds = rw c.copy_of_bounds.ensures c.requires.ask_is.bounds;
+      limits = c.requires.ask_is.limits;
+      tests = record { origins = origins.rising; few_origins = origins.few; near_origins = origins.near; misfits = c.requires.ask_is.tests.misfits; least = c.requires.ask_is.tests.least };
+      groups = rw made (rw (← same) (are_groups c.deref.result.now c.in_ok-found.found are));
+    }

@@ -1,0 +1,7 @@
+pub mod Kept
+pub mod Landmarks
+pub mod Sightings
+pub mod Blocks
+pub mod Owners
+pub mod Origins
+pub mod Surveys

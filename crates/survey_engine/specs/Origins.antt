@@ -1,0 +1,39 @@
+-- Where partition tables say that partitions begin.
+use Rattle.search_plan.specs.Plans.{AreRising}
+use Rattle.std.specs.Prelude.{ℕ, ◌+◌, ◌^◌, ◌<◌, ◌≤◌, All, length, Bool, ◌&&◌, ◌==◌, nat_lt, List, [], take, fold, if◌then◌else◌, slice_index, slice_index_or}
+use Rattle.std.specs.List.{filter_map, flat_map}
+use Rattle.raid_params.specs.declared.limits.TheConstants.{MOST_ORIGINS}
+use Rattle.gpt_marks.specs.Entry.{first_lbas}
+use Rattle.gpt_marks.specs.declared.header.GptHeader.{GptHeader}
+use Rattle.survey_engine.specs.Kept.{with_number}
+use Rattle.survey_engine.specs.Sightings.{sector_of}
+use Rattle.survey_engine.specs.declared.landmark.Landmark.{Landmark}
+use Rattle.survey_engine.specs.declared.landmark.Landmark.TheVariants.{Gpt}
+use Rattle.survey_engine.specs.declared.sighting.Sighting.{Sighting}
+
+-- a header whose entries begin in the next sector, in an image of that length
+abbrev pub has_entries : GptHeader → ℕ → ℕ → Bool
+has_entries h sector length = h.entry_size == 128 && h.table == h.my_lba + 1 && nat_lt (sector + 1) length
+
+-- the first blocks of the partitions in the sector after a header
+abbrev pub hints_by : Landmark → ℕ → ℕ → List ℕ → List ℕ
+hints_by (Gpt h) sector length bytes =
+    if has_entries h sector length then filter_map (λ first. first) (first_lbas (sector_of bytes (sector + 1)) h.alternate) else []
+hints_by landmark sector length bytes = []
+
+unfoldable pub hints_at : List ℕ → List (List ℕ) → Sighting → List ℕ
+hints_at lengths images s = hints_by s.landmark s.sector (slice_index lengths s.image) (slice_index_or images s.image [])
+
+-- a rising list with more numbers in their places, and of all the first
+abbrev pub with_numbers : List ℕ → List ℕ → List ℕ
+with_numbers old numbers = take MOST_ORIGINS (fold with_number old numbers)
+
+-- the origins asked for and those hinted, in rising order, the first of them
+unfoldable pub origins_of : List ℕ → List ℕ → List (List ℕ) → List Sighting → List ℕ
+origins_of asked lengths images found = with_numbers asked (flat_map (hints_at lengths images) found)
+
+-- origins that a plan may have
+pub record AreOrigins (origins : List ℕ) : Type 0 where
+  pub rising : AreRising origins
+  pub few : length origins ≤ MOST_ORIGINS
+  pub near : All (λ n. n < 2 ^ 55) origins

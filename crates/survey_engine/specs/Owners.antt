@@ -1,0 +1,111 @@
+-- What sightings belong to, their groups and the rules of their marks.
+use Rattle.std.specs.Prelude.{ℕ, ◌+◌, ◌*◌, ◌/◌, Bool, true, false, IsTrue, not, ◌&&◌, ◌==◌, nat_lt, List, [], ◌∷◌, length, map, Option, Some, None, option_and_then, if◌then◌else◌}
+use Rattle.std.specs.List.{filter_map, flat_map, list_any}
+use Rattle.std.specs.Option.{option_map}
+use Rattle.std.specs.Str.{bytes_eq}
+use Rattle.ntfs_marks.specs.Boot.{is_within_limit, record_sector}
+use Rattle.ntfs_marks.specs.declared.boot.NtfsBoot.{NtfsBoot}
+use Rattle.ntfs_marks.specs.declared.file_record.NtfsRecord.{NtfsRecord}
+use Rattle.xfs_marks.specs.Superblock.{group_sectors, is_sound}
+use Rattle.xfs_marks.specs.declared.superblock.XfsSuper.{XfsSuper}
+use Rattle.landmark_rules.specs.Groups.{group_place, most_groups}
+use Rattle.landmark_rules.specs.declared.marks.Group.{Group}
+use Rattle.landmark_rules.specs.declared.marks.GroupKind.{GroupKind}
+use Rattle.landmark_rules.specs.declared.marks.GroupKind.TheVariants.{Gpt as GptGroup, Ntfs as NtfsGroup, Xfs as XfsGroup}
+use Rattle.landmark_rules.specs.declared.marks.Mark.{Mark}
+use Rattle.landmark_rules.specs.declared.marks.Rule.{Rule}
+use Rattle.landmark_rules.specs.declared.marks.Rule.TheVariants.{At, Either, Every}
+use Rattle.survey_engine.specs.Kept.{kept}
+use Rattle.survey_engine.specs.Landmarks.{kind_of}
+use Rattle.survey_engine.specs.declared.landmark.Landmark.{Landmark}
+use Rattle.survey_engine.specs.declared.landmark.Landmark.TheVariants.{Gpt, Boot, FileRecord, Super, Agf, Agi}
+use Rattle.survey_engine.specs.declared.owner.Owner.{Owner}
+use Rattle.survey_engine.specs.declared.owner.Owner.TheVariants.{Table, Ntfs, Xfs}
+use Rattle.survey_engine.specs.declared.sighting.Sighting.{Sighting}
+
+-- two boot sectors say the same, field by field
+abbrev pub is_same_boot : NtfsBoot → NtfsBoot → Bool
+is_same_boot a b =
+    (a.cluster == b.cluster && a.total == b.total && a.mft == b.mft)
+    && (a.mirror == b.mirror && a.record_bytes == b.record_bytes && a.serial == b.serial)
+
+-- so do two superblocks
+abbrev pub is_same_super : XfsSuper → XfsSuper → Bool
+is_same_super a b =
+    (a.block == b.block && a.ag_blocks == b.ag_blocks && a.ag_count == b.ag_count)
+    && (a.sector == b.sector && bytes_eq a.uuid b.uuid)
+
+-- two owners of marks are one
+abbrev pub is_same_owner : Owner → Owner → Bool
+is_same_owner Table Table = true
+is_same_owner (Ntfs a) (Ntfs b) = is_same_boot a b
+is_same_owner (Xfs a) (Xfs b) = is_same_super a b
+is_same_owner a b = false
+
+-- the kind of the group of an owner
+abbrev pub group_kind : Owner → GroupKind
+group_kind Table = GptGroup
+group_kind (Ntfs b) = NtfsGroup
+group_kind (Xfs x) = XfsGroup
+
+-- the owner that a landmark tells of
+abbrev pub owner_in : Landmark → Option Owner
+owner_in (Gpt h) = Some Table
+owner_in (Boot b) = Some (Ntfs b)
+owner_in (Super x) = Some (Xfs x)
+owner_in landmark = None
+
+abbrev pub owner_among : GroupKind → Sighting → Option Owner
+owner_among kind s = option_and_then (λ owner. if group_place (group_kind owner) == group_place kind then Some owner else None) (owner_in s.landmark)
+
+-- an owner that is new, where there is room for one more of its kind
+abbrev pub is_new : GroupKind → List Owner → Owner → Bool
+is_new kind before owner = nat_lt (length before) (most_groups kind) && not (list_any (is_same_owner owner) before)
+
+-- the first distinct owners of a kind, in order of their first sightings
+unfoldable pub owners_of : GroupKind → List Sighting → List Owner
+owners_of kind found = kept (is_new kind) (filter_map (owner_among kind) found)
+
+-- where file record r may lie: in the r-th place of the table of its volume or of the table's copy
+unfoldable pub record_rule : NtfsBoot → NtfsRecord → Option Rule
+record_rule b r =
+    if r.bytes == b.record_bytes then Some (Either (record_sector b b.mft r.number) (record_sector b b.mirror r.number)) else None
+
+-- where a head of allocation group g may lie, so many sectors of the file system from the group's start
+unfoldable pub group_rule : XfsSuper → ℕ → ℕ → Option Rule
+group_rule x g sectors = if nat_lt g x.ag_count then Some (At (g * group_sectors x + sectors * (x.sector / 512))) else None
+
+-- where a landmark may lie as a mark of an owner: a header of a table at its MyLBA, a boot sector at the
+-- start of the volume or, its copy, after the end, a superblock at the start of each group, an AGF one
+-- sector and an AGI two sectors after that. File records, AGF and AGI do not tell whose they are, and are
+-- marks only of an owner that is `alone` of its kind
+unfoldable pub rule_in : Owner → Bool → Landmark → Option Rule
+rule_in Table alone (Gpt h) = Some (At h.my_lba)
+rule_in (Ntfs b) alone (Boot c) = if is_same_boot b c then Some (Either 0 b.total) else None
+rule_in (Ntfs b) alone (FileRecord r) = if alone then record_rule b r else None
+rule_in (Xfs x) alone (Super y) = if is_same_super x y then Some (Every (group_sectors x) x.ag_count 0) else None
+rule_in (Xfs x) alone (Agf g) = if alone then group_rule x g 1 else None
+rule_in (Xfs x) alone (Agi g) = if alone then group_rule x g 2 else None
+rule_in owner alone landmark = None
+
+-- the numbers that an owner tells are those of sectors
+abbrev pub IsSoundOwner : Owner → Type 0
+IsSoundOwner Table = Unit {0}
+IsSoundOwner (Ntfs b) = IsTrue (is_within_limit b)
+IsSoundOwner (Xfs x) = IsTrue (is_sound x)
+
+-- the mark of a sighting in the group of an owner
+abbrev pub mark_in : Owner → Bool → Sighting → Option Mark
+mark_in owner alone s = option_map (λ rule. record { kind = kind_of s.landmark; image = s.image; sector = s.sector; rule = rule }) (rule_in owner alone s.landmark)
+
+-- the group of an owner
+abbrev pub group_for : List Sighting → Bool → Owner → Group
+group_for found alone owner = record { kind = group_kind owner; marks = filter_map (mark_in owner alone) found }
+
+-- the groups of a kind
+unfoldable pub groups_in : List Sighting → GroupKind → List Group
+groups_in found kind = map (group_for found (length (owners_of kind found) == 1)) (owners_of kind found)
+
+-- the groups of what was found
+abbrev pub groups_of : List Sighting → List Group
+groups_of found = flat_map (groups_in found) (GptGroup ∷ NtfsGroup ∷ XfsGroup ∷ [])

@@ -1,0 +1,55 @@
+-- The plan that a survey makes.
+use Rattle.std.specs.Prelude.{ℕ, ◌≡◌, ◌^◌, ◌≤◌, ◌<◌, List, length, map, All}
+use Rattle.image_source.specs.Causes.{Rose}
+use Rattle.image_source.specs.Seen.{Image, Seen}
+use Rattle.raid_params.specs.declared.limits.TheConstants.{MOST}
+use Rattle.search_plan.specs.Plans.{AreBounds, AreLimits, AreTests}
+use Rattle.search_plan.specs.declared.plan.Plan.{Plan}
+use Rattle.survey_engine.specs.Origins.{origins_of}
+use Rattle.survey_engine.specs.Owners.{groups_of}
+use Rattle.survey_engine.specs.Sightings.{counted, sightings}
+use Rattle.survey_engine.specs.declared.ask.Ask.{Ask}
+use Rattle.survey_engine.specs.declared.sighting.Sighting.{Sighting}
+use Rattle.survey_engine.specs.declared.planning.SurveyFault.{SurveyFault}
+use Rattle.survey_engine.specs.declared.planning.SurveyFault.TheVariants.{ReadFault, Memory}
+
+-- what is asked for is within the limits of a plan
+pub record IsAsk (ask : Ask) : Type 0 where
+  pub bounds : AreBounds ask.bounds
+  pub limits : AreLimits ask.limits
+  pub tests : AreTests ask.tests
+
+-- it can be asked of the attached images: there are some, and they reach to the end
+pub record IsSurveyable (ask : Ask) (attached : List Image) : Type 0 where
+  pub ask_is : IsAsk ask
+  pub some : 1 ≤ length attached
+  pub most : length attached ≤ MOST
+  pub short : All (λ image. image.sectors < 2 ^ 55) attached
+  pub long : All (λ image. ask.end ≤ image.sectors) attached
+
+-- the lengths of images
+abbrev pub lengths_of : List Image → List ℕ
+lengths_of attached = map (λ image. image.sectors) attached
+
+-- the sightings that count, in images of these bytes
+abbrev pub found_in : Ask → List Image → List (List ℕ) → List Sighting
+found_in ask attached images = counted (sightings ask (lengths_of attached) images (length attached))
+
+-- what the plan repeats
+pub record Repeats (ask : Ask) (attached : List Image) (plan : Plan) : Type 0 where
+  pub lengths : plan.lengths.items ≡ lengths_of attached
+  pub end : plan.end ≡ ask.end
+  pub bounds : plan.bounds ≡ ask.bounds
+  pub limits : plan.limits ≡ ask.limits
+  pub misfits : plan.tests.misfits ≡ ask.tests.misfits
+  pub least : plan.tests.least ≡ ask.tests.least
+
+-- what it adds, by the images' bytes
+pub record Adds (ask : Ask) (attached : List Image) (images : List (List ℕ)) (plan : Plan) : Type 0 where
+  pub groups : plan.groups ≡ groups_of (found_in ask attached images)
+  pub origins : plan.tests.origins.items ≡ origins_of ask.tests.origins.items (lengths_of attached) images (found_in ask attached images)
+
+-- a survey ends without a plan where the images failed, or memory ran out
+abbrev pub EndsSurvey : Seen → Seen → SurveyFault → Type 0
+EndsSurvey old new ReadFault = Rose old.faults new.faults
+EndsSurvey old new Memory = Unit {0}

@@ -1,0 +1,146 @@
+//! The origins of a plan: those that were asked for, and those that partition tables hint at.
+ghost use Rattle.std.specs.Prelude.{◌≡◌, ℕ, ◌+◌, ◌*◌, ◌^◌, ◌<◌, ◌≤◌, if◌then◌else◌, length, slice_index, take, All, IfOk, IfSome, MatchOption, OnOk};
+ghost use Rattle.image_source.specs.Attached.{told_all};
+ghost use Rattle.image_source.specs.Causes.{HasCause};
+ghost use Rattle.image_source.specs.Seen.{OnlyReads};
+ghost use Rattle.std.specs.List.{filter_map, insert};
+ghost use Rattle.landmark_rules.specs.declared.marks.Kind.TheVariants.{Gpt as GptKind};
+ghost use Rattle.survey_engine.specs.Kept.{with_number};
+ghost use Rattle.survey_engine.specs.Origins.{has_entries, hints_at, origins_of, with_numbers, AreOrigins};
+ghost use Rattle.survey_engine.specs.Sightings.{is_same_kind, AreSightings, IsSighting};
+ghost use Rattle.survey_engine.specs.Surveys.{lengths_of};
+
+use crate::landmark::Landmark;
+use crate::sighting::Sighting;
+use arrayvec::ArrayVec;
+use gpt_marks::{GptHeader, read_entries};
+use image_source::{Failed, Images, SECTOR};
+use raid_params::{MOST_MARKS, MOST_ORIGINS};
+
+/// The bytes of an entry of a partition table.
+const ENTRY: u32 = 128;
+
+/// Origins in rising order.
+type Origins = ArrayVec<u64, MOST_ORIGINS>;
+
+/// The origins asked for and those hinted by the headers that count, in rising order, the first of them.
+/// It reads at most one sector a header.
+pub fn origins<I: Images>(
+    images: &mut I,
+    asked: &[u64],
+    lengths: &[u64],
+    found: &[Sighting],
+) -> Result<Origins, Failed>
+    requires asked { AreOrigins asked.now }
+    requires found { AreSightings lengths.now found.now }
+    requires lengths { lengths.now ≡ lengths_of (I.seen images.old).attached }
+    requires short { All (λ n. n < 2 ^ 55) lengths.now }
+    ensures told { IfOk result (λ origins. IfSome (told_all (I.seen images.old).attached)
+        (λ bytes. origins.items ≡ origins_of asked.now lengths.now bytes found.now)) }
+    ensures origins { IfOk result (λ origins. AreOrigins origins.items) }
+    ensures reads { OnlyReads (I.seen images.old) (I.seen images.new) MOST_MARKS }
+    ensures cause { HasCause (I.seen images.old).faults (I.seen images.new).faults result }
+{
+    let mut origins = Origins::new();
+    origins.try_extend_from_slice(asked).unwrap();
+    for sighting in found {
+        add_hints(images, lengths, sighting, &mut origins)?;
+    }
+    Ok(origins)
+}
+
+/// Adds the hints of a sighting: where it is a header whose entries follow, the first blocks of the
+/// partitions in the next sector.
+fn add_hints<I: Images>(
+    images: &mut I,
+    lengths: &[u64],
+    sighting: &Sighting,
+    origins: &mut Origins,
+) -> Result<(), Failed>
+    requires lengths { lengths.now ≡ lengths_of (I.seen images.old).attached }
+    requires short { All (λ n. n < 2 ^ 55) lengths.now }
+    requires sighting { IsSighting lengths.now sighting.now }
+    requires origins { AreOrigins origins.old.items }
+    ensures told { OnOk result (IfSome (told_all (I.seen images.old).attached)
+        (λ bytes. origins.new.items ≡ with_numbers origins.old.items (hints_at lengths.now bytes sighting.now))) }
+    ensures origins { OnOk result (AreOrigins origins.new.items) }
+    ensures reads { OnlyReads (I.seen images.old) (I.seen images.new) (if is_same_kind GptKind sighting.now then 1 else 0) }
+    ensures cause { HasCause (I.seen images.old).faults (I.seen images.new).faults result }
+{
+    match &sighting.landmark {
+        Landmark::Gpt(header) => {
+            if !has_entries(header, sighting.sector, lengths[sighting.image as usize]) {
+                return Ok(());
+            }
+            let mut sector = [0; SECTOR];
+            images.read(sighting.image as u32, sighting.sector + 1, &mut sector)?;
+            add_firsts(origins, &read_entries(&sector, header.alternate));
+            Ok(())
+        }
+        _ => Ok(()),
+    }
+}
+
+/// Adds the first blocks of the entries that are used.
+#[tactic(auto, using(crate::proofs::Firsts::firsts_none, crate::proofs::Firsts::firsts_some, crate::proofs::Firsts::firsts_same, crate::proofs::Firsts::firsts_all, crate::proofs::Firsts::near_at, crate::proofs::Numbers::origins_with))]
+fn add_firsts(origins: &mut Origins, firsts: &[Option<u64>])
+    requires origins { AreOrigins origins.old.items }
+    requires near { All (λ o. IfSome o (λ first. first < 2 ^ 55)) firsts.now }
+    ensures items { origins.new.items ≡ with_numbers origins.old.items (filter_map (λ first. first) firsts.now) }
+    ensures origins { AreOrigins origins.new.items }
+{
+    for first in firsts {
+        if let Some(first) = first {
+            add_origin(origins, *first);
+        }
+    }
+}
+
+/// Whether the entries after a header begin in the next sector of its image, which has that length.
+fn has_entries(header: &GptHeader, sector: u64, length: u64) -> bool
+    requires lba { header.now.my_lba < 2 ^ 55 }
+    requires sector { sector < 2 ^ 55 }
+    ensures { result ≡ has_entries header.now sector length }
+{
+    header.entry_size == ENTRY && header.table == header.my_lba + 1 && sector + 1 < length
+}
+
+/// Puts a number into its place, unless it is there, and drops the last where there is no room for it.
+#[tactic(auto, using(crate::proofs::Numbers::all_taken))]
+fn add_origin(origins: &mut Origins, number: u64)
+    ensures { origins.new.items ≡ take MOST_ORIGINS (with_number origins.old.items number) }
+{
+    if let Some(place) = place_for(origins.as_slice(), number) {
+        insert_at(origins, place, number);
+    }
+}
+
+/// Inserts a number, and drops the last where there is no room for it.
+#[tactic(auto, using(crate::proofs::Numbers::all_taken, crate::proofs::Numbers::past_all, crate::proofs::Numbers::put_in_full, crate::proofs::Numbers::put_in))]
+fn insert_at(origins: &mut Origins, place: usize, number: u64)
+    requires { place ≤ length origins.old.items }
+    ensures { origins.new.items ≡ take MOST_ORIGINS (insert origins.old.items place number) }
+{
+    if !origins.is_full() {
+        origins.insert(place, number);
+    } else if place < MOST_ORIGINS {
+        origins.truncate(MOST_ORIGINS - 1);
+        origins.insert(place, number);
+    }
+}
+
+/// The place of a number in a rising list, and None where it is there.
+fn place_for(numbers: &[u64], number: u64) -> Option<usize>
+    ensures { MatchOption result (with_number numbers.now number ≡ numbers.now)
+        (λ place. (place ≤ length numbers.now) × (with_number numbers.now number ≡ insert numbers.now place number)) }
+{
+    for (place, other) in numbers.iter().enumerate() {
+        if number == *other {
+            return None;
+        }
+        if number < *other {
+            return Some(place);
+        }
+    }
+    Some(numbers.len())
+}

@@ -1,0 +1,103 @@
+//! The survey.
+ghost use Rattle.std.specs.Prelude.{◌≡◌, ◌+◌, ◌-◌, ◌*◌, ◌≤◌, length, slice_index, IfErr, IfOk, IfSome};
+ghost use Rattle.image_source.specs.Attached.{told_all};
+ghost use Rattle.image_source.specs.Seen.{OnlyReads};
+ghost use Rattle.search_plan.specs.Plans.{IsPlan};
+ghost use Rattle.survey_engine.specs.Surveys.{lengths_of, Adds, EndsSurvey, IsSurveyable, Repeats};
+
+use crate::ask::Ask;
+use crate::gathering::gather;
+use crate::grouping::groups;
+use crate::hints::origins;
+use arrayvec::ArrayVec;
+use image_source::Images;
+use landmark_rules::MarkTests;
+use raid_params::{Bounds, MOST, MOST_MARKS};
+use search_plan::Plan;
+use std::alloc::Global;
+use thiserror::Error;
+
+/// Why there is no plan.
+#[derive(Clone, Copy, Debug, Drop, Error)]
+pub enum SurveyFault {
+    /// The images failed.
+    #[error("an image cannot be read")]
+    ReadFault,
+    /// Out of memory.
+    #[error("not enough memory")]
+    Memory,
+}
+
+/// Surveys the attached images: the plan repeats what was asked, and adds the images' lengths, the groups
+/// of marks that the sightings make, and the origins that partition tables hint at.
+///
+/// Sectors from the smallest offset to the end are read once, and one sector of entries for a header of a
+/// partition table that counts.
+pub fn survey<I: Images>(alloc: Global, images: &mut I, ask: &Ask) -> Result<Plan, SurveyFault>
+    requires { IsSurveyable ask.now (I.seen images.old).attached }
+    ensures plan { IfOk result IsPlan }
+    ensures repeats { IfOk result (Repeats ask.now (I.seen images.old).attached) }
+    ensures adds { IfOk result (λ plan. IfSome (told_all (I.seen images.old).attached)
+        (λ bytes. Adds ask.now (I.seen images.old).attached bytes plan)) }
+    ensures reads { OnlyReads (I.seen images.old) (I.seen images.new)
+        (length (I.seen images.old).attached * (ask.now.end - slice_index ask.now.bounds.offsets.items 0) + MOST_MARKS) }
+    ensures ends { IfErr result (EndsSurvey (I.seen images.old) (I.seen images.new)) }
+{
+    let lengths = lengths(images);
+    let found = gather(alloc, images, ask, &lengths)?;
+    let asked = ask.tests.origins.as_slice();
+    let origins = origins(images, asked, &lengths, found.as_slice()).map_err(
+        |_| SurveyFault::ReadFault,
+    )?;
+    let groups = groups(alloc, found.as_slice()).map_err(|_| SurveyFault::Memory)?;
+    Ok(Plan {
+        lengths,
+        end: ask.end,
+        bounds: copy_of_bounds(&ask.bounds),
+        limits: ask.limits,
+        tests: MarkTests {
+            origins,
+            misfits: ask.tests.misfits,
+            least: ask.tests.least,
+        },
+        groups,
+    })
+}
+
+/// The lengths of the attached images.
+#[tactic(auto, using(crate::proofs::Lengths::lengths_more, crate::proofs::Lengths::lengths_same, crate::proofs::Lengths::lengths_all))]
+fn lengths<I: Images>(images: &I) -> ArrayVec<u64, MOST>
+    requires { length (I.seen images.now).attached ≤ MOST }
+    ensures { result.items ≡ lengths_of (I.seen images.now).attached }
+{
+    let mut lengths = ArrayVec::new();
+    for image in 0..MOST as u32 {
+        if let Some(length) = images.length(image) {
+            lengths.push(length);
+        }
+    }
+    lengths
+}
+
+fn copy_of_bounds(bounds: &Bounds) -> Bounds
+    ensures { result ≡ bounds.now }
+{
+    Bounds {
+        levels: copy_of(&bounds.levels),
+        members: copy_of(&bounds.members),
+        patterns: copy_of(&bounds.patterns),
+        syndromes: copy_of(&bounds.syndromes),
+        chunks: copy_of(&bounds.chunks),
+        offsets: copy_of(&bounds.offsets),
+        missing: bounds.missing,
+        foreign: bounds.foreign,
+    }
+}
+
+fn copy_of<T: Copy + Default, const N: usize>(list: &ArrayVec<T, N>) -> ArrayVec<T, N>
+    ensures { result ≡ list.now }
+{
+    let mut copy = ArrayVec::new();
+    copy.try_extend_from_slice(list.as_slice()).unwrap();
+    copy
+}

@@ -1,0 +1,159 @@
+//! Lines of JSON.
+ghost use Rattle.std.specs.Prelude.{◌≡◌, IfOk, string_bytes};
+ghost use Rattle.json_lines.specs.Objects.{level_number as level_number_of, name_data, next_data, next_object, set_data, set_object, slots_data};
+ghost use Rattle.plan_text.specs.Spelling.{line as line_of, pattern_name as pattern_spelling, syndrome_name as syndrome_spelling};
+ghost use Rattle.raid_layouts.specs.Names.{name_of};
+ghost use Rattle.serde_json.specs.Data.{array};
+ghost use Rattle.serde_json.specs.View.{view};
+ghost use Rattle.serde_json.specs.Written.{compact_text};
+
+use image_source::Memory;
+use plan_text::Text;
+use raid_layouts::md_name;
+use raid_params::{Geometry, Head, Level, Pattern, Syndrome};
+use serde_json::{Value, json};
+use std::alloc::{AllocError, Global};
+
+/// The line of a parameter set with its rank, and its line feed: an object with the keys chunk, level, name,
+/// offset, pattern, rank, slots and syndrome. `name` is mdadm's or DDF's name of the layout, or null; an empty
+/// slot is null.
+#[tactic(auto, unfolding(crate::specs::Objects::set_object))]
+pub fn json_line(alloc: Global, rank: u64, geo: &Geometry) -> Result<Text, Memory>
+    ensures { IfOk result (λ text. text ≡ set_object rank geo.now) }
+{
+    let text = set_text(alloc, rank, &geo.head, &geo.slots).map_err(|_| Memory)?;
+    ended(alloc, &text)
+}
+
+/// The line that says where the next page begins, with its line feed: an object with the keys next and total.
+#[tactic(auto, unfolding(crate::specs::Objects::next_object))]
+pub fn json_next(alloc: Global, next: u64, total: u64) -> Result<Text, Memory>
+    ensures { IfOk result (λ text. text ≡ next_object next total) }
+{
+    let text = next_text(alloc, next, total).map_err(|_| Memory)?;
+    ended(alloc, &text)
+}
+
+/// The text, ended by a line feed.
+fn ended(alloc: Global, text: &str) -> Result<Text, Memory>
+    ensures { IfOk result (λ line. line ≡ line_of text.now) }
+{
+    let mut line = Text::new(alloc);
+    line.extend_from_slice(text.as_bytes())?;
+    line.push(b'\n')?;
+    Ok(line)
+}
+
+/// The object of where the next page begins.
+fn next_text(alloc: Global, next: u64, total: u64) -> Result<String, AllocError>
+    ensures { IfOk result (λ text. string_bytes text ≡ compact_text (next_data next total)) }
+{
+    let value = next_value(alloc, next, total)?;
+    value.to_string(alloc)
+}
+
+fn next_value(alloc: Global, next: u64, total: u64) -> Result<Value, AllocError>
+    ensures { IfOk result (λ value. view value ≡ next_data next total) }
+{
+    json!(in alloc; { "next": next, "total": total })
+}
+
+/// The object of a parameter set.
+fn set_text(
+    alloc: Global,
+    rank: u64,
+    head: &Head,
+    slots: &[Option<u8>],
+) -> Result<String, AllocError>
+    ensures { IfOk result (λ text. string_bytes text ≡ compact_text (set_data rank head.now slots.now)) }
+{
+    let value = set_value(alloc, rank, head, slots)?;
+    value.to_string(alloc)
+}
+
+fn set_value(
+    alloc: Global,
+    rank: u64,
+    head: &Head,
+    slots: &[Option<u8>],
+) -> Result<Value, AllocError>
+    ensures { IfOk result (λ value. view value ≡ set_data rank head.now slots.now) }
+{
+    let name = name_value(alloc, head)?;
+    let list = slots_value(alloc, slots)?;
+    json!(in alloc; {
+        "chunk": head.chunk, "level": level_number(head.level), "name": name,
+        "offset": head.offset, "pattern": pattern_name(head.pattern), "rank": rank,
+        "slots": list, "syndrome": syndrome_name(head.syndrome)
+    })
+}
+
+/// The name of the layout, or null.
+fn name_value(alloc: Global, head: &Head) -> Result<Value, AllocError>
+    ensures { IfOk result (λ value. view value ≡ name_data (name_of head.now.level head.now.pattern head.now.syndrome)) }
+{
+    match md_name(head.level, head.pattern, head.syndrome) {
+        Some(name) => {
+            let text = String::from_str(alloc, name)?;
+            Ok(Value::String(text))
+        }
+        None => Ok(Value::Null),
+    }
+}
+
+/// The slots: numbers of images, and null where they are empty.
+fn slots_value(alloc: Global, slots: &[Option<u8>]) -> Result<Value, AllocError>
+    ensures { IfOk result (λ value. view value ≡ array (slots_data slots.now)) }
+{
+    let mut values = Vec::new(alloc);
+    for slot in slots {
+        let value = match slot {
+            Some(image) => Value::from(*image),
+            None => Value::Null,
+        };
+        values.push(value)?;
+    }
+    Ok(Value::Array(values))
+}
+
+fn level_number(level: Level) -> u8
+    ensures { result ≡ level_number_of level }
+{
+    match level {
+        Level::Raid0 => 0,
+        Level::Raid5 => 5,
+        Level::Raid6 => 6,
+    }
+}
+
+fn pattern_name(pattern: Pattern) -> &'static str
+    ensures { result.now ≡ pattern_spelling pattern }
+{
+    match pattern {
+        Pattern::Plain => "plain",
+        Pattern::La => "la",
+        Pattern::Ra => "ra",
+        Pattern::Ls => "ls",
+        Pattern::Rs => "rs",
+        Pattern::ParityFirst => "parity-first",
+        Pattern::ParityLast => "parity-last",
+        Pattern::NRestart => "n-restart",
+        Pattern::NContinue => "n-continue",
+        Pattern::La6 => "la-6",
+        Pattern::Ra6 => "ra-6",
+        Pattern::Ls6 => "ls-6",
+        Pattern::Rs6 => "rs-6",
+        Pattern::ParityFirst6 => "parity-first-6",
+    }
+}
+
+fn syndrome_name(syndrome: Syndrome) -> &'static str
+    ensures { result.now ≡ syndrome_spelling syndrome }
+{
+    match syndrome {
+        Syndrome::NoQ => "none",
+        Syndrome::AfterQ => "after-q",
+        Syndrome::ByData => "by-data",
+        Syndrome::BySlot => "by-slot",
+    }
+}

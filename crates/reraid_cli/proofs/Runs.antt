@@ -1,47 +1,43 @@
 -- A run, as the reading of its words says it.
-use Rattle.std.proofs.Common.{◌≡◌, ℕ, ◌≤◌, ◌+◌, ◌<◌, ◌^◌, List, [], ◌∷◌, None, Some, Option, Err, All, IfSome, refl, sym, ap, ◌∙◌, subst, arith, inl, inr, Bool, length}
+use Rattle.std.proofs.Common.{◌≡◌, ℕ, ◌≤◌, ◌+◌, ◌<◌, ◌^◌, List, [], ◌∷◌, None, Some, Option, Result, Ok, Err, All, IfSome, refl, sym, ap, ◌∙◌, subst, arith, inl, inr, Bool, length, IfErr}
 use Rattle.image_source.specs.Attached.{AreImagesOf}
 use Rattle.image_source.specs.Causes.{Rose}
 use Rattle.image_source.specs.Seen.{Image, Seen, World}
 use Rattle.image_source.specs.Streams.{AppendsFront}
 use Rattle.std.proofs.lemmas.List.Elements.{All-cons, All-nil}
 use Rattle.command_words.specs.declared.command.Command.{Command}
-use Rattle.command_words.specs.Commands.{AreRead, ReadsWords, names_after}
-use Rattle.command_jobs.specs.Jobs.{Ends, Leaves}
-use Rattle.command_jobs.specs.declared.stop.Stop.TheVariants.{ImageFault, NotBuilt}
-use Rattle.command_jobs.proofs.Printed.{front_of_nothing, keeps_itself}
+use Rattle.command_words.specs.Commands.{Reads, names_after}
+use Rattle.command_words.proofs.OneReading.{one_reading as readings_agree}
+use Rattle.run_ends.specs.Jobs.{Ends, Leaves, MayHaveRead}
+use Rattle.run_ends.specs.declared.stop.Stop.{Stop}
+use Rattle.run_ends.specs.declared.stop.Stop.TheVariants.{ImageFault, Word}
+use Rattle.run_ends.proofs.Printed.{front_of_nothing, keeps_itself}
 use Rattle.reraid_cli.specs.Answers.{Reading, Says, IsPlanned, command_output, command_reads, command_refusal, most_reads, output, refusal}
 use Rattle.reraid_cli.specs.Asked.{IsAsked, counts_of}
 
--- words that were read as none say none
-none_said : (words : List (List ℕ)) (read : Option Command) → ReadsWords words None → AreRead words read → read ≡ None
-none_said words None reads is = refl
-none_said words (Some command) reads is = absurd (let e : None ≡ Some command = reads.whole command is in cc)
-
--- and as a command, that command
-some_said : (words : List (List ℕ)) (command : Command) (read : Option Command) → ReadsWords words (Some command) → AreRead words read → read ≡ Some command
-some_said words command None reads is = absurd (is command reads.sound)
-some_said words command (Some other) reads is = sym (reads.whole other is)
+-- words have one reading
+pub one_reading : (words : List (List ℕ)) (one other : Result Command ℕ) → Reads words one → Reads words other → other ≡ one
+one_reading words one other a b = sym (readings_agree words one other a b)
 
 front_if : (p old : Option (List ℕ)) → IfSome p (λ text. AppendsFront old old text)
 front_if None old = tt
 front_if (Some text) old = front_of_nothing old text
 
 -- words that say nothing
-pub words_end : (words : List (List ℕ)) (left : Option (List ℕ)) (attached : List Image) (old : Option (List ℕ)) (reading : Reading) → ReadsWords words None → Says words left reading →
-    Ends {T = Unit {0}} (refusal reading attached) (output reading attached) old old (Err NotBuilt)
+pub words_end : (words : List (List ℕ)) (number : ℕ) (left : Option (List ℕ)) (attached : List Image) (old : Option (List ℕ)) (reading : Reading) → Reads words (Err number) → Says words left reading →
+    Ends {T = Unit {0}} (refusal reading attached) (output reading attached) old old (Err (Word number))
 unfolding refusal output
-words_end words left attached old reading reads says = record {
-  ends = inr (ap (λ (c : Option Command). command_refusal c reading attached) (none_said words reading.command reads says.command));
+words_end words number left attached old reading reads says = record {
+  ends = inr (ap (λ (c : Result Command ℕ). command_refusal c reading attached) (one_reading words (Err number) reading.words reads says.command));
   passes = tt;
   puts = tt;
-  front = front_if (command_output reading.command reading attached) old;
+  front = front_if (command_output reading.words reading attached) old;
 }
 
-pub words_read : (words : List (List ℕ)) (left : Option (List ℕ)) (before : ℕ) (reading : Reading) (attached : List Image) → ReadsWords words None → Says words left reading → IfSome (most_reads reading attached) (λ n. before ≤ before + n)
+pub words_read : (words : List (List ℕ)) (number : ℕ) (left : Option (List ℕ)) (before : ℕ) (reading : Reading) (attached : List Image) → Reads words (Err number) → Says words left reading → IfSome (most_reads reading attached) (λ n. before ≤ before + n)
 unfolding most_reads
-words_read words left before reading attached reads says =
-    subst (λ (c : Option Command). IfSome (command_reads c reading attached) (λ n. before ≤ before + n)) (sym (none_said words reading.command reads says.command)) (let h : before ≤ before + 0 = omega arith in h)
+words_read words number left before reading attached reads says =
+    subst (λ (c : Result Command ℕ). IfSome (command_reads c reading attached) (λ n. before ≤ before + n)) (sym (one_reading words (Err number) reading.words reads says.command)) (let h : before ≤ before + 0 = omega arith in h)
 
 -- an image could not be attached
 pub attach_ends : (attached : List Image) (old : Option (List ℕ)) (reading : Reading) → Ends {T = Unit {0}} (refusal reading attached) (output reading attached) old old (Err ImageFault)
@@ -67,9 +63,9 @@ pub attach_reads : (reading : Reading) (old new : Seen) (attached : List Image) 
 attach_reads reading old new attached same = subst (λ (k : ℕ). IfSome (most_reads reading attached) (λ n. k ≤ old.sectors_read + n)) (sym same) (any_reads (most_reads reading attached) old.sectors_read)
 
 -- what the words say is what the command is asked
-pub asked_of : (words : List (List ℕ)) (left : Option (List ℕ)) (command : Command) (names : ℕ) (reading : Reading) → ReadsWords words (Some command) → names ≡ length (names_after words) → Says words left reading → IsAsked command names left reading
+pub asked_of : (words : List (List ℕ)) (left : Option (List ℕ)) (command : Command) (names : ℕ) (reading : Reading) → Reads words (Ok command) → names ≡ length (names_after words) → Says words left reading → IsAsked command names left reading
 asked_of words left command names reading reads count says =
-    let is : reading.command ≡ Some command = some_said words command reading.command reads says.command in
+    let is : reading.words ≡ Ok command = one_reading words (Ok command) reading.words reads says.command in
     record {
       command_is = is;
       names_are = says.names ∙ sym count;
@@ -83,3 +79,20 @@ images_small world names [] are = All-nil (λ (image : Image). image.sectors < 2
 images_small world [] (image ∷ images) are = absurd are
 images_small world (name ∷ names) (image ∷ images) are =
     All-cons (λ (one : Image). one.sectors < 2 ^ 55) image images are.0.small (images_small world names images are.1)
+
+-- attaching comes before, and reads nothing
+rose_before : (old attached new : ℕ) → old ≤ attached → Rose attached new → Rose old new
+rose_before old attached new later rose = omega arith
+
+pub leaves_after : {T : Type 0} (streams : Bool) (old attached new : Seen) (plan planned out gone : ℕ) (gained now : Option (List ℕ)) (result : Result T Stop) → old.faults ≤ attached.faults → attached.sectors_read ≡ old.sectors_read →
+    Leaves streams (counts_of attached plan out) (counts_of new planned gone) gained now result → Leaves streams (counts_of old plan out) (counts_of new planned gone) gained now result
+leaves_after streams old attached new plan planned out gone gained now result faults read leaves = record {
+  image_fault = λ e. rose_before old.faults attached.faults new.faults faults (leaves.image_fault e);
+  plan_fault = leaves.plan_fault;
+  out_fault = leaves.out_fault;
+  images_later = let later = leaves.images_later in omega arith;
+  plan_later = leaves.plan_later;
+  out_later = leaves.out_later;
+  nothing = leaves.nothing;
+  unread = subst (λ (n : ℕ). IfErr result (λ stop. (MayHaveRead streams stop → ⊥) → new.sectors_read ≡ n)) read leaves.unread;
+}

@@ -1,55 +1,57 @@
 -- A command's job, as the reading of the words says it.
-use Rattle.std.proofs.Common.{◌≡◌, ℕ, ◌≤◌, ◌+◌, ◌*◌, List, None, Some, Option, Result, Err, IfSome, refl, sym, subst, arith, Bool, length}
-use Rattle.std.specs.Option.{option_map}
+use Rattle.std.proofs.Common.{◌≡◌, ℕ, ◌≤◌, ◌+◌, ◌*◌, List, None, Some, Option, Result, Ok, Err, IfSome, refl, sym, subst, arith, Bool, length, inr}
 use Rattle.image_source.specs.Attached.{told_all}
 use Rattle.image_source.specs.Causes.{Rose}
 use Rattle.image_source.specs.Seen.{Image}
 use Rattle.raid_params.specs.declared.types.Geometry.{Geometry}
-use Rattle.plan_text.specs.declared.plan.Plan.{Plan}
+use Rattle.search_plan.specs.declared.plan.Plan.{Plan}
 use Rattle.command_words.specs.declared.command.Command.{Command}
-use Rattle.command_words.specs.declared.command.Command.TheVariants.{List as ListCommand, Check as CheckCommand, Map as MapCommand, Write as WriteCommand, Rebuild as RebuildCommand}
-use Rattle.command_jobs.specs.Checking.{check_output, check_reads, check_refusal}
-use Rattle.command_jobs.specs.Jobs.{Counts, Ends, Leaves, Orders}
-use Rattle.command_jobs.specs.Listing.{list_output, list_reads, list_refusal}
-use Rattle.command_jobs.specs.Mapping.{map_refusal, map_text, set_refusal}
-use Rattle.command_jobs.specs.Writing.{members_reads, rebuild_output, rebuild_refusal, write_output}
-use Rattle.command_jobs.specs.Plans.{IsTextOf}
-use Rattle.command_jobs.specs.declared.stop.Stop.{Stop}
-use Rattle.command_jobs.specs.declared.stop.Stop.TheVariants.{NotBuilt}
-use Rattle.command_jobs.proofs.Printed.{keeps_itself}
-use Rattle.reraid_cli.specs.Answers.{Reading, command_output, command_reads, command_refusal, most_reads, output, refusal}
+use Rattle.command_words.specs.declared.command.Form.{Form}
+use Rattle.command_words.specs.declared.command.SurveyWords.{SurveyWords}
+use Rattle.command_words.specs.declared.command.Command.TheVariants.{Survey as SurveyCommand, Sample as SampleCommand, List as ListCommand, Check as CheckCommand, Map as MapCommand, Write as WriteCommand, Rebuild as RebuildCommand}
+use Rattle.plan_jobs.specs.Checking.{check_output, check_reads, check_refusal}
+use Rattle.run_ends.specs.Jobs.{Counts, Ends, Leaves, Orders}
+use Rattle.plan_jobs.specs.Listing.{list_output, list_reads, list_refusal}
+use Rattle.set_jobs.specs.Mapping.{map_refusal, map_text, set_refusal}
+use Rattle.set_jobs.specs.Writing.{members_reads, rebuild_output, rebuild_refusal, write_output}
+use Rattle.survey_job.specs.Surveying.{survey_output, survey_reads, survey_refusal}
+use Rattle.plan_jobs.specs.Plans.{IsTextOf, PlanReading, Reads, Refused, plan_reads}
+use Rattle.run_ends.specs.declared.stop.Stop.{Stop}
+use Rattle.run_ends.specs.declared.stop.Stop.TheVariants.{NotBuilt}
+use Rattle.run_ends.proofs.Printed.{keeps_itself, order_refused}
+use Rattle.reraid_cli.specs.Answers.{Reading, asked_of, command_output, command_reads, command_refusal, most_reads, output, refusal}
 use Rattle.reraid_cli.specs.Asked.{IsAsked}
 
 -- the refusal and the output of a command are those of the reading that says it
-ends_as : (command : Command) (reading : Reading) (attached : List Image) (old new : Option (List ℕ)) (r : Result (Unit {0}) Stop) → reading.command ≡ Some command →
-    Ends (command_refusal (Some command) reading attached) (command_output (Some command) reading attached) old new r → Ends (refusal reading attached) (output reading attached) old new r
+ends_as : (command : Command) (reading : Reading) (attached : List Image) (old new : Option (List ℕ)) (r : Result (Unit {0}) Stop) → reading.words ≡ Ok command →
+    Ends (command_refusal (Ok command) reading attached) (command_output (Ok command) reading attached) old new r → Ends (refusal reading attached) (output reading attached) old new r
 unfolding refusal output
 ends_as command reading attached old new r is ends =
-    let P : Option Command → Type 0 = λ c. Ends (command_refusal c reading attached) (command_output c reading attached) old new r in
+    let P : Result Command ℕ → Type 0 = λ c. Ends (command_refusal c reading attached) (command_output c reading attached) old new r in
     subst P (sym is) ends
 
-reads_as : (command : Command) (reading : Reading) (attached : List Image) (before after : ℕ) → reading.command ≡ Some command → IfSome (command_reads (Some command) reading attached) (λ n. after ≤ before + n) → IfSome (most_reads reading attached) (λ n. after ≤ before + n)
+reads_as : (command : Command) (reading : Reading) (attached : List Image) (before after : ℕ) → reading.words ≡ Ok command → IfSome (command_reads (Ok command) reading attached) (λ n. after ≤ before + n) → IfSome (most_reads reading attached) (λ n. after ≤ before + n)
 unfolding most_reads
-reads_as command reading attached before after is few = subst (λ (c : Option Command). IfSome (command_reads c reading attached) (λ n. after ≤ before + n)) (sym is) few
+reads_as command reading attached before after is few = subst (λ (c : Result Command ℕ). IfSome (command_reads c reading attached) (λ n. after ≤ before + n)) (sym is) few
 
 -- what holds over the text that the source had left holds over the reading's
-told_as : (left : Option (List ℕ)) (reading : Reading) (P : List ℕ → Option Plan → Type 0) → left ≡ Some reading.text → IsTextOf reading.text reading.plan →
-    IfSome left (λ text. (plan : Option Plan) → IsTextOf text plan → P text plan) → P reading.text reading.plan
+told_as : (left : Option (List ℕ)) (reading : Reading) (P : List ℕ → PlanReading → Type 0) → left ≡ Some reading.text → IsTextOf reading.text reading.plan →
+    IfSome left (λ text. (plan : PlanReading) → IsTextOf text plan → P text plan) → P reading.text reading.plan
 told_as left reading P text is all =
-    let Q : Option (List ℕ) → Type 0 = λ l. IfSome l (λ t. (plan : Option Plan) → IsTextOf t plan → P t plan) in
-    let here : (plan : Option Plan) → IsTextOf reading.text plan → P reading.text plan = subst Q text all in
+    let Q : Option (List ℕ) → Type 0 = λ l. IfSome l (λ t. (plan : PlanReading) → IsTextOf t plan → P t plan) in
+    let here : (plan : PlanReading) → IsTextOf reading.text plan → P reading.text plan = subst Q text all in
     here reading.plan is
 
-pub list_asked : (from size span n names : ℕ) (left : Option (List ℕ)) (reading : Reading) (attached : List Image) (old new : Option (List ℕ)) (r : Result (Unit {0}) Stop) → IsAsked (ListCommand from size span n) names left reading →
-    IfSome left (λ text. (read : Option Plan) → IsTextOf text read → Ends (list_refusal from text read names attached) (list_output from size span read (told_all attached)) old new r) →
+pub list_asked : (from size span pages : ℕ) (form : Form) (n names : ℕ) (left : Option (List ℕ)) (reading : Reading) (attached : List Image) (old new : Option (List ℕ)) (r : Result (Unit {0}) Stop) → IsAsked (ListCommand from size span pages form n) names left reading →
+    IfSome left (λ text. (read : PlanReading) → IsTextOf text read → Ends (list_refusal from text read names attached) (list_output (asked_of from size span pages form) read (told_all attached)) old new r) →
     Ends (refusal reading attached) (output reading attached) old new r
-list_asked from size span n names left reading attached old new r asked ends =
-    let here = told_as left reading (λ text read. Ends (list_refusal from text read names attached) (list_output from size span read (told_all attached)) old new r) (asked.text tt) (asked.plan tt) ends in
-    let Q : ℕ → Type 0 = λ k. Ends (list_refusal from reading.text reading.plan k attached) (list_output from size span reading.plan (told_all attached)) old new r in
-    ends_as (ListCommand from size span n) reading attached old new r asked.command_is (subst Q (sym asked.names_are) here)
+list_asked from size span pages form n names left reading attached old new r asked ends =
+    let here = told_as left reading (λ text read. Ends (list_refusal from text read names attached) (list_output (asked_of from size span pages form) read (told_all attached)) old new r) (asked.text tt) (asked.plan tt) ends in
+    let Q : ℕ → Type 0 = λ k. Ends (list_refusal from reading.text reading.plan k attached) (list_output (asked_of from size span pages form) reading.plan (told_all attached)) old new r in
+    ends_as (ListCommand from size span pages form n) reading attached old new r asked.command_is (subst Q (sym asked.names_are) here)
 
 pub check_asked : (set : Geometry) (n names : ℕ) (left : Option (List ℕ)) (reading : Reading) (attached : List Image) (old new : Option (List ℕ)) (r : Result (Unit {0}) Stop) → IsAsked (CheckCommand set n) names left reading →
-    IfSome left (λ text. (read : Option Plan) → IsTextOf text read → Ends (check_refusal set text read names attached) (check_output set read (told_all attached)) old new r) →
+    IfSome left (λ text. (read : PlanReading) → IsTextOf text read → Ends (check_refusal set text read names attached) (check_output set read (told_all attached)) old new r) →
     Ends (refusal reading attached) (output reading attached) old new r
 check_asked set n names left reading attached old new r asked ends =
     let here = told_as left reading (λ text read. Ends (check_refusal set text read names attached) (check_output set read (told_all attached)) old new r) (asked.text tt) (asked.plan tt) ends in
@@ -105,21 +107,21 @@ planless streams images later out after sectors read plan gained now r leaves = 
 abbrev IsFirst : ℕ → ℕ → Option (List ℕ) → Option (List ℕ) → Result (Unit {0}) Stop → Option Stop → Type 0
 IsFirst before after old new r refused = Orders refused before after old new r
 
-order_as : (command : Command) (reading : Reading) (attached : List Image) (before after : ℕ) (old new : Option (List ℕ)) (r : Result (Unit {0}) Stop) → reading.command ≡ Some command →
-    Orders (command_refusal (Some command) reading attached) before after old new r → Orders (refusal reading attached) before after old new r
+order_as : (command : Command) (reading : Reading) (attached : List Image) (before after : ℕ) (old new : Option (List ℕ)) (r : Result (Unit {0}) Stop) → reading.words ≡ Ok command →
+    Orders (command_refusal (Ok command) reading attached) before after old new r → Orders (refusal reading attached) before after old new r
 unfolding refusal
 order_as command reading attached before after old new r is order =
-    subst (λ (c : Option Command). IsFirst before after old new r (command_refusal c reading attached)) (sym is) order
+    subst (λ (c : Result Command ℕ). IsFirst before after old new r (command_refusal c reading attached)) (sym is) order
 
-pub list_order : (from size span n names before after : ℕ) (left : Option (List ℕ)) (reading : Reading) (attached : List Image) (old new : Option (List ℕ)) (r : Result (Unit {0}) Stop) → IsAsked (ListCommand from size span n) names left reading →
-    IfSome left (λ text. (read : Option Plan) → IsTextOf text read → Orders (list_refusal from text read names attached) before after old new r) → Orders (refusal reading attached) before after old new r
-list_order from size span n names before after left reading attached old new r asked order =
+pub list_order : (from size span pages : ℕ) (form : Form) (n names before after : ℕ) (left : Option (List ℕ)) (reading : Reading) (attached : List Image) (old new : Option (List ℕ)) (r : Result (Unit {0}) Stop) → IsAsked (ListCommand from size span pages form n) names left reading →
+    IfSome left (λ text. (read : PlanReading) → IsTextOf text read → Orders (list_refusal from text read names attached) before after old new r) → Orders (refusal reading attached) before after old new r
+list_order from size span pages form n names before after left reading attached old new r asked order =
     let here = told_as left reading (λ text plan. Orders (list_refusal from text plan names attached) before after old new r) (asked.text tt) (asked.plan tt) order in
-    order_as (ListCommand from size span n) reading attached before after old new r asked.command_is
+    order_as (ListCommand from size span pages form n) reading attached before after old new r asked.command_is
     (subst (λ (k : ℕ). IsFirst before after old new r (list_refusal from reading.text reading.plan k attached)) (sym asked.names_are) here)
 
 pub check_order : (set : Geometry) (n names before after : ℕ) (left : Option (List ℕ)) (reading : Reading) (attached : List Image) (old new : Option (List ℕ)) (r : Result (Unit {0}) Stop) → IsAsked (CheckCommand set n) names left reading →
-    IfSome left (λ text. (read : Option Plan) → IsTextOf text read → Orders (check_refusal set text read names attached) before after old new r) → Orders (refusal reading attached) before after old new r
+    IfSome left (λ text. (read : PlanReading) → IsTextOf text read → Orders (check_refusal set text read names attached) before after old new r) → Orders (refusal reading attached) before after old new r
 check_order set n names before after left reading attached old new r asked order =
     let here = told_as left reading (λ text plan. Orders (check_refusal set text plan names attached) before after old new r) (asked.text tt) (asked.plan tt) order in
     order_as (CheckCommand set n) reading attached before after old new r asked.command_is
@@ -144,24 +146,24 @@ rebuild_order set slot end n names before after left reading attached old new r 
     (subst (λ (k : ℕ). IsFirst before after old new r (rebuild_refusal set slot end k attached)) (sym asked.names_are) order)
 
 -- what is read of the images, over a plan that the text is, or none
-plan_known : (few : Plan → ℕ) (before after : ℕ) (text : List ℕ) (read : Option Plan) → IsTextOf text read → ((plan : Plan) → IsTextOf text (Some plan) → after ≤ before + few plan) →
-    IfSome (option_map few read) (λ k. after ≤ before + k)
-plan_known few before after text None is within = tt
-plan_known few before after text (Some plan) is within = within plan is
+plan_known : (few : Plan → ℕ) (before after : ℕ) (text : List ℕ) (read : PlanReading) → IsTextOf text read → ((plan : Plan) → IsTextOf text (Reads plan) → after ≤ before + few plan) →
+    IfSome (plan_reads few read) (λ k. after ≤ before + k)
+plan_known few before after text (Refused n) is within = tt
+plan_known few before after text (Reads plan) is within = within plan is
 
 plan_read : (few : Plan → ℕ) (before after : ℕ) (left : Option (List ℕ)) (reading : Reading) → left ≡ Some reading.text → IsTextOf reading.text reading.plan →
-    IfSome left (λ text. (plan : Plan) → IsTextOf text (Some plan) → after ≤ before + few plan) → IfSome (option_map few reading.plan) (λ k. after ≤ before + k)
+    IfSome left (λ text. (plan : Plan) → IsTextOf text (Reads plan) → after ≤ before + few plan) → IfSome (plan_reads few reading.plan) (λ k. after ≤ before + k)
 plan_read few before after left reading text is within =
-    let P : Option (List ℕ) → Type 0 = λ l. IfSome l (λ text. (plan : Plan) → IsTextOf text (Some plan) → after ≤ before + few plan) in
+    let P : Option (List ℕ) → Type 0 = λ l. IfSome l (λ text. (plan : Plan) → IsTextOf text (Reads plan) → after ≤ before + few plan) in
     plan_known few before after reading.text reading.plan is (subst P text within)
 
-pub list_read : (from size span n names before after : ℕ) (left : Option (List ℕ)) (reading : Reading) (attached : List Image) → IsAsked (ListCommand from size span n) names left reading →
-    IfSome left (λ text. (plan : Plan) → IsTextOf text (Some plan) → after ≤ before + list_reads plan from span) → IfSome (most_reads reading attached) (λ k. after ≤ before + k)
-list_read from size span n names before after left reading attached asked few =
-    reads_as (ListCommand from size span n) reading attached before after asked.command_is (plan_read (λ plan. list_reads plan from span) before after left reading (asked.text tt) (asked.plan tt) few)
+pub list_read : (from size span pages : ℕ) (form : Form) (n names before after : ℕ) (left : Option (List ℕ)) (reading : Reading) (attached : List Image) → IsAsked (ListCommand from size span pages form n) names left reading →
+    IfSome left (λ text. (plan : Plan) → IsTextOf text (Reads plan) → after ≤ before + list_reads (asked_of from size span pages form) plan) → IfSome (most_reads reading attached) (λ k. after ≤ before + k)
+list_read from size span pages form n names before after left reading attached asked few =
+    reads_as (ListCommand from size span pages form n) reading attached before after asked.command_is (plan_read (list_reads (asked_of from size span pages form)) before after left reading (asked.text tt) (asked.plan tt) few)
 
 pub check_read : (set : Geometry) (n names before after : ℕ) (left : Option (List ℕ)) (reading : Reading) (attached : List Image) → IsAsked (CheckCommand set n) names left reading →
-    IfSome left (λ text. (plan : Plan) → IsTextOf text (Some plan) → after ≤ before + check_reads set attached plan) → IfSome (most_reads reading attached) (λ k. after ≤ before + k)
+    IfSome left (λ text. (plan : Plan) → IsTextOf text (Reads plan) → after ≤ before + check_reads set attached plan) → IfSome (most_reads reading attached) (λ k. after ≤ before + k)
 check_read set n names before after left reading attached asked few =
     reads_as (CheckCommand set n) reading attached before after asked.command_is (plan_read (check_reads set attached) before after left reading (asked.text tt) (asked.plan tt) few)
 
@@ -175,3 +177,34 @@ write_reads set end n names before after left reading attached asked few = reads
 pub rebuild_reads : (set : Geometry) (slot : ℕ) (end : Option ℕ) (n names before after : ℕ) (left : Option (List ℕ)) (reading : Reading) (attached : List Image) → IsAsked (RebuildCommand set slot end n) names left reading → after ≤ before + members_reads set end attached →
     IfSome (most_reads reading attached) (λ k. after ≤ before + k)
 rebuild_reads set slot end n names before after left reading attached asked few = reads_as (RebuildCommand set slot end n) reading attached before after asked.command_is few
+
+pub survey_asked : (asked : SurveyWords) (names : ℕ) (left : Option (List ℕ)) (reading : Reading) (attached : List Image) (old new : Option (List ℕ)) (r : Result (Unit {0}) Stop) → IsAsked (SurveyCommand asked) names left reading →
+    Ends (survey_refusal asked names attached) (survey_output asked names attached (told_all attached)) old new r → Ends (refusal reading attached) (output reading attached) old new r
+survey_asked asked names left reading attached old new r is ends =
+    let Q : ℕ → Type 0 = λ k. Ends (survey_refusal asked k attached) (survey_output asked k attached (told_all attached)) old new r in
+    ends_as (SurveyCommand asked) reading attached old new r is.command_is (subst Q (sym is.names_are) ends)
+
+pub survey_order : (asked : SurveyWords) (names before after : ℕ) (left : Option (List ℕ)) (reading : Reading) (attached : List Image) (old new : Option (List ℕ)) (r : Result (Unit {0}) Stop) → IsAsked (SurveyCommand asked) names left reading →
+    Orders (survey_refusal asked names attached) before after old new r → Orders (refusal reading attached) before after old new r
+survey_order asked names before after left reading attached old new r is order =
+    order_as (SurveyCommand asked) reading attached before after old new r is.command_is
+    (subst (λ (k : ℕ). IsFirst before after old new r (survey_refusal asked k attached)) (sym is.names_are) order)
+
+pub survey_read : (asked : SurveyWords) (names before after : ℕ) (left : Option (List ℕ)) (reading : Reading) (attached : List Image) → IsAsked (SurveyCommand asked) names left reading → after ≤ before + survey_reads asked attached →
+    IfSome (most_reads reading attached) (λ k. after ≤ before + k)
+survey_read asked names before after left reading attached is few = reads_as (SurveyCommand asked) reading attached before after is.command_is few
+
+-- a command that is not built
+pub sample_ends : (number : ℕ) (set : Geometry) (rows : ℕ) (xfs : Bool) (names : ℕ) (left : Option (List ℕ)) (reading : Reading) (attached : List Image) (old : Option (List ℕ)) → IsAsked (SampleCommand number set rows xfs) names left reading →
+    Ends {T = Unit {0}} (refusal reading attached) (output reading attached) old old (Err NotBuilt)
+sample_ends number set rows xfs names left reading attached old is =
+    ends_as (SampleCommand number set rows xfs) reading attached old old (Err NotBuilt) is.command_is (record { ends = inr refl; passes = tt; puts = tt; front = tt })
+
+pub sample_order : (number : ℕ) (set : Geometry) (rows : ℕ) (xfs : Bool) (reading : Reading) (attached : List Image) (read : ℕ) (old : Option (List ℕ)) →
+    Orders {T = Unit {0}} (refusal reading attached) read read old old (Err NotBuilt)
+sample_order number set rows xfs reading attached read old = order_refused (refusal reading attached) read old NotBuilt tt
+
+pub sample_read : (number : ℕ) (set : Geometry) (rows : ℕ) (xfs : Bool) (names before : ℕ) (left : Option (List ℕ)) (reading : Reading) (attached : List Image) → IsAsked (SampleCommand number set rows xfs) names left reading →
+    IfSome (most_reads reading attached) (λ k. before ≤ before + k)
+sample_read number set rows xfs names before left reading attached is =
+    reads_as (SampleCommand number set rows xfs) reading attached before before is.command_is (let h : before ≤ before + 0 = omega arith in h)

@@ -3,29 +3,33 @@ use Rattle.std.proofs.Common.{IsErrOf, ◌≡◌, ◌≢◌, ℕ, List, length, 
 use Rattle.std.proofs.lemmas.List.{take_all}
 use Rattle.image_source.specs.Causes.{HasCause}
 use Rattle.image_source.specs.Streams.{Puts}
-use Rattle.command_jobs.specs.declared.stop.Stop.{Stop}
-use Rattle.command_jobs.specs.declared.stop.Stop.TheVariants.{PlanIsLong, Images, Many, Cursor, Set, Slot, Sector, ImageFault, PlanFault, OutFault, NotBuilt, OutOfMemory}
-use Rattle.command_jobs.specs.Jobs.{MayHavePut, MayHaveRead}
-use Rattle.command_jobs.specs.Stops.{EndsBy, IsExcused, note_of, status_of}
+use Rattle.run_ends.specs.declared.stop.Stop.{Stop}
+use Rattle.run_ends.specs.declared.stop.Stop.TheVariants.{Word, PlanLine, PlanIsLong, Images, Many, Cursor, Set, Slot, Sector, ImageFault, PlanFault, OutFault, NotBuilt, OutOfMemory}
+use Rattle.run_ends.specs.Jobs.{MayHavePut, MayHaveRead}
+use Rattle.run_ends.specs.Stops.{EndsBy, IsExcused, note_of, status_of}
 use Rattle.reraid_cli.specs.Answers.{IsNoted, has_numbers, note_by, note_for, status_by, statuses}
 
 -- the status of a stop is one of them
 pub status_known : (stop : Stop) → Contains statuses (status_of stop)
-status_known PlanIsLong = (1, omega arith, refl)
-status_known (Images fault) = (2, omega arith, refl)
-status_known Many = (3, omega arith, refl)
-status_known (Cursor fault) = (4, omega arith, refl)
-status_known (Set fault) = (5, omega arith, refl)
-status_known (Slot slot) = (5, omega arith, refl)
-status_known (Sector fault) = (6, omega arith, refl)
-status_known ImageFault = (7, omega arith, refl)
-status_known PlanFault = (8, omega arith, refl)
-status_known OutFault = (9, omega arith, refl)
-status_known NotBuilt = (10, omega arith, refl)
-status_known OutOfMemory = (11, omega arith, refl)
+status_known (Word number) = (1, omega arith, refl)
+status_known (PlanLine number) = (2, omega arith, refl)
+status_known PlanIsLong = (3, omega arith, refl)
+status_known (Images fault) = (4, omega arith, refl)
+status_known Many = (5, omega arith, refl)
+status_known (Cursor fault) = (6, omega arith, refl)
+status_known (Set fault) = (7, omega arith, refl)
+status_known (Slot slot) = (7, omega arith, refl)
+status_known (Sector fault) = (8, omega arith, refl)
+status_known ImageFault = (9, omega arith, refl)
+status_known PlanFault = (10, omega arith, refl)
+status_known OutFault = (11, omega arith, refl)
+status_known NotBuilt = (12, omega arith, refl)
+status_known OutOfMemory = (13, omega arith, refl)
 
 -- no status is 0
 pub status_some : (stop : Stop) → status_of stop ≢ 0
+status_some (Word number) e = absurd (omega arith)
+status_some (PlanLine number) e = absurd (omega arith)
 status_some PlanIsLong e = absurd (omega arith)
 status_some (Images fault) e = absurd (omega arith)
 status_some Many e = absurd (omega arith)
@@ -41,6 +45,8 @@ status_some OutOfMemory e = absurd (omega arith)
 
 -- the line of a stop is that of its status, unless it holds numbers
 pub note_same : (stop : Stop) → has_numbers (status_of stop) ≡ false → note_of stop ≡ note_for (status_of stop)
+note_same (Word number) other = absurd (cc)
+note_same (PlanLine number) other = absurd (cc)
 note_same PlanIsLong other = refl
 note_same (Images fault) other = absurd (cc)
 note_same Many other = refl
@@ -56,6 +62,8 @@ note_same OutOfMemory other = refl
 
 -- an excused stop has one of these statuses
 not_excused : (stop : Stop) → status_of stop ≢ 10 → status_of stop ≢ 11 → status_of stop ≢ 12 → status_of stop ≢ 20 → IsExcused stop → ⊥
+not_excused (Word number) a b c d h = h
+not_excused (PlanLine number) a b c d h = h
 not_excused PlanIsLong a b c d h = h
 not_excused (Images fault) a b c d h = h
 not_excused Many a b c d h = h
@@ -95,6 +103,8 @@ noted_for now old new stop status is other done =
     subst P (note_same stop (ap has_numbers (sym is) ∙ other) ∙ ap note_for (sym is)) done
 
 with_numbers : (stop : Stop) → has_numbers (status_of stop) ≡ true → IsExcused stop → ⊥
+with_numbers (Word number) e h = h
+with_numbers (PlanLine number) e h = h
 with_numbers PlanIsLong e h = h
 with_numbers (Images fault) e h = h
 with_numbers Many e h = h
@@ -117,6 +127,8 @@ noted_numbers refused now old new stop status is numbers done ends =
 
 -- a stop of another status has put nothing, and read nothing
 pub put_nothing : (streams : Bool) (stop : Stop) (status : ℕ) → status ≡ status_of stop → status ≢ 10 → status ≢ 12 → MayHavePut streams stop → ⊥
+put_nothing streams (Word number) status is ten twelve h = h
+put_nothing streams (PlanLine number) status is ten twelve h = h
 put_nothing streams PlanIsLong status is ten twelve h = h
 put_nothing streams (Images fault) status is ten twelve h = h
 put_nothing streams Many status is ten twelve h = h
@@ -131,6 +143,8 @@ put_nothing streams NotBuilt status is ten twelve h = h
 put_nothing streams OutOfMemory status is ten twelve h = h
 
 pub put_before : (stop : Stop) (status : ℕ) → status ≡ status_of stop → status ≡ 10 → MayHavePut false stop → ⊥
+put_before (Word number) status is ten h = h
+put_before (PlanLine number) status is ten h = h
 put_before PlanIsLong status is ten h = h
 put_before (Images fault) status is ten h = h
 put_before Many status is ten h = h
@@ -145,6 +159,8 @@ put_before NotBuilt status is ten h = h
 put_before OutOfMemory status is ten h = h
 
 pub read_nothing : (streams : Bool) (stop : Stop) (status : ℕ) → status ≡ status_of stop → status ≢ 10 → status ≢ 12 → status ≢ 20 → MayHaveRead streams stop → ⊥
+read_nothing streams (Word number) status is ten twelve twenty h = h
+read_nothing streams (PlanLine number) status is ten twelve twenty h = h
 read_nothing streams PlanIsLong status is ten twelve twenty h = h
 read_nothing streams (Images fault) status is ten twelve twenty h = h
 read_nothing streams Many status is ten twelve twenty h = h
@@ -160,6 +176,8 @@ read_nothing streams OutOfMemory status is ten twelve twenty h = twenty is
 
 -- a job that puts as it reads has not read where memory is wanting
 pub read_no_memory : (stop : Stop) (status : ℕ) → status ≡ status_of stop → status ≡ 20 → MayHaveRead true stop → ⊥
+read_no_memory (Word number) status is twenty h = h
+read_no_memory (PlanLine number) status is twenty h = h
 read_no_memory PlanIsLong status is twenty h = h
 read_no_memory (Images fault) status is twenty h = h
 read_no_memory Many status is twenty h = h
@@ -175,6 +193,8 @@ read_no_memory OutOfMemory status is twenty h = absurd (cc)
 
 -- only faults of the images and of the output have their statuses
 pub not_ten : (stop : Stop) (status : ℕ) → status ≡ status_of stop → (IsErrOf {T = Unit {0}} (Err stop) ImageFault → ⊥) → status ≢ 10
+not_ten (Word number) status is other ten = absurd (omega arith)
+not_ten (PlanLine number) status is other ten = absurd (omega arith)
 not_ten PlanIsLong status is other ten = absurd (omega arith)
 not_ten (Images fault) status is other ten = absurd (omega arith)
 not_ten Many status is other ten = absurd (omega arith)
@@ -189,6 +209,8 @@ not_ten NotBuilt status is other ten = absurd (omega arith)
 not_ten OutOfMemory status is other ten = absurd (omega arith)
 
 pub not_twelve : (stop : Stop) (status : ℕ) → status ≡ status_of stop → (IsErrOf {T = Unit {0}} (Err stop) OutFault → ⊥) → status ≢ 12
+not_twelve (Word number) status is other twelve = absurd (omega arith)
+not_twelve (PlanLine number) status is other twelve = absurd (omega arith)
 not_twelve PlanIsLong status is other twelve = absurd (omega arith)
 not_twelve (Images fault) status is other twelve = absurd (omega arith)
 not_twelve Many status is other twelve = absurd (omega arith)

@@ -12,9 +12,8 @@
 mod running;
 mod top;
 
-pub use command_jobs::Stop;
 pub use command_words::{Command, Word, read_words};
-pub use page_engine::{
-    CursorFault, Line, Lines, ListPage, PageFault, page, product_rank, product_set, product_total,
-};
+pub use page_engine::{CursorFault, Line, Lines, ListPage, PageFault, page};
+pub use run_ends::Stop;
+pub use set_product::{product_rank, product_set, product_total};
 pub use top::reraid;

@@ -1,18 +1,21 @@
 //! A run, up to why it ends.
-ghost use Rattle.std.specs.Prelude.{◌≡◌, ◌≤◌, ◌+◌, ◌^◌, ◌<◌, [], All, IfErr, IfSome, IsErrOf, IsTrue, None, OnOk, Option, Some, length, min};
+ghost use Rattle.std.specs.Prelude.{◌≡◌, ◌≤◌, ◌+◌, ◌^◌, ◌<◌, [], All, IfErr, IfSome, IsErrOf, IsTrue, OnOk, Ok, Err, Option, Result, ℕ, Some, length, min};
 ghost use Rattle.std.specs.Io.KnownBytes.{IsAtEnd, Keeps};
 ghost use Rattle.image_source.specs.Attached.{AreImagesOf};
-ghost use Rattle.command_jobs.specs.Jobs.{Ends, Leaves, Orders};
-ghost use Rattle.command_jobs.specs.Source.{TakesFew};
-ghost use Rattle.command_words.specs.Commands.{AreRead, IsCommandLine, IsWithin, ReadsWords, names_after, names_of as names_of_command};
+ghost use Rattle.run_ends.specs.Jobs.{Ends, Leaves, Orders};
+ghost use Rattle.run_ends.specs.Source.{TakesFew};
+ghost use Rattle.command_words.specs.Commands.{EndsInNames, IsCommandLine, IsWithin, Reads, names_after};
 ghost use Rattle.command_words.specs.declared.command.Command.{Command as CommandOf};
 ghost use Rattle.reraid_cli.specs.Answers.{IsPlanned, Reading, Says, most_reads, output, refusal, streams};
 ghost use Rattle.reraid_cli.specs.Asked.{IsAsked, counts_of};
 
-use command_jobs::{Stop, attach_front, check, list, map, rebuild, write};
 use command_words::{Command, Word, read_words};
 use image_source::{Images, MOST_ATTACHED, Sink, Source};
+use plan_jobs::{Listing, check, list};
+use run_ends::{Stop, attach_front};
+use set_jobs::{map, rebuild, write};
 use std::alloc::Global;
+use survey_job::survey;
 
 /// Does the work in its order: words, images, and the command's job.
 pub fn run<S: Source, I: Images, K: Sink>(
@@ -29,13 +32,13 @@ pub fn run<S: Source, I: Images, K: Sink>(
     ensures order { (reading : Reading) → Says words.now (S.left plan.old) reading → length (I.seen images.new).attached ≡ min (length (names_after words.now)) MOST_ATTACHED →
         Orders (refusal reading (I.seen images.new).attached) (I.seen images.old).sectors_read (I.seen images.new).sectors_read (K.gained out.old) (K.gained out.new) result }
     ensures takes { TakesFew (S.left plan.old) (S.left plan.new) }
-    ensures end { (read : Option CommandOf) → AreRead words.now read → IsPlanned read → OnOk result (IsAtEnd (S.left plan.new)) }
-    ensures leaves { (read : Option CommandOf) × ReadsWords words.now read ×
+    ensures end { (read : Result CommandOf ℕ) → Reads words.now read → IsPlanned read → OnOk result (IsAtEnd (S.left plan.new)) }
+    ensures leaves { (read : Result CommandOf ℕ) × Reads words.now read ×
         Leaves (streams read) (counts_of (I.seen images.old) (S.faults plan.old) (K.faults out.old)) (counts_of (I.seen images.new) (S.faults plan.new) (K.faults out.new)) (K.gained out.old) (K.gained out.new) result }
     ensures reads { (reading : Reading) → Says words.now (S.left plan.old) reading →
         IfSome (most_reads reading (I.seen images.new).attached) (λ n. (I.seen images.new).sectors_read ≤ (I.seen images.old).sectors_read + n) }
-    ensures words { AreRead words.now None → IsErrOf result Stop.NotBuilt × (I.seen images.new ≡ I.seen images.old) }
-    ensures unasked { (read : Option CommandOf) → AreRead words.now read → (IsPlanned read → ⊥) →
+    ensures words { (number : ℕ) → Reads words.now (Err number) → IsErrOf result (Stop.Word number) × (I.seen images.new ≡ I.seen images.old) }
+    ensures unasked { (read : Result CommandOf ℕ) → Reads words.now read → (IsPlanned read → ⊥) →
         (S.left plan.new ≡ S.left plan.old) × (S.faults plan.new ≡ S.faults plan.old) }
     ensures cut { length (I.seen images.new).attached < min (length (names_after words.now)) MOST_ATTACHED →
         Keeps (K.gained out.old) (K.gained out.new) × ((I.seen images.new).sectors_read ≡ (I.seen images.old).sectors_read)
@@ -45,34 +48,37 @@ pub fn run<S: Source, I: Images, K: Sink>(
     ensures world { (I.seen images.new).world ≡ (I.seen images.old).world }
 {
     match read_words(words) {
-        None => Err(Stop::NotBuilt),
-        Some(command) => {
-            let names = &words[names_of(&command)..];
+        Err(number) => Err(Stop::Word(number)),
+        Ok(command) => {
+            let names = names_of(&command, words);
             match attach_front(images, names) {
-                Ok(()) => serve(alloc, &command, plan, images, names.len(), out),
+                Ok(()) => serve(alloc, command, plan, images, names.len(), out),
                 Err(_) => Err(Stop::ImageFault),
             }
         }
     }
 }
 
-/// How many words the command has up to the names of its images.
-fn names_of(command: &Command) -> usize
-    ensures { result ≡ names_of_command command.now }
+/// The names of the command's images: the last words. `sample` has none.
+fn names_of<'a>(command: &Command, words: &'a [Word]) -> &'a [Word]
+    requires { EndsInNames words.now command.now }
+    ensures { result.now ≡ names_after words.now }
 {
     match command {
+        Command::Survey(asked) => &words[asked.names..],
         Command::List { names, .. }
         | Command::Check { names, .. }
         | Command::Map { names, .. }
         | Command::Write { names, .. }
-        | Command::Rebuild { names, .. } => *names,
+        | Command::Rebuild { names, .. } => &words[*names..],
+        Command::Sample { .. } => &[],
     }
 }
 
 /// Does the command's job over the attached images, of which `names` are named.
 fn serve<S: Source, I: Images, K: Sink>(
     alloc: Global,
-    command: &Command,
+    command: Command,
     plan: &mut S,
     images: &mut I,
     names: usize,
@@ -80,37 +86,50 @@ fn serve<S: Source, I: Images, K: Sink>(
 ) -> Result<(), Stop>
     requires attached { length (I.seen images.old).attached ≡ min names MOST_ATTACHED }
     requires small { All (λ image. image.sectors < 2 ^ 55) (I.seen images.old).attached }
-    requires within { IsWithin command.now }
-    ensures ends { (reading : Reading) → IsAsked command.now names (S.left plan.old) reading →
+    requires within { IsWithin command }
+    ensures ends { (reading : Reading) → IsAsked command names (S.left plan.old) reading →
         Ends (refusal reading (I.seen images.old).attached) (output reading (I.seen images.old).attached) (K.gained out.old) (K.gained out.new) result }
-    ensures order { (reading : Reading) → IsAsked command.now names (S.left plan.old) reading →
+    ensures order { (reading : Reading) → IsAsked command names (S.left plan.old) reading →
         Orders (refusal reading (I.seen images.old).attached) (I.seen images.old).sectors_read (I.seen images.new).sectors_read (K.gained out.old) (K.gained out.new) result }
     ensures takes { TakesFew (S.left plan.old) (S.left plan.new) }
-    ensures end { IsPlanned (Some command.now) → OnOk result (IsAtEnd (S.left plan.new)) }
-    ensures leaves { Leaves (streams (Some command.now)) (counts_of (I.seen images.old) (S.faults plan.old) (K.faults out.old)) (counts_of (I.seen images.new) (S.faults plan.new) (K.faults out.new)) (K.gained out.old) (K.gained out.new) result }
-    ensures reads { (reading : Reading) → IsAsked command.now names (S.left plan.old) reading →
+    ensures end { IsPlanned (Ok command) → OnOk result (IsAtEnd (S.left plan.new)) }
+    ensures leaves { Leaves (streams (Ok command)) (counts_of (I.seen images.old) (S.faults plan.old) (K.faults out.old)) (counts_of (I.seen images.new) (S.faults plan.new) (K.faults out.new)) (K.gained out.old) (K.gained out.new) result }
+    ensures reads { (reading : Reading) → IsAsked command names (S.left plan.old) reading →
         IfSome (most_reads reading (I.seen images.old).attached) (λ n. (I.seen images.new).sectors_read ≤ (I.seen images.old).sectors_read + n) }
-    ensures unasked { (IsPlanned (Some command.now) → ⊥) → (S.left plan.new ≡ S.left plan.old) × (S.faults plan.new ≡ S.faults plan.old) }
+    ensures unasked { (IsPlanned (Ok command) → ⊥) → (S.left plan.new ≡ S.left plan.old) × (S.faults plan.new ≡ S.faults plan.old) }
     ensures world { (I.seen images.new).world ≡ (I.seen images.old).world }
     ensures kept { (I.seen images.new).attached ≡ (I.seen images.old).attached }
 {
     match command {
+        Command::Survey(asked) => survey(alloc, images, names, asked, out),
         Command::List {
             from,
             size,
             span,
+            pages,
+            form,
             ..
-        } => list(alloc, plan, images, names, *from, *size, *span, out),
-        Command::Check { set, .. } => check(alloc, plan, images, names, set, out),
+        } => {
+            let asked = Listing {
+                from,
+                size,
+                span,
+                pages,
+                form,
+            };
+            list(alloc, plan, images, names, &asked, out)
+        }
+        Command::Check { set, .. } => check(alloc, plan, images, names, &set, out),
         Command::Map {
             set,
             sector,
             end,
             ..
-        } => map(alloc, images, names, set, *sector, *end, out),
-        Command::Write { set, end, .. } => write(alloc, images, names, set, *end, out),
-        Command::Rebuild { set, slot, end, .. } => rebuild(
-            alloc, images, names, set, *slot, *end, out,
-        ),
+        } => map(alloc, images, names, &set, sector, end, out),
+        Command::Write { set, end, .. } => write(alloc, images, names, &set, end, out),
+        Command::Rebuild { set, slot, end, .. } => {
+            rebuild(alloc, images, names, &set, slot, end, out)
+        }
+        Command::Sample { .. } => Err(Stop::NotBuilt),
     }
 }

@@ -1,12 +1,12 @@
 //! The top call.
-ghost use Rattle.std.specs.Prelude.{◌≡◌, ◌≢◌, ◌<◌, ◌≤◌, ◌+◌, [], All, Contains, IsTrue, IfSome, None, Option, Some, false, length, min, true};
+ghost use Rattle.std.specs.Prelude.{◌≡◌, ◌≢◌, ◌<◌, ◌≤◌, ◌+◌, [], All, Contains, IsTrue, IfSome, Err, Ok, Option, Result, Some, ℕ, false, length, min, true};
 ghost use Rattle.std.specs.Io.KnownBytes.{Appends, IsAtEnd, Keeps};
-ghost use Rattle.command_jobs.specs.Source.{TakesFew};
-ghost use Rattle.command_jobs.specs.Stops.{note_of, status_of};
-ghost use Rattle.command_jobs.specs.declared.stop.Stop.{Stop};
+ghost use Rattle.run_ends.specs.Source.{TakesFew};
+ghost use Rattle.run_ends.specs.Stops.{note_of, status_of};
+ghost use Rattle.run_ends.specs.declared.stop.Stop.{Stop};
 ghost use Rattle.image_source.specs.Attached.{AreImagesOf};
 ghost use Rattle.image_source.specs.Streams.{AppendsFront};
-ghost use Rattle.command_words.specs.Commands.{AreRead, IsCommandLine, names_after};
+ghost use Rattle.command_words.specs.Commands.{IsCommandLine, Reads, names_after};
 ghost use Rattle.command_words.specs.declared.command.Command.{Command};
 ghost use Rattle.reraid_cli.specs.Answers.{IsNoted, IsOrdered, IsPlanned, Reading, Says, has_numbers, most_reads, note_by, note_for, output, refusal, status_by, statuses, streams};
 
@@ -18,11 +18,11 @@ use std::thread::Threads;
 
 /// Does all that the program does, and answers the status that it ends with.
 ///
-/// Status 0: the answer is on `out`. 3: more than 4,194,304 bytes were left in the source of the
+/// Status 0: the answer is on `out`. 1: the words are refused at a word. 2: the plan is not understood from a line on. 3: more than 4,194,304 bytes were left in the source of the
 /// plan. 4: the images are not those that the plan or the command takes. 5: the plan has more sets
 /// than ranks. 6: the first rank asked for is past the total. 7: the set breaks a rule. 8: the
 /// sector asked for is past the end of the volume. 10, 11 and 12: the images, the plan or the output
-/// failed. 19: the words or the plan are of a kind that is not built yet. 20: want of memory.
+/// failed. 19: the command is `sample`, which is not built yet. 20: out of memory.
 pub fn reraid<R: Threads + Sync, S: Source, I: Images, K: Sink, N: Sink>(
     _rt: &R,
     alloc: Global,
@@ -53,17 +53,17 @@ pub fn reraid<R: Threads + Sync, S: Source, I: Images, K: Sink, N: Sink>(
         refusal reading (I.seen images.new).attached ≡ Some stop → length (I.seen images.new).attached ≡ min (length (names_after words.now)) MOST_ATTACHED →
         IsOrdered (I.seen images.old).sectors_read (I.seen images.new).sectors_read (K.gained out.old) (K.gained out.new) result }
 
-    // Words that say nothing are refused before anything is touched.
-    ensures words { AreRead words.now None → (result ≡ 19) × (I.seen images.new ≡ I.seen images.old) }
+    // Words that are no command line are refused before anything is touched.
+    ensures words { (number : ℕ) → Reads words.now (Err number) → (result ≡ 1) × (I.seen images.new ≡ I.seen images.old) }
 
     // Only a command over a plan takes from the source.
-    ensures unasked { (read : Option Command) → AreRead words.now read → (IsPlanned read → ⊥) →
+    ensures unasked { (read : Result Command ℕ) → Reads words.now read → (IsPlanned read → ⊥) →
         (S.left plan.new ≡ S.left plan.old) × (S.faults plan.new ≡ S.faults plan.old) }
 
     // Of the source at most one byte more is taken than a plan may have; at status 0 a command over a
     // plan took all of it.
     ensures takes { TakesFew (S.left plan.old) (S.left plan.new) }
-    ensures end { result ≡ 0 → (read : Option Command) → AreRead words.now read → IsPlanned read → IsAtEnd (S.left plan.new) }
+    ensures end { result ≡ 0 → (read : Result Command ℕ) → Reads words.now read → IsPlanned read → IsAtEnd (S.left plan.new) }
 
     // Status 0: `out` gained the answer, and nothing else.
     ensures printed { result ≡ 0 → (reading : Reading) → Says words.now (S.left plan.old) reading →
@@ -79,7 +79,7 @@ pub fn reraid<R: Threads + Sync, S: Source, I: Images, K: Sink, N: Sink>(
     ensures front { result ≢ 0 → (reading : Reading) → Says words.now (S.left plan.old) reading →
         IfSome (output reading (I.seen images.new).attached) (λ text. AppendsFront (K.gained out.old) (K.gained out.new) text) }
     ensures nothing { result ≢ 0 → result ≢ 10 → result ≢ 12 → Keeps (K.gained out.old) (K.gained out.new) }
-    ensures unput { result ≡ 10 → (command : Command) → IsCommandLine words.now command → streams (Some command) ≡ false → Keeps (K.gained out.old) (K.gained out.new) }
+    ensures unput { result ≡ 10 → (command : Command) → IsCommandLine words.now command → streams (Ok command) ≡ false → Keeps (K.gained out.old) (K.gained out.new) }
 
     // Where an attachment failed nothing is taken from the source, nothing put, and no sector read.
     ensures cut { length (I.seen images.new).attached < min (length (names_after words.now)) MOST_ATTACHED →
@@ -102,7 +102,7 @@ pub fn reraid<R: Threads + Sync, S: Source, I: Images, K: Sink, N: Sink>(
     // command puts as it reads. What a command reads is bounded.
     ensures world { (I.seen images.new).world ≡ (I.seen images.old).world }
     ensures unread { result ≢ 0 → result ≢ 10 → result ≢ 12 → result ≢ 20 → (I.seen images.new).sectors_read ≡ (I.seen images.old).sectors_read }
-    ensures early { result ≡ 20 → (command : Command) → IsCommandLine words.now command → streams (Some command) ≡ true → (I.seen images.new).sectors_read ≡ (I.seen images.old).sectors_read }
+    ensures early { result ≡ 20 → (command : Command) → IsCommandLine words.now command → streams (Ok command) ≡ true → (I.seen images.new).sectors_read ≡ (I.seen images.old).sectors_read }
     ensures reads { (reading : Reading) → Says words.now (S.left plan.old) reading →
         IfSome (most_reads reading (I.seen images.new).attached) (λ n. (I.seen images.new).sectors_read ≤ (I.seen images.old).sectors_read + n) }
 {

@@ -235,7 +235,7 @@ const LONGEST: usize = 4_194_304;
 fn a_source_is_asked_once_more_than_a_plan_is_long(rt: HostRuntime) -> Result<(), Fail> {
     let alloc = rt.alloc();
     let names = first_names(STRIPES.len());
-    for (more, status) in [(0, 19), (1, 3)] {
+    for (more, status) in [(0, 2), (1, 3)] {
         let plan = vec![in alloc; b'x'; LONGEST + more]?;
         let mut met = images_of(alloc, names, STRIPES, &plan)?;
         met.plan.fail_call(4_194_306)?;

@@ -4,6 +4,10 @@ use crate::rows::{Row, STRIPES, check_all};
 use crate::words::{Command, Operand};
 use std::test::Fail;
 
+/// The first listing as JSON.
+const OBJECTS: &str =
+    "{\"chunk\":1,\"level\":5,\"name\":\"left-symmetric\",\"offset\":0,\"pattern\":\"ls\",\"rank\":0,\"slots\":[0,1,2],\"syndrome\":\"none\"}\n{\"chunk\":1,\"level\":5,\"name\":\"left-symmetric\",\"offset\":0,\"pattern\":\"ls\",\"rank\":1,\"slots\":[0,2,1],\"syndrome\":\"none\"}\n{\"chunk\":1,\"level\":5,\"name\":\"left-symmetric\",\"offset\":0,\"pattern\":\"ls\",\"rank\":2,\"slots\":[1,0,2],\"syndrome\":\"none\"}\n{\"chunk\":1,\"level\":5,\"name\":\"left-symmetric\",\"offset\":0,\"pattern\":\"ls\",\"rank\":3,\"slots\":[1,2,0],\"syndrome\":\"none\"}\n{\"chunk\":1,\"level\":5,\"name\":\"left-symmetric\",\"offset\":0,\"pattern\":\"ls\",\"rank\":4,\"slots\":[2,0,1],\"syndrome\":\"none\"}\n{\"chunk\":1,\"level\":5,\"name\":\"left-symmetric\",\"offset\":0,\"pattern\":\"ls\",\"rank\":5,\"slots\":[2,1,0],\"syndrome\":\"none\"}\n{\"next\":6,\"total\":6}\n";
+
 /// `STRIPES` with the last byte changed.
 const STRIPES_BROKEN: &[&[u8]] = &[&[1, 2], &[3, 4], &[2, 7]];
 
@@ -66,6 +70,46 @@ fn listings_go_on_to_the_whole_filter(rt: HostRuntime) -> Result<(), Fail> {
             plan: PLAN_WITH_A_BAD_ROW,
             status: 0,
             out: LISTING,
+            notes: "",
+        },
+    ];
+    check_all(&rt, rt.alloc(), &rows)
+}
+
+// Pages of four lines, one after the other; a page that goes on at the total is the last. The same as JSON.
+#[test]
+fn pages_and_objects(rt: HostRuntime) -> Result<(), Fail> {
+    let rows = [
+        Row {
+            command: Command::List(&[Operand::Size(4), Operand::Said("pages=2")]),
+            images: STRIPES,
+            plan: PLAN,
+            status: 0,
+            out: "0 5:ls:none:1:0:0,1,2\n1 5:ls:none:1:0:0,2,1\n2 5:ls:none:1:0:1,0,2\n3 5:ls:none:1:0:1,2,0\nnext 4 of 6\n4 5:ls:none:1:0:2,0,1\n5 5:ls:none:1:0:2,1,0\nnext 6 of 6\n",
+            notes: "",
+        },
+        Row {
+            command: Command::List(&[Operand::Size(6), Operand::Said("pages=5")]),
+            images: STRIPES,
+            plan: PLAN,
+            status: 0,
+            out: LISTING,
+            notes: "",
+        },
+        Row {
+            command: Command::List(&[Operand::From(6), Operand::Said("pages=5")]),
+            images: STRIPES,
+            plan: PLAN,
+            status: 0,
+            out: "next 6 of 6\n",
+            notes: "",
+        },
+        Row {
+            command: Command::List(&[Operand::Size(10), Operand::Said("form=json")]),
+            images: STRIPES,
+            plan: PLAN,
+            status: 0,
+            out: OBJECTS,
             notes: "",
         },
     ];

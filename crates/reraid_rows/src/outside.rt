@@ -53,6 +53,39 @@ pub fn images_of(
     })
 }
 
+/// Objects for a run over images of these names and bytes.
+pub fn images_with(
+    alloc: Global,
+    names: &[&str],
+    contents: &[Vec<u8>],
+    plan: &[u8],
+) -> Result<Outside, Memory>
+    ensures { IfOk result (λ o. AreReady (map (λ name. name.now) names.now) o.images o.plan o.out o.notes) }
+{
+    let mut images = MemImages::new(alloc)?;
+    add_contents(&mut images, names, contents)?;
+
+    // Of two images of one name the first is meant: those that have no bytes above are empty.
+    add_all(alloc, &mut images, names, &[])?;
+    Ok(Outside {
+        images,
+        plan: MemSource::new(alloc, plan)?,
+        out: MemSink::new(alloc, 4096)?,
+        notes: MemSink::new(alloc, 1000)?,
+    })
+}
+
+/// Adds an image of the bytes at each name.
+fn add_contents(images: &mut MemImages, names: &[&str], contents: &[Vec<u8>]) -> Result<(), Memory>
+    ensures attached { images.new.attached ≡ images.old.attached }
+    ensures faults { images.new.faults ≡ images.old.faults }
+{
+    for (name, bytes) in names.iter().zip(contents) {
+        add(images, name, bytes)?;
+    }
+    Ok(())
+}
+
 /// Adds an image under each name, so that all of them may be attached.
 fn add_all(
     alloc: Global,

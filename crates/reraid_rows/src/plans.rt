@@ -43,3 +43,75 @@ pub const SIX_MEMBERS: &str =
 /// Level 6 over sixteen images: 13 patterns, 3 orders of Q, 16 chunks and 64 offsets.
 pub const TOO_MANY_SETS: &str =
     "reraid-plan 1\nimages 16\nlength 1\nlength 1\nlength 1\nlength 1\nlength 1\nlength 1\nlength 1\nlength 1\nlength 1\nlength 1\nlength 1\nlength 1\nlength 1\nlength 1\nlength 1\nlength 1\nend 1\nlevels 6\nmembers 16\npatterns la,ra,ls,rs,parity-first,parity-last,n-restart,n-continue,la-6,ra-6,ls-6,rs-6,parity-first-6\nsyndromes after-q,by-data,by-slot\nchunks 1,2,4,8,16,32,64,128,256,512,1024,2048,4096,8192,16384,32768\noffsets 0,1,2,3,4,5,6,7,8,9,10,11,12,13,14,15,16,17,18,19,20,21,22,23,24,25,26,27,28,29,30,31,32,33,34,35,36,37,38,39,40,41,42,43,44,45,46,47,48,49,50,51,52,53,54,55,56,57,58,59,60,61,62,63\norigins 0\nmissing 2\nforeign 2\nbadrows 0\nwindow 1\nmisfits 0\nleast 1\ndone\n";
+
+/// A header of a partition table at the start of the second image, which has to lie at volume sector 1.
+pub const ONE_HEADER: &str =
+    "reraid-plan 1\nimages 2\nlength 2\nlength 2\nend 2\nlevels 0\nmembers 2\npatterns plain\nsyndromes none\nchunks 1,2\noffsets 0\norigins 0\nmissing 0\nforeign 0\nbadrows 0\nwindow 2\nmisfits 0\nleast 1\ngroup gpt\nmark gpt 1 0 at:1\ndone\n";
+
+/// The headers at the starts of two images, of three members.
+pub const TWO_HEADERS: &str =
+    "reraid-plan 1\nimages 3\nlength 1\nlength 1\nlength 1\nend 1\nlevels 5\nmembers 3\npatterns ls\nsyndromes none\nchunks 1\noffsets 0\norigins 0\nmissing 0\nforeign 0\nbadrows 0\nwindow 1\nmisfits 0\nleast 1\ngroup gpt\nmark gpt 1 0 at:1\nmark gpt 2 0 at:1\ndone\n";
+
+/// The same, with one more image.
+pub const TWO_HEADERS_OF_FOUR: &str =
+    "reraid-plan 1\nimages 4\nlength 1\nlength 1\nlength 1\nlength 1\nend 1\nlevels 5\nmembers 3\npatterns ls\nsyndromes none\nchunks 1\noffsets 0\norigins 0\nmissing 0\nforeign 1\nbadrows 1\nwindow 1\nmisfits 0\nleast 1\ngroup gpt\nmark gpt 1 0 at:1\nmark gpt 2 0 at:1\ndone\n";
+
+/// The same, with the first of the two headers alone.
+pub const ONE_HEADER_OF_FOUR: &str =
+    "reraid-plan 1\nimages 4\nlength 1\nlength 1\nlength 1\nlength 1\nend 1\nlevels 5\nmembers 3\npatterns ls\nsyndromes none\nchunks 1\noffsets 0\norigins 0\nmissing 0\nforeign 1\nbadrows 1\nwindow 1\nmisfits 0\nleast 1\ngroup gpt\nmark gpt 1 0 at:1\ndone\n";
+
+/// The landmarks of an XFS of four groups of 136 sectors, which begins at volume sector 2048.
+pub const XFS: &str =
+    "reraid-plan 1\nimages 4\nlength 640\nlength 640\nlength 640\nlength 640\nend 640\nlevels 0\nmembers 4\npatterns plain\nsyndromes none\nchunks 8,16\noffsets 0\norigins 0,2048\nmissing 0\nforeign 0\nbadrows 0\nwindow 640\nmisfits 0\nleast 1\ngroup xfs\nmark super 0 512 every:136:4:0\nmark agf 0 513 at:1\nmark agi 0 514 at:2\nmark super 1 544 every:136:4:0\nmark agf 1 545 at:137\nmark agi 1 546 at:138\nmark super 2 576 every:136:4:0\nmark agf 2 577 at:273\nmark agi 2 578 at:274\nmark super 3 608 every:136:4:0\nmark agf 3 609 at:409\nmark agi 3 610 at:410\ndone\n";
+
+/// The same, where only volume sector 0 is tried.
+pub const XFS_AT_THE_START: &str =
+    "reraid-plan 1\nimages 4\nlength 640\nlength 640\nlength 640\nlength 640\nend 640\nlevels 0\nmembers 4\npatterns plain\nsyndromes none\nchunks 8,16\noffsets 0\norigins 0\nmissing 0\nforeign 0\nbadrows 0\nwindow 640\nmisfits 0\nleast 1\ngroup xfs\nmark super 0 512 every:136:4:0\nmark agf 0 513 at:1\nmark agi 0 514 at:2\nmark super 1 544 every:136:4:0\nmark agf 1 545 at:137\nmark agi 1 546 at:138\nmark super 2 576 every:136:4:0\nmark agf 2 577 at:273\nmark agi 2 578 at:274\nmark super 3 608 every:136:4:0\nmark agf 3 609 at:409\nmark agi 3 610 at:410\ndone\n";
+
+/// A mark that lies nowhere: its rule has no distance.
+pub const NO_DISTANCE: &str =
+    "reraid-plan 1\nimages 3\nlength 2\nlength 2\nlength 2\nend 2\nlevels 5\nmembers 3\npatterns ls\nsyndromes none\nchunks 1\noffsets 0\norigins 0\nmissing 0\nforeign 0\nbadrows 0\nwindow 2\nmisfits 0\nleast 1\ngroup ntfs\nmark boot 0 0 every:0:0:0\ndone\n";
+
+/// The greatest distance of the mark is 2^55.
+pub const DISTANCE_TOO_GREAT: &str =
+    "reraid-plan 1\nimages 3\nlength 2\nlength 2\nlength 2\nend 2\nlevels 5\nmembers 3\npatterns ls\nsyndromes none\nchunks 1\noffsets 0\norigins 0\nmissing 0\nforeign 0\nbadrows 0\nwindow 2\nmisfits 0\nleast 1\ngroup ntfs\nmark boot 0 0 every:18014398509481984:2:0\ndone\n";
+
+/// The partition table comes after a file system.
+pub const TABLE_TOO_LATE: &str =
+    "reraid-plan 1\nimages 3\nlength 2\nlength 2\nlength 2\nend 2\nlevels 5\nmembers 3\npatterns ls\nsyndromes none\nchunks 1\noffsets 0\norigins 0\nmissing 0\nforeign 0\nbadrows 0\nwindow 2\nmisfits 0\nleast 1\ngroup ntfs\nmark boot 0 0 at:0\ngroup gpt\ndone\n";
+
+/// Marks in the order of images.
+pub const MARKS_BY_IMAGE: &str =
+    "reraid-plan 1\nimages 3\nlength 2\nlength 2\nlength 2\nend 2\nlevels 5\nmembers 3\npatterns ls\nsyndromes none\nchunks 1\noffsets 0\norigins 0\nmissing 0\nforeign 0\nbadrows 0\nwindow 2\nmisfits 0\nleast 1\ngroup ntfs\nmark boot 0 1 at:0\nmark boot 1 0 at:0\ndone\n";
+
+/// A mark past the end of its image.
+pub const MARK_PAST_THE_END: &str =
+    "reraid-plan 1\nimages 3\nlength 2\nlength 2\nlength 2\nend 2\nlevels 5\nmembers 3\npatterns ls\nsyndromes none\nchunks 1\noffsets 0\norigins 0\nmissing 0\nforeign 0\nbadrows 0\nwindow 2\nmisfits 0\nleast 1\ngroup ntfs\nmark boot 0 2 at:0\ndone\n";
+
+/// The plan of the first listing without its last line feed.
+pub const WITHOUT_THE_LAST_END: &str =
+    "reraid-plan 1\nimages 3\nlength 2\nlength 2\nlength 2\nend 2\nlevels 5\nmembers 3\npatterns ls\nsyndromes none\nchunks 1\noffsets 0\norigins 0\nmissing 0\nforeign 0\nbadrows 0\nwindow 2\nmisfits 0\nleast 1\ndone";
+
+/// The same with a carriage return before the first line feed.
+pub const WITH_A_RETURN: &str =
+    "reraid-plan 1\r\nimages 3\nlength 2\nlength 2\nlength 2\nend 2\nlevels 5\nmembers 3\npatterns ls\nsyndromes none\nchunks 1\noffsets 0\norigins 0\nmissing 0\nforeign 0\nbadrows 0\nwindow 2\nmisfits 0\nleast 1\ndone\n";
+
+/// The same with chunks that do not rise.
+pub const CHUNKS_FALL: &str =
+    "reraid-plan 1\nimages 3\nlength 2\nlength 2\nlength 2\nend 2\nlevels 5\nmembers 3\npatterns ls\nsyndromes none\nchunks 2,1\noffsets 0\norigins 0\nmissing 0\nforeign 0\nbadrows 0\nwindow 2\nmisfits 0\nleast 1\ndone\n";
+
+/// The same with a line after the last.
+pub const AFTER_THE_END: &str =
+    "reraid-plan 1\nimages 3\nlength 2\nlength 2\nlength 2\nend 2\nlevels 5\nmembers 3\npatterns ls\nsyndromes none\nchunks 1\noffsets 0\norigins 0\nmissing 0\nforeign 0\nbadrows 0\nwindow 2\nmisfits 0\nleast 1\ndone\ndone\n";
+
+/// The same with an end past the shortest image.
+pub const END_TOO_HIGH: &str =
+    "reraid-plan 1\nimages 3\nlength 2\nlength 2\nlength 2\nend 3\nlevels 5\nmembers 3\npatterns ls\nsyndromes none\nchunks 1\noffsets 0\norigins 0\nmissing 0\nforeign 0\nbadrows 0\nwindow 2\nmisfits 0\nleast 1\ndone\n";
+
+/// The same with 2^55 bad rows.
+pub const BADROWS_TOO_MANY: &str =
+    "reraid-plan 1\nimages 3\nlength 2\nlength 2\nlength 2\nend 2\nlevels 5\nmembers 3\npatterns ls\nsyndromes none\nchunks 1\noffsets 0\norigins 0\nmissing 0\nforeign 0\nbadrows 36028797018963968\nwindow 2\nmisfits 0\nleast 1\ndone\n";
+
+/// The same without a tested row.
+pub const NO_WINDOW: &str =
+    "reraid-plan 1\nimages 3\nlength 2\nlength 2\nlength 2\nend 2\nlevels 5\nmembers 3\npatterns ls\nsyndromes none\nchunks 1\noffsets 0\norigins 0\nmissing 0\nforeign 0\nbadrows 0\nwindow 0\nmisfits 0\nleast 1\ndone\n";

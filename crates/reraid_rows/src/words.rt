@@ -24,12 +24,16 @@ pub enum Operand<'a> {
     Slot(u8),
     /// The image sector after the last that may belong to the array.
     End(u64),
+    /// An operand as it is spelled.
+    Said(&'a str),
 }
 
 /// A command with its operands.
 #[derive(Clone, Copy)]
 pub enum Command<'a> {
-    /// A page of the sets that pass.
+    /// The plan of a survey.
+    Survey(&'a [Operand<'a>]),
+    /// Pages of the sets that pass.
     List(&'a [Operand<'a>]),
     /// The tests of a set.
     Check(&'a [Operand<'a>]),
@@ -56,6 +60,7 @@ fn words_before_names(alloc: Global, command: &Command) -> Result<Vec<Word>, Mem
     ensures { IfOk result (λ words. All IsNoMark words.items) }
 {
     match command {
+        Command::Survey(operands) => words_of(alloc, "survey", operands),
         Command::List(operands) => words_of(alloc, "list", operands),
         Command::Check(operands) => words_of(alloc, "check", operands),
         Command::Map(operands) => words_of(alloc, "map", operands),
@@ -83,6 +88,7 @@ fn operand_word(alloc: Global, operand: &Operand) -> Result<Word, Memory>
     ensures { IfOk result (λ word. IsNoMark word) }
 {
     let text = match operand {
+        Operand::Said(word) => return said(alloc, word),
         Operand::From(rank) => format!(in alloc; "from={}", rank),
         Operand::Size(lines) => format!(in alloc; "size={}", lines),
         Operand::Span(ranks) => format!(in alloc; "span={}", ranks),
@@ -93,6 +99,16 @@ fn operand_word(alloc: Global, operand: &Operand) -> Result<Word, Memory>
     };
     let text = text.map_err(|_| Memory)?;
     Word::new(alloc, text.as_str())
+}
+
+/// The word itself, which is not `--`.
+fn said(alloc: Global, word: &str) -> Result<Word, Memory>
+    ensures { IfOk result (λ word. IsNoMark word) }
+{
+    if word == "--" {
+        return Err(Memory);
+    }
+    Word::new(alloc, word)
 }
 
 /// Appends `--` and the names.

@@ -1,12 +1,13 @@
-use Rattle.std.proofs.Common.{◌≡◌, ℕ, ◌<◌, ◌≤◌, ◌+◌, ◌-◌, IfSome, ◌^◌, ◌++◌, List, All, length, length-drop, drop, take, arith, sym, ap, ◌∙◌, subst}
+use Rattle.std.proofs.Common.{◌≡◌, ℕ, ◌<◌, ◌≤◌, ◌+◌, ◌-◌, IfSome, ◌^◌, ◌++◌, List, All, length, length-drop, drop, take, arith, sym, ap, ◌∙◌, subst, refl, Result, Ok, Err, IsErrOf}
 use Rattle.std.proofs.lemmas.List.{take_all}
 use Rattle.command_words.specs.Commands.{names_after}
+use Rattle.command_words.specs.declared.command.Command.{Command}
 use Rattle.image_source.specs.Seen.{Image}
-use Rattle.command_jobs.proofs.Printed.{order_refused}
-use Rattle.command_jobs.specs.Jobs.{Ends, Orders}
-use Rattle.command_jobs.specs.declared.stop.Stop.TheVariants.{NotBuilt}
-use Rattle.reraid_cli.specs.Answers.{most_reads, output, refusal}
-use Rattle.reraid_cli.proofs.Runs.{asked_of, images_small, words_end}
+use Rattle.run_ends.proofs.Printed.{order_refused}
+use Rattle.run_ends.specs.Jobs.{Ends, Orders}
+use Rattle.run_ends.specs.declared.stop.Stop.TheVariants.{Word}
+use Rattle.reraid_cli.specs.Answers.{IsPlanned, most_reads, output, refusal, streams}
+use Rattle.reraid_cli.proofs.Runs.{asked_of, images_small, leaves_after, one_reading, words_end}
 use Rattle.reraid_cli.proofs.running.run.Goals as goal
 
 pub serve-requires-clause-small : goal.serve-requires-clause-small
@@ -16,51 +17,61 @@ serve-requires-clause-small g c =
     subst P (sym (some.attached.2 ∙ ap (λ (images : List Image). images ++ some.attached.0) c.requires.fresh))
     (images_small (g.I.Images.seen c.args.images.now).world _ some.attached.0 some.attached.1)
 
-pub returns-in-None-clause-ends : goal.returns-in-None-clause-ends
-returns-in-None-clause-ends g c reading says =
-    words_end c.args.words.now (g.S.Source.left c.args.plan.now) (g.I.Images.seen c.args.images.now).attached (g.K.Sink.gained c.args.out.now) reading c.in-None.ensures.reads says
+pub returns-in-Err-clause-ends : goal.returns-in-Err-clause-ends
+returns-in-Err-clause-ends g c reading says =
+    words_end c.args.words.now c.in-Err.number (g.S.Source.left c.args.plan.now) (g.I.Images.seen c.args.images.now).attached (g.K.Sink.gained c.args.out.now) reading c.in-Err.ensures.reads says
 
-pub returns-in-None-clause-all : goal.returns-in-None-clause-all
-returns-in-None-clause-all g c command line other = absurd (let e = c.in-None.ensures.reads.whole command line in cc)
+pub returns-in-Err-clause-all : goal.returns-in-Err-clause-all
+returns-in-Err-clause-all g c command line other = absurd (c.in-Err.ensures.reads.none command line)
 
-pub returns-in-Ok-clause-ends : goal.returns-in-Ok-clause-ends
-returns-in-Ok-clause-ends g c reading says =
+pub returns-in-Ok-attach_front-clause-ends : goal.returns-in-Ok-attach_front-clause-ends
+returns-in-Ok-attach_front-clause-ends g c reading says =
     let words = c.args.words.now in
-    let r = c.names_of.result in
-    let long = length-drop r words in
-    let count : length (take (length words - r) (drop r words)) ≡ length (names_after words) =
-    ap length (take_all (length words - r) (drop r words) (omega arith)) ∙ ap (λ (n : ℕ). length (drop n words)) c.names_of.ensures ∙ ap length (sym c.in-Some.ensures.names.1) in
+    let count : length c.names_of-names.result.now ≡ length (names_after words) = ap length c.names_of-names.ensures in
     let P : List Image → Type 0 = λ attached. Ends (refusal reading attached) (output reading attached) (g.K.Sink.gained c.args.out.now) (g.K.Sink.gained c.serve.new.out) c.serve.result in
     subst P (sym c.serve.ensures.kept)
-    (c.serve.ensures.ends reading (asked_of words (g.S.Source.left c.args.plan.now) c.in-Some.command _ reading c.in-Some.ensures.reads count says))
+    (c.serve.ensures.ends reading (asked_of words (g.S.Source.left c.args.plan.now) c.in-Ok.command _ reading c.in-Ok.ensures.reads count says))
 
-pub returns-in-Ok-clause-reads : goal.returns-in-Ok-clause-reads
-returns-in-Ok-clause-reads g c reading says =
+pub returns-in-Ok-attach_front-clause-reads : goal.returns-in-Ok-attach_front-clause-reads
+returns-in-Ok-attach_front-clause-reads g c reading says =
     let words = c.args.words.now in
-    let r = c.names_of.result in
-    let long = length-drop r words in
-    let count : length (take (length words - r) (drop r words)) ≡ length (names_after words) =
-    ap length (take_all (length words - r) (drop r words) (omega arith)) ∙ ap (λ (n : ℕ). length (drop n words)) c.names_of.ensures ∙ ap length (sym c.in-Some.ensures.names.1) in
+    let count : length c.names_of-names.result.now ≡ length (names_after words) = ap length c.names_of-names.ensures in
     let read = (g.I.Images.seen c.serve.new.images).sectors_read in
     let P : List Image → Type 0 = λ attached. IfSome (most_reads reading attached) (λ n. read ≤ (g.I.Images.seen c.args.images.now).sectors_read + n) in
     let Q : ℕ → Type 0 = λ before. IfSome (most_reads reading (g.I.Images.seen c.attach_front.new.images).attached) (λ n. read ≤ before + n) in
     subst P (sym c.serve.ensures.kept)
-    (subst Q c.attach_front.ensures.some.unread (c.serve.ensures.reads reading (asked_of words (g.S.Source.left c.args.plan.now) c.in-Some.command _ reading c.in-Some.ensures.reads count says)))
+    (subst Q c.attach_front.ensures.some.unread (c.serve.ensures.reads reading (asked_of words (g.S.Source.left c.args.plan.now) c.in-Ok.command _ reading c.in-Ok.ensures.reads count says)))
 
-pub returns-in-None-clause-order : goal.returns-in-None-clause-order
-returns-in-None-clause-order g c reading says all =
+pub returns-in-Err-clause-order : goal.returns-in-Err-clause-order
+returns-in-Err-clause-order g c reading says all =
     let seen = g.I.Images.seen c.args.images.now in
-    order_refused (refusal reading seen.attached) seen.sectors_read (g.K.Sink.gained c.args.out.now) NotBuilt tt
+    order_refused (refusal reading seen.attached) seen.sectors_read (g.K.Sink.gained c.args.out.now) (Word c.in-Err.number) tt
 
-pub returns-in-Ok-clause-order : goal.returns-in-Ok-clause-order
-returns-in-Ok-clause-order g c reading says all =
+pub returns-in-Ok-attach_front-clause-order : goal.returns-in-Ok-attach_front-clause-order
+returns-in-Ok-attach_front-clause-order g c reading says all =
     let words = c.args.words.now in
-    let r = c.names_of.result in
-    let long = length-drop r words in
-    let count : length (take (length words - r) (drop r words)) ≡ length (names_after words) =
-    ap length (take_all (length words - r) (drop r words) (omega arith)) ∙ ap (λ (n : ℕ). length (drop n words)) c.names_of.ensures ∙ ap length (sym c.in-Some.ensures.names.1) in
+    let count : length c.names_of-names.result.now ≡ length (names_after words) = ap length c.names_of-names.ensures in
     let now = (g.I.Images.seen c.serve.new.images).sectors_read in
     let P : List Image → Type 0 = λ attached. Orders (refusal reading attached) (g.I.Images.seen c.args.images.now).sectors_read now (g.K.Sink.gained c.args.out.now) (g.K.Sink.gained c.serve.new.out) c.serve.result in
     let Q : ℕ → Type 0 = λ before. Orders (refusal reading (g.I.Images.seen c.attach_front.new.images).attached) before now (g.K.Sink.gained c.args.out.now) (g.K.Sink.gained c.serve.new.out) c.serve.result in
     subst P (sym c.serve.ensures.kept)
-    (subst Q c.attach_front.ensures.some.unread (c.serve.ensures.order reading (asked_of words (g.S.Source.left c.args.plan.now) c.in-Some.command _ reading c.in-Some.ensures.reads count says)))
+    (subst Q c.attach_front.ensures.some.unread (c.serve.ensures.order reading (asked_of words (g.S.Source.left c.args.plan.now) c.in-Ok.command _ reading c.in-Ok.ensures.reads count says)))
+
+pub returns-in-Err-clause-words : goal.returns-in-Err-clause-words
+returns-in-Err-clause-words g c number reads =
+    let same = one_reading c.args.words.now (Err number) (Err c.in-Err.number) reads c.in-Err.ensures.reads in
+    (let n : c.in-Err.number ≡ number = cc in ap (λ (k : ℕ). Err (Word k)) n, refl)
+
+pub returns-in-Ok-attach_front-clause-leaves : goal.returns-in-Ok-attach_front-clause-leaves
+returns-in-Ok-attach_front-clause-leaves g c = (
+  Ok c.in-Ok.command,
+  c.in-Ok.ensures.reads,
+  leaves_after (streams (Ok c.in-Ok.command)) (g.I.Images.seen c.args.images.now) (g.I.Images.seen c.attach_front.new.images) (g.I.Images.seen c.serve.new.images)
+      (g.S.Source.faults c.args.plan.now) (g.S.Source.faults c.serve.new.plan) (g.K.Sink.faults c.args.out.now) (g.K.Sink.faults c.serve.new.out) (g.K.Sink.gained c.args.out.now) (g.K.Sink.gained c.serve.new.out) c.serve.result
+      c.attach_front.ensures.some.faults c.attach_front.ensures.some.unread c.serve.ensures.leaves,
+)
+
+pub returns-in-Ok-attach_front-clause-unasked : goal.returns-in-Ok-attach_front-clause-unasked
+returns-in-Ok-attach_front-clause-unasked g c read reads unplanned =
+    let same = one_reading c.args.words.now (Ok c.in-Ok.command) read c.in-Ok.ensures.reads reads in
+    c.serve.ensures.unasked (λ planned. unplanned (subst IsPlanned (sym same) planned))

@@ -1,21 +1,21 @@
 use Rattle.std.proofs.Common.{subst}
 use Rattle.command_words.specs.declared.command.Command.{Command}
 use Rattle.reraid_cli.specs.Asked.{IsAsked}
-use Rattle.reraid_cli.proofs.Serving.{check_asked, check_order, check_read, list_asked, list_order, list_read, map_asked, map_order, rebuild_asked, rebuild_order, rebuild_reads, write_asked, write_order, write_reads}
+use Rattle.reraid_cli.proofs.Serving.{survey_asked, survey_order, survey_read, sample_ends, sample_order, sample_read, check_asked, check_order, check_read, list_asked, list_order, list_read, map_asked, map_order, rebuild_asked, rebuild_order, rebuild_reads, write_asked, write_order, write_reads}
 use Rattle.reraid_cli.proofs.running.serve.Goals as goal
 
 pub returns-in-List-clause-ends : goal.returns-in-List-clause-ends
 returns-in-List-clause-ends g c reading asked =
     let left = g.S.Source.left c.args.plan.now in
     let P : Command → Type 0 = λ k. IsAsked k c.args.names left reading in
-    list_asked c.in-List.from c.in-List.size c.in-List.span c.in-List.names c.args.names left reading (g.I.Images.seen c.args.images.now).attached (g.K.Sink.gained c.args.out.now) (g.K.Sink.gained c.list.new.out) c.list.result
+    list_asked c.in-List.from c.in-List.size c.in-List.span c.in-List.pages c.in-List.form c.in-List.names c.args.names left reading (g.I.Images.seen c.args.images.now).attached (g.K.Sink.gained c.args.out.now) (g.K.Sink.gained c.list.new.out) c.list.result
     (subst P c.in-List.is asked) c.list.ensures.ends
 
 pub returns-in-List-clause-reads : goal.returns-in-List-clause-reads
 returns-in-List-clause-reads g c reading asked =
     let left = g.S.Source.left c.args.plan.now in
     let P : Command → Type 0 = λ k. IsAsked k c.args.names left reading in
-    list_read c.in-List.from c.in-List.size c.in-List.span c.in-List.names c.args.names (g.I.Images.seen c.args.images.now).sectors_read (g.I.Images.seen c.list.new.images).sectors_read left reading (g.I.Images.seen c.args.images.now).attached (subst P c.in-List.is asked) c.list.ensures.reads
+    list_read c.in-List.from c.in-List.size c.in-List.span c.in-List.pages c.in-List.form c.in-List.names c.args.names (g.I.Images.seen c.args.images.now).sectors_read (g.I.Images.seen c.list.new.images).sectors_read left reading (g.I.Images.seen c.args.images.now).attached (subst P c.in-List.is asked) c.list.ensures.reads
 
 pub returns-in-Check-clause-ends : goal.returns-in-Check-clause-ends
 returns-in-Check-clause-ends g c reading asked =
@@ -69,7 +69,7 @@ pub returns-in-List-clause-order : goal.returns-in-List-clause-order
 returns-in-List-clause-order g c reading asked =
     let left = g.S.Source.left c.args.plan.now in
     let P : Command → Type 0 = λ k. IsAsked k c.args.names left reading in
-    list_order c.in-List.from c.in-List.size c.in-List.span c.in-List.names c.args.names (g.I.Images.seen c.args.images.now).sectors_read (g.I.Images.seen c.list.new.images).sectors_read left reading (g.I.Images.seen c.args.images.now).attached (g.K.Sink.gained c.args.out.now) (g.K.Sink.gained c.list.new.out) c.list.result
+    list_order c.in-List.from c.in-List.size c.in-List.span c.in-List.pages c.in-List.form c.in-List.names c.args.names (g.I.Images.seen c.args.images.now).sectors_read (g.I.Images.seen c.list.new.images).sectors_read left reading (g.I.Images.seen c.args.images.now).attached (g.K.Sink.gained c.args.out.now) (g.K.Sink.gained c.list.new.out) c.list.result
     (subst P c.in-List.is asked) c.list.ensures.order
 
 pub returns-in-Check-clause-order : goal.returns-in-Check-clause-order
@@ -99,3 +99,44 @@ returns-in-Rebuild-clause-order g c reading asked =
     let P : Command → Type 0 = λ k. IsAsked k c.args.names left reading in
     rebuild_order c.in-Rebuild.set c.in-Rebuild.slot c.in-Rebuild.end c.in-Rebuild.names c.args.names (g.I.Images.seen c.args.images.now).sectors_read (g.I.Images.seen c.rebuild.new.images).sectors_read left reading (g.I.Images.seen c.args.images.now).attached (g.K.Sink.gained c.args.out.now) (g.K.Sink.gained c.rebuild.new.out) c.rebuild.result
     (subst P c.in-Rebuild.is asked) c.rebuild.ensures.order
+
+pub returns-in-Survey-clause-ends : goal.returns-in-Survey-clause-ends
+returns-in-Survey-clause-ends g c reading asked =
+    let left = g.S.Source.left c.args.plan.now in
+    let P : Command → Type 0 = λ k. IsAsked k c.args.names left reading in
+    survey_asked c.in-Survey.asked c.args.names left reading (g.I.Images.seen c.args.images.now).attached (g.K.Sink.gained c.args.out.now) (g.K.Sink.gained c.survey.new.out) c.survey.result
+    (subst P c.in-Survey.is asked) c.survey.ensures.ends
+
+pub returns-in-Survey-clause-order : goal.returns-in-Survey-clause-order
+returns-in-Survey-clause-order g c reading asked =
+    let left = g.S.Source.left c.args.plan.now in
+    let P : Command → Type 0 = λ k. IsAsked k c.args.names left reading in
+    survey_order c.in-Survey.asked c.args.names (g.I.Images.seen c.args.images.now).sectors_read (g.I.Images.seen c.survey.new.images).sectors_read left reading (g.I.Images.seen c.args.images.now).attached (g.K.Sink.gained c.args.out.now) (g.K.Sink.gained c.survey.new.out) c.survey.result
+    (subst P c.in-Survey.is asked) c.survey.ensures.order
+
+pub returns-in-Survey-clause-reads : goal.returns-in-Survey-clause-reads
+returns-in-Survey-clause-reads g c reading asked =
+    let left = g.S.Source.left c.args.plan.now in
+    let P : Command → Type 0 = λ k. IsAsked k c.args.names left reading in
+    survey_read c.in-Survey.asked c.args.names (g.I.Images.seen c.args.images.now).sectors_read (g.I.Images.seen c.survey.new.images).sectors_read left reading (g.I.Images.seen c.args.images.now).attached
+    (subst P c.in-Survey.is asked) c.survey.ensures.reads
+
+pub returns-in-Sample-clause-ends : goal.returns-in-Sample-clause-ends
+returns-in-Sample-clause-ends g c reading asked =
+    let left = g.S.Source.left c.args.plan.now in
+    let P : Command → Type 0 = λ k. IsAsked k c.args.names left reading in
+    sample_ends c.in-Sample.number c.in-Sample.set c.in-Sample.rows c.in-Sample.xfs c.args.names left reading (g.I.Images.seen c.args.images.now).attached (g.K.Sink.gained c.args.out.now)
+    (subst P c.in-Sample.is asked)
+
+pub returns-in-Sample-clause-order : goal.returns-in-Sample-clause-order
+returns-in-Sample-clause-order g c reading asked =
+    let seen = g.I.Images.seen c.args.images.now in
+    sample_order c.in-Sample.number c.in-Sample.set c.in-Sample.rows c.in-Sample.xfs reading seen.attached seen.sectors_read (g.K.Sink.gained c.args.out.now)
+
+pub returns-in-Sample-clause-reads : goal.returns-in-Sample-clause-reads
+returns-in-Sample-clause-reads g c reading asked =
+    let left = g.S.Source.left c.args.plan.now in
+    let P : Command → Type 0 = λ k. IsAsked k c.args.names left reading in
+    let seen = g.I.Images.seen c.args.images.now in
+    sample_read c.in-Sample.number c.in-Sample.set c.in-Sample.rows c.in-Sample.xfs c.args.names seen.sectors_read left reading seen.attached
+    (subst P c.in-Sample.is asked)

@@ -1,13 +1,14 @@
-use Rattle.std.proofs.Common.{◌≡◌, sym, ap, ◌∙◌, subst, ℕ, List, Bool, Some}
-use Rattle.command_jobs.specs.Jobs.{MayHavePut, MayHaveRead}
-use Rattle.command_jobs.specs.Stops.{note_of, status_of}
-use Rattle.command_jobs.specs.declared.stop.Stop.TheVariants.{ImageFault, NotBuilt}
+use Rattle.std.proofs.Common.{◌≡◌, sym, ap, ◌∙◌, subst, ℕ, List, Bool, Ok}
+use Rattle.run_ends.specs.Jobs.{MayHavePut, MayHaveRead}
+use Rattle.run_ends.specs.Stops.{note_of, status_of}
+use Rattle.run_ends.specs.declared.stop.Stop.TheVariants.{ImageFault, Word}
 use Rattle.reraid_cli.specs.Answers.{IsNoted, refusal, streams}
+use Rattle.reraid_cli.proofs.Runs.{one_reading}
 use Rattle.reraid_cli.proofs.Statuses.{status_known, by_refusal, noted, noted_for, noted_numbers, not_ten, not_twelve, put_before, put_nothing, read_no_memory, read_nothing}
 use Rattle.reraid_cli.proofs.top.reraid.Goals as goal
 
 pub returns-in-Ok-clause-words : goal.returns-in-Ok-clause-words
-returns-in-Ok-clause-words g c none = absurd (let e = (c.in-Ok.ensures.words none).0 in cc)
+returns-in-Ok-clause-words g c number none = absurd (let e = (c.in-Ok.ensures.words number none).0 in cc)
 
 pub returns-in-Ok-clause-all : goal.returns-in-Ok-clause-all
 returns-in-Ok-clause-all g c command line other = c.in-Ok.ensures.all command line (λ is. absurd (cc))
@@ -20,9 +21,9 @@ returns-in-Err-clause-exact g c ten eleven twelve twenty reading says =
     by_refusal (refusal reading (g.I.Images.seen c.run.new.images).attached) c.in-Err.stop c.status.result c.status.ensures ten eleven twelve twenty (c.in-Err.ensures.ends reading says).ends
 
 pub returns-in-Err-clause-words : goal.returns-in-Err-clause-words
-returns-in-Err-clause-words g c none =
-    let e = c.in-Err.ensures.words none in
-    let stop : c.in-Err.stop ≡ NotBuilt = cc in
+returns-in-Err-clause-words g c number none =
+    let e = c.in-Err.ensures.words number none in
+    let stop : c.in-Err.stop ≡ Word number = cc in
     (c.status.ensures ∙ ap status_of stop, e.1)
 
 pub returns-in-Err-clause-nothing : goal.returns-in-Err-clause-nothing
@@ -33,7 +34,7 @@ returns-in-Err-clause-nothing g c zero ten twelve =
 pub returns-in-Err-clause-unput : goal.returns-in-Err-clause-unput
 returns-in-Err-clause-unput g c ten command line still =
     let leaves = c.in-Err.ensures.leaves in
-    let same : leaves.0 ≡ Some command = leaves.1.whole command line in
+    let same : leaves.0 ≡ Ok command = one_reading c.args.words.now (Ok command) leaves.0 line leaves.1 in
     leaves.2.nothing (λ put. put_before c.in-Err.stop c.status.result c.status.ensures ten (subst (λ (b : Bool). MayHavePut b c.in-Err.stop) (ap streams same ∙ still) put))
 
 pub returns-in-Err-clause-note : goal.returns-in-Err-clause-note
@@ -71,7 +72,7 @@ returns-in-Err-clause-order g c reading says stop is all =
 pub returns-in-Err-clause-early : goal.returns-in-Err-clause-early
 returns-in-Err-clause-early g c twenty command line puts =
     let leaves = c.in-Err.ensures.leaves in
-    let same : leaves.0 ≡ Some command = leaves.1.whole command line in
+    let same : leaves.0 ≡ Ok command = one_reading c.args.words.now (Ok command) leaves.0 line leaves.1 in
     leaves.2.unread (λ read. read_no_memory c.in-Err.stop c.status.result c.status.ensures twenty (subst (λ (b : Bool). MayHaveRead b c.in-Err.stop) (ap streams same ∙ puts) read))
 
 pub returns-in-Err-clause-line : goal.returns-in-Err-clause-line

@@ -1,6 +1,0 @@
-use Rattle.std.proofs.Common.{◌≡◌, take}
-use Rattle.command_jobs.specs.Agreement.{lengths_of, shortest}
-use Rattle.command_jobs.proofs.agreement.shortest.Given as goal
-
-abbrev pub invariant-loop-image : goal.invariant-loop-image
-invariant-loop-image g l = l.least ≡ shortest (take l.image (lengths_of (g.I.Images.seen l.images).attached))

@@ -1,0 +1,6 @@
+pub mod Checks
+pub mod Listed
+pub mod Plans
+pub mod Prepared
+pub mod Ordered
+pub mod PageReadings

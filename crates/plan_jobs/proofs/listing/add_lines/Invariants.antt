@@ -1,0 +1,8 @@
+use Rattle.std.proofs.Common.{◌≡◌, ◌++◌, take}
+use Rattle.std.specs.List.{flat_map}
+use Rattle.page_engine.specs.declared.page_parts.Line.{Line}
+use Rattle.plan_jobs.specs.Listing.{line_in}
+use Rattle.plan_jobs.proofs.listing.add_lines.Given as goal
+
+abbrev pub invariant-loop-held : goal.invariant-loop-held
+invariant-loop-held l = l.text ≡ l.fn.text ++ flat_map (λ (held : Line). line_in l.form held.rank held.geo) (take l.held-index l.lines)

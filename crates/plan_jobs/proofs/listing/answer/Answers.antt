@@ -1,0 +1,39 @@
+use Rattle.plan_jobs.specs.Listing.{cursor_refusal, list_reads}
+use Rattle.plan_jobs.proofs.Prepared.{cause_unprepared, images_agree, order_prepared, order_unprepared, reads_prepared, reads_unprepared, refuses_unprepared}
+use Rattle.plan_jobs.proofs.listing.answer.Goals as goal
+
+pub listed-requires-clause-lengths : goal.listed-requires-clause-lengths
+listed-requires-clause-lengths g c =
+    images_agree c.in-Ok.plan c.args.names (g.I.Images.seen c.args.images.now).attached c.in-Ok.ensures.plan c.requires.attached c.in-Ok.ensures.agrees
+
+pub returns-in-Err-clause-refuses : goal.returns-in-Err-clause-refuses
+returns-in-Err-clause-refuses g c =
+    refuses_unprepared (g.S.Source.left c.args.source.now) c.args.names (g.I.Images.seen c.args.images.now).attached (g.S.Source.faults c.args.source.now) (g.S.Source.faults c.prepare.new.source) c.in-Err.stop
+    (cursor_refusal c.args.asked.now.from) c.prepare.ensures.later c.in-Err.ensures.ends
+
+pub returns-in-Err-clause-causes : goal.returns-in-Err-clause-causes
+returns-in-Err-clause-causes g c =
+    cause_unprepared (g.S.Source.left c.args.source.now) c.args.names (g.I.Images.seen c.args.images.now) (g.S.Source.faults c.args.source.now) (g.S.Source.faults c.prepare.new.source) c.in-Err.stop
+    c.prepare.ensures.later c.in-Err.ensures.ends
+
+pub returns-in-Ok-clause-reads : goal.returns-in-Ok-clause-reads
+returns-in-Ok-clause-reads g c =
+    let seen = g.I.Images.seen c.args.images.now in
+    reads_prepared (g.S.Source.left c.args.source.now) c.args.names seen.attached c.in-Ok.plan (list_reads c.args.asked.now) seen.sectors_read (g.I.Images.seen c.listed.new.images).sectors_read
+    c.in-Ok.ensures.prepared c.listed.ensures.reads.sectors_read
+
+pub returns-in-Err-clause-reads : goal.returns-in-Err-clause-reads
+returns-in-Err-clause-reads g c =
+    reads_unprepared (g.S.Source.left c.args.source.now) (list_reads c.args.asked.now) (g.I.Images.seen c.args.images.now).sectors_read
+
+pub returns-in-Ok-clause-order : goal.returns-in-Ok-clause-order
+returns-in-Ok-clause-order g c =
+    let seen = g.I.Images.seen c.args.images.now in
+    order_prepared (g.S.Source.left c.args.source.now) c.args.names seen.attached c.in-Ok.plan (cursor_refusal c.args.asked.now.from) seen.sectors_read (g.I.Images.seen c.listed.new.images).sectors_read c.listed.result
+    c.in-Ok.ensures.prepared c.listed.ensures.order
+
+pub returns-in-Err-clause-order : goal.returns-in-Err-clause-order
+returns-in-Err-clause-order g c =
+    let seen = g.I.Images.seen c.args.images.now in
+    order_unprepared (g.S.Source.left c.args.source.now) c.args.names seen.attached (g.S.Source.faults c.args.source.now) (g.S.Source.faults c.prepare.new.source) c.in-Err.stop (cursor_refusal c.args.asked.now.from) seen.sectors_read
+    c.in-Err.ensures.ends

@@ -1,0 +1,5 @@
+pub mod Plans
+pub mod Preparing
+pub mod Listing
+pub mod Checking
+pub mod Reporting

@@ -1,0 +1,81 @@
+-- What `list` refuses and prints.
+use Rattle.std.specs.Prelude.{ℕ, zero, suc, ◌+◌, ◌-◌, ◌*◌, nat_lt, ◌==◌, if◌then◌else◌, List, [], ◌∷◌, ◌++◌, codes, slice_get}
+use Rattle.std.specs.List.{flat_map}
+use Rattle.std.specs.Option.{option_map_or}
+use Rattle.std.specs.declared.option.Option.{Option}
+use Rattle.std.specs.declared.option.Option.TheVariants.{None, Some}
+use Rattle.image_source.specs.Seen.{Image}
+use Rattle.raid_params.specs.declared.types.Geometry.{Geometry}
+use Rattle.raid_terms.specs.Page.{page_next, page_ranks, stop_of}
+use Rattle.page_engine.specs.Pages.{page_reads}
+use Rattle.search_plan.specs.Sets.{passes_at, sets_of, total_of}
+use Rattle.search_plan.specs.declared.plan.Plan.{Plan}
+use Rattle.page_engine.specs.declared.page_parts.Line.{Line}
+use Rattle.page_engine.specs.declared.page_parts.ListPage.{ListPage}
+use Rattle.plan_text.specs.SetText.{set_line}
+use Rattle.json_lines.specs.Objects.{next_object, set_object}
+use Rattle.command_words.specs.declared.command.Form.{Form}
+use Rattle.command_words.specs.declared.command.Form.TheVariants.{Text, Json}
+use Rattle.plan_jobs.specs.Plans.{PlanReading, Reads, plan_refusal}
+use Rattle.plan_jobs.specs.declared.listing.Listing.{Listing}
+use Rattle.run_ends.specs.Printing.{share_line}
+use Rattle.run_ends.specs.declared.stop.Stop.{Stop}
+use Rattle.run_ends.specs.declared.stop.Stop.TheVariants.{Cursor}
+
+-- the first rank asked for is past the total
+abbrev pub cursor_refusal : ℕ → Plan → Option Stop
+cursor_refusal from plan = if nat_lt (total_of plan) from then Some (Cursor (record { from = from; total = total_of plan })) else None
+
+-- the first refusal of `list`
+abbrev pub list_refusal : ℕ → List ℕ → PlanReading → ℕ → List Image → Option Stop
+list_refusal from text reading names attached = plan_refusal text reading names attached (cursor_refusal from)
+
+-- the line of a set and its rank, as text or as JSON
+abbrev pub line_in : Form → ℕ → Geometry → List ℕ
+line_in Text rank geo = set_line rank geo
+line_in Json rank geo = set_object rank geo
+
+-- the line of where the next page begins, of so many ranks
+abbrev pub next_in : Form → ℕ → ℕ → List ℕ
+next_in Text next total = share_line (codes "next ") next total
+next_in Json next total = next_object next total
+
+-- the line of the set of a rank
+unfoldable pub line_of : Form → Plan → ℕ → List ℕ
+line_of form plan rank = option_map_or (line_in form rank) (slice_get (sets_of plan) rank) []
+
+-- where the page from a rank on goes on
+abbrev pub next_of : List (List ℕ) → Plan → ℕ → ℕ → ℕ → ℕ
+next_of images plan size span from = page_next (passes_at images plan) (total_of plan) from size span
+
+-- the page from a rank on: the line of each of its ranks, and where the next page begins
+unfoldable pub page_text : Form → List (List ℕ) → Plan → ℕ → ℕ → ℕ → List ℕ
+page_text form images plan size span from =
+    flat_map (line_of form plan) (page_ranks (passes_at images plan) (total_of plan) from size span)
+    ++ next_in form (next_of images plan size span from) (total_of plan)
+
+-- so many pages, each where the last one goes on, or fewer where one goes on at the total
+unfoldable pub pages_text : Form → List (List ℕ) → Plan → ℕ → ℕ → ℕ → ℕ → List ℕ
+pages_text form images plan size span zero from = []
+pages_text form images plan size span (suc count) from =
+    page_text form images plan size span from
+    ++ (if next_of images plan size span from == total_of plan then []
+    else pages_text form images plan size span count (next_of images plan size span from))
+
+-- what `list` prints
+unfoldable pub listing : List (List ℕ) → Plan → Listing → List ℕ
+listing images plan asked = pages_text asked.form images plan asked.size asked.span asked.pages asked.from
+
+-- the bytes of a page that was found
+unfoldable pub found_text : Form → ListPage → List ℕ
+found_text form page = flat_map (λ held. line_in form held.rank held.geo) page.lines ++ next_in form page.next page.total
+
+-- the most sectors that `list` reads over a plan: for each rank of its range twice the tested rows of its set,
+-- on each image
+abbrev pub list_reads : Listing → Plan → ℕ
+list_reads asked plan = page_reads plan asked.from (stop_of (total_of plan) asked.from (asked.pages * asked.span))
+
+-- what `list` prints over what the plan's text says, where the bytes of the images are told
+abbrev pub list_output : Listing → PlanReading → Option (List (List ℕ)) → Option (List ℕ)
+list_output asked (Reads plan) (Some images) = Some (listing images plan asked)
+list_output asked _ _ = None

@@ -1,0 +1,444 @@
+//! Surveys of images that hold landmarks, and listings over their plans.
+use crate::outside::{Outside, first_names, images_with, run_command};
+use crate::plans::XFS;
+use crate::words::{Command, Operand};
+use image_source::{Memory, SECTOR};
+use std::alloc::Global;
+use std::process::Abort;
+use std::test::Fail;
+use std::thread::Threads;
+
+/// A field of a landmark sector: where it stands, and its bytes.
+type Field = (usize, &'static [u8]);
+
+/// A landmark sector of an image: its number, and its fields.
+#[derive(Clone, Copy)]
+struct Placed<'a> {
+    image: usize,
+    sector: usize,
+    fields: &'a [Field],
+}
+
+/// Images of so many bytes, zero but for these sectors.
+fn images(alloc: Global, lengths: &[usize], placed: &[Placed]) -> Result<Vec<Vec<u8>>, Memory> {
+    let mut made = Vec::new(alloc);
+    for length in lengths {
+        let bytes = vec![in alloc; 0u8; *length].map_err(|_| Memory)?;
+        made.push(bytes).map_err(|_| Memory)?;
+    }
+    for one in placed {
+        if let Some(bytes) = made.get_mut(one.image) {
+            put(bytes, one);
+        }
+    }
+    Ok(made)
+}
+
+/// Puts the fields of a sector, where it lies within the image.
+fn put(bytes: &mut Vec<u8>, placed: &Placed) {
+    for (at, field) in placed.fields {
+        let start = placed.sector.saturating_mul(SECTOR).saturating_add(*at);
+        for (place, byte) in field.iter().enumerate() {
+            if let Some(old) = bytes.get_mut(start.saturating_add(place)) {
+                *old = *byte;
+            }
+        }
+    }
+}
+
+/// Runs a command over images of these bytes.
+fn run<R: Threads + Sync>(
+    rt: &R,
+    alloc: Global,
+    command: &Command,
+    contents: &[Vec<u8>],
+    plan: &[u8],
+) -> Result<(u8, Outside), Memory> {
+    let names = first_names(contents.len());
+    let mut met = images_with(alloc, names, contents, plan)?;
+    let status = run_command(rt, alloc, command, names, &mut met)?;
+    Ok((status, met))
+}
+
+/// Runs a survey over images of so many bytes, zero but for these sectors, and compares its plan.
+fn check<R: Threads + Sync + Abort>(
+    rt: &R,
+    alloc: Global,
+    survey: &Command,
+    lengths: &[usize],
+    placed: &[Placed],
+    plan: &str,
+) -> Result<(), Fail> {
+    let contents = images(alloc, lengths, placed)?;
+    let (status, met) = run(rt, alloc, survey, &contents, b"")?;
+    assert_eq!(rt; status, 0);
+    assert_eq!(rt; met.out.bytes(), plan.as_bytes());
+    assert_eq!(rt; met.notes.bytes().len(), 0);
+    Ok(())
+}
+
+/// A header of a partition table in block 1 whose last copy is in block 127, with entries in block 2. Its
+/// checksum was computed by zlib.
+const HEADER: &[Field] = &[
+    (0, b"EFI PART"),
+    (10, &[1]),
+    (12, &[92]),
+    (16, &[0x81, 0xFE, 0xE7, 0x71]),
+    (24, &[1]),
+    (32, &[127]),
+    (72, &[2]),
+    (80, &[4]),
+    (84, &[128]),
+];
+
+/// The same, with a bit of the disk's identifier changed.
+const CHANGED: &[Field] = &[
+    (0, b"EFI PART"),
+    (10, &[1]),
+    (12, &[92]),
+    (16, &[0x81, 0xFE, 0xE7, 0x71]),
+    (24, &[1]),
+    (32, &[127]),
+    (56, &[1]),
+    (72, &[2]),
+    (80, &[4]),
+    (84, &[128]),
+];
+
+/// One entry in use, from block 40 to 100.
+const ENTRIES: &[Field] = &[(0, &[1]), (32, &[40]), (40, &[100])];
+
+/// The header of an image's own table in block 1 of 10,000, and its copy in block 9999.
+const OWN: &[Field] = &[
+    (0, b"EFI PART"),
+    (10, &[1]),
+    (12, &[92]),
+    (16, &[0x1C, 0x51, 0x73, 0xB1]),
+    (24, &[1]),
+    (32, &[0x0F, 0x27]),
+    (72, &[2]),
+    (80, &[4]),
+    (84, &[128]),
+];
+
+const OWN_COPY: &[Field] = &[
+    (0, b"EFI PART"),
+    (10, &[1]),
+    (12, &[92]),
+    (16, &[0xA9, 0xBE, 0x41, 0xED]),
+    (24, &[0x0F, 0x27]),
+    (32, &[1]),
+    (72, &[0xEF, 0x26]),
+    (80, &[4]),
+    (84, &[128]),
+];
+
+const TABLE: &[Placed] = &[
+    Placed {
+        image: 0,
+        sector: 1,
+        fields: HEADER,
+    },
+    Placed {
+        image: 0,
+        sector: 2,
+        fields: ENTRIES,
+    },
+];
+
+const CHANGED_TABLE: &[Placed] = &[
+    Placed {
+        image: 0,
+        sector: 1,
+        fields: CHANGED,
+    },
+    Placed {
+        image: 0,
+        sector: 2,
+        fields: ENTRIES,
+    },
+];
+
+const OWN_TABLES: &[Placed] = &[
+    Placed {
+        image: 0,
+        sector: 1,
+        fields: OWN,
+    },
+    Placed {
+        image: 0,
+        sector: 9999,
+        fields: OWN_COPY,
+    },
+    Placed {
+        image: 1,
+        sector: 1,
+        fields: OWN,
+    },
+    Placed {
+        image: 1,
+        sector: 9999,
+        fields: OWN_COPY,
+    },
+    Placed {
+        image: 2,
+        sector: 1,
+        fields: OWN,
+    },
+    Placed {
+        image: 2,
+        sector: 9999,
+        fields: OWN_COPY,
+    },
+];
+
+/// A boot sector of NTFS: 8 sectors a cluster, 100 sectors, $MFT in cluster 4, its copy in cluster 2, and
+/// records of 2^10 bytes.
+const BOOT: &[Field] = &[
+    (3, b"NTFS    "),
+    (12, &[2]),
+    (13, &[8]),
+    (40, &[100]),
+    (48, &[4]),
+    (56, &[2]),
+    (64, &[0xF6]),
+    (510, &[0x55, 0xAA]),
+];
+
+/// File record 1, of 1024 bytes, with its update sequence at 48.
+const RECORD: &[Field] = &[(0, b"FILE"), (4, &[48]), (29, &[4]), (44, &[1])];
+
+/// The same, with the update sequence at 42.
+const OLD_RECORD: &[Field] = &[(0, b"FILE"), (4, &[42]), (29, &[4]), (44, &[1])];
+
+const NTFS: &[Placed] = &[
+    Placed {
+        image: 0,
+        sector: 10,
+        fields: BOOT,
+    },
+    Placed {
+        image: 0,
+        sector: 110,
+        fields: BOOT,
+    },
+    Placed {
+        image: 0,
+        sector: 44,
+        fields: RECORD,
+    },
+];
+
+const OLD_NTFS: &[Placed] = &[
+    Placed {
+        image: 0,
+        sector: 10,
+        fields: BOOT,
+    },
+    Placed {
+        image: 0,
+        sector: 110,
+        fields: BOOT,
+    },
+    Placed {
+        image: 0,
+        sector: 44,
+        fields: OLD_RECORD,
+    },
+];
+
+/// A superblock of XFS: blocks of 4096 bytes, four groups of 17 blocks, sectors of 512 bytes.
+const SUPER: &[Field] = &[
+    (0, b"XFSB"),
+    (6, &[0x10]),
+    (87, &[17]),
+    (91, &[4]),
+    (102, &[2]),
+];
+
+const AGF: [&[Field]; 4] = [
+    &[(0, b"XAGF"), (7, &[1])],
+    &[(0, b"XAGF"), (7, &[1]), (11, &[1])],
+    &[(0, b"XAGF"), (7, &[1]), (11, &[2])],
+    &[(0, b"XAGF"), (7, &[1]), (11, &[3])],
+];
+
+const AGI: [&[Field]; 4] = [
+    &[(0, b"XAGI"), (7, &[1])],
+    &[(0, b"XAGI"), (7, &[1]), (11, &[1])],
+    &[(0, b"XAGI"), (7, &[1]), (11, &[2])],
+    &[(0, b"XAGI"), (7, &[1]), (11, &[3])],
+];
+
+/// The bytes of two images of 64 sectors, of three of 10,000, of one of 200, and of one below a sector.
+const SMALL: &[usize] = &[32_768, 32_768];
+
+const LARGE: &[usize] = &[5_120_000, 5_120_000, 5_120_000];
+
+const ONE: &[usize] = &[102_400];
+
+const TORN: &[usize] = &[511];
+
+/// The three sectors of a group on the image of its number.
+fn group(number: usize) -> [Placed<'static>; 3] {
+    let image = number.min(3);
+    [
+        Placed {
+            image,
+            sector: 512 + 32 * image,
+            fields: SUPER,
+        },
+        Placed {
+            image,
+            sector: 513 + 32 * image,
+            fields: AGF[image],
+        },
+        Placed {
+            image,
+            sector: 514 + 32 * image,
+            fields: AGI[image],
+        },
+    ]
+}
+
+/// The operands for images that hold a table.
+const AT_ZERO: Command<'static> = Command::Survey(&[Operand::Said("origins=0")]);
+
+const DROPPED: Command<'static> = Command::Survey(&[
+    Operand::Said("origins=0"),
+    Operand::Said("drop=0:1"),
+]);
+
+const TO_ZERO: Command<'static> = Command::Survey(&[Operand::End(0)]);
+
+const DEFAULTS: Command<'static> = Command::Survey(&[]);
+
+#[test]
+fn tables_become_a_plan(rt: HostRuntime) -> Result<(), Fail> {
+    let alloc = rt.alloc();
+    check(
+        &rt,
+        alloc,
+        &AT_ZERO,
+        SMALL,
+        TABLE,
+        "reraid-plan 1\nimages 2\nlength 64\nlength 64\nend 64\nlevels 0,5,6\nmembers 2\npatterns plain,la,ra,ls,rs,parity-first,parity-last,n-restart,n-continue,la-6,ra-6,ls-6,rs-6,parity-first-6\nsyndromes none,after-q,by-data,by-slot\nchunks 8,16,32,64,128,256,512,1024,2048\noffsets 0,2048,262144,264192\norigins 0,40\nmissing 0\nforeign 0\nbadrows 0\nwindow 64\nmisfits 0\nleast 1\ngroup gpt\nmark gpt 0 1 at:1\ndone\n",
+    )?;
+    check(
+        &rt,
+        alloc,
+        &AT_ZERO,
+        SMALL,
+        CHANGED_TABLE,
+        "reraid-plan 1\nimages 2\nlength 64\nlength 64\nend 64\nlevels 0,5,6\nmembers 2\npatterns plain,la,ra,ls,rs,parity-first,parity-last,n-restart,n-continue,la-6,ra-6,ls-6,rs-6,parity-first-6\nsyndromes none,after-q,by-data,by-slot\nchunks 8,16,32,64,128,256,512,1024,2048\noffsets 0,2048,262144,264192\norigins 0\nmissing 0\nforeign 0\nbadrows 0\nwindow 64\nmisfits 0\nleast 1\ndone\n",
+    )?;
+    check(
+        &rt,
+        alloc,
+        &DROPPED,
+        SMALL,
+        TABLE,
+        "reraid-plan 1\nimages 2\nlength 64\nlength 64\nend 64\nlevels 0,5,6\nmembers 2\npatterns plain,la,ra,ls,rs,parity-first,parity-last,n-restart,n-continue,la-6,ra-6,ls-6,rs-6,parity-first-6\nsyndromes none,after-q,by-data,by-slot\nchunks 8,16,32,64,128,256,512,1024,2048\noffsets 0,2048,262144,264192\norigins 0\nmissing 0\nforeign 0\nbadrows 0\nwindow 64\nmisfits 0\nleast 1\ndone\n",
+    )?;
+    check(
+        &rt,
+        alloc,
+        &DEFAULTS,
+        LARGE,
+        OWN_TABLES,
+        "reraid-plan 1\nimages 3\nlength 10000\nlength 10000\nlength 10000\nend 10000\nlevels 0,5,6\nmembers 3\npatterns plain,la,ra,ls,rs,parity-first,parity-last,n-restart,n-continue,la-6,ra-6,ls-6,rs-6,parity-first-6\nsyndromes none,after-q,by-data,by-slot\nchunks 8,16,32,64,128,256,512,1024,2048\noffsets 0,2048,262144,264192\norigins 0,2048\nmissing 0\nforeign 0\nbadrows 0\nwindow 10000\nmisfits 0\nleast 1\ndone\n",
+    )
+}
+
+#[test]
+fn file_systems_become_a_plan(rt: HostRuntime) -> Result<(), Fail> {
+    let alloc = rt.alloc();
+    check(
+        &rt,
+        alloc,
+        &DEFAULTS,
+        ONE,
+        NTFS,
+        "reraid-plan 1\nimages 1\nlength 200\nend 200\nlevels 0,5,6\nmembers 2\npatterns plain,la,ra,ls,rs,parity-first,parity-last,n-restart,n-continue,la-6,ra-6,ls-6,rs-6,parity-first-6\nsyndromes none,after-q,by-data,by-slot\nchunks 8,16,32,64,128,256,512,1024,2048\noffsets 0,2048,262144,264192\norigins 0,2048\nmissing 0\nforeign 0\nbadrows 0\nwindow 200\nmisfits 0\nleast 1\ngroup ntfs\nmark boot 0 10 either:0:100\nmark record 0 44 either:34:18\nmark boot 0 110 either:0:100\ndone\n",
+    )?;
+    check(
+        &rt,
+        alloc,
+        &DEFAULTS,
+        ONE,
+        OLD_NTFS,
+        "reraid-plan 1\nimages 1\nlength 200\nend 200\nlevels 0,5,6\nmembers 2\npatterns plain,la,ra,ls,rs,parity-first,parity-last,n-restart,n-continue,la-6,ra-6,ls-6,rs-6,parity-first-6\nsyndromes none,after-q,by-data,by-slot\nchunks 8,16,32,64,128,256,512,1024,2048\noffsets 0,2048,262144,264192\norigins 0,2048\nmissing 0\nforeign 0\nbadrows 0\nwindow 200\nmisfits 0\nleast 1\ngroup ntfs\nmark boot 0 10 either:0:100\nmark boot 0 110 either:0:100\ndone\n",
+    )
+}
+
+#[test]
+fn short_images_become_a_plan(rt: HostRuntime) -> Result<(), Fail> {
+    let alloc = rt.alloc();
+    check(
+        &rt,
+        alloc,
+        &TO_ZERO,
+        SMALL,
+        TABLE,
+        "reraid-plan 1\nimages 2\nlength 64\nlength 64\nend 0\nlevels 0,5,6\nmembers 2\npatterns plain,la,ra,ls,rs,parity-first,parity-last,n-restart,n-continue,la-6,ra-6,ls-6,rs-6,parity-first-6\nsyndromes none,after-q,by-data,by-slot\nchunks 8,16,32,64,128,256,512,1024,2048\noffsets 0,2048,262144,264192\norigins 0,2048\nmissing 0\nforeign 0\nbadrows 0\nwindow 1\nmisfits 0\nleast 1\ndone\n",
+    )?;
+    check(
+        &rt,
+        alloc,
+        &DEFAULTS,
+        TORN,
+        &[],
+        "reraid-plan 1\nimages 1\nlength 0\nend 0\nlevels 0,5,6\nmembers 2\npatterns plain,la,ra,ls,rs,parity-first,parity-last,n-restart,n-continue,la-6,ra-6,ls-6,rs-6,parity-first-6\nsyndromes none,after-q,by-data,by-slot\nchunks 8,16,32,64,128,256,512,1024,2048\noffsets 0,2048,262144,264192\norigins 0,2048\nmissing 0\nforeign 0\nbadrows 0\nwindow 1\nmisfits 0\nleast 1\ndone\n",
+    )
+}
+
+// Group k begins at volume sector 2048 + 136 * k of a stripe of four with chunks of 8: the plan is that of
+// the listing with landmarks, and so is what it lists.
+#[test]
+fn a_survey_and_then_a_listing(rt: HostRuntime) -> Result<(), Fail> {
+    let alloc = rt.alloc();
+    let mut placed = Vec::new(alloc);
+    for number in 0..4 {
+        placed.extend_from_slice(&group(number))?;
+    }
+    let contents = images(alloc, &[640 * SECTOR; 4], &placed)?;
+    let asked = Command::Survey(&[
+        Operand::Said("levels=0"),
+        Operand::Said("patterns=plain"),
+        Operand::Said("syndromes=none"),
+        Operand::Said("chunks=8,16"),
+        Operand::Said("offsets=0"),
+    ]);
+    let (status, met) = run(&rt, alloc, &asked, &contents, b"")?;
+    assert_eq!(rt; status, 0);
+    assert_eq!(rt; met.out.bytes(), XFS.as_bytes());
+    let (status, listed) = run(&rt, alloc, &Command::List(&[]), &contents, met.out.bytes())?;
+    assert_eq!(rt; status, 0);
+    assert_eq!(rt;
+        listed.out.bytes(),
+        b"0 0:plain:none:8:0:0,1,2,3\nnext 48 of 48\n".as_slice()
+    );
+    Ok(())
+}
+
+// Four members of zeros. There are 24 slot lists a head, and 1656 heads: 36 of level 0, 216 of level 5 and
+// 1404 of level 6, each with 9 chunks and 4 offsets. At level 5 with chunk 1024 and offset 2048 pattern ls is
+// pattern number 3 of 6.
+#[test]
+fn the_defaults_of_a_survey(rt: HostRuntime) -> Result<(), Fail> {
+    let alloc = rt.alloc();
+    let contents = images(alloc, &[8192 * SECTOR; 4], &[])?;
+    let (status, met) = run(&rt, alloc, &Command::Survey(&[]), &contents, b"")?;
+    assert_eq!(rt; status, 0);
+    let plan = met.out.bytes();
+    let one = Command::List(&[Operand::From(3288), Operand::Size(1)]);
+    let (_, first) = run(&rt, alloc, &one, &contents, plan)?;
+    assert_eq!(rt;
+        first.out.bytes(),
+        b"3288 5:ls:none:1024:2048:0,1,2,3\nnext 3289 of 39744\n".as_slice()
+    );
+    let none = Command::List(&[Operand::From(3312), Operand::Span(48)]);
+    let (_, last) = run(&rt, alloc, &none, &contents, plan)?;
+    assert_eq!(rt; last.out.bytes(), b"next 3360 of 39744\n".as_slice());
+    Ok(())
+}

@@ -1,0 +1,6 @@
+pub mod Lengths
+pub mod OneByOne
+pub mod Printed
+pub mod Refusals
+pub mod Taking
+pub mod Limits

@@ -1,0 +1,50 @@
+-- Whether the attached images are those that the plan or the command takes.
+use Rattle.std.specs.Prelude.{ℕ, nat_eq, nat_lt, not, if◌then◌else◌, min, List, [], ◌∷◌, length, map, fold, slice_index, unwrap_or}
+use Rattle.std.specs.List.{find, range_with_len}
+use Rattle.std.specs.Option.{option_map}
+use Rattle.std.specs.declared.option.Option.{Option}
+use Rattle.std.specs.declared.option.Option.TheVariants.{None, Some}
+use Rattle.image_source.specs.Seen.{Image}
+use Rattle.raid_params.specs.declared.limits.TheConstants.{MOST}
+use Rattle.search_plan.specs.declared.plan.Plan.{Plan}
+use Rattle.run_ends.specs.declared.agreement.Disagreement.{Disagreement}
+use Rattle.run_ends.specs.declared.agreement.Kind.TheVariants.{Count, Length, End}
+
+-- the lengths of images in sectors
+abbrev pub lengths_of : List Image → List ℕ
+lengths_of attached = map (λ image. image.sectors) attached
+
+-- the number of images differs
+abbrev pub count_fault : ℕ → ℕ → Disagreement
+count_fault given planned = record { kind = Count; given = given; planned = planned }
+
+-- the first image whose length differs from the planned one
+abbrev pub other_length : List ℕ → List ℕ → Option ℕ
+other_length given planned = find (λ i. not (nat_eq (slice_index given i) (slice_index planned i))) (range_with_len 0 (length planned))
+
+abbrev pub length_fault : List ℕ → List ℕ → ℕ → Disagreement
+length_fault given planned i = record { kind = Length i; given = slice_index given i; planned = slice_index planned i }
+
+-- how so many images disagree with a plan: by their number, or by the first length that differs
+abbrev pub plan_fault : Plan → ℕ → List Image → Option Disagreement
+plan_fault plan names attached =
+    if not (nat_eq names (length plan.lengths.items)) then Some (count_fault names (length plan.lengths.items))
+    else option_map (length_fault (lengths_of attached) plan.lengths.items) (other_length (lengths_of attached) plan.lengths.items)
+
+-- the length of the shortest of these
+abbrev pub shortest : List ℕ → ℕ
+shortest [] = 0
+shortest (n ∷ ns) = fold min n ns
+
+-- the members end where it is asked, or with the shortest image
+abbrev pub end_of : Option ℕ → List Image → ℕ
+end_of end attached = unwrap_or end (shortest (lengths_of attached))
+
+-- how so many images disagree with what a command over one set takes: there are none, or more than
+-- 16, or the end that is asked for is past the shortest
+abbrev pub limits_fault : Option ℕ → ℕ → List Image → Option Disagreement
+limits_fault end names attached =
+    if nat_eq names 0 then Some (count_fault 0 1)
+    else if nat_lt MOST names then Some (count_fault names MOST)
+    else if nat_lt (shortest (lengths_of attached)) (end_of end attached) then Some (record { kind = End; given = end_of end attached; planned = shortest (lengths_of attached) })
+    else None

@@ -1,0 +1,5 @@
+pub mod Agreement
+pub mod Jobs
+pub mod Source
+pub mod Stops
+pub mod Printing

@@ -1,0 +1,19 @@
+-- Why reading a source ends without its text.
+use Rattle.std.specs.Prelude.{ℕ, ◌+◌, ◌<◌, ◌≤◌, List, length, IfSome}
+use Rattle.std.specs.Io.KnownBytes.{Consumes}
+use Rattle.std.specs.declared.option.Option.{Option}
+use Rattle.image_source.specs.Causes.{Rose}
+use Rattle.raid_params.specs.declared.limits.TheConstants.{PLAN_BYTES}
+use Rattle.run_ends.specs.declared.stop.Stop.{Stop}
+use Rattle.run_ends.specs.declared.stop.Stop.TheVariants.{PlanIsLong, PlanFault, OutOfMemory}
+
+-- of what the source had left at most one byte more was taken than a plan may have
+abbrev pub TakesFew : Option (List ℕ) → Option (List ℕ) → Type 0
+TakesFew old new = (taken : List ℕ) × (length taken ≤ PLAN_BYTES + 1) × Consumes old new taken
+
+-- it is too long, the source failed, or memory is wanting
+abbrev pub EndsReading : Option (List ℕ) → ℕ → ℕ → Stop → Type 0
+EndsReading left before now PlanIsLong = IfSome left (λ text. PLAN_BYTES < length text)
+EndsReading left before now PlanFault = Rose before now
+EndsReading left before now OutOfMemory = Unit {0}
+EndsReading left before now _ = ⊥

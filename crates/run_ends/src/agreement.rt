@@ -1,0 +1,144 @@
+//! Whether the attached images are those that the plan or the command takes.
+ghost use Rattle.std.specs.Prelude.{◌≡◌, ◌≤◌, ◌<◌, IfSome, length, min, nat_eq, not, slice_index};
+ghost use Rattle.std.specs.Option.{option_map};
+ghost use Rattle.run_ends.specs.Agreement.{count_fault as count_fault_of, end_of as end_of_images, length_fault as length_fault_of, lengths_of, other_length, limits_fault as limits_fault_of, plan_fault as plan_fault_of, shortest as shortest_of};
+
+use image_source::{Images, MOST_ATTACHED};
+use plan_text::Plan;
+use raid_params::MOST;
+
+/// What of the images disagrees.
+#[derive(Clone, Copy)]
+pub enum Kind {
+    /// Their number.
+    Count,
+    /// The length of the image of this number.
+    Length(u8),
+    /// The end that was asked for, which is past the shortest image.
+    End,
+}
+
+/// How the images disagree with the plan, or with what the command takes.
+#[derive(Clone, Copy)]
+pub struct Disagreement {
+    pub kind: Kind,
+    pub given: u64,
+    pub planned: u64,
+}
+
+/// How so many images disagree with the plan: by their number, or by the first length that is not
+/// the planned one.
+pub fn plan_fault<I: Images>(images: &I, names: usize, plan: &Plan) -> Option<Disagreement>
+    requires few { length plan.now.lengths.items ≤ MOST }
+    ensures { result ≡ plan_fault_of plan.now names (I.seen images.now).attached }
+{
+    let lengths = plan.lengths.as_slice();
+    if names != lengths.len() {
+        return Some(count_fault(names, lengths.len()));
+    }
+    length_fault(images, lengths)
+}
+
+/// The first image whose length is not the planned one.
+fn length_fault<I: Images>(images: &I, planned: &[u64]) -> Option<Disagreement>
+    requires few { length planned.now ≤ MOST }
+    ensures { result ≡ option_map (length_fault_of (lengths_of (I.seen images.now).attached) planned.now) (other_length (lengths_of (I.seen images.now).attached) planned.now) }
+{
+    match first_other(images, planned) {
+        Some(image) => Some(Disagreement {
+            kind: Kind::Length(image as u8),
+            given: sectors_of(images, image),
+            planned: planned[image],
+        }),
+        None => None,
+    }
+}
+
+/// The number of the first image whose length is not the planned one.
+fn first_other<I: Images>(images: &I, planned: &[u64]) -> Option<usize>
+    requires few { length planned.now ≤ MOST }
+    ensures first { result ≡ other_length (lengths_of (I.seen images.now).attached) planned.now }
+    ensures within { IfSome result (λ image. image < length planned.now) }
+{
+    (0..planned.len()).find(|image: &usize| has_other_length(images, *image, planned))
+}
+
+/// How so many images disagree with what a command over one set takes: there are none, or more than
+/// `MOST`, or the end that is asked for is past the shortest.
+pub fn limits_fault<I: Images>(images: &I, names: usize, end: Option<u64>) -> Option<Disagreement>
+    requires attached { length (I.seen images.now).attached ≡ min names MOST_ATTACHED }
+    ensures { result ≡ limits_fault_of end names (I.seen images.now).attached }
+{
+    if names == 0 {
+        return Some(count_fault(names, 1));
+    }
+    if names > MOST {
+        return Some(count_fault(names, MOST));
+    }
+    let given = end_of(images, names, end);
+    let planned = shortest(images, names);
+    if planned < given {
+        Some(Disagreement {
+            kind: Kind::End,
+            given,
+            planned,
+        })
+    } else {
+        None
+    }
+}
+
+/// The number of images is not the planned one.
+fn count_fault(given: usize, planned: usize) -> Disagreement
+    ensures { result ≡ count_fault_of given planned }
+{
+    Disagreement {
+        kind: Kind::Count,
+        given: given as u64,
+        planned: planned as u64,
+    }
+}
+
+/// The end that is asked for, or that of the shortest image, of so many.
+pub fn end_of<I: Images>(images: &I, count: usize, end: Option<u64>) -> u64
+    requires attached { length (I.seen images.now).attached ≡ count }
+    requires few { count ≤ MOST_ATTACHED }
+    ensures { result ≡ end_of_images end (I.seen images.now).attached }
+{
+    match end {
+        Some(sector) => sector,
+        None => shortest(images, count),
+    }
+}
+
+/// The length of the shortest of so many images, 0 where there are none.
+#[tactic(auto, using(crate::proofs::Lengths::shortest_first, crate::proofs::Lengths::shortest_more))]
+fn shortest<I: Images>(images: &I, count: usize) -> u64
+    requires attached { length (I.seen images.now).attached ≡ count }
+    requires few { count ≤ MOST_ATTACHED }
+    ensures { result ≡ shortest_of (lengths_of (I.seen images.now).attached) }
+{
+    let mut least = sectors_of(images, 0);
+    for image in 1..count {
+        least = least.min(sectors_of(images, image));
+    }
+    least
+}
+
+/// Whether the length of an image is not the planned one.
+fn has_other_length<I: Images>(images: &I, image: usize, planned: &[u64]) -> bool
+    requires few { length planned.now ≤ MOST }
+    requires within { image < length planned.now }
+    ensures { result ≡ not (nat_eq (slice_index (lengths_of (I.seen images.now).attached) image) (slice_index planned.now image)) }
+{
+    sectors_of(images, image) != planned[image]
+}
+
+/// The length of an attached image in sectors, 0 where there is none of this number.
+#[tactic(auto, using(crate::proofs::Lengths::sectors_at))]
+fn sectors_of<I: Images>(images: &I, image: usize) -> u64
+    requires few { image < MOST_ATTACHED }
+    ensures { result ≡ slice_index (lengths_of (I.seen images.now).attached) image }
+{
+    images.length(image as u32).unwrap_or(0)
+}

@@ -1,0 +1,51 @@
+//! Putting an answer to the output, and the parts of its text.
+ghost use Rattle.std.specs.Prelude.{◌≡◌, ◌≤◌, ◌++◌, OnOk, decimal};
+ghost use Rattle.run_ends.specs.Jobs.{IsPrinted};
+ghost use Rattle.run_ends.specs.Printing.{or_dash, share_line};
+
+use crate::stop::Stop;
+use image_source::{Memory, Sink};
+use itoa::Buffer;
+use plan_text::Text;
+
+/// Puts an answer, whole, if there is one.
+pub fn print<K: Sink>(out: &mut K, answer: Result<Text, Stop>) -> Result<(), Stop>
+    ensures printed { IsPrinted (K.gained out.old) (K.gained out.new) (K.faults out.old) (K.faults out.new) answer result }
+    ensures later { K.faults out.old ≤ K.faults out.new }
+{
+    let text = answer?;
+    match out.put(text.as_slice()) {
+        Ok(()) => Ok(()),
+        Err(_) => Err(Stop::OutFault),
+    }
+}
+
+/// Appends a number, or a dash where there is none.
+pub fn add_or_dash(text: &mut Text, number: Option<u64>) -> Result<(), Memory>
+    ensures { OnOk result (text.new ≡ text.old ++ or_dash number) }
+{
+    match number {
+        Some(number) => add_number(text, number),
+        None => text.extend_from_slice(b"-"),
+    }
+}
+
+/// Appends a number in decimal.
+pub fn add_number(text: &mut Text, number: u64) -> Result<(), Memory>
+    ensures { OnOk result (text.new ≡ text.old ++ decimal number) }
+{
+    let mut buffer = Buffer::new();
+    text.extend_from_slice(buffer.format(number).as_bytes())
+}
+
+/// Appends a line of a name, which ends with a space, and how many of how many.
+#[tactic(auto, unfolding(crate::specs::Printing::share_line))]
+pub fn add_share(text: &mut Text, name: &[u8], part: u64, whole: u64) -> Result<(), Memory>
+    ensures { OnOk result (text.new ≡ text.old ++ share_line name.now part whole) }
+{
+    text.extend_from_slice(name)?;
+    add_number(text, part)?;
+    text.extend_from_slice(b" of ")?;
+    add_number(text, whole)?;
+    text.extend_from_slice(b"\n")
+}

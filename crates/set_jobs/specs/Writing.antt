@@ -1,0 +1,35 @@
+-- What `write` and `rebuild` refuse and print.
+use Rattle.std.specs.Prelude.{ℕ, ◌*◌, ◌&&◌, nat_lt, if◌then◌else◌, List, [], ◌∷◌, slice_index_or}
+use Rattle.std.specs.Option.{is_none, option_map}
+use Rattle.std.specs.declared.option.Option.{Option}
+use Rattle.std.specs.declared.option.Option.TheVariants.{None, Some}
+use Rattle.image_source.specs.Seen.{Image}
+use Rattle.raid_params.specs.declared.types.Geometry.{Geometry}
+use Rattle.raid_params.specs.Size.{area}
+use Rattle.raid_terms.specs.Volume.{member, volume}
+use Rattle.member_regions.specs.Members.{held}
+use Rattle.run_ends.specs.Agreement.{end_of}
+use Rattle.set_jobs.specs.Mapping.{set_refusal}
+use Rattle.run_ends.specs.Stops.{first_of}
+use Rattle.run_ends.specs.declared.stop.Stop.{Stop}
+use Rattle.run_ends.specs.declared.stop.Stop.TheVariants.{Slot}
+
+-- what `write` prints: the volume, over the bytes of the images where they are told
+abbrev pub write_output : Geometry → Option ℕ → List Image → Option (List (List ℕ)) → Option (List ℕ)
+write_output set end attached told = option_map (λ images. volume images set (end_of end attached)) told
+
+-- the slot is none of the set's, or it holds an image
+abbrev pub slot_refusal : Geometry → ℕ → Option Stop
+slot_refusal set slot = if nat_lt slot set.head.members && is_none (slice_index_or set.slots.items slot None) then None else Some (Slot slot)
+
+-- the first refusal of `rebuild`
+unfoldable pub rebuild_refusal : Geometry → ℕ → Option ℕ → ℕ → List Image → Option Stop
+rebuild_refusal set slot end names attached = first_of (set_refusal set end names attached ∷ slot_refusal set slot ∷ [])
+
+-- what `rebuild` prints: the member of the slot
+abbrev pub rebuild_output : Geometry → ℕ → Option ℕ → List Image → Option (List (List ℕ)) → Option (List ℕ)
+rebuild_output set slot end attached told = option_map (λ images. member images set (end_of end attached) slot) told
+
+-- the most sectors that `write` and `rebuild` read: each sector of each member that is there
+abbrev pub members_reads : Geometry → Option ℕ → List Image → ℕ
+members_reads set end attached = held set.slots.items * area set.head (end_of end attached)

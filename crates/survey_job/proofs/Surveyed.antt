@@ -1,0 +1,99 @@
+-- What is asked of a survey, and how it ends.
+use Rattle.std.proofs.Common.{◌≡◌, ℕ, ◌+◌, ◌*◌, ◌<◌, ◌≤◌, ◌^◌, ◌⊎◌, min, max, Bool, true, false, cond, nat_eq, List, [], length, All, None, Some, Option, Result, Ok, Err, IfOk, IfErr, IfSome, refl, sym, ap, ◌∙◌, subst, arith, inl, inr, ◌∷◌, suc}
+use Rattle.std.proofs.lemmas.Bool.Decides.{nat_tests}
+use Rattle.std.specs.Option.{option_map}
+use Rattle.std.proofs.lemmas.List.Elements.{All-cons, All-nil}
+use Rattle.std.proofs.lemmas.Bool.{eqb-true, eqb-false}
+use Rattle.arrayvec.specs.ArrayVec.{ArrayVec}
+use Rattle.image_source.specs.Causes.{Rose}
+use Rattle.image_source.specs.Seen.{Image, OnlyReads, Seen}
+use Rattle.raid_params.specs.declared.limits.TheConstants.{MOST, MOST_MARKS}
+use Rattle.search_plan.specs.Plans.{AreBounds, AreLimits}
+use Rattle.command_words.specs.Commands.{AreAsked}
+use Rattle.command_words.specs.Operands.{AreMembers}
+use Rattle.command_words.specs.declared.command.SurveyWords.{SurveyWords}
+use Rattle.run_ends.proofs.Lengths.{end_near}
+use Rattle.run_ends.proofs.Limits.{all_reach, no_limits}
+use Rattle.run_ends.specs.Agreement.{end_of, limits_fault, lengths_of, shortest}
+use Rattle.run_ends.specs.Jobs.{HasCauses, IsUnreached, Orders, Refuses}
+use Rattle.run_ends.specs.Stops.{IsExcused}
+use Rattle.run_ends.specs.declared.agreement.Disagreement.{Disagreement}
+use Rattle.run_ends.specs.declared.stop.Stop.{Stop}
+use Rattle.run_ends.specs.declared.stop.Stop.TheVariants.{Images, ImageFault, PlanFault, OutFault, OutOfMemory}
+use Rattle.plan_text.specs.PlanText.{plan_text}
+use Rattle.survey_engine.specs.Surveys.{IsSurveyable}
+use Rattle.survey_engine.specs.declared.ask.Ask.{Ask}
+use Rattle.survey_job.specs.Surveying.{ask_of, members_for, survey_output, survey_plan, survey_refusal, window_for}
+
+-- the images are refused, or not
+pub images_refused : (asked : SurveyWords) (names : ℕ) (attached : List Image) (fault : Disagreement) → limits_fault asked.end names attached ≡ Some fault → survey_refusal asked names attached ≡ Some (Images fault)
+unfolding survey_refusal
+images_refused asked names attached fault e = ap (option_map (λ (f : Disagreement). Images f)) e
+
+pub images_allowed : (asked : SurveyWords) (names : ℕ) (attached : List Image) → limits_fault asked.end names attached ≡ None → survey_refusal asked names attached ≡ None
+unfolding survey_refusal
+images_allowed asked names attached e = ap (option_map (λ (f : Disagreement). Images f)) e
+
+-- the numbers of members are good ones
+one_number : (names : ℕ) → 1 ≤ names → names ≤ MOST → AreMembers (max names 2 ∷ [])
+one_number names some most = record {
+  list = record { rising = record { some = omega arith; rising = λ k lt. absurd (omega arith) }; few = omega arith };
+  all = All-cons (λ n. (2 ≤ n) × (n ≤ MOST)) (max names 2) [] (omega arith, omega arith) (All-nil (λ n. (2 ≤ n) × (n ≤ MOST)));
+}
+
+not_none : (ns : List ℕ) → nat_eq (suc (length ns)) 0 ≡ false
+not_none ns = grind (arith, nat_tests)
+
+members_are : (asked : List ℕ) (names : ℕ) → 1 ≤ names → names ≤ MOST → (asked ≡ []) ⊎ AreMembers asked → AreMembers (members_for asked names)
+members_are [] names some most given = one_number names some most
+members_are (n ∷ ns) names some most (inl e) = absurd (cc)
+members_are (n ∷ ns) names some most (inr are) = subst (λ (b : Bool). AreMembers (cond b (max names 2 ∷ []) (n ∷ ns))) (sym (not_none ns)) are
+
+window_is : (window : Option ℕ) (end : ℕ) → end < 2 ^ 55 → IfSome window (λ n. (1 ≤ n) × (n < 2 ^ 55)) → (1 ≤ window_for window end) × (window_for window end < 2 ^ 55)
+window_is None end near given = (omega arith, omega arith)
+window_is (Some n) end near given = given
+
+-- what is not refused can be surveyed
+pub surveyable : (asked : SurveyWords) (names : ℕ) (attached : List Image) → limits_fault asked.end names attached ≡ None → AreAsked asked → All (λ image. image.sectors < 2 ^ 55) attached → length attached ≡ min names 65536 → IsSurveyable (ask_of asked names (end_of asked.end attached)) attached
+surveyable asked names attached none good small count =
+    let allowed = no_limits asked.end names attached none in
+    let few = allowed.few in
+    let some = allowed.some in
+    let window = window_is asked.window (end_of asked.end attached) (end_near asked.end attached small good.end) good.window in
+    record {
+      ask_is = record {
+        bounds = good.bounds (record { items = members_for asked.bounds.members.items names }) (members_are asked.bounds.members.items names some few good.members);
+        limits = record { badrows = good.badrows; some_window = window.0; window = window.1 };
+        tests = good.tests;
+      };
+      some = omega arith;
+      most = omega arith;
+      short = small;
+      long = all_reach attached (end_of asked.end attached) allowed.reaches;
+    }
+
+-- the text of the plan, where the bytes are told
+told_text : (asked : SurveyWords) (names : ℕ) (attached : List Image) (told : Option (List (List ℕ))) (answer : Result (List ℕ) Stop) →
+    IfOk answer (λ text. IfSome told (λ bytes. text ≡ plan_text (survey_plan (ask_of asked names (end_of asked.end attached)) attached bytes))) →
+    IfOk answer (λ text. IfSome (survey_output asked names attached told) (λ printed. text ≡ printed))
+unfolding survey_output
+told_text asked names attached told (Err stop) h = tt
+told_text asked names attached None (Ok text) h = tt
+told_text asked names attached (Some bytes) (Ok text) h = h
+
+pub text_told : (asked : SurveyWords) (names end : ℕ) (attached : List Image) (told : Option (List (List ℕ))) (answer : Result (List ℕ) Stop) (ask : Ask) →
+    end ≡ end_of asked.end attached → ask ≡ ask_of asked names end → IfOk answer (λ text. IfSome told (λ bytes. text ≡ plan_text (survey_plan ask attached bytes))) →
+    IfOk answer (λ text. IfSome (survey_output asked names attached told) (λ printed. text ≡ printed))
+text_told asked names end attached told answer ask same is h =
+    told_text asked names attached told answer
+    (subst (λ (a : Ask). IfOk answer (λ text. IfSome told (λ bytes. text ≡ plan_text (survey_plan a attached bytes)))) (is ∙ ap (ask_of asked names) same) h)
+
+-- a survey that is not refused ends by want of memory or a fault of the images
+pub surveyed_refuses : (refused : Option Stop) (old new : Seen) (answer : Result (List ℕ) Stop) → refused ≡ None → IfErr answer (λ stop. ((stop ≡ ImageFault) × Rose old.faults new.faults) ⊎ (stop ≡ OutOfMemory)) → Refuses refused answer
+surveyed_refuses refused old new (Ok text) none h = record { ends = tt; passes = none }
+surveyed_refuses refused old new (Err stop) none (inl h) = record { ends = inl (subst IsExcused (sym h.0) tt); passes = tt }
+surveyed_refuses refused old new (Err stop) none (inr h) = record { ends = inl (subst IsExcused (sym h) tt); passes = tt }
+
+-- images that are refused end the survey
+pub ending : (asked : SurveyWords) (names : ℕ) (attached : List Image) (fault : Disagreement) → limits_fault asked.end names attached ≡ Some fault → Refuses {T = List ℕ} (survey_refusal asked names attached) (Err (Images fault))
+ending asked names attached fault e = record { ends = inr (images_refused asked names attached fault e); passes = tt }

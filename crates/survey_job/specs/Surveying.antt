@@ -1,0 +1,66 @@
+-- What `survey` refuses and prints.
+use Rattle.std.specs.Prelude.{ℕ, ◌+◌, ◌*◌, ◌-◌, slice_index, max, nat_eq, if◌then◌else◌, List, [], ◌∷◌, length, unwrap_or}
+use Rattle.std.specs.Option.{option_map}
+use Rattle.std.specs.declared.option.Option.{Option}
+use Rattle.arrayvec.specs.ArrayVec.{ArrayVec}
+use Rattle.image_source.specs.Seen.{Image}
+use Rattle.raid_params.specs.declared.limits.TheConstants.{MOST_MARKS}
+use Rattle.search_plan.specs.declared.plan.Plan.{Plan}
+use Rattle.survey_engine.specs.Origins.{origins_of}
+use Rattle.survey_engine.specs.Owners.{groups_of}
+use Rattle.survey_engine.specs.Surveys.{found_in}
+use Rattle.survey_engine.specs.declared.ask.Ask.{Ask}
+use Rattle.plan_text.specs.PlanText.{plan_text}
+use Rattle.command_words.specs.declared.command.SurveyWords.{SurveyWords}
+use Rattle.run_ends.specs.Agreement.{end_of, lengths_of, limits_fault}
+use Rattle.run_ends.specs.declared.stop.Stop.{Stop}
+use Rattle.run_ends.specs.declared.stop.Stop.TheVariants.{Images}
+
+-- the numbers of members to try: those that are asked for, or as many as there are images, and at least 2
+abbrev pub members_for : List ℕ → ℕ → List ℕ
+members_for asked names = if nat_eq (length asked) 0 then max names 2 ∷ [] else asked
+
+-- the window: what is asked for, or the end, and at least 1
+abbrev pub window_for : Option ℕ → ℕ → ℕ
+window_for window end = unwrap_or window (max end 1)
+
+-- what the words ask of a survey of so many images, whose members end before the image sector `end`
+abbrev pub ask_of : SurveyWords → ℕ → ℕ → Ask
+ask_of asked names end = record {
+  bounds = record asked.bounds { members = record { items = members_for asked.bounds.members.items names } };
+  end = end;
+  limits = record { badrows = asked.badrows; window = window_for asked.window end };
+  tests = asked.tests;
+  kinds = asked.kinds;
+  drops = asked.drops;
+}
+
+-- the plan of a survey: it repeats what was asked, and adds the images' lengths, the groups of the landmarks
+-- that were seen, and the origins that partition tables tell of
+abbrev pub survey_plan : Ask → List Image → List (List ℕ) → Plan
+survey_plan ask attached images = record {
+  lengths = record { items = lengths_of attached };
+  end = ask.end;
+  bounds = ask.bounds;
+  limits = ask.limits;
+  tests = record {
+    origins = record { items = origins_of ask.tests.origins.items (lengths_of attached) images (found_in ask attached images) };
+    misfits = ask.tests.misfits;
+    least = ask.tests.least;
+  };
+  groups = groups_of (found_in ask attached images);
+}
+
+-- the first refusal of `survey`
+unfoldable pub survey_refusal : SurveyWords → ℕ → List Image → Option Stop
+survey_refusal asked names attached = option_map (λ fault. Images fault) (limits_fault asked.end names attached)
+
+-- what `survey` prints, where the bytes of the images are told
+unfoldable pub survey_output : SurveyWords → ℕ → List Image → Option (List (List ℕ)) → Option (List ℕ)
+survey_output asked names attached told =
+    option_map (λ images. plan_text (survey_plan (ask_of asked names (end_of asked.end attached)) attached images)) told
+
+-- the most sectors that `survey` reads: each sector of each image from the smallest offset to the end once, and
+-- one of entries for each partition table that counts
+abbrev pub survey_reads : SurveyWords → List Image → ℕ
+survey_reads asked attached = length attached * (end_of asked.end attached - slice_index asked.bounds.offsets.items 0) + MOST_MARKS

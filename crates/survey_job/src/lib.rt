@@ -1,0 +1,9 @@
+//! The command `survey`: it looks for landmarks on the images, and prints the plan that `list` then searches.
+//!
+//! It answers with the plan on `out`, or with the `Stop` that says why there is none. What it refuses and
+//! prints stands in `specs/Surveying`, the survey itself in `survey_engine`.
+#![tactic(auto)]
+
+mod surveying;
+
+pub use surveying::survey;

@@ -17,21 +17,9 @@ sectors=$((megabytes * 2048))
     printf 'missing 0\nforeign 0\nbadrows 0\nwindow %s\nmisfits 0\nleast 1\ndone\n' "$sectors"
 } >plan
 
-# best COMMAND..: the least nanoseconds of five runs
-best() {
-    least=
-    for _ in 1 2 3 4 5; do
-        begin=$(date +%s%N)
-        "$@" <plan >/dev/null
-        took=$(($(date +%s%N) - begin))
-        if [ -z "$least" ] || [ "$took" -lt "$least" ]; then least=$took; fi
-    done
-    echo "$least"
-}
-
 [ "$("$program" list size=1 -- a b c <plan | tail -n 1)" = "next 1 of 6" ] || { echo "the set did not pass" >&2; exit 1; }
 uname -srm
 sed -n 's/^model name[^:]*: //p' /proc/cpuinfo | head -n 1
-awk -v m="$megabytes" -v c="$(best cat a b c)" -v l="$(best "$program" list size=1 -- a b c)" 'BEGIN {
+awk -v m="$megabytes" -v c="$(best 5 plan cat a b c)" -v l="$(best 5 plan "$program" list size=1 -- a b c)" 'BEGIN {
     printf "3 images of %d MiB: cat %.3f s, list %.3f s, %.0f MB/s, ratio %.1f\n", m, c / 1e9, l / 1e9, 3 * m * 1048.576 / (l / 1e6), l / c
 }'

@@ -7,24 +7,12 @@ set -eu
 
 for name in a b c d; do head -c "${megabytes}M" /dev/zero >"$name"; done
 
-# best COMMAND..: the least nanoseconds of three runs
-best() {
-    least=
-    for _ in 1 2 3; do
-        begin=$(date +%s%N)
-        "$@" </dev/null >/dev/null
-        took=$(($(date +%s%N) - begin))
-        if [ -z "$least" ] || [ "$took" -lt "$least" ]; then least=$took; fi
-    done
-    echo "$least"
-}
-
 # against NAME CAT COMMAND..: a run beside cat of as many files
 against() {
     name=$1
     files=$2
     shift 2
-    awk -v n="$name" -v c="$(best cat $files)" -v t="$(best "$@")" 'BEGIN {
+    awk -v n="$name" -v c="$(best 3 /dev/null cat $files)" -v t="$(best 3 /dev/null "$@")" 'BEGIN {
         printf "%s: cat %.3f s, reraid %.3f s, ratio 1:%.1f\n", n, c / 1e9, t / 1e9, t / c
     }'
 }

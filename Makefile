@@ -19,8 +19,8 @@ build:
 
 install: build
 	install -d $(DESTDIR)$(PREFIX)/bin $(DESTDIR)$(PREFIX)/share/man/man1
-	install -m 755 crates/reraid/out/reraid $(DESTDIR)$(PREFIX)/bin/reraid
-	install -m 644 docs/reraid.1 $(DESTDIR)$(PREFIX)/share/man/man1/reraid.1
+	install -m 755 crates/reraid/out/reraid bin/reraid-ranges $(DESTDIR)$(PREFIX)/bin
+	install -m 644 docs/reraid.1 docs/reraid-ranges.1 $(DESTDIR)$(PREFIX)/share/man/man1
 
 clean:
 	rm -rf crates/*/out

@@ -1,11 +1,11 @@
 #!/usr/bin/env python3
 """Runs the commands of a page as they are printed, in an empty folder, and compares what they print with the page.
 
-Usage: as_printed.py PAGE..
+Usage: as_printed.py [--root] PAGE..
 A command is a line that begins with four spaces and "$ ", with the lines after it that begin with "> ". The lines up to the
 next command, or to the end of the block, are what it prints, standard error included. All commands of a page run in
-one bash, from the top of the repository; the first of them change to an empty folder. A command after "# " needs
-root or a disk, and is left out. Status 1 where something differs.
+one bash, from the top of the repository; the first of them change to an empty folder. A command after "# " needs root, and is run with
+--root alone. Status 1 where something differs.
 """
 
 import pathlib
@@ -16,14 +16,14 @@ TOP = pathlib.Path(__file__).resolve().parent.parent
 MARK = "=== as printed"
 
 
-def commands(page):
-    """The commands of a page, each with the number of its line, and what it is to print."""
+def commands(page, prompts):
+    """The commands of a page after these prompts, each with the number of its line, and what it is to print."""
     found, here = [], None
     for number, line in enumerate(page.read_text().splitlines(), 1):
         text = line[4:] if line.startswith("    ") else None
         if text is None:
             here = None
-        elif text.startswith("$ "):
+        elif text[:2] in prompts:
             here = (number, [text[2:]], [])
             found.append(here)
         elif text.startswith("# "):
@@ -43,10 +43,12 @@ def run(found):
     return [part.strip("\n") for part in done.stdout.split(MARK)]
 
 
-def main(names):
+def main(words):
+    prompts = ["$ ", "# "] if "--root" in words else ["$ "]
+    names = [word for word in words if word != "--root"]
     differ = 0
     for name in names:
-        found = commands(pathlib.Path(name))
+        found = commands(pathlib.Path(name), prompts)
         printed = run(found)
         for (number, command, wanted), got in zip(found, printed + [None] * len(found)):
             if got is None or got.splitlines() != wanted:

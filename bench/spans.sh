@@ -2,7 +2,7 @@
 # Times spans of ranks of plans over eight disks, by what rules their sets out: landmarks, parity, or nothing. Best of three
 # runs each. The volume of the landmarks is that of volume.py; the other one is random bytes, of which 5 MiB of each disk are
 # tested.
-# Usage: bench/spans.sh [ANY] [FOLDER]
+# Usage: bench/spans.sh [0 FOLDER]
 set -eu
 bench=$(cd "$(dirname "$0")" && pwd)
 . "$bench/folder.sh"

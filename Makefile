@@ -3,7 +3,7 @@
 
 PREFIX ?= /usr/local
 
-.PHONY: demo test build install clean
+.PHONY: demo test build install pages clean
 
 # Builds without proving, and prints the first listing over three small image files.
 demo:
@@ -17,10 +17,15 @@ test:
 build:
 	cd crates/reraid && rt run -- list size=10 -- data/a data/b data/c < stdin
 
+# Runs the commands of the pages as they are printed, and compares what they print. It needs the Debian packages
+# xfsprogs, gdisk, e2fsprogs, ntfs-3g, pv, parallel and jq; with root=--root it runs those that need root too.
+pages:
+	bench/as_printed.py $(root) README.md docs/USING.md docs/REAL-DISKS.md
+
 install: build
 	install -d $(DESTDIR)$(PREFIX)/bin $(DESTDIR)$(PREFIX)/share/man/man1
-	install -m 755 crates/reraid/out/reraid $(DESTDIR)$(PREFIX)/bin/reraid
-	install -m 644 docs/reraid.1 $(DESTDIR)$(PREFIX)/share/man/man1/reraid.1
+	install -m 755 crates/reraid/out/reraid bin/reraid-ranges $(DESTDIR)$(PREFIX)/bin
+	install -m 644 docs/reraid.1 docs/reraid-ranges.1 $(DESTDIR)$(PREFIX)/share/man/man1
 
 clean:
 	rm -rf crates/*/out

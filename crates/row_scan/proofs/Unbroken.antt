@@ -40,7 +40,7 @@ sound_row images geo t set none =
     (λ x. length_map (member_byte images geo.head.offset t x) geo.slots.items ∙ sym (cells_length geo.head (t / geo.head.chunk) 0 geo.slots.items))
 
 -- so none are unsound
-none_unsound : (images : List (List ℕ)) (geo : Geometry) (n : ℕ) → IsTestable geo → redundancy geo.head.level ≡ 0 → unsound_rows images geo n ≡ 0
+pub none_unsound : (images : List (List ℕ)) (geo : Geometry) (n : ℕ) → IsTestable geo → redundancy geo.head.level ≡ 0 → unsound_rows images geo n ≡ 0
 none_unsound images geo zero set none = refl
 none_unsound images geo (suc n) set none =
     let more = count_suc (λ t. not (is_sound_row images geo t)) 0 n n (omega arith) in

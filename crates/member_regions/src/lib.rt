@@ -1,9 +1,9 @@
 //! The members of a set in memory: a region of sectors for each, read, tested and completed there.
 //!
 //! [`Regions`] takes its memory once, and is filled as often as need be. `row_scan` tests rows in it,
-//! `virtual_volume` and `member_rebuild` find in it what lost members held. [`read_members`] and
-//! [`solve_members`] do the same in bytes that the caller has. What regions hold stands in
-//! `specs/Regions`, what is asked of the members in `specs/Members`.
+//! `prune_filters` compares whole images in it, `virtual_volume` and `member_rebuild` find in it what lost
+//! members held. [`read_members`] and [`solve_members`] do the same in bytes that the caller has. What
+//! regions hold stands in `specs/Regions`, what is asked of the members in `specs/Members`.
 #![tactic(auto)]
 
 mod reading;

@@ -1,17 +1,22 @@
 -- Heads walked one after another.
-use Rattle.std.proofs.Common.{◌≡◌, ◌≢◌, ℕ, ◌+◌, ◌-◌, ◌*◌, ◌<◌, ◌≤◌, ◌⊎◌, min, false, List, [], ◌∷◌, length, map, refl, sym, ap, ◌∙◌, arith, Option, Some, None, slice_get, get_or, subst, inl, inr, IfSome, Result, Ok, Err, IsErr, IfOk, All, MatchOption}
+use Rattle.std.proofs.Common.{◌≡◌, ◌≢◌, ℕ, ◌+◌, ◌-◌, ◌*◌, ◌<◌, ◌≤◌, ◌⊎◌, min, Bool, true, false, cond, nat_le, List, [], ◌∷◌, length, map, refl, sym, ap, ◌∙◌, arith, Option, Some, None, slice_get, get_or, subst, inl, inr, IfSome, Result, Ok, Err, IsErr, IfOk, All, MatchOption}
 use Rattle.std.proofs.lemmas.Option.{slice_get-get_or}
-use Rattle.std.proofs.lemmas.Bool.{cases_lt}
+use Rattle.std.proofs.lemmas.Bool.{and_parts, cases_lt, leb-true, ne_eqb}
 use Rattle.std.proofs.lemmas.List.{length-map}
 use Rattle.std.proofs.lemmas.List.Elements.{All-nil}
 use Rattle.image_source.specs.Attached.{told_all}
 use Rattle.image_source.specs.Seen.{Image, OnlyReads, Seen}
 use Rattle.std.specs.Option.{option_map_or}
-use Rattle.raid_params.specs.Size.{rows}
+use Rattle.raid_params.specs.Size.{redundancy, rows}
+use Rattle.raid_params.specs.Slots.{empties}
 use Rattle.raid_params.specs.declared.types.Geometry.{Geometry}
 use Rattle.raid_terms.specs.Parity.{tested_rows}
+use Rattle.prune_filters.proofs.Broken.{full_set}
+use Rattle.prune_filters.proofs.Sets.{IsSetOf, set_at}
+use Rattle.prune_filters.specs.Rows.{holds_every, needs_table}
 use Rattle.prune_filters.specs.Xors.{tested_with}
 use Rattle.raid_terms.specs.Page.{passing, stop_of, IsPage}
+use Rattle.row_scan.specs.Scan.{read_rows}
 use Rattle.search_plan.specs.Sets.{passes_at, sets_of, total_of}
 use Rattle.search_plan.specs.declared.plan.Plan.{Plan}
 use Rattle.set_product.specs.declared.heads.HeadSets.{HeadSets}
@@ -232,22 +237,32 @@ adds_nothing told plan from stop size lines few same =
     let P : ℕ → Type 0 = λ n. AddsRange told plan from n lines lines in
     record { adds = subst P same (adds_none told plan from lines); few = few }
 
--- the tested rows of a head are those of its sets
-pub head_reads : (plan : Plan) (sets : HeadSets) (from stop : ℕ) → IsHeadOf plan sets → IsPart sets from stop → from < stop →
+-- a set of a head that needs a table has no empty slot and some parity, so its tested rows are read
+rows_read : (plan : Plan) (geo : Geometry) → IsSetOf plan geo → needs_table plan geo.head ≡ true → tested_rows geo plan.end plan.limits.window ≡ read_rows geo plan.end plan.limits.window
+rows_read plan geo set needs =
+    let parts = and_parts (holds_every plan geo.head) (nat_le 1 (redundancy geo.head.level)) needs in
+    let none : empties geo.slots.items ≡ 0 = (full_set plan geo set parts.0).filled in
+    let some : 1 ≤ redundancy geo.head.level = leb-true 1 (redundancy geo.head.level) parts.1 in
+    sym (ap (λ (b : Bool). cond b 0 (tested_rows geo plan.end plan.limits.window)) (ne_eqb (empties geo.slots.items) (redundancy geo.head.level) (λ e. absurd (omega arith))))
+
+-- the tested rows of a head that needs a table are those that are read for its sets
+pub head_reads : (plan : Plan) (sets : HeadSets) (from stop : ℕ) → IsHeadOf plan sets → IsPart sets from stop → from < stop → needs_table plan sets.head ≡ true →
     length plan.lengths.items * tested_with plan sets.head.chunk sets.head.offset ≡ set_reads plan from
 unfolding set_reads
-head_reads plan sets from stop is_head part some =
+head_reads plan sets from stop is_head part some needs =
     let first : sets.first ≤ from = part.begins in
     let ends : stop ≤ sets.first + sets.count = part.ends in
     one (from - sets.first) (omega arith) (omega arith)
   where
     one : (k : ℕ) → sets.first + k ≡ from → k < sets.count →
         length plan.lengths.items * tested_with plan sets.head.chunk sets.head.offset
-        ≡ length plan.lengths.items * option_map_or (λ geo. tested_rows geo plan.end plan.limits.window) (slice_get (sets_of plan) from) 0
+        ≡ length plan.lengths.items * option_map_or (λ geo. read_rows geo plan.end plan.limits.window) (slice_get (sets_of plan) from) 0
     one k at below =
         let count : sets.count ≡ length (lists_of sets.space) = is_head.count in
         let found = ap (slice_get (sets_of plan)) (sym at) ∙ is_head.stand k (get_or (lists_of sets.space) k []) (slice_get-get_or (lists_of sets.space) k [] (omega arith)) in
-        ap (λ (o : Option Geometry). length plan.lengths.items * option_map_or (λ geo. tested_rows geo plan.end plan.limits.window) o 0) (sym found)
+        let geo : Geometry = record { head = sets.head; slots = record { items = get_or (lists_of sets.space) k [] } } in
+        ap (λ (n : ℕ). length plan.lengths.items * n) (rows_read plan geo (set_at plan from geo found) needs)
+        ∙ ap (λ (o : Option Geometry). length plan.lengths.items * option_map_or (λ geo. read_rows geo plan.end plan.limits.window) o 0) (sym found)
 
 -- where tests end lies past where they began
 pub past_from : (told : Option (List (List ℕ))) (plan : Plan) (from stop size : ℕ) (old new : List Line) (r : Result (Option ℕ) PageFault) → from < stop → IfOk r (Added told plan from stop size old new) → from < added_to stop r

@@ -9,9 +9,9 @@ use Rattle.raid_params.specs.declared.limits.TheConstants.{MOST}
 use Rattle.raid_params.specs.declared.types.Geometry.{Geometry}
 use Rattle.raid_params.specs.Size.{rows}
 use Rattle.raid_params.specs.Validity.{fewest, has_members, has_pattern, has_syndrome, is_chunk, is_shaped, is_valid_head}
-use Rattle.raid_terms.specs.Parity.{passes_parity, tested_rows}
+use Rattle.raid_terms.specs.Parity.{passes_parity}
 use Rattle.landmark_rules.specs.Groups.{groups_hold}
-use Rattle.row_scan.specs.Scan.{IsScannable}
+use Rattle.row_scan.specs.Scan.{IsScannable, read_rows}
 use Rattle.search_plan.specs.Plans.{IsPlan}
 use Rattle.search_plan.specs.declared.plan.Plan.{Plan}
 use Rattle.search_plan.specs.Sets.{passes, passes_at, sets_of}
@@ -106,13 +106,13 @@ pub some_row_ok : {E : Type 0} (told : Option (List (List ℕ))) (plan : Plan) (
 some_row_ok told plan rank geo (Ok holds) e some groups test = some_row told plan rank geo holds e some groups test
 some_row_ok told plan rank geo (Err fault) e some groups test = tt
 
--- its test reads at most its tested rows of each image
+-- its test reads at most the rows of each image that are read for it
 pub reads_set : (old new : Seen) (plan : Plan) (rank : ℕ) (geo : Geometry) → slice_get (sets_of plan) rank ≡ Some geo → AgreeWith plan old.attached →
-    OnlyReads old new (length old.attached * tested_rows geo plan.end plan.limits.window) → OnlyReads old new (set_reads plan rank)
+    OnlyReads old new (length old.attached * read_rows geo plan.end plan.limits.window) → OnlyReads old new (set_reads plan rank)
 unfolding set_reads
 reads_set old new plan rank geo e agrees reads =
     let count : length old.attached ≡ length plan.lengths.items = sym (length-map old.attached (λ (image : Image). image.sectors)) ∙ ap length agrees in
-    let same : length plan.lengths.items * tested_rows geo plan.end plan.limits.window ≡ length plan.lengths.items * option_map_or (λ (g : Geometry). tested_rows g plan.end plan.limits.window) (slice_get (sets_of plan) rank) 0
-    = ap (λ (o : Option Geometry). length plan.lengths.items * option_map_or (λ (g : Geometry). tested_rows g plan.end plan.limits.window) o 0) (sym e) in
+    let same : length plan.lengths.items * read_rows geo plan.end plan.limits.window ≡ length plan.lengths.items * option_map_or (λ (g : Geometry). read_rows g plan.end plan.limits.window) (slice_get (sets_of plan) rank) 0
+    = ap (λ (o : Option Geometry). length plan.lengths.items * option_map_or (λ (g : Geometry). read_rows g plan.end plan.limits.window) o 0) (sym e) in
     let P : ℕ → Type 0 = λ n. OnlyReads old new n in
     subst P same (rw count at reads)

@@ -10,7 +10,7 @@ use Rattle.member_regions.specs.Regions.{IsRoomFor, Room}
 use Rattle.member_regions.specs.declared.regions.TheConstants.{BLOCK}
 use Rattle.raid_params.specs.declared.limits.TheConstants.{MOST}
 use Rattle.raid_terms.specs.Page.{stop_of, IsPage}
-use Rattle.raid_terms.specs.Parity.{tested_rows}
+use Rattle.row_scan.specs.Scan.{read_rows}
 use Rattle.search_plan.specs.Sets.{passes_at, sets_of, total_of}
 use Rattle.search_plan.specs.declared.plan.Plan.{Plan}
 use Rattle.page_engine.specs.declared.page_parts.Line.{Line}
@@ -64,9 +64,9 @@ EndsTest old new (Cursor fault) = ⊥
 EndsTest old new ReadFault = Rose old.faults new.faults
 EndsTest old new Memory = Unit {0}
 
--- the most sectors that are read for the set of a rank: its tested rows, of each image
+-- the most sectors that are read for the set of a rank: its tested rows, of each image, and none where nothing can break a row
 unfoldable pub set_reads : Plan → ℕ → ℕ
-set_reads plan rank = length plan.lengths.items * option_map_or (λ geo. tested_rows geo plan.end plan.limits.window) (slice_get (sets_of plan) rank) 0
+set_reads plan rank = length plan.lengths.items * option_map_or (λ geo. read_rows geo plan.end plan.limits.window) (slice_get (sets_of plan) rank) 0
 
 -- for the sets of the ranks from one up to another
 unfoldable pub rank_reads : Plan → ℕ → ℕ → ℕ

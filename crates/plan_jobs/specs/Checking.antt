@@ -12,6 +12,7 @@ use Rattle.landmark_rules.specs.declared.marks.Group.{Group}
 use Rattle.search_plan.specs.Sets.{rank_of}
 use Rattle.search_plan.specs.declared.plan.Plan.{Plan}
 use Rattle.plan_text.specs.Spelling.{group_name, line}
+use Rattle.row_scan.specs.Scan.{read_rows}
 use Rattle.plan_jobs.specs.Plans.{PlanReading, Reads, plan_refusal}
 use Rattle.run_ends.specs.Printing.{or_dash, share_line}
 use Rattle.run_ends.specs.declared.stop.Stop.{Stop}
@@ -29,9 +30,10 @@ check_refusal set text reading names attached = plan_refusal text reading names 
 abbrev pub rows_tested : Plan → Geometry → ℕ
 rows_tested plan set = tested_rows set plan.end plan.limits.window
 
--- the most sectors that `check` reads over a plan: the tested rows of the set on each image
+-- the most sectors that `check` reads over a plan: the tested rows of the set on each image, and none where nothing
+-- can break a row
 abbrev pub check_reads : Geometry → List Image → Plan → ℕ
-check_reads set attached plan = length attached * rows_tested plan set
+check_reads set attached plan = length attached * read_rows set plan.end plan.limits.window
 
 -- the rank of the set, or a dash where it is not in the product
 unfoldable pub rank_line : Option ℕ → List ℕ

@@ -110,7 +110,7 @@ fn checked<I: Images>(
     ensures causes { HasCauses
         (record { images = (I.seen images.old).faults; plan = 0; out = 0; sectors = (I.seen images.old).sectors_read })
         (record { images = (I.seen images.new).faults; plan = 0; out = 0; sectors = (I.seen images.new).sectors_read }) result }
-    ensures reads { OnlyReads (I.seen images.old) (I.seen images.new) (length (I.seen images.old).attached * rows_tested plan.now set.now) }
+    ensures reads { OnlyReads (I.seen images.old) (I.seen images.new) (check_reads set.now (I.seen images.old).attached plan.now) }
 {
     match allowed(names, set, plan) {
         Ok(()) => tested(alloc, images, set, plan),
@@ -148,7 +148,7 @@ fn tested<I: Images>(
     requires few { total_of plan.now < 2 ^ 64 }
     requires set { IsScannable set.now plan.now.end (I.seen images.old).attached }
     ensures text { IfOk result (λ text. IfSome (told_all (I.seen images.old).attached) (λ bytes. text ≡ check_text_of bytes plan.now set.now)) }
-    ensures reads { OnlyReads (I.seen images.old) (I.seen images.new) (length (I.seen images.old).attached * rows_tested plan.now set.now) }
+    ensures reads { OnlyReads (I.seen images.old) (I.seen images.new) (check_reads set.now (I.seen images.old).attached plan.now) }
     ensures ends { IfErr result (λ stop. ((stop ≡ ImageFaultOf) × Rose (I.seen images.old).faults (I.seen images.new).faults) ⊎ (stop ≡ OutOfMemoryOf)) }
 {
     match unsound_rows(alloc, images, set, plan) {
@@ -166,7 +166,7 @@ fn unsound_rows<I: Images>(
 ) -> Result<u64, Stop>
     requires set { IsScannable set.now plan.now.end (I.seen images.old).attached }
     ensures told { IfOk result (λ n. IfSome (told_all (I.seen images.old).attached) (λ bytes. n ≡ unsound_rows_of bytes set.now (rows_tested plan.now set.now))) }
-    ensures reads { OnlyReads (I.seen images.old) (I.seen images.new) (length (I.seen images.old).attached * rows_tested plan.now set.now) }
+    ensures reads { OnlyReads (I.seen images.old) (I.seen images.new) (check_reads set.now (I.seen images.old).attached plan.now) }
     ensures ends { IfErr result (λ stop. ((stop ≡ ImageFaultOf) × Rose (I.seen images.old).faults (I.seen images.new).faults) ⊎ (stop ≡ OutOfMemoryOf)) }
 {
     match unsound(alloc, images, plan, set) {

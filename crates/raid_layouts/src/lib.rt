@@ -6,7 +6,7 @@
 //! meaning of the three DDF layouts of RAID 6.
 //!
 //! `docs/LAYOUTS.md` draws them. `address_map` goes by [`role`] and [`slot_of_item`], `row_scan` and
-//! `virtual_volume` by [`row_cells`]. The layouts stand in `Role`, `Exponent` and `Cells` of `raid_terms`,
+//! `member_regions` by [`row_cells`]. The layouts stand in `Role`, `Exponent` and `Cells` of `raid_terms`,
 //! the names in `specs/Names`. The laws: each role has one slot and each slot one role, the exponents of a
 //! row differ and are below the members, and each row can be solved for its missing blocks.
 #![tactic(auto)]

@@ -71,7 +71,7 @@ told_ends (Some bytes) geo first count left rows bad within far more =
     let grows = count_grows (λ t. not (is_sound_row bytes geo t)) 0 (first + count) rows within in
     omega arith
 
-at_most : (n m : ℕ) → n ≤ m → nat_le n m ≡ true
+pub at_most : (n m : ℕ) → n ≤ m → nat_le n m ≡ true
 at_most n m le = grind (arith, nat_tests)
 
 above : (n m : ℕ) → m < n → nat_le n m ≡ false

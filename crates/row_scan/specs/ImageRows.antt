@@ -1,14 +1,14 @@
 -- The rows of a set where a block of image sectors is in memory: a region for each image.
-use Rattle.std.specs.Prelude.{ℕ, ◌≡◌, ◌+◌, ◌-◌, ◌*◌, ◌<◌, Bool, true, nat_lt, ◌&&◌, not, nat_eq, min, List, [], length, slice_index, slice_index_or, MatchOption, All, IfSome, ◌^◌}
+use Rattle.std.specs.Prelude.{ℕ, ◌≡◌, ◌+◌, ◌-◌, ◌*◌, ◌<◌, Bool, true, false, nat_lt, ◌&&◌, not, min, List, [], length, slice_index, slice_index_or, MatchOption, All, IfSome, ◌^◌}
 use Rattle.std.specs.declared.option.Option.{Option}
 use Rattle.std.specs.declared.option.Option.TheVariants.{None, Some}
 use Rattle.std.specs.Option.{is_some}
-use Rattle.raid_params.specs.Size.{redundancy}
 use Rattle.raid_params.specs.declared.types.Geometry.{Geometry}
 use Rattle.raid_terms.specs.Parity.{tested_rows, unsound_rows}
 use Rattle.search_plan.specs.declared.plan.Plan.{Plan}
 use Rattle.member_regions.specs.Members.{IsTestable}
 use Rattle.member_regions.specs.Regions.{Room}
+use Rattle.row_scan.specs.Scan.{is_unbreakable}
 use Rattle.row_scan.specs.declared.runs.Run.{Run}
 
 -- the tested rows of a set in a search by this plan
@@ -34,23 +34,21 @@ IsLeftAfter images geo from to left rest = MatchOption rest
     (unsound_rows images geo from + left < unsound_rows images geo to)
     (λ k. unsound_rows images geo to + k ≡ unsound_rows images geo from + left)
 
--- a tally is how many more rows of its set may be unsound, and None where more are than may be.
--- It is open while rows of its set may decide it: at level 0 none can be unsound
+-- a tally is how many more rows of its set may be unsound, and None where more are than may be. It is open while rows of
+-- its set may decide it, so not where nothing can break a row
 abbrev pub is_open : Geometry → Option ℕ → Bool
-is_open geo tally = is_some tally && not (nat_eq (redundancy geo.head.level) 0)
+is_open geo tally = is_some tally && not (is_unbreakable geo)
 
 -- an open tally whose set has tested rows in the run asks for it
 abbrev pub asks : Plan → Geometry → Option ℕ → Run → Bool
 asks plan geo tally run = is_open geo tally && nat_lt (rows_before plan geo run.first) (rows_before plan geo (run.first + run.count))
 
--- a tally after the rows of a run
-abbrev pub Adds : List (List ℕ) → Plan → Geometry → Run → Option ℕ → Option ℕ → Type 0
-Adds images plan geo run None new = new ≡ None
-Adds images plan geo run (Some left) new = IsLeftAfter images geo (rows_before plan geo run.first) (rows_before plan geo (run.first + run.count)) left new
-
--- so it is where the regions hold what an asking tally needs, whatever the images hold
-unfoldable pub AddsRun : Plan → Geometry → Run → Room → Option ℕ → Option ℕ → Type 0
-AddsRun plan geo run room old new = (images : List (List ℕ)) → (asks plan geo old run ≡ true → HoldsSet images run room geo) → Adds images plan geo run old new
+-- a tally after the rows of a run: as before where it does not ask, and else with the set's rows in the run, over the
+-- bytes of any images whose sectors the regions hold
+pub record AddsRun (plan : Plan) (geo : Geometry) (run : Run) (room : Room) (old new : Option ℕ) : Type 0 where
+  pub kept : asks plan geo old run ≡ false → new ≡ old
+  pub added : asks plan geo old run ≡ true → (images : List (List ℕ)) → HoldsSet images run room geo →
+      IfSome old (λ left. IsLeftAfter images geo (rows_before plan geo run.first) (rows_before plan geo (run.first + run.count)) left new)
 
 -- so it is for each tally, of the sets from number `start` on
 abbrev pub AddAll : Plan → List Geometry → ℕ → Run → Room → List (Option ℕ) → List (Option ℕ) → Type 0

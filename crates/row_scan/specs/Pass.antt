@@ -1,5 +1,5 @@
 -- A pass over the images, run by run.
-use Rattle.std.specs.Prelude.{ℕ, ◌≡◌, ◌+◌, ◌*◌, ◌<◌, ◌≤◌, ◌^◌, max, true, List, length, slice_index_or, Result, Ok, Err, All, IfSome, IsSomeAnd, MatchOption}
+use Rattle.std.specs.Prelude.{ℕ, ◌≡◌, ◌+◌, ◌*◌, ◌<◌, ◌≤◌, ◌^◌, max, true, false, List, length, slice_index_or, Result, Ok, Err, All, IfSome, IsSomeAnd, MatchOption}
 use Rattle.std.specs.List.{list_any}
 use Rattle.std.specs.declared.option.Option.{Option}
 use Rattle.std.specs.declared.option.Option.TheVariants.{None, Some}
@@ -11,9 +11,9 @@ use Rattle.member_regions.specs.Members.{IsTestable}
 use Rattle.member_regions.specs.Regions.{IsRoomFor, Room}
 use Rattle.member_regions.specs.declared.regions.TheConstants.{BLOCK}
 use Rattle.row_scan.specs.ImageRows.{asks, is_open, rows_before, rows_of, HoldsSet}
+use Rattle.row_scan.specs.Scan.{is_unbreakable}
 use Rattle.row_scan.specs.Verdicts.{offsets_of}
 use Rattle.row_scan.specs.Windows.{is_in_window, sectors_below}
-use Rattle.row_scan.specs.Block.{IsRest}
 use Rattle.row_scan.specs.declared.runs.Run.{Run}
 
 -- a set whose rows can be counted in a search by this plan
@@ -48,19 +48,21 @@ pub record IsNextRun (plan : Plan) (sets : List Geometry) (tallies : List (Optio
   pub skipped : (i : ℕ) (d : Option ℕ) (e : Geometry) → i < n → is_open (slice_index_or sets i e) (slice_index_or tallies i d) ≡ true →
       rows_before plan (slice_index_or sets i e) at ≡ rows_before plan (slice_index_or sets i e) run.first
 
--- a tally up to an image sector: how many more rows may be unsound after those before it, or more are than may be
+-- a tally up to an image sector: how many more rows may be unsound after those before it, where rows can be broken, or more
+-- are unsound than may be
 abbrev pub TalliesTo : List (List ℕ) → Plan → ℕ → Geometry → Option ℕ → Type 0
 TalliesTo images plan at geo tally = MatchOption tally (plan.limits.badrows < unsound_rows images geo (rows_of plan geo))
-    (λ left. unsound_rows images geo (rows_before plan geo at) + left ≡ plan.limits.badrows)
+    (λ left. is_unbreakable geo ≡ false → unsound_rows images geo (rows_before plan geo at) + left ≡ plan.limits.badrows)
 
 -- a tally of some of the rows before an image sector: no more are counted than are unsound
 abbrev pub TalliesSome : List (List ℕ) → Plan → ℕ → Geometry → Option ℕ → Type 0
 TalliesSome images plan at geo tally = MatchOption tally (plan.limits.badrows < unsound_rows images geo (rows_of plan geo))
     (λ left. plan.limits.badrows ≤ unsound_rows images geo (rows_before plan geo at) + left)
 
--- a tally of all rows
+-- a tally of all rows: too many are unsound, or no more than may be, where rows can be broken
 abbrev pub IsDecided : List (List ℕ) → Plan → Geometry → Option ℕ → Type 0
-IsDecided images plan geo tally = IsRest images geo (rows_of plan geo) plan.limits.badrows tally
+IsDecided images plan geo tally = MatchOption tally (plan.limits.badrows < unsound_rows images geo (rows_of plan geo))
+    (λ left. is_unbreakable geo ≡ false → unsound_rows images geo (rows_of plan geo) + left ≡ plan.limits.badrows)
 
 -- so it is for each set
 abbrev pub AllTallies : (Geometry → Option ℕ → Type 0) → List Geometry → List (Option ℕ) → Type 0

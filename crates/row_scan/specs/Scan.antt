@@ -1,9 +1,12 @@
 -- What is asked of a parameter set whose rows are tested, and why a test ends.
-use Rattle.std.specs.Prelude.{◌≡◌, ◌≤◌, ◌<◌, ◌^◌, ℕ, true, List, length, All}
+use Rattle.std.specs.Prelude.{◌≡◌, ◌≤◌, ◌<◌, ◌^◌, ◌==◌, if◌then◌else◌, ℕ, Bool, true, List, length, All}
 use Rattle.image_source.specs.Causes.{Rose}
 use Rattle.image_source.specs.Seen.{Image, Seen}
+use Rattle.raid_params.specs.Size.{redundancy}
+use Rattle.raid_params.specs.Slots.{empties}
 use Rattle.raid_params.specs.Validity.{is_shaped}
 use Rattle.raid_params.specs.declared.types.Geometry.{Geometry}
+use Rattle.raid_terms.specs.Parity.{tested_rows}
 use Rattle.row_scan.specs.declared.one_set.ScanFault.{ScanFault}
 use Rattle.row_scan.specs.declared.one_set.ScanFault.TheVariants.{ReadFault, Memory}
 
@@ -13,6 +16,14 @@ pub record IsScannable (geo : Geometry) (end : ℕ) (attached : List Image) : Ty
   pub offset : geo.head.offset < 2 ^ 55
   pub near : end < 2 ^ 55
   pub long : All (λ image. end ≤ image.sectors) attached
+
+-- nothing can break a row of the set: as many slots are empty as the level has blocks of parity in a row
+abbrev pub is_unbreakable : Geometry → Bool
+is_unbreakable geo = empties geo.slots.items == redundancy geo.head.level
+
+-- how many of its rows are read for the parity test: those that are tested, and none where nothing can break a row
+abbrev pub read_rows : Geometry → ℕ → ℕ → ℕ
+read_rows geo end window = if is_unbreakable geo then 0 else tested_rows geo end window
 
 -- the images failed, or memory is wanting and nothing was read
 abbrev pub EndsScan : Seen → Seen → ScanFault → Type 0

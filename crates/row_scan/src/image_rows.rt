@@ -8,6 +8,7 @@ ghost use Rattle.member_regions.specs.Members.{IsTestable};
 ghost use Rattle.member_regions.specs.Regions.{IsRoomFor};
 ghost use Rattle.row_scan.specs.ImageRows.{asks as asks_for, is_open as is_open_tally, rows_of as tested, rows_before as tested_before, AddsRun, HoldsSet, IsLeftAfter};
 
+use crate::one_set::nothing_can_break;
 use crate::runs::Run;
 use address_map::area;
 use image_source::SECTOR;
@@ -39,12 +40,12 @@ pub fn rows_before(plan: &Plan, geo: &Geometry, sector: u64) -> u64
     rows_of(plan, geo).min(sector.saturating_sub(geo.head.offset))
 }
 
-/// Whether more rows of a set may decide its tally: not where too many are unsound already, and not at level 0,
-/// where none can be.
+/// Whether more rows of a set may decide its tally: not where too many are unsound already, and not where nothing
+/// can break a row.
 pub fn is_open(geo: &Geometry, tally: Option<u64>) -> bool
     ensures { result ≡ is_open_tally geo.now tally }
 {
-    tally.is_some() && geo.head.level.redundancy() != 0
+    tally.is_some() && !nothing_can_break(geo)
 }
 
 /// Whether the tally of a set is open and some of its tested rows lie in the run.

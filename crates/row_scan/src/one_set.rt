@@ -1,20 +1,19 @@
 //! The parity test of a parameter set, and the count of its unsound rows.
-ghost use Rattle.std.specs.Prelude.{◌≡◌, ◌+◌, ◌-◌, ◌*◌, ◌^◌, ◌<◌, ◌≤◌, length, All, false, IfErr, IfOk, IfSome, None};
+ghost use Rattle.std.specs.Prelude.{◌≡◌, ◌+◌, ◌-◌, ◌*◌, ◌^◌, ◌<◌, ◌≤◌, length, All, false, true, IfErr, IfOk, IfSome, None};
 ghost use Rattle.image_source.specs.Attached.{told_all};
 ghost use Rattle.image_source.specs.Causes.{HasCause};
 ghost use Rattle.image_source.specs.Seen.{OnlyReads};
 ghost use Rattle.raid_terms.specs.Parity.{passes_parity, tested_rows, unsound_rows};
-ghost use Rattle.raid_params.specs.Size.{redundancy};
 ghost use Rattle.member_regions.specs.Members.{held, IsTestable, Reaches};
 ghost use Rattle.member_regions.specs.Regions.{IsRoomFor, KeepsRoom};
 ghost use Rattle.row_scan.specs.Block.{IsLeft, IsRest, StopsEarly};
-ghost use Rattle.row_scan.specs.Scan.{EndsScan, IsScannable};
+ghost use Rattle.row_scan.specs.Scan.{EndsScan, is_unbreakable, IsScannable, read_rows};
 
 use crate::rows::rows_left;
 use address_map::area;
 use image_source::{Failed, Images};
 use member_regions::{BLOCK, Regions};
-use raid_params::Geometry;
+use raid_params::{Geometry, count_empty};
 use search_plan::{Limits, Plan};
 use std::alloc::Global;
 use thiserror::Error;
@@ -36,7 +35,8 @@ pub enum ScanFault {
 /// Whether at most `limits.badrows` of the tested sector rows of a parameter set are unsound: those
 /// below its area, whose whole rows end before the image sector `end`, and below `limits.window`.
 /// It stops at the first row too many: then it has read no further than the block that this row lies
-/// in, at most `BLOCK` sectors a member. At level 0 no row can be unsound, and nothing is read.
+/// in, at most `BLOCK` sectors a member. Nothing is read where nothing can break a row: where as many
+/// slots are empty as the level has redundancy, so also at level 0.
 #[tactic(auto, using(crate::proofs::Parity::told_passes))]
 pub fn parity_holds<I: Images>(
     images: &mut I,
@@ -50,10 +50,10 @@ pub fn parity_holds<I: Images>(
     ensures told { IfOk result (λ holds. IfSome (told_all (I.seen images.old).attached)
         (λ bytes. holds ≡ passes_parity bytes geo.now end limits.now.window limits.now.badrows)) }
     ensures reads { OnlyReads (I.seen images.old) (I.seen images.new)
-        (length (I.seen images.old).attached * tested_rows geo.now end limits.now.window) }
+        (length (I.seen images.old).attached * read_rows geo.now end limits.now.window) }
     ensures early { IfOk result (λ holds. holds ≡ false → IfSome (told_all (I.seen images.old).attached)
         (λ bytes. StopsEarly bytes geo.now limits.now.badrows (length (I.seen images.old).attached) (I.seen images.old) (I.seen images.new))) }
-    ensures unread { redundancy geo.now.head.level ≡ 0 → I.seen images.new ≡ I.seen images.old }
+    ensures unread { is_unbreakable geo.now ≡ true → I.seen images.new ≡ I.seen images.old }
     ensures cause { HasCause (I.seen images.old).faults (I.seen images.new).faults result }
     ensures room { KeepsRoom regions.old regions.new }
 {
@@ -63,7 +63,7 @@ pub fn parity_holds<I: Images>(
 
 /// How many of the tested sector rows of a parameter set are unsound: those below its area, whose
 /// whole rows end before the plan's `end`, and below the plan's `window`. Memory is taken before the
-/// first reading.
+/// first reading. Nothing is read where nothing can break a row.
 pub fn unsound<I: Images>(
     alloc: Global,
     images: &mut I,
@@ -74,8 +74,8 @@ pub fn unsound<I: Images>(
     ensures told { IfOk result (λ n. IfSome (told_all (I.seen images.old).attached)
         (λ bytes. n ≡ unsound_rows bytes geo.now (tested_rows geo.now plan.now.end plan.now.limits.window))) }
     ensures reads { OnlyReads (I.seen images.old) (I.seen images.new)
-        (length (I.seen images.old).attached * tested_rows geo.now plan.now.end plan.now.limits.window) }
-    ensures unread { redundancy geo.now.head.level ≡ 0 → I.seen images.new ≡ I.seen images.old }
+        (length (I.seen images.old).attached * read_rows geo.now plan.now.end plan.now.limits.window) }
+    ensures unread { is_unbreakable geo.now ≡ true → I.seen images.new ≡ I.seen images.old }
     ensures ends { IfErr result (EndsScan (I.seen images.old) (I.seen images.new)) }
 {
     let mut regions = Regions::new(alloc, geo.slots.len(), BLOCK).map_err(|_| ScanFault::Memory)?;
@@ -97,8 +97,8 @@ pub(crate) fn count_unsound<I: Images>(
     ensures told { IfOk result (λ n. IfSome (told_all (I.seen images.old).attached)
         (λ bytes. n ≡ unsound_rows bytes geo.now (tested_rows geo.now end window))) }
     ensures reads { OnlyReads (I.seen images.old) (I.seen images.new)
-        (length (I.seen images.old).attached * tested_rows geo.now end window) }
-    ensures unread { redundancy geo.now.head.level ≡ 0 → I.seen images.new ≡ I.seen images.old }
+        (length (I.seen images.old).attached * read_rows geo.now end window) }
+    ensures unread { is_unbreakable geo.now ≡ true → I.seen images.new ≡ I.seen images.old }
     ensures cause { HasCause (I.seen images.old).faults (I.seen images.new).faults result }
     ensures room { KeepsRoom regions.old regions.new }
 {
@@ -121,18 +121,26 @@ fn test_rows<I: Images>(
     ensures told { IfOk result (λ rest. IfSome (told_all (I.seen images.old).attached)
         (λ bytes. IsRest bytes geo.now (tested_rows geo.now end window) left rest)) }
     ensures reads { OnlyReads (I.seen images.old) (I.seen images.new)
-        (length (I.seen images.old).attached * tested_rows geo.now end window) }
+        (length (I.seen images.old).attached * read_rows geo.now end window) }
     ensures early { IfOk result (λ rest. rest ≡ None → IfSome (told_all (I.seen images.old).attached)
         (λ bytes. StopsEarly bytes geo.now left (length (I.seen images.old).attached) (I.seen images.old) (I.seen images.new))) }
-    ensures unread { redundancy geo.now.head.level ≡ 0 → I.seen images.new ≡ I.seen images.old }
+    ensures unread { is_unbreakable geo.now ≡ true → I.seen images.new ≡ I.seen images.old }
     ensures cause { HasCause (I.seen images.old).faults (I.seen images.new).faults result }
     ensures room { KeepsRoom regions.old regions.new }
 {
-    if geo.head.level.redundancy() == 0 {
+    if nothing_can_break(geo) {
         return Ok(Some(left));
     }
     let rows = rows_to_test(geo, end, window);
     test_first(images, regions, geo, rows, left)
+}
+
+/// Whether each row of the set is sound whatever its bytes: as many slots are empty as the level has
+/// redundancy.
+pub(crate) fn nothing_can_break(geo: &Geometry) -> bool
+    ensures { result ≡ is_unbreakable geo.now }
+{
+    count_empty(geo.slots.as_slice()) == geo.head.level.redundancy() as usize
 }
 
 /// The same of the first `rows` rows. The first block is small, and each later one as long as all

@@ -5,7 +5,7 @@
 //! length, each prefix has a number of lists that begin with it, each list has a rank, and each
 //! rank a list. Nothing is kept in memory: the numbers come from counts.
 //!
-//! `page_engine` ranks slot lists with it, and `candidate_enum` walks them. The lists of a space stand in
+//! `set_product` ranks slot lists with it, and `candidate_enum` walks them. The lists of a space stand in
 //! `specs/Space`, over `SlotLists` of `raid_terms`; how prefixes go on, in `specs/Ways`. The laws: each
 //! list stands once, each has the right shape, and ranks and lists undo each other.
 #![tactic(auto)]

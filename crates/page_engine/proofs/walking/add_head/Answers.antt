@@ -26,7 +26,7 @@ returns-in_err-place-clause-reads g c =
     let some : c.args.from < c.args.stop = before c.args.from c.args.stop ordered other in
     let P : ℕ → Type 0 = λ n. OnlyReads (g.I.Images.seen c.args.images.now) (g.I.Images.seen c.table_place.new.images) n in
     rw (to_end c.args.stop c.from_residual.result c.from_residual.ensures.0)
-    (reads_first _ _ c.args.plan.now c.args.from c.args.stop some (subst P (head_reads c.args.plan.now c.args.sets.now c.args.from c.args.stop c.requires.head c.requires.part some) c.table_place.ensures.reads))
+    (reads_first _ _ c.args.plan.now c.args.from c.args.stop some (subst P (head_reads c.args.plan.now c.args.sets.now c.args.from c.args.stop c.requires.head c.requires.part some (sym c.needs_table.ensures ∙ c.if-not-needs_table.false)) c.table_place.ensures.reads))
 
 pub add_hopeful-requires-2-clause-xors : goal.add_hopeful-requires-2-clause-xors
 add_hopeful-requires-2-clause-xors g c =
@@ -42,5 +42,5 @@ returns-clause-reads g c =
     let P : ℕ → Type 0 = λ n. OnlyReads (g.I.Images.seen c.args.images.now) (g.I.Images.seen c.table_place.new.images) n in
     reads_twice _ _ _ c.args.plan.now c.args.from (added_to c.args.stop c.add_hopeful-2.result)
     (past_from _ c.args.plan.now c.args.from c.args.stop c.args.size c.args.lines.now c.add_hopeful-2.new.lines c.add_hopeful-2.result some c.add_hopeful-2.ensures.added)
-    (subst P (head_reads c.args.plan.now c.args.sets.now c.args.from c.args.stop c.requires.head c.requires.part some) c.table_place.ensures.reads)
+    (subst P (head_reads c.args.plan.now c.args.sets.now c.args.from c.args.stop c.requires.head c.requires.part some (sym c.needs_table.ensures ∙ c.if-not-needs_table.false)) c.table_place.ensures.reads)
     c.add_hopeful-2.ensures.reads

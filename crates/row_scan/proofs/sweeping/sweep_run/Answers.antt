@@ -10,7 +10,7 @@ pub returns-in_default-clause-told : goal.returns-in_default-clause-told
 returns-in_default-clause-told g c =
     if_any (told_all (g.I.Images.seen c.args.images.now).attached)
     (λ bytes. AllTallies (TalliesTo bytes c.args.plan.now c.args.at) c.args.sets.now c.args.tallies.now → AllTallies (IsDecided bytes c.args.plan.now) c.args.sets.now c.args.tallies.now)
-    (λ bytes so_far. decided_after bytes c.args.plan.now c.args.sets.now c.args.at c.args.tallies.now c.requires.can.scanned c.in_default.ensures so_far)
+    (λ bytes so_far. decided_after bytes c.args.plan.now c.args.sets.now c.args.at c.args.tallies.now c.in_default.ensures so_far)
 
 pub returns-in_default-clause-reads : goal.returns-in_default-clause-reads
 returns-in_default-clause-reads g c = windows_none (g.I.Images.seen c.args.images.now) c.args.plan.now c.args.sets.now c.args.at c.args.plan.now.end c.requires.at
@@ -29,7 +29,7 @@ returns-clause-told g c =
     (λ bytes. AllTallies (TalliesTo bytes c.args.plan.now c.args.at) c.args.sets.now c.args.tallies.now →
     AllTallies (TalliesTo bytes c.args.plan.now (c.in-Some.run'.first + c.in-Some.run'.count)) c.args.sets.now c.add_in_pieces.new.tallies)
     (λ bytes hold so_far. to_after bytes c.args.plan.now c.args.sets.now c.in-Some.run' c.read_wanted.new.regions c.args.at c.args.tallies.now c.add_in_pieces.new.tallies
-    c.requires.can.scanned c.requires.long c.in-Some.ensures c.add_in_pieces.ensures.added hold so_far)
+    c.requires.long c.in-Some.ensures c.add_in_pieces.ensures.added hold so_far)
     c.in_ok-read_wanted.ensures.told
 
 pub returns-clause-reads : goal.returns-clause-reads

@@ -3,3 +3,10 @@ pub mod Columns
 pub mod Parity
 pub mod Unbroken
 pub mod TestSets
+pub mod ImageRows
+pub mod Adding
+pub mod NextRun
+pub mod Asked
+pub mod Tallying
+pub mod Sweeps
+pub mod Judging

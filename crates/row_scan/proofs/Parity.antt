@@ -71,14 +71,14 @@ told_ends (Some bytes) geo first count left rows bad within far more =
     let grows = count_grows (λ t. not (is_sound_row bytes geo t)) 0 (first + count) rows within in
     omega arith
 
-at_most : (n m : ℕ) → n ≤ m → nat_le n m ≡ true
+pub at_most : (n m : ℕ) → n ≤ m → nat_le n m ≡ true
 at_most n m le = grind (arith, nat_tests)
 
 above : (n m : ℕ) → m < n → nat_le n m ≡ false
 above n m lt = grind (arith, nat_tests)
 
 -- the test passes where rows may be unsound still
-passes_where : (bytes : List (List ℕ)) (geo : Geometry) (rows bad : ℕ) (rest : Option ℕ) → IsRest bytes geo rows bad rest → is_some rest ≡ nat_le (unsound_rows bytes geo rows) bad
+pub passes_where : (bytes : List (List ℕ)) (geo : Geometry) (rows bad : ℕ) (rest : Option ℕ) → IsRest bytes geo rows bad rest → is_some rest ≡ nat_le (unsound_rows bytes geo rows) bad
 passes_where bytes geo rows bad None more = sym (above (unsound_rows bytes geo rows) bad more)
 passes_where bytes geo rows bad (Some k) is = sym (at_most (unsound_rows bytes geo rows) bad (omega arith))
 

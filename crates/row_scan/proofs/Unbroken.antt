@@ -21,7 +21,7 @@ use Rattle.row_scan.specs.Block.{IsRest}
 use Rattle.row_scan.specs.Scan.{is_unbreakable}
 
 -- the images hold bytes
-abbrev HoldBytes : List (List ℕ) → Type 0
+abbrev pub HoldBytes : List (List ℕ) → Type 0
 HoldBytes images = (i k : ℕ) → get_or (get_or images i []) k 0 < 256
 
 length_map : (f : Option ℕ → ℕ) (xs : List (Option ℕ)) → length (map f xs) ≡ length xs
@@ -55,7 +55,7 @@ sound_row images geo t bytes set none =
     (omega arith)
 
 -- so none are unsound
-none_unsound : (images : List (List ℕ)) (geo : Geometry) (n : ℕ) → HoldBytes images → IsTestable geo → is_unbreakable geo ≡ true → unsound_rows images geo n ≡ 0
+pub none_unsound : (images : List (List ℕ)) (geo : Geometry) (n : ℕ) → HoldBytes images → IsTestable geo → is_unbreakable geo ≡ true → unsound_rows images geo n ≡ 0
 none_unsound images geo zero bytes set none = refl
 none_unsound images geo (suc n) bytes set none =
     let more = count_suc (λ t. not (is_sound_row images geo t)) 0 n n (omega arith) in

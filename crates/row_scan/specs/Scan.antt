@@ -7,8 +7,8 @@ use Rattle.raid_params.specs.Slots.{empties}
 use Rattle.raid_params.specs.Validity.{is_shaped}
 use Rattle.raid_params.specs.declared.types.Geometry.{Geometry}
 use Rattle.raid_terms.specs.Parity.{tested_rows}
-use Rattle.row_scan.specs.declared.scan.ScanFault.{ScanFault}
-use Rattle.row_scan.specs.declared.scan.ScanFault.TheVariants.{ReadFault, Memory}
+use Rattle.row_scan.specs.declared.one_set.ScanFault.{ScanFault}
+use Rattle.row_scan.specs.declared.one_set.ScanFault.TheVariants.{ReadFault, Memory}
 
 -- a set whose rows can be tested: it has a sensible shape over the attached images, which all reach to the end
 pub record IsScannable (geo : Geometry) (end : ℕ) (attached : List Image) : Type 0 where

@@ -7,9 +7,23 @@
 //! `specs/Block`.
 #![tactic(auto)]
 
+mod gates;
+mod image_rows;
+mod many_sets;
+mod one_set;
+mod reading;
 mod rows;
-mod scan;
+mod runs;
+mod samples;
+mod sweeping;
+mod tallies;
 #[cfg(test)]
 mod tests;
+mod verdict_list;
+mod wanted;
 
-pub use scan::{ScanFault, parity_holds, unsound};
+pub use gates::{Gate, OpenGate};
+pub use many_sets::{MOST_SETS, scan};
+pub use one_set::{ScanFault, parity_holds, unsound};
+pub use samples::SAMPLES;
+pub use verdict_list::Verdicts;

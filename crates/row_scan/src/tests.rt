@@ -3,8 +3,8 @@ ghost use Rattle.std.specs.Prelude.{◌≡◌, ◌≤◌, ◌^◌, ◌<◌, leng
 ghost use Rattle.image_source.specs.Memory.{seen_of};
 ghost use Rattle.member_regions.specs.Regions.{IsRoomFor, KeepsRoom};
 
+use crate::one_set::count_unsound;
 use crate::parity_holds;
-use crate::scan::count_unsound;
 use image_source::{Images, MemImages};
 use member_regions::{BLOCK, Regions};
 use raid_params::{Geometry, Head, Level, Pattern, Slots, Syndrome};

@@ -1,7 +1,7 @@
 use Rattle.std.proofs.Common.{rules}
 use Rattle.image_source.specs.Attached.{told_all}
 use Rattle.row_scan.proofs.Parity.{told_after}
-use Rattle.row_scan.proofs.scan.block_left.Goals as goal
+use Rattle.row_scan.proofs.one_set.block_left.Goals as goal
 
 pub returns-clause-told : goal.returns-clause-told
 returns-clause-told g c =

@@ -4,7 +4,7 @@ use Rattle.row_scan.specs.Block.{IsLeft}
 use Rattle.row_scan.proofs.Parity.{told_ends, told_stops}
 use Rattle.member_regions.proofs.Held.{reads_on}
 use Rattle.member_regions.specs.Members.{held}
-use Rattle.row_scan.proofs.scan.test_first.Goals as goal
+use Rattle.row_scan.proofs.one_set.test_first.Goals as goal
 
 pub returns-in_err-fewer-clause-reads : goal.returns-in_err-fewer-clause-reads
 returns-in_err-fewer-clause-reads g c =

@@ -7,7 +7,7 @@ use Rattle.row_scan.specs.Scan.{is_unbreakable}
 use Rattle.row_scan.proofs.Sets.{scannable_held, scannable_testable}
 use Rattle.row_scan.proofs.Parity.{ends_more}
 use Rattle.row_scan.proofs.Unbroken.{all_left}
-use Rattle.row_scan.proofs.scan.test_rows.Goals as goal
+use Rattle.row_scan.proofs.one_set.test_rows.Goals as goal
 
 pub test_first-requires-clause-held : goal.test_first-requires-clause-held
 test_first-requires-clause-held g c = λ some. scannable_held c.args.geo.now c.args.end (c.args.geo.now.head.offset + c.rows_to_test-rows.result) (g.I.Images.seen c.args.images.now).attached c.requires.set (omega arith)

@@ -3,7 +3,7 @@ use Rattle.image_source.specs.Attached.{told_all}
 use Rattle.raid_terms.specs.Parity.{tested_rows}
 use Rattle.row_scan.proofs.Parity.{told_unsound}
 use Rattle.member_regions.proofs.Sets.{area_below}
-use Rattle.row_scan.proofs.scan.count_unsound.Goals as goal
+use Rattle.row_scan.proofs.one_set.count_unsound.Goals as goal
 
 pub returns-clause-told : goal.returns-clause-told
 returns-clause-told g c =

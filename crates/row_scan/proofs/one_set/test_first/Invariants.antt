@@ -4,7 +4,7 @@ use Rattle.image_source.specs.Seen.{OnlyReads}
 use Rattle.raid_terms.specs.Parity.{unsound_rows}
 use Rattle.member_regions.specs.Members.{held}
 use Rattle.member_regions.specs.Regions.{KeepsRoom}
-use Rattle.row_scan.proofs.scan.test_first.Given as goal
+use Rattle.row_scan.proofs.one_set.test_first.Given as goal
 
 abbrev pub invariant-loop-first : goal.invariant-loop-first
 invariant-loop-first g l = record {

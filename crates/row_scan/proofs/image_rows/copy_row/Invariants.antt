@@ -1,0 +1,9 @@
+use Rattle.std.proofs.Common.{◌≡◌, length}
+use Rattle.row_scan.proofs.ImageRows.{IsCopied}
+use Rattle.row_scan.proofs.image_rows.copy_row.Given as goal
+
+abbrev pub invariant-loop-slot : goal.invariant-loop-slot
+invariant-loop-slot l = record {
+  long : length l.row ≡ 8192;
+  copied : IsCopied l.geo l.regions l.place l.slot l.row;
+}

@@ -1,0 +1,20 @@
+use Rattle.std.proofs.Common.{◌+◌, get_or, refl, rules, arith}
+use Rattle.raid_params.specs.declared.types.Geometry.{Geometry}
+use Rattle.row_scan.specs.ImageRows.{AddsRun}
+use Rattle.row_scan.proofs.Adding.{adds_here, piece_more}
+use Rattle.row_scan.proofs.tallies.add_to_piece.Goals as goal
+
+pub loop-i-preserved : goal.loop-i-preserved
+loop-i-preserved c = record {
+  long = search rules;
+  done = λ i d e below.
+      piece_more
+      (λ n old new. (e' : Geometry) → AddsRun c.args.plan.now (get_or c.args.sets.now (c.args.start + n) e') c.args.run c.args.regions.now old new)
+      c.loop-i.i c.args.piece.now c.loop-i.piece c.tally_after.result (omega arith)
+      (λ n d' less e'. c.loop-i.invariant.done n d' e' less)
+      c.loop-i.invariant.rest
+      (λ d' e'. adds_here c.args.plan.now c.args.sets.now (c.args.start + c.loop-i.i) c.loop-i.i c.args.run c.args.regions.now c.index-sets-start.result c.loop-i.piece _ c.tally_after.result d' e'
+      (omega arith) (omega arith) c.index-sets-start.is refl c.tally_after.ensures)
+      i d below e;
+  rest = λ i d above. search rules;
+}

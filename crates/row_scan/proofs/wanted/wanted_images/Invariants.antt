@@ -1,0 +1,9 @@
+use Rattle.std.proofs.Common.{◌≡◌, length}
+use Rattle.row_scan.specs.Wanted.{AreWanted}
+use Rattle.row_scan.proofs.wanted.wanted_images.Given as goal
+
+abbrev pub invariant-loop-image : goal.invariant-loop-image
+invariant-loop-image l = record {
+  long : length l.slots.items ≡ l.image;
+  wanted : AreWanted l.plan l.sets l.tallies l.run l.slots.items l.image;
+}

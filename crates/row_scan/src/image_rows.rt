@@ -1,0 +1,173 @@
+//! The rows of a set over a block of image sectors.
+ghost use Rattle.std.specs.Prelude.{ℕ, List, ◌≡◌, ◌+◌, ◌-◌, ◌*◌, ◌/◌, ◌^◌, ◌<◌, ◌≤◌, length, slice_index, slice_index_or, All, IfSome, None, Some};
+ghost use Rattle.std.specs.Option.{is_none};
+ghost use Rattle.raid_terms.specs.Cells.{row_cells as cells_of_row};
+ghost use Rattle.raid_terms.specs.Parity.{is_sound_row, IsRow};
+ghost use Rattle.raid_params.specs.declared.limits.TheConstants.{MOST};
+ghost use Rattle.member_regions.specs.Members.{IsTestable};
+ghost use Rattle.member_regions.specs.Regions.{IsRoomFor};
+ghost use Rattle.row_scan.specs.ImageRows.{asks as asks_for, is_open as is_open_tally, rows_of as tested, rows_before as tested_before, AddsRun, HoldsSet, IsLeftAfter};
+
+use crate::one_set::nothing_can_break;
+use crate::runs::Run;
+use address_map::area;
+use image_source::SECTOR;
+use member_regions::{Regions, turn_to};
+use pq_parity::row_holds;
+use raid_layouts::row_cells;
+use raid_params::{Cell, Geometry, MOST};
+use search_plan::Plan;
+
+/// The bytes of a row of as many members as there may be.
+const ROW: usize = MOST * SECTOR;
+
+/// How many rows of a set a search by this plan tests.
+#[tactic(auto, using(raid_layouts::proofs::Shapes::shaped_head, member_regions::proofs::Sets::area_below))]
+pub fn rows_of(plan: &Plan, geo: &Geometry) -> u64
+    requires { IsTestable geo.now }
+    ensures rows { result ≡ tested plan.now geo.now }
+    ensures within { result ≤ plan.now.end - geo.now.head.offset }
+    ensures short { result ≤ plan.now.limits.window }
+{
+    area(&geo.head, plan.end).min(plan.limits.window)
+}
+
+/// How many of them lie before an image sector.
+pub fn rows_before(plan: &Plan, geo: &Geometry, sector: u64) -> u64
+    requires { IsTestable geo.now }
+    ensures { result ≡ tested_before plan.now geo.now sector }
+{
+    rows_of(plan, geo).min(sector.saturating_sub(geo.head.offset))
+}
+
+/// Whether more rows of a set may decide its tally: not where too many are unsound already, and not where nothing
+/// can break a row.
+pub fn is_open(geo: &Geometry, tally: Option<u64>) -> bool
+    ensures { result ≡ is_open_tally geo.now tally }
+{
+    tally.is_some() && !nothing_can_break(geo)
+}
+
+/// Whether the tally of a set is open and some of its tested rows lie in the run.
+pub fn asks(plan: &Plan, geo: &Geometry, tally: Option<u64>, run: Run) -> bool
+    requires set { IsTestable geo.now }
+    requires run { run.first + run.count < 2 ^ 64 }
+    ensures { result ≡ asks_for plan.now geo.now tally run }
+{
+    is_open(geo, tally)
+        && rows_before(plan, geo, run.first) < rows_before(plan, geo, run.first + run.count)
+}
+
+/// A tally after the rows of its set in a run: how many more rows may be unsound, and None where more are than
+/// may be. The regions hold the run's sectors, one region an image.
+pub fn tally_after(
+    plan: &Plan,
+    geo: &Geometry,
+    tally: Option<u64>,
+    regions: &Regions,
+    run: Run,
+) -> Option<u64>
+    requires set { IsTestable geo.now }
+    requires offset { geo.now.head.offset < 2 ^ 55 }
+    requires images { All (λ slot. IfSome slot (λ image. image < regions.now.members)) geo.now.slots.items }
+    requires run { run.first + run.count < 2 ^ 55 }
+    requires room { 512 * run.count ≤ regions.now.stride }
+    ensures { AddsRun plan.now geo.now run regions.now tally result }
+{
+    let left = tally?;
+    if !asks(plan, geo, tally, run) {
+        return Some(left);
+    }
+    let from = rows_before(plan, geo, run.first);
+    let to = rows_before(plan, geo, run.first + run.count);
+    rows_left_after(geo, regions, run, from, to, left)
+}
+
+/// How many more rows may be unsound after those from one up to another, where `left` may be, and None where more
+/// are. It stops at the first row too many.
+#[tactic(auto, using(member_regions::proofs::Sets::testable_head, member_regions::proofs::Sets::testable_slots, member_regions::proofs::Sets::testable_chunk, member_regions::proofs::Sets::testable_row, member_regions::proofs::Sets::row_length))]
+fn rows_left_after(
+    geo: &Geometry,
+    regions: &Regions,
+    run: Run,
+    from: u64,
+    to: u64,
+    left: u64,
+) -> Option<u64>
+    requires set { IsTestable geo.now }
+    requires offset { geo.now.head.offset < 2 ^ 55 }
+    requires images { All (λ slot. IfSome slot (λ image. image < regions.now.members)) geo.now.slots.items }
+    requires run { run.first + run.count < 2 ^ 55 }
+    requires room { 512 * run.count ≤ regions.now.stride }
+    requires from { run.first ≤ geo.now.head.offset + from }
+    requires to { geo.now.head.offset + to ≤ run.first + run.count }
+    requires rows { from ≤ to }
+    ensures { (images : List (List ℕ)) → HoldsSet images run regions.now geo.now → IsLeftAfter images geo.now from to left result }
+{
+    let mut row = [0; ROW];
+    let mut at = from / geo.head.chunk;
+    let mut cells = row_cells(geo, at);
+    let mut rest = left;
+    for t in from..to {
+        let chunk_row = t / geo.head.chunk;
+        turn_to(geo, &mut cells, at, chunk_row);
+        at = chunk_row;
+        let place = geo.head.offset + t - run.first;
+        if !is_sound_at(geo, &cells, regions, place as usize, &mut row) {
+            rest = rest.checked_sub(1)?;
+        }
+    }
+    Some(rest)
+}
+
+/// Whether the sectors number `place` of the regions are a sound row of a set, of these cells. `row` is room for it.
+#[tactic(auto, using(member_regions::proofs::Sets::row_length))]
+fn is_sound_at(
+    geo: &Geometry,
+    cells: &[Cell],
+    regions: &Regions,
+    place: usize,
+    row: &mut [u8],
+) -> bool
+    requires cells { IsRow cells.now }
+    requires slots { length cells.now ≡ length geo.now.slots.items }
+    requires images { All (λ slot. IfSome slot (λ image. image < regions.now.members)) geo.now.slots.items }
+    requires place { 512 * place + 512 ≤ regions.now.stride }
+    requires row { length row.old ≡ ROW }
+    ensures sound { (images : List (List ℕ)) (run : Run) (t : ℕ) → HoldsSet images run regions.now geo.now → place < run.count →
+        geo.now.head.offset + t ≡ run.first + place → cells.now ≡ cells_of_row geo.now (t / geo.now.head.chunk) →
+        result ≡ is_sound_row images geo.now t }
+    ensures row { length row.new ≡ ROW }
+{
+    copy_row(geo, regions, place, row);
+    row_holds(cells, &row[..SECTOR * cells.len()])
+}
+
+/// Copies the sectors number `place` of the images of a set into a row, that of each slot to its place.
+fn copy_row(geo: &Geometry, regions: &Regions, place: usize, row: &mut [u8])
+    requires slots { length geo.now.slots.items ≤ MOST }
+    requires images { All (λ slot. IfSome slot (λ image. image < regions.now.members)) geo.now.slots.items }
+    requires place { 512 * place + 512 ≤ regions.now.stride }
+    requires row { length row.old ≡ ROW }
+    ensures copied { (slot image x : ℕ) → slot < length geo.now.slots.items → slice_index_or geo.now.slots.items slot None ≡ Some image → x < 512 →
+        slice_index row.new (512 * slot + x) ≡ slice_index regions.now.bytes (regions.now.stride * image + (512 * place + x)) }
+    ensures row { length row.new ≡ ROW }
+{
+    for (slot, held) in geo.slots.iter().enumerate() {
+        if let Some(image) = *held {
+            put_sector(row, slot, regions.region(image as usize, place, 1));
+        }
+    }
+}
+
+/// Writes a sector into a row, at the place of a slot.
+fn put_sector(row: &mut [u8], slot: usize, sector: &[u8])
+    requires slot { 512 * slot + 512 ≤ length row.old }
+    requires sector { length sector.now ≡ 512 }
+    ensures long { length row.new ≡ length row.old }
+    ensures before { (p : ℕ) → p < 512 * slot → slice_index row.new p ≡ slice_index row.old p }
+    ensures here { (x : ℕ) → x < 512 → slice_index row.new (512 * slot + x) ≡ slice_index sector.now x }
+{
+    let at = SECTOR * slot;
+    row[at..at + SECTOR].copy_from_slice(sector);
+}

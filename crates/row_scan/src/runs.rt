@@ -1,0 +1,61 @@
+//! Runs of image sectors, and which of them a scan reads next.
+ghost use Rattle.std.specs.Prelude.{◌≡◌, ◌⊎◌, length, All, MatchOption};
+ghost use Rattle.row_scan.specs.Pass.{IsOwnRun, IsNextRun, IsNotLater, NothingLeft, IsScanned};
+
+use crate::image_rows::{is_open, rows_of};
+use member_regions::BLOCK;
+use raid_params::Geometry;
+use search_plan::Plan;
+
+/// Some image sectors, one after the other.
+#[derive(Clone, Copy)]
+pub struct Run {
+    /// The first of them.
+    pub first: u64,
+    /// How many there are.
+    pub count: u64,
+}
+
+/// The first image sectors from `at` on that an open set has tested rows in, at most a block, all of them tested
+/// rows of one set. None where no open set has any left.
+pub fn next_run(plan: &Plan, sets: &[Geometry], tallies: &[Option<u64>], at: u64) -> Option<Run>
+    requires sets { All (IsScanned plan.now) sets.now }
+    requires long { length tallies.now ≡ length sets.now }
+    ensures { MatchOption result
+        (NothingLeft plan.now sets.now tallies.now (length sets.now) at)
+        (IsNextRun plan.now sets.now tallies.now (length sets.now) at) }
+{
+    let mut next = None;
+    for k in 0..sets.len() {
+        next = earlier(next, own_run(plan, &sets[k], tallies[k], at));
+    }
+    next
+}
+
+/// The run of two that begins earlier, the first where both begin at the same sector.
+fn earlier(one: Option<Run>, other: Option<Run>) -> Option<Run>
+    ensures either { (result ≡ one) ⊎ (result ≡ other) }
+    ensures one { IsNotLater result one }
+    ensures other { IsNotLater result other }
+{
+    match (one, other) {
+        (Some(a), Some(b)) if b.first < a.first => other,
+        (None, _) => other,
+        _ => one,
+    }
+}
+
+/// The first image sectors from `at` on that are tested rows of a set, at most a block. None where its tally is not
+/// open, or no rows are left.
+fn own_run(plan: &Plan, geo: &Geometry, tally: Option<u64>, at: u64) -> Option<Run>
+    requires set { IsScanned plan.now geo.now }
+    ensures { IsOwnRun plan.now geo.now tally at result }
+{
+    let first = at.max(geo.head.offset);
+    let stop = geo.head.offset + rows_of(plan, geo);
+    if !is_open(geo, tally) || stop <= first {
+        return None;
+    }
+    let count = (stop - first).min(BLOCK as u64);
+    Some(Run { first, count })
+}

@@ -1,8 +1,9 @@
 -- A walk over the heads of a plan, and over the slot lists of each that are admitted.
-use Rattle.std.specs.Prelude.{ℕ, Result, Ok, Err, ◌≡◌, ◌+◌, ◌-◌, ◌<◌, ◌≤◌, ◌^◌, Bool, true, IfSome, IsSomeAnd, List, ◌++◌, length, map, slice_get, All}
+use Rattle.std.specs.Prelude.{ℕ, Result, Ok, Err, ◌≡◌, ◌+◌, ◌-◌, ◌<◌, ◌≤◌, ◌^◌, Bool, true, IfSome, IsSomeAnd, List, ◌++◌, length, map, slice_get, All, Contains}
 use Rattle.std.specs.declared.option.Option.{Option}
 use Rattle.std.specs.declared.option.Option.TheVariants.{None, Some}
 use Rattle.raid_params.specs.Validity.{is_valid_head}
+use Rattle.raid_params.specs.declared.types.Bounds.{Bounds}
 use Rattle.raid_params.specs.declared.types.Head.{Head}
 use Rattle.raid_terms.specs.Page.{passing, stop_of, IsPage}
 use Rattle.search_plan.specs.Sets.{passes_at, sets_of, total_of}
@@ -18,10 +19,17 @@ use Rattle.page_engine.specs.declared.page_parts.Line.{Line}
 use Rattle.page_engine.specs.declared.row_tables.KeptTable.{KeptTable}
 use Rattle.page_engine.specs.declared.page_parts.PageFault.{PageFault}
 
+-- the values of a head on which its tables depend are among those of a search
+pub record IsAmong (bounds : Bounds) (head : Head) : Type 0 where
+  pub level : Contains bounds.levels.items head.level
+  pub chunk : Contains bounds.chunks.items head.chunk
+  pub offset : Contains bounds.offsets.items head.offset
+
 -- a head of the plan, whose sets stand at the ranks from its first on
 pub record IsHeadOf (plan : Plan) (sets : HeadSets) : Type 0 where
   pub head : is_valid_head sets.head ≡ true
   pub offset : sets.head.offset < 2 ^ 55
+  pub among : IsAmong plan.bounds sets.head
   pub images : sets.space.images ≡ length plan.lengths.items
   pub members : sets.space.members ≡ sets.head.members
   pub count : sets.count ≡ length (lists_of sets.space)
@@ -42,6 +50,7 @@ pub record IsAsked (plan : Plan) (head : Head) (space : Space) : Type 0 where
   pub valid : is_valid_head head ≡ true
   pub images : space.images ≡ length plan.lengths.items
   pub members : space.members ≡ head.members
+  pub level : Contains plan.bounds.levels.items head.level
 
 -- a table of rows that is kept, over the bytes of the images where they are told
 abbrev pub IsKept : Option (List (List ℕ)) → Plan → KeptTable → Type 0

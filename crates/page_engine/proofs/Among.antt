@@ -1,11 +1,10 @@
 -- The values of each head are among those of its plan.
-use Rattle.std.proofs.Common.{◌≡◌, ℕ, ◌<◌, true, List, [], ◌∷◌, length, get_or, refl}
+use Rattle.std.proofs.Common.{◌≡◌, true, List, [], ◌∷◌, get_or}
 use Rattle.std.proofs.lemmas.List.{get_or_default}
 use Rattle.std.proofs.lemmas.List.Elements.{recursion_from_All}
 use Rattle.std.specs.List.{AllByRecursion, Contains}
 use Rattle.raid_params.specs.Validity.{is_valid_head}
 use Rattle.raid_params.specs.declared.types.Bounds.{Bounds}
-use Rattle.raid_params.specs.declared.types.Head.{Head}
 use Rattle.raid_terms.specs.Product.{heads}
 use Rattle.slot_math.proofs.Listed.{each_flat, each_kept, each_map, each_more}
 use Rattle.page_engine.specs.Walk.{IsAmong}

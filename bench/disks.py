@@ -76,4 +76,5 @@ def main():
             file.write(disk)
 
 
-main()
+if __name__ == "__main__":
+    main()

@@ -1,6 +1,6 @@
 -- Of sets that pass, each prefix of the slots is admitted.
 use Rattle.std.proofs.Common.{rules, ℕ, zero, suc, ◌≡◌, ◌<◌, ◌≤◌, ◌+◌, Bool, true, false, ◌&&◌, ◌||◌, not, ◌==◌, nat_le, IsTrue, cond, List, [], ◌∷◌, length, take, filter, refl, sym, ap, ap₂, ◌∙◌, arith, Option, Some, None, IfSome, slice_get, inl, inr, subst}
-use Rattle.std.specs.List.{list_all, range_with_len, AllByRecursion}
+use Rattle.std.specs.List.{Contains, list_all, range_with_len, AllByRecursion}
 use Rattle.std.specs.Option.{option_map_or}
 use Rattle.std.proofs.lemmas.Bool.{and_parts, cases_Bool, eqb-true}
 use Rattle.raid_params.specs.Size.{rows}
@@ -55,20 +55,20 @@ set_prefix plan rank k head slots is_plan stands =
     record { short = (let few = take_short k slots in omega arith); images = take_images (length plan.lengths.items) k slots set.images }
 
 -- what the tables say of the rows is so
-rows_by : (bytes : List (List ℕ)) (plan : Plan) (head : Head) (xors : Option RowTable) (prefix : List (Option ℕ)) (needs : Bool) → IsTrue (is_valid_head head) → IsPlan plan → IsPrefix plan head prefix → AreXors bytes plan head xors →
+rows_by : (bytes : List (List ℕ)) (plan : Plan) (head : Head) (xors : Option RowTable) (prefix : List (Option ℕ)) (needs : Bool) → IsTrue (is_valid_head head) → IsPlan plan → IsPrefix plan head prefix → Contains plan.bounds.levels.items head.level → AreXors bytes plan head xors →
     needs_table plan head ≡ needs → rows_may_hold bytes plan head prefix ≡ true → rows_hold_by xors plan head prefix ≡ true
-rows_by bytes plan head xors prefix false valid is_plan is are e may = ap (λ (b : Bool). not b || option_map_or (λ (table : RowTable). nat_le (broken_in table head.level head prefix) plan.limits.badrows) xors false) e
-rows_by bytes plan head None prefix true valid is_plan is are e may = absurd (are e)
-rows_by bytes plan head (Some table) prefix true valid is_plan is are e may =
+rows_by bytes plan head xors prefix false valid is_plan is there are e may = ap (λ (b : Bool). not b || option_map_or (λ (table : RowTable). nat_le (broken_in table head.level head prefix) plan.limits.badrows) xors false) e
+rows_by bytes plan head None prefix true valid is_plan is there are e may = absurd (are e)
+rows_by bytes plan head (Some table) prefix true valid is_plan is there are e may =
     ap (λ (b : Bool). not b || nat_le (broken_in table head.level head prefix) plan.limits.badrows) e
-    ∙ rows_known bytes plan head prefix table valid is_plan is e (are e)
+    ∙ rows_known bytes plan head prefix table valid is_plan is e there (are e)
     ∙ may
 
 -- each prefix of a set that passes is hopeful by the tables
-pub tables_admit : (told : Option (List (List ℕ))) (plan : Plan) (head : Head) (xors : Option RowTable) → IsPlan plan → is_valid_head head ≡ true → IfSome told (λ bytes. AreXors bytes plan head xors) →
+pub tables_admit : (told : Option (List (List ℕ))) (plan : Plan) (head : Head) (xors : Option RowTable) → IsPlan plan → is_valid_head head ≡ true → Contains plan.bounds.levels.items head.level → IfSome told (λ bytes. AreXors bytes plan head xors) →
     LeavesOutNone told plan head (is_hopeful_by xors plan head)
-tables_admit None plan head xors is_plan valid are = tt
-tables_admit (Some bytes) plan head xors is_plan valid are = λ rank slots stands passing.
+tables_admit None plan head xors is_plan valid there are = tt
+tables_admit (Some bytes) plan head xors is_plan valid there are = λ rank slots stands passing.
     each_prefix (is_hopeful_by xors plan head) slots (λ k. one rank slots k stands (sym (passes_as bytes plan rank (record { head = head; slots = record { items = slots } }) stands) ∙ passing))
   where
     one : (rank : ℕ) (slots : List (Option ℕ)) (k : ℕ) → slice_get (sets_of plan) rank ≡ Some (record { head = head; slots = record { items = slots } }) →
@@ -78,7 +78,7 @@ tables_admit (Some bytes) plan head xors is_plan valid are = λ rank slots stand
         let first = and_parts (nat_le 1 (rows head plan.end)) (groups_may_hold plan head (take k slots) && rows_may_hold bytes plan head (take k slots)) all in
         let rest = and_parts (groups_may_hold plan head (take k slots)) (rows_may_hold bytes plan head (take k slots)) first.1 in
         ap₂ (λ (a b : Bool). a && b) first.0
-        (ap₂ (λ (a b : Bool). a && b) rest.0 (rows_by bytes plan head xors (take k slots) (needs_table plan head) valid is_plan (set_prefix plan rank k head slots is_plan stands) are refl rest.1))
+        (ap₂ (λ (a b : Bool). a && b) rest.0 (rows_by bytes plan head xors (take k slots) (needs_table plan head) valid is_plan (set_prefix plan rank k head slots is_plan stands) there are refl rest.1))
 
 -- what begins a list is no longer, and has its images
 shorter : (n : ℕ) (p l : List (Option ℕ)) → begins p l ≡ true → AllImages n l → (length p ≤ length l) × AllImages n p

@@ -1,34 +1,25 @@
 -- Heads walked one after another.
-use Rattle.std.proofs.Common.{◌≡◌, ◌≢◌, ℕ, ◌+◌, ◌-◌, ◌*◌, ◌<◌, ◌≤◌, ◌⊎◌, min, Bool, true, false, cond, nat_le, List, [], ◌∷◌, length, map, refl, sym, ap, ◌∙◌, arith, Option, Some, None, slice_get, get_or, subst, inl, inr, IfSome, Result, Ok, Err, IsErr, IfOk, All, MatchOption}
+use Rattle.std.proofs.Common.{◌≡◌, ◌≢◌, ℕ, ◌+◌, ◌-◌, ◌<◌, ◌≤◌, ◌⊎◌, min, false, List, [], ◌∷◌, length, map, refl, sym, ap, ◌∙◌, arith, Option, Some, None, slice_get, get_or, subst, inl, inr, IfSome, Result, Ok, Err, IsErr, All, MatchOption}
 use Rattle.std.proofs.lemmas.Option.{slice_get-get_or}
 use Rattle.std.proofs.lemmas.Bool.{and_parts, cases_lt, leb-true, ne_eqb}
 use Rattle.std.proofs.lemmas.List.{length-map}
 use Rattle.std.proofs.lemmas.List.Elements.{All-nil}
 use Rattle.image_source.specs.Attached.{told_all}
-use Rattle.image_source.specs.Seen.{Image, OnlyReads, Seen}
-use Rattle.std.specs.Option.{option_map_or}
-use Rattle.raid_params.specs.Size.{redundancy, rows}
-use Rattle.raid_params.specs.Slots.{empties}
-use Rattle.raid_params.specs.declared.types.Geometry.{Geometry}
-use Rattle.raid_terms.specs.Parity.{tested_rows}
-use Rattle.prune_filters.proofs.Broken.{full_set}
-use Rattle.prune_filters.proofs.Sets.{IsSetOf, set_at}
-use Rattle.prune_filters.specs.Rows.{holds_every, needs_table}
-use Rattle.prune_filters.specs.Xors.{tested_with}
+use Rattle.image_source.specs.Seen.{Image, Seen}
+use Rattle.raid_params.specs.Size.{rows}
 use Rattle.raid_terms.specs.Page.{passing, stop_of, IsPage}
 use Rattle.row_scan.specs.Scan.{read_rows}
 use Rattle.search_plan.specs.Sets.{passes_at, sets_of, total_of}
 use Rattle.search_plan.specs.declared.plan.Plan.{Plan}
 use Rattle.set_product.specs.declared.heads.HeadSets.{HeadSets}
 use Rattle.slot_math.specs.Space.{lists_of}
-use Rattle.page_engine.specs.Pages.{page_reads, set_reads, HoldsSet}
-use Rattle.page_engine.specs.Walk.{AddsAll, added_to, AddsRange, filled_to, FillsPage, IsFilled, IsHeadOf, IsPart}
+use Rattle.page_engine.specs.Pages.{rank_reads, HoldsSet}
+use Rattle.page_engine.specs.Walk.{AddsAll, added_to, AddsRange, filled_to, FillsPage, IsFilled, IsHeadOf, IsPart, Spends}
 use Rattle.page_engine.specs.declared.page_parts.Line.{Line}
 use Rattle.page_engine.specs.declared.page_parts.PageFault.{PageFault}
 use Rattle.page_engine.proofs.Ahead.{at_end, at_head, Ahead}
 use Rattle.page_engine.proofs.RankByRank.{full, passes_more, short}
 use Rattle.page_engine.proofs.Ranges.{adds_join, adds_none, adds_past, NonePass}
-use Rattle.page_engine.proofs.Readings.{reads_nothing, reads_on}
 use Rattle.page_engine.proofs.SetTests.{no_row}
 
 -- no set of a head without a whole row passes
@@ -57,7 +48,7 @@ pub record Reaches (told : Option (List (List ℕ))) (plan : Plan) (from stop si
   pub more : (at ≡ stop) ⊎ Ahead plan at ahead
   pub adds : AddsRange told plan from at old lines
   pub few : length lines < size
-  pub reads : OnlyReads start now (page_reads plan from at)
+  pub same : now.attached ≡ start.attached
 
 pub reaches_first : (told : Option (List (List ℕ))) (plan : Plan) (from stop size : ℕ) (seen : Seen) (lines : List Line) (ahead : List HeadSets) → from ≤ stop → length lines < size → Ahead plan from ahead →
     Reaches told plan from stop size from seen seen lines lines ahead
@@ -67,16 +58,15 @@ reaches_first told plan from stop size seen lines ahead range few more = record 
   more = inr more;
   adds = adds_none told plan from lines;
   few = few;
-  reads = reads_nothing seen (page_reads plan from from);
+  same = refl;
 }
 
 -- at the end of the range
 pub reaches_stop : (told : Option (List (List ℕ))) (plan : Plan) (from stop size at : ℕ) (start now : Seen) (old lines : List Line) (ahead : List HeadSets) → Reaches told plan from stop size at start now old lines ahead → at ≡ stop →
-    AddsAll told plan from stop size old lines × OnlyReads start now (page_reads plan from stop)
+    AddsAll told plan from stop size old lines
 reaches_stop told plan from stop size at start now old lines ahead far is =
     let P : ℕ → Type 0 = λ n. AddsRange told plan from n old lines in
-    let Q : ℕ → Type 0 = λ n. OnlyReads start now (page_reads plan from n) in
-    (record { adds = subst P is far.adds; few = far.few }, subst Q is far.reads)
+    record { adds = subst P is far.adds; few = far.few }
 
 pub reaches_end : (told : Option (List (List ℕ))) (plan : Plan) (from stop size at : ℕ) (start now : Seen) (old lines : List Line) (ahead : List HeadSets) → stop ≤ total_of plan → Reaches told plan from stop size at start now old lines ahead → ahead ≡ [] → at ≡ stop
 reaches_end told plan from stop size at start now old lines ahead within far none = either far.more
@@ -110,9 +100,9 @@ next_head told plan from stop size at start now old lines ahead later sets far e
 
 -- a head walked to the end of its range
 pub reaches_on : (told : Option (List (List ℕ))) (plan : Plan) (from stop size at end : ℕ) (start mid now : Seen) (old lines new : List Line) (ahead later : List HeadSets) (sets : HeadSets) →
-    Reaches told plan from stop size at start mid old lines ahead → IsNextHead plan at stop sets later → end ≡ min stop (sets.first + sets.count) → AddsAll told plan at end size lines new → OnlyReads mid now (page_reads plan at end) →
+    Reaches told plan from stop size at start mid old lines ahead → IsNextHead plan at stop sets later → end ≡ min stop (sets.first + sets.count) → AddsAll told plan at end size lines new → now.attached ≡ mid.attached →
     Reaches told plan from stop size end start now old new later
-reaches_on told plan from stop size at end start mid now old lines new ahead later sets far next is adds reads =
+reaches_on told plan from stop size at end start mid now old lines new ahead later sets far next is adds attached =
     let low : from ≤ at = far.low in
     let high : at ≤ stop = far.high in
     let ordered : at ≤ min stop (sets.first + sets.count) = next.part.ordered in
@@ -122,7 +112,7 @@ reaches_on told plan from stop size at end start mid now old lines new ahead lat
       more = either (cases_lt stop (sets.first + sets.count));
       adds = adds_join told plan from at end old lines new far.adds adds.adds low (omega arith);
       few = adds.few;
-      reads = reads_on start mid now plan from at end low (omega arith) far.reads reads;
+      same = attached ∙ far.same;
     }
   where
     either : (stop < sets.first + sets.count) ⊎ (sets.first + sets.count ≤ stop) → (end ≡ stop) ⊎ Ahead plan end later
@@ -220,15 +210,17 @@ added_all attached other plan from to size old new full same is added =
     let Q : Option ℕ → Type 0 = λ o. Added (told_all attached) plan from to size old new o in
     subst Q is (subst P same added)
 
--- the readings for a head, up to the last rank that was tested
-pub reads_full : (old new : Seen) (plan : Plan) (from to next : ℕ) (full : Option ℕ) → full ≡ Some next → OnlyReads old new (page_reads plan from (added_to to (let r : Result (Option ℕ) PageFault = Ok full in r))) → OnlyReads old new (page_reads plan from next)
-reads_full old new plan from to next full is reads =
-    let P : Option ℕ → Type 0 = λ o. OnlyReads old new (page_reads plan from (added_to to (let r : Result (Option ℕ) PageFault = Ok o in r))) in
+-- what a head spends, up to the last rank that was tested
+pub reads_full : (b a : ℕ) (old new : Seen) (plan : Plan) (from to next : ℕ) (full : Option ℕ) → full ≡ Some next → Spends b a old new (rank_reads plan from (added_to to (let r : Result (Option ℕ) PageFault = Ok full in r))) →
+    Spends b a old new (rank_reads plan from next)
+reads_full b a old new plan from to next full is reads =
+    let P : Option ℕ → Type 0 = λ o. Spends b a old new (rank_reads plan from (added_to to (let r : Result (Option ℕ) PageFault = Ok o in r))) in
     subst P is reads
 
-pub reads_all : (old new : Seen) (plan : Plan) (from to : ℕ) (full : Option ℕ) → full ≡ None → OnlyReads old new (page_reads plan from (added_to to (let r : Result (Option ℕ) PageFault = Ok full in r))) → OnlyReads old new (page_reads plan from to)
-reads_all old new plan from to full is reads =
-    let P : Option ℕ → Type 0 = λ o. OnlyReads old new (page_reads plan from (added_to to (let r : Result (Option ℕ) PageFault = Ok o in r))) in
+pub reads_all : (b a : ℕ) (old new : Seen) (plan : Plan) (from to : ℕ) (full : Option ℕ) → full ≡ None → Spends b a old new (rank_reads plan from (added_to to (let r : Result (Option ℕ) PageFault = Ok full in r))) →
+    Spends b a old new (rank_reads plan from to)
+reads_all b a old new plan from to full is reads =
+    let P : Option ℕ → Type 0 = λ o. Spends b a old new (rank_reads plan from (added_to to (let r : Result (Option ℕ) PageFault = Ok o in r))) in
     subst P is reads
 
 -- no rank
@@ -236,39 +228,6 @@ pub adds_nothing : (told : Option (List (List ℕ))) (plan : Plan) (from stop si
 adds_nothing told plan from stop size lines few same =
     let P : ℕ → Type 0 = λ n. AddsRange told plan from n lines lines in
     record { adds = subst P same (adds_none told plan from lines); few = few }
-
--- a set of a head that needs a table has no empty slot and some parity, so its tested rows are read
-rows_read : (plan : Plan) (geo : Geometry) → IsSetOf plan geo → needs_table plan geo.head ≡ true → tested_rows geo plan.end plan.limits.window ≡ read_rows geo plan.end plan.limits.window
-rows_read plan geo set needs =
-    let parts = and_parts (holds_every plan geo.head) (nat_le 1 (redundancy geo.head.level)) needs in
-    let none : empties geo.slots.items ≡ 0 = (full_set plan geo set parts.0).filled in
-    let some : 1 ≤ redundancy geo.head.level = leb-true 1 (redundancy geo.head.level) parts.1 in
-    sym (ap (λ (b : Bool). cond b 0 (tested_rows geo plan.end plan.limits.window)) (ne_eqb (empties geo.slots.items) (redundancy geo.head.level) (λ e. absurd (omega arith))))
-
--- the tested rows of a head that needs a table are those that are read for its sets
-pub head_reads : (plan : Plan) (sets : HeadSets) (from stop : ℕ) → IsHeadOf plan sets → IsPart sets from stop → from < stop → needs_table plan sets.head ≡ true →
-    length plan.lengths.items * tested_with plan sets.head.chunk sets.head.offset ≡ set_reads plan from
-unfolding set_reads
-head_reads plan sets from stop is_head part some needs =
-    let first : sets.first ≤ from = part.begins in
-    let ends : stop ≤ sets.first + sets.count = part.ends in
-    one (from - sets.first) (omega arith) (omega arith)
-  where
-    one : (k : ℕ) → sets.first + k ≡ from → k < sets.count →
-        length plan.lengths.items * tested_with plan sets.head.chunk sets.head.offset
-        ≡ length plan.lengths.items * option_map_or (λ geo. read_rows geo plan.end plan.limits.window) (slice_get (sets_of plan) from) 0
-    one k at below =
-        let count : sets.count ≡ length (lists_of sets.space) = is_head.count in
-        let found = ap (slice_get (sets_of plan)) (sym at) ∙ is_head.stand k (get_or (lists_of sets.space) k []) (slice_get-get_or (lists_of sets.space) k [] (omega arith)) in
-        let geo : Geometry = record { head = sets.head; slots = record { items = get_or (lists_of sets.space) k [] } } in
-        ap (λ (n : ℕ). length plan.lengths.items * n) (rows_read plan geo (set_at plan from geo found) needs)
-        ∙ ap (λ (o : Option Geometry). length plan.lengths.items * option_map_or (λ geo. read_rows geo plan.end plan.limits.window) o 0) (sym found)
-
--- where tests end lies past where they began
-pub past_from : (told : Option (List (List ℕ))) (plan : Plan) (from stop size : ℕ) (old new : List Line) (r : Result (Option ℕ) PageFault) → from < stop → IfOk r (Added told plan from stop size old new) → from < added_to stop r
-past_from told plan from stop size old new (Ok None) some added = some
-past_from told plan from stop size old new (Ok (Some next)) some added = added.forward
-past_from told plan from stop size old new (Err fault) some added = some
 
 pub before : (from stop : ℕ) → from ≤ stop → from ≢ stop → from < stop
 before from stop low other = elim (cases_lt from stop) [

@@ -10,3 +10,4 @@ pub mod Ahead
 pub mod HeadByHead
 pub mod Admitted
 pub mod Kept
+mod Among

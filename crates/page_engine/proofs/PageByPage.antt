@@ -2,16 +2,16 @@
 use Rattle.std.proofs.Common.{ℕ, zero, suc, ◌≡◌, ◌≢◌, ◌<◌, ◌≤◌, ◌+◌, ◌*◌, ◌^◌, ◌⊎◌, inl, inr, List, [], ◌∷◌, ◌++◌, length, refl, sym, ap, ◌∙◌, subst, arith, Option, Result, Ok, Err, IsErr, IsErrOf, add-one}
 use Rattle.std.proofs.Math.Nat.{suc-mul, mul-le-mul_right}
 use Rattle.std.proofs.lemmas.Bool.{cases_lt}
-use Rattle.image_source.proofs.Reading.{reads_join, reads_up}
-use Rattle.image_source.specs.Seen.{OnlyReads, Seen}
+use Rattle.image_source.specs.Seen.{Seen}
 use Rattle.raid_terms.specs.Page.{stop_of}
 use Rattle.search_plan.specs.Sets.{total_of}
 use Rattle.search_plan.specs.declared.plan.Plan.{Plan}
-use Rattle.page_engine.specs.Pages.{all_tested_to, ArePagesFrom, EndsPage, IsPageFrom, last_next, page_reads}
+use Rattle.page_engine.specs.Pages.{all_tested_to, ArePagesFrom, EndsPage, IsPageFrom, last_next, rank_reads}
+use Rattle.page_engine.specs.Walk.{Spends}
 use Rattle.page_engine.specs.declared.page_parts.ListPage.{ListPage}
 use Rattle.page_engine.specs.declared.page_parts.PageFault.{PageFault}
 use Rattle.page_engine.specs.declared.page_parts.PageFault.TheVariants.{Many, Cursor, ReadFault, Memory}
-use Rattle.page_engine.proofs.Readings.{reads_later, reads_on, reads_past}
+use Rattle.page_engine.proofs.Readings.{ranks_past, spends_join, spends_later, spends_on, spends_up}
 
 -- pages from one rank to another, each where the last one goes on, of which none goes on at the total
 unfoldable pub Going : Option (List (List ℕ)) → Plan → ℕ → ℕ → ℕ → ℕ → List ListPage → Type 0
@@ -80,28 +80,29 @@ within_spans at from made count span next total near few within =
     let one : (made + 1) * span ≡ made * span + span = ap (λ (n : ℕ). n * span) (add-one made) ∙ suc-mul made span in
     omega arith
 
--- the readings of the pages made, and of one more that was made
-pub reads_made : (old mid new : Seen) (plan : Plan) (from at made count span next : ℕ) → from ≤ at → at ≤ from + made * span → made < count → at ≤ next → next ≤ stop_of (total_of plan) at span →
-    OnlyReads old mid (page_reads plan from at) → OnlyReads mid new (page_reads plan at next) → OnlyReads old new (page_reads plan from (stop_of (total_of plan) from (count * span)))
-reads_made old mid new plan from at made count span next low near few forward within first second =
-    reads_later old new plan from next (stop_of (total_of plan) from (count * span)) (omega arith) (within_spans at from made count span next (total_of plan) near few within)
-    (reads_on old mid new plan from at next low forward first second)
+-- what the pages made spend, with one more that was made
+pub reads_made : (b c a : ℕ) (old mid new : Seen) (plan : Plan) (from at made count span next : ℕ) → from ≤ at → at ≤ from + made * span → made < count → at ≤ next → next ≤ stop_of (total_of plan) at span →
+    Spends b c old mid (rank_reads plan from at) → Spends c a mid new (rank_reads plan at next) → Spends b a old new (rank_reads plan from (stop_of (total_of plan) from (count * span)))
+reads_made b c a old mid new plan from at made count span next low near few forward within first second =
+    spends_later b a old new plan from next (stop_of (total_of plan) from (count * span)) (omega arith) (within_spans at from made count span next (total_of plan) near few within)
+    (spends_on b c a old mid new plan from at next low forward first second)
 
--- and of one that was not
-pub reads_ended : (old mid new : Seen) (plan : Plan) (from at made count span : ℕ) → from ≤ at → at ≤ from + made * span → made < count → Begun plan from made at old mid →
-    OnlyReads old mid (page_reads plan from at) → OnlyReads mid new (page_reads plan at (stop_of (total_of plan) at span)) → OnlyReads old new (page_reads plan from (stop_of (total_of plan) from (count * span)))
-reads_ended old mid new plan from at made count span low near few begun first second =
+-- and with one that was not
+pub reads_ended : (b c a : ℕ) (old mid new : Seen) (plan : Plan) (from at made count span : ℕ) → from ≤ at → at ≤ from + made * span → made < count → Begun plan from made at old mid →
+    Spends b c old mid (rank_reads plan from at) → Spends c a mid new (rank_reads plan at (stop_of (total_of plan) at span)) → Spends b a old new (rank_reads plan from (stop_of (total_of plan) from (count * span)))
+reads_ended b c a old mid new plan from at made count span low near few begun first second =
     elim (cases_lt (total_of plan) at) [
       | inl past ↦ at_first begun past
-      | inr up_to ↦ reads_made old mid new plan from at made count span (stop_of (total_of plan) at span) low near few (omega arith) (omega arith) first second
+      | inr up_to ↦ reads_made b c a old mid new plan from at made count span (stop_of (total_of plan) at span) low near few (omega arith) (omega arith) first second
     ]
   where
-    at_first : Begun plan from made at old mid → total_of plan < at → OnlyReads old new (page_reads plan from (stop_of (total_of plan) from (count * span)))
+    at_first : Begun plan from made at old mid → total_of plan < at → Spends b a old new (rank_reads plan from (stop_of (total_of plan) from (count * span)))
     at_first (inl begun) past =
         let at_from : at ≡ from = begun.1 in
-        let none = reads_past plan from at (omega arith) in
-        let no_more = reads_past plan at (stop_of (total_of plan) at span) (omega arith) in
-        reads_up old new (reads_join old mid new first second) (omega arith)
+        let none = ranks_past plan from at (omega arith) in
+        let no_more = ranks_past plan at (stop_of (total_of plan) at span) (omega arith) in
+        spends_up b a (rank_reads plan from at + rank_reads plan at (stop_of (total_of plan) at span)) (rank_reads plan from (stop_of (total_of plan) from (count * span))) old new
+        (spends_join b c a (rank_reads plan from at) (rank_reads plan at (stop_of (total_of plan) at span)) old mid new first second) (omega arith)
     at_first (inr begun) past = absurd (let within = begun.1 in omega arith)
 
 -- without pages the range of all was looked for

@@ -1,11 +1,12 @@
 -- The readings for the ranks of a range.
-use Rattle.std.proofs.Common.{ℕ, zero, suc, ◌≡◌, ◌+◌, ◌-◌, ◌≤◌, ◌<◌, ap, ◌∙◌, arith}
+use Rattle.std.proofs.Common.{ℕ, zero, suc, ◌≡◌, ◌+◌, ◌-◌, ◌≤◌, ap, ◌∙◌, arith}
 use Rattle.std.specs.List.{range_with_len, sum_by}
 use Rattle.std.proofs.lemmas.List.Sums.{sum_by-cons}
 use Rattle.image_source.proofs.Reading.{reads_join, reads_none, reads_up}
 use Rattle.image_source.specs.Seen.{OnlyReads, Seen}
 use Rattle.search_plan.specs.declared.plan.Plan.{Plan}
-use Rattle.page_engine.specs.Pages.{page_reads, rank_reads, set_reads}
+use Rattle.page_engine.specs.Pages.{page_reads, rank_reads, set_reads, table_reads}
+use Rattle.page_engine.specs.Walk.{Spends}
 
 -- one number more
 sum_more : (f : ℕ → ℕ) (a n : ℕ) → sum_by f (range_with_len a (n + 1)) ≡ sum_by f (range_with_len a n) + f (a + n)
@@ -82,39 +83,44 @@ ranks_past plan from to past = ap (λ (n : ℕ). sum_by (set_reads plan) (range_
 pub ranks_on : (old mid new : Seen) (plan : Plan) (from at to : ℕ) → from ≤ at → at ≤ to → OnlyReads old mid (rank_reads plan from at) → OnlyReads mid new (rank_reads plan at to) → OnlyReads old new (rank_reads plan from to)
 ranks_on old mid new plan from at to low high first second = let parts = ranks_of_parts plan from at to low high in reads_up old new (reads_join old mid new first second) (omega arith)
 
--- the same of pages
-page_parts : (plan : Plan) (from mid to : ℕ) → from ≤ mid → mid ≤ to → page_reads plan from to ≡ page_reads plan from mid + page_reads plan mid to
-unfolding page_reads
-page_parts plan from mid to low high = let parts = ranks_of_parts plan from mid to low high in omega arith
+-- what is read for tables besides
+pub spends_none : (b n : ℕ) (s : Seen) → Spends b b s s n
+spends_none b n s = record { fewer = omega arith; reads = reads_up s s (reads_none s) (omega arith) }
 
-pub reads_past : (plan : Plan) (from to : ℕ) → to ≤ from → page_reads plan from to ≡ 0
-unfolding page_reads
-reads_past plan from to past = let none = ranks_past plan from to past in omega arith
+pub spends_up : (b a m n : ℕ) (old new : Seen) → Spends b a old new m → m ≤ n → Spends b a old new n
+spends_up b a m n old new spends le = record { fewer = spends.fewer; reads = reads_up old new spends.reads (omega arith) }
 
-pub reads_on : (old mid new : Seen) (plan : Plan) (from at to : ℕ) → from ≤ at → at ≤ to → OnlyReads old mid (page_reads plan from at) → OnlyReads mid new (page_reads plan at to) → OnlyReads old new (page_reads plan from to)
-reads_on old mid new plan from at to low high first second = let parts = page_parts plan from at to low high in reads_up old new (reads_join old mid new first second) (omega arith)
+pub spends_join : (b c a m n : ℕ) (old mid new : Seen) → Spends b c old mid m → Spends c a mid new n → Spends b a old new (m + n)
+spends_join b c a m n old mid new first second =
+    let high = first.fewer in
+    let low = second.fewer in
+    record { fewer = omega arith; reads = reads_up old new (reads_join old mid new first.reads second.reads) (omega arith) }
+
+-- only ranks
+pub spends_ranks : (b n : ℕ) (old new : Seen) → OnlyReads old new n → Spends b b old new n
+spends_ranks b n old new reads = record { fewer = omega arith; reads = reads_up old new reads (omega arith) }
+
+-- the rest may be spent where a call fails
+pub spends_all : (b a n : ℕ) (old new : Seen) → Spends b a old new n → Spends b 0 old new n
+spends_all b a n old new spends = record { fewer = omega arith; reads = reads_up old new spends.reads (omega arith) }
+
+pub spends_on : (b c a : ℕ) (old mid new : Seen) (plan : Plan) (from at to : ℕ) → from ≤ at → at ≤ to →
+    Spends b c old mid (rank_reads plan from at) → Spends c a mid new (rank_reads plan at to) → Spends b a old new (rank_reads plan from to)
+spends_on b c a old mid new plan from at to low high first second =
+    let parts = ranks_of_parts plan from at to low high in
+    spends_up b a (rank_reads plan from at + rank_reads plan at to) (rank_reads plan from to) old new
+    (spends_join b c a (rank_reads plan from at) (rank_reads plan at to) old mid new first second) (omega arith)
+
+pub spends_later : (b a : ℕ) (old new : Seen) (plan : Plan) (from to end : ℕ) → from ≤ to → to ≤ end → Spends b a old new (rank_reads plan from to) → Spends b a old new (rank_reads plan from end)
+spends_later b a old new plan from to end low le spends =
+    let parts = ranks_of_parts plan from to end low le in
+    spends_up b a (rank_reads plan from to) (rank_reads plan from end) old new spends (omega arith)
+
+-- where nothing is kept at first, that is within the readings of pages
+pub page_spends : (b a : ℕ) (old new : Seen) (plan : Plan) (from to : ℕ) → b ≤ table_reads plan → Spends b a old new (rank_reads plan from to) → OnlyReads old new (page_reads plan from to)
+unfolding page_reads
+page_spends b a old new plan from to most spends = reads_up old new spends.reads (omega arith)
 
 pub reads_later : (old new : Seen) (plan : Plan) (from a b : ℕ) → from ≤ a → a ≤ b → OnlyReads old new (page_reads plan from a) → OnlyReads old new (page_reads plan from b)
-reads_later old new plan from a b low le reads = let parts = page_parts plan from a b low le in reads_up old new reads (omega arith)
-
--- ranks read once
-pub reads_once : (old new : Seen) (plan : Plan) (from to : ℕ) → OnlyReads old new (rank_reads plan from to) → OnlyReads old new (page_reads plan from to)
 unfolding page_reads
-reads_once old new plan from to reads = reads_up old new reads (omega arith)
-
--- the readings for the first rank are among those for all
-first_reads : (plan : Plan) (from to : ℕ) → from < to → set_reads plan from ≤ rank_reads plan from to
-first_reads plan from to some =
-    let none = ranks_of_none plan from in
-    let one = ranks_of_more plan from from (omega arith) in
-    let parts = ranks_of_parts plan from (from + 1) to (omega arith) (omega arith) in
-    omega arith
-
--- as many sectors as for the first rank, and then each rank once
-pub reads_twice : (old mid new : Seen) (plan : Plan) (from to : ℕ) → from < to → OnlyReads old mid (set_reads plan from) → OnlyReads mid new (rank_reads plan from to) → OnlyReads old new (page_reads plan from to)
-unfolding page_reads
-reads_twice old mid new plan from to some first all = let few = first_reads plan from to some in reads_up old new (reads_join old mid new first all) (omega arith)
-
-pub reads_first : (old new : Seen) (plan : Plan) (from to : ℕ) → from < to → OnlyReads old new (set_reads plan from) → OnlyReads old new (page_reads plan from to)
-unfolding page_reads
-reads_first old new plan from to some first = let few = first_reads plan from to some in reads_up old new first (omega arith)
+reads_later old new plan from a b low le reads = let parts = ranks_of_parts plan from a b low le in reads_up old new reads (omega arith)

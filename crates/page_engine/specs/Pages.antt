@@ -1,5 +1,5 @@
 -- Pages of the parameter sets that pass, and what is read for them.
-use Rattle.std.specs.Prelude.{ℕ, zero, suc, ◌≡◌, ◌≤◌, ◌<◌, ◌^◌, ◌*◌, ◌-◌, ◌⊎◌, Result, Ok, Err, true, false, IfSome, List, [], ◌∷◌, ◌++◌, length, map, sum_by, slice_get, All}
+use Rattle.std.specs.Prelude.{ℕ, zero, suc, ◌≡◌, ◌+◌, ◌≤◌, ◌<◌, ◌^◌, ◌*◌, ◌-◌, ◌⊎◌, Result, Ok, Err, true, false, IfSome, List, [], ◌∷◌, ◌++◌, length, map, sum_by, slice_get, All}
 use Rattle.std.specs.List.{range_with_len}
 use Rattle.std.specs.Option.{option_map_or}
 use Rattle.std.specs.declared.option.Option.{Option}
@@ -11,6 +11,7 @@ use Rattle.member_regions.specs.declared.regions.TheConstants.{BLOCK}
 use Rattle.raid_params.specs.declared.limits.TheConstants.{MOST}
 use Rattle.raid_terms.specs.Page.{stop_of, IsPage}
 use Rattle.row_scan.specs.Scan.{read_rows}
+use Rattle.prune_filters.specs.Xors.{most_tested}
 use Rattle.search_plan.specs.Sets.{passes_at, sets_of, total_of}
 use Rattle.search_plan.specs.declared.plan.Plan.{Plan}
 use Rattle.page_engine.specs.declared.page_parts.Line.{Line}
@@ -72,9 +73,17 @@ set_reads plan rank = length plan.lengths.items * option_map_or (λ geo. read_ro
 unfoldable pub rank_reads : Plan → ℕ → ℕ → ℕ
 rank_reads plan from to = sum_by (set_reads plan) (range_with_len from (to - from))
 
--- and for a page of them: twice as many, since the tested rows of a head may be read once before its first set is tested
+-- for the tables of an offset: the tested rows of the chunk that has most, of each image
+abbrev pub offset_reads : Plan → ℕ → ℕ
+offset_reads plan offset = length plan.lengths.items * most_tested plan plan.bounds.chunks.items offset
+
+-- for those of all offsets
+unfoldable pub table_reads : Plan → ℕ
+table_reads plan = sum_by (offset_reads plan) plan.bounds.offsets.items
+
+-- and for pages: that once, and for the sets of their ranks
 unfoldable pub page_reads : Plan → ℕ → ℕ → ℕ
-page_reads plan from to = 2 * rank_reads plan from to
+page_reads plan from to = table_reads plan + rank_reads plan from to
 
 -- the rank up to which sets are tested: where the next page begins, or, where there is no page, the end of the range
 abbrev pub tested_to : ℕ → Result ListPage PageFault → ℕ

@@ -1,8 +1,10 @@
 -- A walk over the heads of a plan, and over the slot lists of each that are admitted.
-use Rattle.std.specs.Prelude.{ℕ, Result, Ok, Err, ◌≡◌, ◌+◌, ◌-◌, ◌<◌, ◌≤◌, ◌^◌, Bool, true, IfSome, IsSomeAnd, List, ◌++◌, length, map, slice_get, All}
+use Rattle.std.specs.Prelude.{ℕ, Result, Ok, Err, ◌≡◌, ◌+◌, ◌-◌, ◌<◌, ◌≤◌, ◌^◌, ◌==◌, Bool, true, if◌then◌else◌, IfSome, IsSomeAnd, List, ◌++◌, length, map, slice_get, sum_by, All, Contains}
+use Rattle.std.specs.List.{list_any}
 use Rattle.std.specs.declared.option.Option.{Option}
 use Rattle.std.specs.declared.option.Option.TheVariants.{None, Some}
 use Rattle.raid_params.specs.Validity.{is_valid_head}
+use Rattle.raid_params.specs.declared.types.Bounds.{Bounds}
 use Rattle.raid_params.specs.declared.types.Head.{Head}
 use Rattle.raid_terms.specs.Page.{passing, stop_of, IsPage}
 use Rattle.search_plan.specs.Sets.{passes_at, sets_of, total_of}
@@ -12,16 +14,24 @@ use Rattle.search_plan.specs.Plans.{IsPlan}
 use Rattle.slot_math.specs.declared.space.Space.{Space}
 use Rattle.slot_math.specs.Space.{lists_of}
 use Rattle.candidate_enum.specs.Survivors.{all_admitted}
-use Rattle.page_engine.specs.Pages.{HoldsSet}
-use Rattle.prune_filters.specs.Xors.{IsXorTable, RowTable}
+use Rattle.image_source.specs.Seen.{OnlyReads, Seen}
+use Rattle.page_engine.specs.Pages.{offset_reads, HoldsSet}
+use Rattle.prune_filters.specs.Xors.{AreXorTables, RowTable}
 use Rattle.page_engine.specs.declared.page_parts.Line.{Line}
-use Rattle.page_engine.specs.declared.row_tables.KeptTable.{KeptTable}
+use Rattle.page_engine.specs.declared.row_tables.OffsetTables.{OffsetTables}
 use Rattle.page_engine.specs.declared.page_parts.PageFault.{PageFault}
+
+-- the values of a head on which its tables depend are among those of a search
+pub record IsAmong (bounds : Bounds) (head : Head) : Type 0 where
+  pub level : Contains bounds.levels.items head.level
+  pub chunk : Contains bounds.chunks.items head.chunk
+  pub offset : Contains bounds.offsets.items head.offset
 
 -- a head of the plan, whose sets stand at the ranks from its first on
 pub record IsHeadOf (plan : Plan) (sets : HeadSets) : Type 0 where
   pub head : is_valid_head sets.head ≡ true
   pub offset : sets.head.offset < 2 ^ 55
+  pub among : IsAmong plan.bounds sets.head
   pub images : sets.space.images ≡ length plan.lengths.items
   pub members : sets.space.members ≡ sets.head.members
   pub count : sets.count ≡ length (lists_of sets.space)
@@ -42,14 +52,30 @@ pub record IsAsked (plan : Plan) (head : Head) (space : Space) : Type 0 where
   pub valid : is_valid_head head ≡ true
   pub images : space.images ≡ length plan.lengths.items
   pub members : space.members ≡ head.members
+  pub level : Contains plan.bounds.levels.items head.level
 
--- a table of rows that is kept, over the bytes of the images where they are told
-abbrev pub IsKept : Option (List (List ℕ)) → Plan → KeptTable → Type 0
-IsKept told plan kept = IfSome told (λ bytes. IsXorTable bytes plan kept.chunk kept.offset kept.table)
+-- tables of rows that are kept, a table for each chunk of the plan, over the bytes of the images where they are told
+pub record IsKept (told : Option (List (List ℕ))) (plan : Plan) (kept : OffsetTables) : Type 0 where
+  pub long : length kept.tables.items ≡ length plan.bounds.chunks.items
+  pub tables : IfSome told (λ bytes. AreXorTables bytes plan plan.bounds.chunks.items kept.offset kept.tables.items)
 
--- the table of a head stands at this place
-abbrev pub StandsFor : Head → ℕ → List KeptTable → Type 0
-StandsFor head place kept = IsSomeAnd (slice_get kept place) (λ one. (one.chunk ≡ head.chunk) × (one.offset ≡ head.offset))
+-- those of an offset stand at this place
+abbrev pub StandsFor : ℕ → ℕ → List OffsetTables → Type 0
+StandsFor offset place kept = IsSomeAnd (slice_get kept place) (λ one. one.offset ≡ offset)
+
+-- the most sectors that are read yet for tables: for those of the offsets that have none so far
+unfoldable pub left_reads : Plan → List OffsetTables → ℕ
+left_reads plan kept = sum_by (λ offset. if list_any (λ one. one.offset == offset) kept then 0 else offset_reads plan offset) plan.bounds.offsets.items
+
+-- the same after a call, and nothing where it failed
+abbrev pub left_after : {A : Type 0} → Plan → List OffsetTables → Result A PageFault → ℕ
+left_after plan kept (Ok a) = left_reads plan kept
+left_after plan kept (Err fault) = 0
+
+-- nothing but the counts changed, and no more was read than so many sectors and what is no longer left to read
+pub record Spends (before after : ℕ) (old new : Seen) (sectors : ℕ) : Type 0 where
+  pub fewer : after ≤ before
+  pub reads : OnlyReads old new (before - after + sectors)
 
 -- of a head's sets that pass, each prefix of the slots is admitted, over the bytes of the images where they are told
 abbrev pub LeavesOutNone : Option (List (List ℕ)) → Plan → Head → (List (Option ℕ) → Bool) → Type 0

@@ -6,8 +6,8 @@
 //! A page is walked head by head, and of each head place by place. A prefix of a slot list is passed over
 //! with all that begins so where some group of marks cannot hold any more, or where the images differ in
 //! more rows than may be unsound; so is a head without a whole row. No set that passes is left out: that
-//! is a law of `prune_filters`. A table of marks is held at a time, and the tables of rows, each of a chunk
-//! and an offset, are made where the first head needs them and kept for the page.
+//! is a law of `prune_filters`. A table of marks is held at a time, and the tables of rows, those of all chunks
+//! of an offset together, are made where the first head needs them and kept for all pages of a call.
 //!
 //! `plan_jobs` prints pages for `list`. The sets of a plan stand in `Sets` of `search_plan`, a page by
 //! its ranks in `Page` of `raid_terms`, pages with what is read for them in `specs/Pages`, and what the

@@ -1,13 +1,11 @@
-//! The tables of rows that a page has made.
-ghost use Rattle.std.specs.Prelude.{◌≡◌, ◌*◌, ◌<◌, ◌==◌, ◌&&◌, All, IfErr, IfOk, Some, length, position, slice_get};
+//! The tables of rows that a walk has made.
+ghost use Rattle.std.specs.Prelude.{◌≡◌, ◌<◌, ◌==◌, All, Contains, IfErr, IfOk, ℕ, Some, length, position, slice_get, slice_index, slice_index_or};
 ghost use Rattle.image_source.specs.Attached.{told_all};
-ghost use Rattle.image_source.specs.Seen.{OnlyReads};
-ghost use Rattle.raid_params.specs.Validity.{is_valid_head};
+ghost use Rattle.prune_filters.specs.Xors.{RowTable};
 ghost use Rattle.search_plan.specs.Plans.{IsPlan};
-ghost use Rattle.prune_filters.specs.Xors.{tested_with};
 ghost use Rattle.page_engine.specs.Pages.{AgreeWith, EndsTest};
-ghost use Rattle.page_engine.specs.Walk.{IsHeadOf, IsKept, StandsFor};
-ghost use Rattle.page_engine.specs.declared.row_tables.KeptTable.{KeptTable as KeptTableOf};
+ghost use Rattle.page_engine.specs.declared.row_tables.OffsetTables.{OffsetTables as OffsetTablesOf};
+ghost use Rattle.page_engine.specs.Walk.{IsHeadOf, IsKept, left_after, left_reads, Spends, StandsFor};
 
 use crate::page_parts::PageFault;
 use image_source::{Images, ListOf};
@@ -16,26 +14,36 @@ use search_plan::Plan;
 use set_product::HeadSets;
 use std::alloc::Global;
 
-/// The table of rows of a chunk and an offset.
+/// The tables of rows of an offset: one for each chunk of the plan, in their order.
 #[derive(Drop)]
-pub(crate) struct KeptTable {
-    pub chunk: u64,
+pub(crate) struct OffsetTables {
     pub offset: u64,
-    pub table: XorTable,
+    pub tables: Vec<XorTable>,
 }
 
 /// The tables made so far.
-pub(crate) type KeptTables = ListOf<KeptTable>;
+pub(crate) type KeptTables = ListOf<OffsetTables>;
 
-/// The place of the table of a chunk and an offset, if it was made.
-fn kept_place(kept: &[KeptTable], chunk: u64, offset: u64) -> Option<usize>
-    ensures { result ≡ position (λ one. one.chunk == chunk && one.offset == offset) kept.now }
+/// The place of the tables of an offset, if they were made.
+fn kept_place(kept: &[OffsetTables], offset: u64) -> Option<usize>
+    ensures { result ≡ position (λ one. one.offset == offset) kept.now }
 {
-    kept.iter()
-        .position(|one| one.chunk == chunk && one.offset == offset)
+    kept.iter().position(|one| one.offset == offset)
 }
 
-/// The place of the table of a head, which is made where it was not yet.
+/// The place of a chunk among some.
+fn chunk_place(chunks: &[u64], chunk: u64) -> usize
+    requires { Contains chunks.now chunk }
+    ensures within { result < length chunks.now }
+    ensures is { slice_index chunks.now result ≡ chunk }
+{
+    match chunks.iter().position(|one| *one == chunk) {
+        Some(place) => place,
+        None => unreachable!(),
+    }
+}
+
+/// The place of the tables of a head's offset, which are made where they were not yet.
 pub(crate) fn table_place<I: Images>(
     alloc: Global,
     images: &mut I,
@@ -47,35 +55,40 @@ pub(crate) fn table_place<I: Images>(
     requires lengths { AgreeWith plan.now (I.seen images.old).attached }
     requires head { IsHeadOf plan.now sets.now }
     requires kept { All (IsKept (told_all (I.seen images.old).attached) plan.now) kept.old }
-    ensures place { IfOk result (λ place. StandsFor sets.now.head place kept.new) }
+    ensures place { IfOk result (λ place. StandsFor sets.now.head.offset place kept.new) }
     ensures kept { All (IsKept (told_all (I.seen images.old).attached) plan.now) kept.new }
     ensures ends { IfErr result (EndsTest (I.seen images.old) (I.seen images.new)) }
-    ensures reads { OnlyReads (I.seen images.old) (I.seen images.new)
-        (length plan.now.lengths.items * tested_with plan.now sets.now.head.chunk sets.now.head.offset) }
+    ensures reads { Spends (left_reads plan.now kept.old) (left_after plan.now kept.new result) (I.seen images.old) (I.seen images.new) 0 }
 {
-    let (chunk, offset) = (sets.head.chunk, sets.head.offset);
-    if let Some(place) = kept_place(kept.as_slice(), chunk, offset) {
+    let offset = sets.head.offset;
+    if let Some(place) = kept_place(kept.as_slice(), offset) {
         return Ok(place);
     }
-    let table = match XorTable::build(alloc, images, plan, chunk, offset) {
-        Ok(table) => table,
+    let tables = match XorTable::build_each(alloc, images, plan, &plan.bounds.chunks, offset) {
+        Ok(tables) => tables,
         Err(TableFault::ReadFault) => return Err(PageFault::ReadFault),
         Err(TableFault::Memory) => return Err(PageFault::Memory),
     };
     let place = kept.as_slice().len();
-    kept.push(KeptTable {
-        chunk,
-        offset,
-        table,
-    })
-    .map_err(|_| PageFault::Memory)?;
+    kept.push(OffsetTables { offset, tables })
+        .map_err(|_| PageFault::Memory)?;
     Ok(place)
 }
 
-/// The table at this place.
-pub(crate) fn table_at<'a>(kept: &'a KeptTables, place: usize) -> &'a XorTable
-    requires { place < length kept.now }
-    ensures { (one : KeptTableOf) → slice_get kept.now place ≡ Some one → result.now ≡ one.table }
+/// The table of a head, with those of its offset at this place.
+pub(crate) fn table_at<'a>(
+    kept: &'a KeptTables,
+    place: usize,
+    plan: &Plan,
+    sets: &HeadSets,
+) -> &'a XorTable
+    requires place { place < length kept.now }
+    requires long { (one : OffsetTablesOf) → slice_get kept.now place ≡ Some one → length one.tables.items ≡ length plan.now.bounds.chunks.items }
+    requires head { IsHeadOf plan.now sets.now }
+    ensures { (one : OffsetTablesOf) → slice_get kept.now place ≡ Some one →
+        (c : ℕ) × (c < length plan.now.bounds.chunks.items) × (slice_index plan.now.bounds.chunks.items c ≡ sets.now.head.chunk) × ((none : RowTable) → result.now ≡ slice_index_or one.tables.items c none) }
 {
-    &kept.as_slice()[place].table
+    let chunk = chunk_place(&plan.bounds.chunks, sets.head.chunk);
+    let tables = &kept.as_slice()[place].tables;
+    &tables[chunk]
 }

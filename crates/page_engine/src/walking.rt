@@ -9,8 +9,8 @@ ghost use Rattle.search_plan.specs.Plans.{IsPlan};
 ghost use Rattle.search_plan.specs.Sets.{total_of};
 ghost use Rattle.prune_filters.specs.Rows.{needs_table as head_needs_table};
 ghost use Rattle.prune_filters.specs.Xors.{AreXors};
-ghost use Rattle.page_engine.specs.Pages.{AgreeWith, EndsTest, HasRoom, HoldsSet, IsPageOf, page_reads, rank_reads, tested_to};
-ghost use Rattle.page_engine.specs.Walk.{AddsAll, added_to, filled_to, FillsPage, IsFilled, IsHeadOf, IsKept, IsPart};
+ghost use Rattle.page_engine.specs.Pages.{AgreeWith, EndsTest, HasRoom, HoldsSet, IsPageOf, rank_reads, tested_to};
+ghost use Rattle.page_engine.specs.Walk.{AddsAll, added_to, filled_to, FillsPage, IsFilled, IsHeadOf, IsKept, IsPart, left_after, left_reads, Spends};
 
 use crate::hopeful::Hopeful;
 use crate::page_parts::{Lines, ListPage, PageFault};
@@ -29,6 +29,7 @@ use std::alloc::Global;
 pub(crate) fn walk<I: Images>(
     alloc: Global,
     images: &mut I,
+    kept: &mut KeptTables,
     plan: &Plan,
     total: u64,
     from: u64,
@@ -40,12 +41,14 @@ pub(crate) fn walk<I: Images>(
     requires total { total ≡ total_of plan.now }
     requires from { from ≤ total_of plan.now }
     requires size { 1 ≤ size }
+    requires kept { All (IsKept (told_all (I.seen images.old).attached) plan.now) kept.old }
     ensures page { IfOk result (λ p. IfSome (told_all (I.seen images.old).attached) (λ bytes. IsPageOf bytes plan.now from size span p)) }
     ensures sets { IfOk result (λ p. All (HoldsSet plan.now) p.lines) }
     ensures total { IfOk result (λ p. p.total ≡ total_of plan.now) }
     ensures ends { IfErr result (EndsTest (I.seen images.old) (I.seen images.new)) }
-    ensures reads { OnlyReads (I.seen images.old) (I.seen images.new)
-        (page_reads plan.now from (tested_to (stop_of (total_of plan.now) from span) result)) }
+    ensures reads { Spends (left_reads plan.now kept.old) (left_after plan.now kept.new result) (I.seen images.old) (I.seen images.new)
+        (rank_reads plan.now from (tested_to (stop_of (total_of plan.now) from span) result)) }
+    ensures kept { All (IsKept (told_all (I.seen images.old).attached) plan.now) kept.new }
     ensures forward { IfOk result (λ p. from ≤ p.next) }
     ensures within { IfOk result (λ p. p.next ≤ stop_of (total_of plan.now) from span) }
 {
@@ -55,6 +58,7 @@ pub(crate) fn walk<I: Images>(
         alloc,
         images,
         &mut blocks,
+        kept,
         plan,
         total,
         from,
@@ -82,6 +86,7 @@ fn fill_page<I: Images>(
     alloc: Global,
     images: &mut I,
     blocks: &mut Regions,
+    kept: &mut KeptTables,
     plan: &Plan,
     total: u64,
     from: u64,
@@ -96,13 +101,15 @@ fn fill_page<I: Images>(
     requires size { 1 ≤ size }
     requires none { lines.old ≡ [] }
     requires blocks { HasRoom blocks.old }
+    requires kept { All (IsKept (told_all (I.seen images.old).attached) plan.now) kept.old }
     ensures page { IfOk result (IsFilled (told_all (I.seen images.old).attached) plan.now from size span lines.new) }
     ensures ends { IfErr result (EndsTest (I.seen images.old) (I.seen images.new)) }
-    ensures reads { OnlyReads (I.seen images.old) (I.seen images.new)
-        (page_reads plan.now from (filled_to (stop_of (total_of plan.now) from span) result)) }
+    ensures reads { Spends (left_reads plan.now kept.old) (left_after plan.now kept.new result) (I.seen images.old) (I.seen images.new)
+        (rank_reads plan.now from (filled_to (stop_of (total_of plan.now) from span) result)) }
+    ensures kept { All (IsKept (told_all (I.seen images.old).attached) plan.now) kept.new }
 {
     let stop = total.min(from.saturating_add(span));
-    match add_range(alloc, images, blocks, plan, from, stop, size, lines)? {
+    match add_range(alloc, images, blocks, kept, plan, from, stop, size, lines)? {
         Some(next) => Ok(next),
         None => Ok(stop),
     }
@@ -114,6 +121,7 @@ fn add_range<I: Images>(
     alloc: Global,
     images: &mut I,
     blocks: &mut Regions,
+    kept: &mut KeptTables,
     plan: &Plan,
     from: u64,
     stop: u64,
@@ -127,13 +135,15 @@ fn add_range<I: Images>(
     requires stop { stop ≤ total_of plan.now }
     requires size { length lines.old < size }
     requires blocks { HasRoom blocks.old }
+    requires kept { All (IsKept (told_all (I.seen images.old).attached) plan.now) kept.old }
     ensures added { IfOk result (λ full. MatchOption full
         (AddsAll (told_all (I.seen images.old).attached) plan.now from stop size lines.old lines.new)
         (λ next. FillsPage (told_all (I.seen images.old).attached) plan.now from stop size next lines.old lines.new)) }
     ensures ends { IfErr result (EndsTest (I.seen images.old) (I.seen images.new)) }
-    ensures reads { OnlyReads (I.seen images.old) (I.seen images.new) (page_reads plan.now from (added_to stop result)) }
+    ensures reads { Spends (left_reads plan.now kept.old) (left_after plan.now kept.new result) (I.seen images.old) (I.seen images.new)
+        (rank_reads plan.now from (added_to stop result)) }
+    ensures kept { All (IsKept (told_all (I.seen images.old).attached) plan.now) kept.new }
 {
-    let mut kept = KeptTables::new(alloc);
     let mut heads = Heads::of(plan);
     heads.skip_to(from);
     let mut at = from;
@@ -143,7 +153,7 @@ fn add_range<I: Images>(
         }
         let end = stop.min(sets.first + sets.count);
         if let Some(next) = add_head(
-            alloc, images, blocks, &mut kept, plan, &sets, at, end, size, lines,
+            alloc, images, blocks, kept, plan, &sets, at, end, size, lines,
         )? {
             return Ok(Some(next));
         }
@@ -178,7 +188,8 @@ fn add_head<I: Images>(
         (AddsAll (told_all (I.seen images.old).attached) plan.now from stop size lines.old lines.new)
         (λ next. FillsPage (told_all (I.seen images.old).attached) plan.now from stop size next lines.old lines.new)) }
     ensures ends { IfErr result (EndsTest (I.seen images.old) (I.seen images.new)) }
-    ensures reads { OnlyReads (I.seen images.old) (I.seen images.new) (page_reads plan.now from (added_to stop result)) }
+    ensures reads { Spends (left_reads plan.now kept.old) (left_after plan.now kept.new result) (I.seen images.old) (I.seen images.new)
+        (rank_reads plan.now from (added_to stop result)) }
     ensures blocks { HasRoom blocks.new }
     ensures kept { All (IsKept (told_all (I.seen images.old).attached) plan.now) kept.new }
 {
@@ -194,7 +205,7 @@ fn add_head<I: Images>(
         );
     }
     let place = table_place(alloc, images, plan, sets, kept)?;
-    let table = table_at(kept, place);
+    let table = table_at(kept, place, plan, sets);
     add_hopeful(
         alloc,
         images,

@@ -70,8 +70,8 @@ listing images plan asked = pages_text asked.form images plan asked.size asked.s
 unfoldable pub found_text : Form → ListPage → List ℕ
 found_text form page = flat_map (λ held. line_in form held.rank held.geo) page.lines ++ next_in form page.next page.total
 
--- the most sectors that `list` reads over a plan: for each rank of its range twice the tested rows of its set,
--- on each image
+-- the most sectors that `list` reads over a plan: for each rank of its range the tested rows of its set, and
+-- once for each offset those of the chunk that has most, on each image
 abbrev pub list_reads : Listing → Plan → ℕ
 list_reads asked plan = page_reads plan asked.from (stop_of (total_of plan) asked.from (asked.pages * asked.span))
 

@@ -15,3 +15,4 @@ pub mod Sectors
 pub mod Ordered
 pub mod Turns
 pub mod TestPlans
+mod Settled

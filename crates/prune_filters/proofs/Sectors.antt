@@ -12,7 +12,8 @@ use Rattle.std.specs.Simd.Lanes.{zip2}
 use Rattle.gf256.proofs.Sums.{sum_associates}
 use Rattle.member_regions.specs.Regions.{Room}
 use Rattle.prune_filters.specs.Rows.{differ, every, others, xor_all, xor_byte}
-use Rattle.prune_filters.specs.Xors.{byte_in, differ_beside, differ_in, sector_in, CountRows, HoldRow, RowTable}
+use Rattle.prune_filters.specs.Xors.{byte_in, differ_beside, differ_in, sector_in, CountRows, HoldRow, IsFlagged, RowTable}
+use Rattle.prune_filters.specs.declared.row_flags.RowFlags.{RowFlags}
 use Rattle.prune_filters.proofs.Adding.{each_set}
 use Rattle.prune_filters.proofs.Columns.{xor_is, xor_others, xor_total}
 use Rattle.prune_filters.proofs.Prefixes.{sum_more}
@@ -192,17 +193,26 @@ differ_but images n sector i j room sum lt hold is =
     let below : x < 512 = omega arith in
     ap (λ (k : ℕ). not (nat_eq k 0)) (ap₂ bit_xor (sector_byte room i j x below ∙ hold i x lt below) (is x below) ∙ xor_but (byte_at images (512 * sector + x)) n i lt))
 
+-- what the sectors of a row tell
+pub row_told : (images : List (List ℕ)) (n sector j : ℕ) (room : Room) (sum : List ℕ) (all : Bool) (beside : List Bool) → HoldRow images n sector j room →
+    ((x : ℕ) → x < 512 → slice_index sum x ≡ xor_all (map (λ i. byte_in room i j x) (every n))) → all ≡ differ_in sum →
+    ((i : ℕ) → i < n → slice_index_or beside i false ≡ differ_beside (sector_in room i j) sum) → IsFlagged images n sector (record { all = all; beside = beside })
+row_told images n sector j room sum all beside hold known is others_are =
+    let sums : IsSum images n sector sum = is_sum images n sector j room sum hold known in
+    record {
+      all = is ∙ differ_all images n sector sum sums;
+      beside = λ i below. others_are i below ∙ differ_but images n sector i j room sum below hold sums;
+    }
+
 -- a row more
-pub count_row : (images : List (List ℕ)) (count chunk offset t j : ℕ) (old : RowTable) (room : Room) (sum row : List ℕ) (more : ℕ) → 0 < count → count ≤ length old.beside →
-    HoldRow images count (offset + t) j room → ((x : ℕ) → x < 512 → slice_index sum x ≡ xor_all (map (λ i. byte_in room i j x) (every count))) →
-    more ≡ (if differ_in sum then 1 else 0) →
-    ((i : ℕ) → i < count → slice_index row i ≡ slice_index (slice_index_or old.beside (t / chunk % count) []) i + (if differ_beside (sector_in room i j) sum then 1 else 0)) →
+pub count_more : (images : List (List ℕ)) (count chunk offset t : ℕ) (old : RowTable) (flags : RowFlags) (row : List ℕ) (more : ℕ) → 0 < count → count ≤ length old.beside →
+    IsFlagged images count (offset + t) flags → more ≡ (if flags.all then 1 else 0) →
+    ((i : ℕ) → i < count → slice_index row i ≡ slice_index (slice_index_or old.beside (t / chunk % count) []) i + (if slice_index_or flags.beside i false then 1 else 0)) →
     CountRows images count chunk offset t old → CountRows images count chunk offset (t + 1) (record { all = old.all + more; beside = set old.beside (t / chunk % count) row })
-count_row images count chunk offset t j old room sum row more some wide hold known is counts before =
-    let sums : IsSum images count (offset + t) sum = is_sum images count (offset + t) j room sum hold known in
+count_more images count chunk offset t old flags row more some wide told is counts before =
     let turn : t / chunk % count < count = mod_below (t / chunk) count some in
     record {
-      all = ap₂ (λ (a b : ℕ). a + b) before.all (is ∙ ap (λ (b : Bool). cond b 1 0) (differ_all images count (offset + t) sum sums))
+      all = ap₂ (λ (a b : ℕ). a + b) before.all (is ∙ ap (λ (b : Bool). cond b 1 0) told.all)
           ∙ sym (sum_more (λ s. cond (differ images (every count) (offset + s)) 1 0) t);
       beside = λ k i low below.
           each_set {X = List ℕ} (λ k row. (i : ℕ) → i < count → slice_index row i ≡ count_by (λ s. (s / chunk % count == k) && differ images (others count i) (offset + s)) (range_with_len 0 (t + 1)))
@@ -210,7 +220,7 @@ count_row images count chunk offset t j old room sum row more some wide hold kno
           (λ i below.
           counts i below
           ∙ ap₂ (λ (a b : ℕ). a + b) (before.beside (t / chunk % count) i turn below)
-          (ap (λ (b : Bool). cond b 1 0) (differ_but images count (offset + t) i j room sum below hold sums)
+          (ap (λ (b : Bool). cond b 1 0) (told.beside i below)
           ∙ sym (ap (λ (b : Bool). cond (b && differ images (others count i) (offset + t)) 1 0) (eq-eqb (t / chunk % count) (t / chunk % count) refl)))
           ∙ sym (sum_more (λ s. cond ((s / chunk % count == t / chunk % count) && differ images (others count i) (offset + s)) 1 0) t))
           (λ k low ne i below.

@@ -1,12 +1,13 @@
 -- The rows in which a prefix puts an image on Q, counted by their place among as many as there are members.
-use Rattle.std.proofs.Common.{◌≡◌, ◌≢◌, ℕ, zero, suc, ◌+◌, ◌-◌, ◌*◌, ◌/◌, ◌%◌, ◌^◌, ◌<◌, ◌≤◌, min, List, [], ◌∷◌, length, cond, arith, ap, ap₂, sym, refl, ◌∙◌, Bool, true, false, not, ◌==◌, ◌&&◌, ◌||◌, nat_le, Option, Some, None, inl, inr}
+use Rattle.std.proofs.Common.{◌≡◌, ◌≢◌, ℕ, zero, suc, ◌+◌, ◌-◌, ◌*◌, ◌/◌, ◌%◌, ◌^◌, ◌<◌, ◌≤◌, min, List, [], ◌∷◌, length, All, Contains, cond, arith, ap, ap₂, sym, refl, subst, ◌∙◌, Bool, true, false, not, ◌==◌, ◌&&◌, ◌||◌, nat_le, Option, Some, None, inl, inr}
 use Rattle.std.proofs.Math.Nat.{mod-eq_of_lt}
-use Rattle.std.proofs.lemmas.Bool.{and_parts, cases_eq, cases_lt, eq-eqb, eqb-true, ne_eqb, le-leb}
+use Rattle.std.proofs.lemmas.Bool.{and_parts, cases_eq, cases_lt, eq-eqb, eqb-true, ne_eqb, le-leb, lt-leb}
 use Rattle.std.proofs.lemmas.Bool.Decides.{nat_tests}
-use Rattle.std.proofs.lemmas.Nat.{div-add-mod', mod-mul-add, mod_below}
+use Rattle.std.proofs.lemmas.Nat.{div-add-mod', mod-mul-add, mod_below, mul-le}
 use Rattle.std.specs.List.{count_by, range_with_len, slice_index, slice_index_or, sum_by}
 use Rattle.std.specs.Option.{option_and_then, option_map_or}
 use Rattle.std.specs.Prelude.{IsTrue}
+use Rattle.address_map.proofs.Heads.{whole_below}
 use Rattle.raid_layouts.proofs.Counts.{count_cons}
 use Rattle.raid_layouts.proofs.Levels.{enough}
 use Rattle.raid_params.specs.Size.{redundancy}
@@ -21,8 +22,8 @@ use Rattle.slot_math.specs.Ways.{AllImages}
 use Rattle.search_plan.specs.Plans.{IsPlan}
 use Rattle.search_plan.specs.declared.plan.Plan.{Plan}
 use Rattle.prune_filters.specs.Hopeful.{IsPrefix}
-use Rattle.prune_filters.specs.Rows.{broken_rows, differ, differ_beside_q, holds_every, needs_table, on_q, others, rows_may_hold, tested}
-use Rattle.prune_filters.specs.Xors.{beside_q, broken_in, IsXorTable, RowTable}
+use Rattle.prune_filters.specs.Rows.{broken_rows, differ, differ_beside_q, differ_in_row, holds_every, needs_table, on_q, others, rows_may_hold, tested}
+use Rattle.prune_filters.specs.Xors.{beside_q, broken_in, CountRows, IsSettled, IsSettledFor, IsXorTable, RowTable}
 use Rattle.prune_filters.proofs.Prefixes.{image_below}
 use Rattle.prune_filters.proofs.Totals.{total, total_same, total_sum}
 
@@ -139,10 +140,10 @@ count_none [] p none = refl
 count_none (t ∷ rows) p none = let h = count_cons p t rows in let e : cond (p t) 1 0 ≡ zero_of = ap (λ (b : Bool). cond b 1 0) (none t) in let rest = count_none rows p none in omega arith
 
 -- the sum over the places is the count of the rows
-pub sum_rows : (images : List (List ℕ)) (plan : Plan) (head : Head) (prefix : List (Option ℕ)) (table : RowTable) → IsPrefix plan head prefix → length plan.lengths.items ≡ head.members → 0 < head.members →
-    IsXorTable images plan head.chunk head.offset table →
-    sum_by (beside_q table head prefix) (range_with_len 0 head.members) ≡ count_by (differ_beside_q images plan head prefix) (range_with_len 0 (tested plan head))
-sum_rows images plan head prefix table is count some known =
+sum_rows : (images : List (List ℕ)) (plan : Plan) (head : Head) (prefix : List (Option ℕ)) (table : RowTable) → IsPrefix plan head prefix → length plan.lengths.items ≡ head.members → 0 < head.members →
+    (n : ℕ) → CountRows images (length plan.lengths.items) head.chunk head.offset n table →
+    sum_by (beside_q table head prefix) (range_with_len 0 head.members) ≡ count_by (differ_beside_q images plan head prefix) (range_with_len 0 n)
+sum_rows images plan head prefix table is count some n known =
     sym (total_sum (beside_q table head prefix) (range_with_len 0 head.members))
     ∙ total_same ◌+◌ (beside_q table head prefix) (λ k. count_by (λ t. (turn t == k) && p k t) rows) 0 head.members (λ k low high. each k (omega arith) (on_q head prefix k) refl)
     ∙ by_turn turn p head.members rows (λ t. mod_below (t / head.chunk) head.members some)
@@ -150,7 +151,7 @@ sum_rows images plan head prefix table is count some known =
     (λ t. ap (λ (o : Option ℕ). option_map_or (λ i. differ images (others (length plan.lengths.items) i) (head.offset + t)) o false) (sym (on_q_again head prefix (t / head.chunk) some)))
   where
     rows : List ℕ
-    rows = range_with_len 0 (tested plan head)
+    rows = range_with_len 0 n
 
     turn : ℕ → ℕ
     turn t = t / head.chunk % head.members
@@ -160,10 +161,10 @@ sum_rows images plan head prefix table is count some known =
 
     each : (k : ℕ) → k < head.members → (o : Option ℕ) → on_q head prefix k ≡ o →
         option_map_or (λ i. slice_index (slice_index_or table.beside k []) i) (on_q head prefix k) 0
-        ≡ count_by (λ t. (t / head.chunk % head.members == k) && option_map_or (λ i. differ images (others (length plan.lengths.items) i) (head.offset + t)) (on_q head prefix k) false) (range_with_len 0 (tested plan head))
+        ≡ count_by (λ t. (t / head.chunk % head.members == k) && option_map_or (λ i. differ images (others (length plan.lengths.items) i) (head.offset + t)) (on_q head prefix k) false) (range_with_len 0 n)
     each k low None e =
         ap (λ (o : Option ℕ). option_map_or (λ i. slice_index (slice_index_or table.beside k []) i) o 0) e
-        ∙ sym (count_none (range_with_len 0 (tested plan head))
+        ∙ sym (count_none (range_with_len 0 n)
         (λ t. (t / head.chunk % head.members == k) && option_map_or (λ i. differ images (others (length plan.lengths.items) i) (head.offset + t)) (on_q head prefix k) false)
         (λ t. ap (λ (o : Option ℕ). (t / head.chunk % head.members == k) && option_map_or (λ i. differ images (others (length plan.lengths.items) i) (head.offset + t)) o false) e
         ∙ and_none (t / head.chunk % head.members == k)))
@@ -173,7 +174,7 @@ sum_rows images plan head prefix table is count some known =
         ∙ known.beside k i (omega arith) below
         ∙ count_alike (λ t. (t / head.chunk % length plan.lengths.items == k) && differ images (others (length plan.lengths.items) i) (head.offset + t))
         (λ t. (t / head.chunk % head.members == k) && option_map_or (λ i. differ images (others (length plan.lengths.items) i) (head.offset + t)) (on_q head prefix k) false)
-        (range_with_len 0 (tested plan head))
+        (range_with_len 0 n)
         (λ t. ap₂ (λ (n : ℕ) (o : Option ℕ). (t / head.chunk % n == k) && option_map_or (λ j. differ images (others (length plan.lengths.items) j) (head.offset + t)) o false) count (sym e))
 
 -- numbers past the largest are past any limit
@@ -184,28 +185,130 @@ not_of : (a b : Bool) → a ≡ true → (not a || b) ≡ b
 not_of true b e = refl
 not_of false b e = (cc)
 
+-- more rows hold no fewer of a kind
+count_from : (p : ℕ → Bool) (at n m : ℕ) → n ≤ m → count_by p (range_with_len at n) ≤ count_by p (range_with_len at m)
+count_from p at zero m le = omega arith
+count_from p at (suc n) zero le = absurd (omega arith)
+count_from p at (suc n) (suc m) le =
+    let a = count_cons p at (range_with_len (at + 1) n) in
+    let b = count_cons p at (range_with_len (at + 1) m) in
+    let rest = count_from p (at + 1) n m (omega arith) in
+    omega arith
+
+-- a part of a sum is no greater
+one_within : (f : ℕ → ℕ) (k a n : ℕ) → a ≤ k → k < a + n → f k ≤ total ◌+◌ f (range_with_len a n)
+unfolding total
+one_within f k a zero low high = absurd (omega arith)
+one_within f k a (suc n) low high = elim (cases_eq k a) [
+  | inl e ↦ (let here : f k ≡ f a = ap f e in omega arith)
+  | inr ne ↦ (let rest = one_within f k (a + 1) n (let x : k ≢ a = ne in omega arith) (omega arith) in omega arith)
+]
+
+-- two answers are the same where both are, and where neither is
+both_few : (a b most : ℕ) → a ≤ b → (a ≤ most → b ≤ most) → nat_le a most ≡ nat_le b most
+both_few a b most le h = elim (cases_lt most a) [
+  | inl above ↦ lt-leb a most above ∙ sym (lt-leb b most (omega arith))
+  | inr few ↦ le-leb a most few ∙ sym (le-leb b most (h few))
+]
+
+none_counted : (p : ℕ → Bool) (a n : ℕ) → ((t : ℕ) → a ≤ t → t < a + n → p t ≡ false) → count_by p (range_with_len a n) ≡ 0
+none_counted p a zero none = refl
+none_counted p a (suc n) none =
+    let h = count_cons p a (range_with_len (a + 1) n) in
+    let e : cond (p a) 1 0 ≡ zero_of = ap (λ (b : Bool). cond b 1 0) (none a (omega arith) (omega arith)) in
+    let rest = none_counted p (a + 1) n (λ t low high. none t (omega arith) (omega arith)) in
+    omega arith
+
+-- the place of a row among the members is that of a row of chunks no later
+turn_low : (t chunk n : ℕ) → t / chunk % n * chunk ≤ t
+turn_low t chunk n =
+    let r = t / chunk in
+    let split : t / chunk / n * n + t / chunk % n ≡ t / chunk = div-add-mod' (t / chunk) n in
+    let low : t / chunk % n ≤ t / chunk = omega arith in
+    let whole : t / chunk * chunk ≤ t = whole_below t chunk (t / chunk) refl in
+    let most : t / chunk % n * chunk ≤ t / chunk * chunk = mul-le (t / chunk % n) chunk (t / chunk) chunk low (omega arith) in
+    omega arith
+
+-- where a table is settled at level 6, and not too many of its rows break, the prefix puts no image on Q
+settled_few : (images : List (List ℕ)) (plan : Plan) (head : Head) (prefix : List (Option ℕ)) (table : RowTable) → IsPrefix plan head prefix → length plan.lengths.items ≡ head.members → 0 < head.members →
+    IsSettledFor plan head.chunk head.offset table Raid6 → sum_by (beside_q table head prefix) (range_with_len 0 head.members) ≤ plan.limits.badrows →
+    count_by (differ_beside_q images plan head prefix) (range_with_len 0 (tested plan head)) ≡ 0
+settled_few images plan head prefix table is count some settled few =
+    none_counted (differ_beside_q images plan head prefix) 0 (tested plan head)
+    (λ t low high.
+    ap (λ (o : Option ℕ). option_map_or (λ i. differ images (others (length plan.lengths.items) i) (head.offset + t)) o false) (on_q_again head prefix (t / head.chunk) some)
+    ∙ at_turn t (omega arith) (on_q head prefix (t / head.chunk % head.members)) refl)
+  where
+    at_turn : (t : ℕ) → t < tested plan head → (o : Option ℕ) → on_q head prefix (t / head.chunk % head.members) ≡ o →
+        option_map_or (λ i. differ images (others (length plan.lengths.items) i) (head.offset + t)) (on_q head prefix (t / head.chunk % head.members)) false ≡ false
+    at_turn t lt None e = ap (λ (o : Option ℕ). option_map_or (λ i. differ images (others (length plan.lengths.items) i) (head.offset + t)) o false) e
+    at_turn t lt (Some i) e =
+        let k : t / head.chunk % head.members < head.members = mod_below (t / head.chunk) head.members some in
+        let below : i < length plan.lengths.items = on_q_below (length plan.lengths.items) head prefix (t / head.chunk % head.members) i is.images e in
+        let early : t / head.chunk % head.members * head.chunk ≤ t = turn_low t head.chunk head.members in
+        let high = settled (t / head.chunk % head.members) i (omega arith) below (omega arith) in
+        let here : beside_q table head prefix (t / head.chunk % head.members) ≡ slice_index (slice_index_or table.beside (t / head.chunk % head.members) []) i
+        = ap (λ (o : Option ℕ). option_map_or (λ j. slice_index (slice_index_or table.beside (t / head.chunk % head.members) []) j) o 0) e in
+        let part : beside_q table head prefix (t / head.chunk % head.members) ≤ total ◌+◌ (beside_q table head prefix) (range_with_len 0 head.members)
+        = one_within (beside_q table head prefix) (t / head.chunk % head.members) 0 head.members (omega arith) (omega arith) in
+        let whole = total_sum (beside_q table head prefix) (range_with_len 0 head.members) in
+        absurd (omega arith)
+
+-- one of a list's elements has what all of them have
+pub contained : {X : Type 0} (P : X → Type 0) (xs : List X) (x : X) → All P xs → Contains xs x → P x
+contained P xs x all (k, lt, e) = subst P e (all k x lt)
+
+-- what settles it for the plan's levels
+level_settled : (plan : Plan) (head : Head) (table : RowTable) (level : Level) → head.level ≡ level → Contains plan.bounds.levels.items head.level → IsSettled plan head.chunk head.offset table →
+    IsSettledFor plan head.chunk head.offset table level
+level_settled plan head table level e there settled =
+    subst (λ (l : Level). IsSettledFor plan head.chunk head.offset table l) e
+    (contained (λ (l : Level). IsSettledFor plan head.chunk head.offset table l) plan.bounds.levels.items head.level settled there)
+
 broken_same : (level : Level) (images : List (List ℕ)) (plan : Plan) (head : Head) (prefix : List (Option ℕ)) (table : RowTable) → IsPlan plan → IsPrefix plan head prefix →
-    length plan.lengths.items ≡ head.members → 0 < head.members → IsXorTable images plan head.chunk head.offset table →
+    length plan.lengths.items ≡ head.members → 0 < head.members → head.level ≡ level → Contains plan.bounds.levels.items head.level → IsXorTable images plan head.chunk head.offset table →
     nat_le (broken_in table level head prefix) plan.limits.badrows ≡ nat_le (broken_rows level images plan head prefix) plan.limits.badrows
 unfolding broken_rows
-broken_same Raid0 images plan head prefix table is_plan is count some known = refl
-broken_same Raid5 images plan head prefix table is_plan is count some known = ap (λ (n : ℕ). nat_le n plan.limits.badrows) known.all
-broken_same Raid6 images plan head prefix table is_plan is count some known =
+broken_same Raid0 images plan head prefix table is_plan is count some e there known = refl
+broken_same Raid5 images plan head prefix table is_plan is count some e there known =
+    both_few table.all (count_by (differ_in_row images plan head) (range_with_len 0 (tested plan head))) plan.limits.badrows
+    (let within : known.rows ≤ tested plan head = known.within in
+    let counts = known.counts.all in
+    let more = count_from (differ_in_row images plan head) 0 known.rows (tested plan head) within in
+    omega arith)
+    (λ few. elim known.enough [
+      | inl all ↦ (let counts = known.counts.all in
+          let same : count_by (differ_in_row images plan head) (range_with_len 0 known.rows) ≡ count_by (differ_in_row images plan head) (range_with_len 0 (tested plan head))
+          = ap (λ (n : ℕ). count_by (differ_in_row images plan head) (range_with_len 0 n)) all in
+          omega arith)
+      | inr settled ↦ (let high : plan.limits.badrows < table.all = level_settled plan head table Raid5 e there settled in absurd (omega arith))
+    ])
+broken_same Raid6 images plan head prefix table is_plan is count some e there known =
     let few = is_plan.limits.badrows in
+    let sums = sum_rows images plan head prefix table is count some known.rows known.counts in
     past (sum_by (beside_q table head prefix) (range_with_len 0 head.members)) plan.limits.badrows (omega arith)
-    ∙ ap (λ (n : ℕ). nat_le n plan.limits.badrows) (sum_rows images plan head prefix table is count some known)
+    ∙ both_few (sum_by (beside_q table head prefix) (range_with_len 0 head.members)) (count_by (differ_beside_q images plan head prefix) (range_with_len 0 (tested plan head))) plan.limits.badrows
+    (let within : known.rows ≤ tested plan head = known.within in
+    let more = count_from (differ_beside_q images plan head prefix) 0 known.rows (tested plan head) within in
+    omega arith)
+    (λ low. elim known.enough [
+      | inl all ↦ (let same : count_by (differ_beside_q images plan head prefix) (range_with_len 0 known.rows) ≡ count_by (differ_beside_q images plan head prefix) (range_with_len 0 (tested plan head))
+          = ap (λ (n : ℕ). count_by (differ_beside_q images plan head prefix) (range_with_len 0 n)) all in
+          omega arith)
+      | inr settled ↦ (let none = settled_few images plan head prefix table is count some (level_settled plan head table Raid6 e there settled) low in omega arith)
+    ])
 
 -- the answer where a table is asked, and where none is
 pub rows_known : (images : List (List ℕ)) (plan : Plan) (head : Head) (prefix : List (Option ℕ)) (table : RowTable) → IsTrue (is_valid_head head) → IsPlan plan → IsPrefix plan head prefix →
-    needs_table plan head ≡ true → IsXorTable images plan head.chunk head.offset table →
+    needs_table plan head ≡ true → Contains plan.bounds.levels.items head.level → IsXorTable images plan head.chunk head.offset table →
     nat_le (broken_in table head.level head prefix) plan.limits.badrows ≡ rows_may_hold images plan head prefix
 unfolding rows_may_hold
-rows_known images plan head prefix table valid is_plan is needs known =
+rows_known images plan head prefix table valid is_plan is needs there known =
     let parts = and_parts (holds_every plan head) (nat_le 1 (redundancy head.level)) needs in
     let both = and_parts (length plan.lengths.items == head.members) ((plan.bounds.foreign == 0) || (min plan.bounds.missing (redundancy head.level) == 0)) parts.0 in
     let count : length plan.lengths.items ≡ head.members = eqb-true (length plan.lengths.items) head.members both.0 in
     let low : fewest head.level ≤ head.members = enough head valid in
-    broken_same head.level images plan head prefix table is_plan is count (omega arith) known
+    broken_same head.level images plan head prefix table is_plan is count (omega arith) refl there known
     ∙ sym (not_of (holds_every plan head) (nat_le (broken_rows head.level images plan head prefix) plan.limits.badrows) parts.0)
 
 no_rows : (level : Level) (images : List (List ℕ)) (plan : Plan) (head : Head) (prefix : List (Option ℕ)) → nat_le 1 (redundancy level) ≡ false → broken_rows level images plan head prefix ≡ 0

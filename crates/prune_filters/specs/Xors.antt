@@ -1,5 +1,5 @@
 -- What the tables of rows hold.
-use Rattle.std.specs.Prelude.{ℕ, ◌≡◌, ◌+◌, ◌-◌, ◌*◌, ◌^◌, ◌/◌, ◌%◌, ◌<◌, ◌≤◌, min, true, Bool, not, ◌==◌, ◌&&◌, nat_eq, List, [], length, count_by, bit_xor, slice_index, slice_index_or, slice_range, IsSomeAnd, ◌||◌, nat_le, false}
+use Rattle.std.specs.Prelude.{ℕ, ◌≡◌, ◌+◌, ◌-◌, ◌*◌, ◌^◌, ◌/◌, ◌%◌, ◌<◌, ◌≤◌, ◌⊎◌, min, max, true, Bool, not, ◌==◌, ◌&&◌, nat_eq, List, [], length, count_by, fold, bit_xor, slice_index, slice_index_or, slice_range, All, IsSomeAnd, ◌||◌, nat_le, false}
 use Rattle.std.specs.List.{list_any, range_with_len, sum_by}
 use Rattle.std.specs.Option.{option_map_or}
 use Rattle.std.specs.declared.option.Option.{Option}
@@ -9,9 +9,10 @@ use Rattle.raid_params.specs.declared.types.Level.TheVariants.{Raid0, Raid5, Rai
 use Rattle.member_regions.specs.Regions.{Room}
 use Rattle.search_plan.specs.declared.plan.Plan.{Plan}
 use Rattle.prune_filters.specs.Rows.{differ, every, needs_table, on_q, others}
+use Rattle.prune_filters.specs.declared.row_flags.RowFlags.{RowFlags}
 
--- a table as contracts see it: in how many of the tested rows the images differ, and in how many those but one do,
--- by the row's place among as many rows of chunks as there are images, and by the one
+-- a table as contracts see it: in how many of some rows the images differ, and in how many those but one do, by the
+-- row's place among as many rows of chunks as there are images, and by the one
 pub record RowTable : Type 0 where
   pub all : ℕ
   pub beside : List (List ℕ)
@@ -26,9 +27,34 @@ pub record CountRows (images : List (List ℕ)) (count chunk offset rows : ℕ) 
 abbrev pub tested_with : Plan → ℕ → ℕ → ℕ
 tested_with plan chunk offset = min ((plan.end - offset) / chunk * chunk) plan.limits.window
 
--- the table of a plan, a chunk and an offset, over the bytes of the images
-abbrev pub IsXorTable : List (List ℕ) → Plan → ℕ → ℕ → RowTable → Type 0
-IsXorTable images plan chunk offset table = CountRows images (length plan.lengths.items) chunk offset (tested_with plan chunk offset) table
+-- the most of them that one of some chunks has
+unfoldable pub most_tested : Plan → List ℕ → ℕ → ℕ
+most_tested plan chunks offset = fold (λ most chunk. max most (tested_with plan chunk offset)) 0 chunks
+
+-- a table is settled for a level: more rows break than may, whatever images stand on Q, in each of the rows of chunks
+-- that are tested
+abbrev pub IsSettledFor : Plan → ℕ → ℕ → RowTable → Level → Type 0
+IsSettledFor plan chunk offset table Raid0 = Unit {0}
+IsSettledFor plan chunk offset table Raid5 = plan.limits.badrows < table.all
+IsSettledFor plan chunk offset table Raid6 = (k i : ℕ) → k < length plan.lengths.items → i < length plan.lengths.items →
+    k * chunk < tested_with plan chunk offset → plan.limits.badrows < slice_index (slice_index_or table.beside k []) i
+
+-- it is for each level of the plan
+abbrev pub IsSettled : Plan → ℕ → ℕ → RowTable → Type 0
+IsSettled plan chunk offset table = All (IsSettledFor plan chunk offset table) plan.bounds.levels.items
+
+-- the table of a plan, a chunk and an offset, over the bytes of the images: it counts the tested rows, or as many of
+-- the first of them as settle it
+pub record IsXorTable (images : List (List ℕ)) (plan : Plan) (chunk offset : ℕ) (table : RowTable) : Type 0 where
+  pub rows : ℕ
+  pub within : rows ≤ tested_with plan chunk offset
+  pub counts : CountRows images (length plan.lengths.items) chunk offset rows table
+  pub enough : (rows ≡ tested_with plan chunk offset) ⊎ IsSettled plan chunk offset table
+
+-- a table for each of some chunks
+pub record AreXorTables (images : List (List ℕ)) (plan : Plan) (chunks : List ℕ) (offset : ℕ) (tables : List RowTable) : Type 0 where
+  pub long : length tables ≡ length chunks
+  pub each : (c : ℕ) (none : RowTable) → c < length chunks → IsXorTable images plan (slice_index chunks c) offset (slice_index_or tables c none)
 
 -- there is such a table where a head needs one
 abbrev pub AreXors : List (List ℕ) → Plan → Head → Option RowTable → Type 0
@@ -64,10 +90,33 @@ HoldRow images count sector j room = (i x : ℕ) → i < count → x < 512 → b
 abbrev pub HoldRows : List (List ℕ) → ℕ → ℕ → ℕ → Room → Type 0
 HoldRows images count sector rows room = (j : ℕ) → j < rows → HoldRow images count (sector + j) j room
 
+-- what is told of a row: whether the images differ at this sector, and whether those but one do
+pub record IsFlagged (images : List (List ℕ)) (count sector : ℕ) (row : RowFlags) : Type 0 where
+  pub all : row.all ≡ differ images (every count) sector
+  pub beside : (i : ℕ) → i < count → slice_index_or row.beside i false ≡ differ images (others count i) sector
+
+-- so it is of so many rows, from this sector on
+abbrev pub AreFlagged : List (List ℕ) → ℕ → ℕ → ℕ → List RowFlags → Type 0
+AreFlagged images count sector rows flags = (j : ℕ) (none : RowFlags) → j < rows → IsFlagged images count (sector + j) (slice_index_or flags j none)
+
+-- each table counts the tested rows of its chunk among so many
+abbrev pub CountFirst : List (List ℕ) → Plan → List ℕ → ℕ → ℕ → List RowTable → Type 0
+CountFirst images plan chunks offset first tables = (c : ℕ) (none : RowTable) → c < length chunks →
+    CountRows images (length plan.lengths.items) (slice_index chunks c) offset (min first (tested_with plan (slice_index chunks c) offset)) (slice_index_or tables c none)
+
+-- after so many rows, each table counts all that are tested, or is settled
+abbrev pub AreKnown : Plan → List ℕ → ℕ → ℕ → List RowTable → Type 0
+AreKnown plan chunks offset first tables = (c : ℕ) (none : RowTable) → c < length chunks →
+    (tested_with plan (slice_index chunks c) offset ≤ first) ⊎ IsSettled plan (slice_index chunks c) offset (slice_index_or tables c none)
+
 -- no count is above this
 pub record AreFew (most : ℕ) (table : RowTable) : Type 0 where
   pub all : table.all ≤ most
   pub beside : (k i : ℕ) → slice_index (slice_index_or table.beside k []) i ≤ most
+
+-- none of them is
+abbrev pub AreAllFew : ℕ → List RowTable → Type 0
+AreAllFew most tables = All (AreFew most) tables
 
 -- a byte of a sector is not zero
 unfoldable pub differ_in : List ℕ → Bool

@@ -18,7 +18,9 @@ mod laws;
 mod mark_table;
 mod prefix;
 mod row_counts;
+mod row_flags;
 mod rows;
+mod settling;
 #[cfg(test)]
 mod tests;
 mod xor_table;

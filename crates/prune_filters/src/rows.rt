@@ -1,5 +1,5 @@
 //! Whether the tested rows may still hold.
-ghost use Rattle.std.specs.Prelude.{◌≡◌, ◌-◌, ◌<◌, ◌^◌, List, ℕ, IsSome, IsTrue, min, true};
+ghost use Rattle.std.specs.Prelude.{◌≡◌, ◌-◌, ◌<◌, ◌^◌, List, ℕ, Contains, IsSome, IsTrue, min, true};
 ghost use Rattle.std.specs.List.{range_with_len, sum_by};
 ghost use Rattle.std.specs.Option.{option_map};
 ghost use Rattle.raid_params.specs.Validity.{is_valid_head};
@@ -40,6 +40,7 @@ pub(crate) fn rows_may_hold(
 ) -> bool
     requires plan { IsPlan plan.now }
     requires head { IsTrue (is_valid_head head.now) }
+    requires level { Contains plan.now.bounds.levels.items head.now.level }
     requires prefix { IsPrefix plan.now head.now prefix.now }
     requires xors { head_needs_table plan.now head.now ≡ true → IsSome xors }
     ensures bytes { (bytes : List (List ℕ)) → AreXors bytes plan.now head.now (option_map (λ table. table.now) xors.entry) → result ≡ rows_of_may_hold bytes plan.now head.now prefix.now }

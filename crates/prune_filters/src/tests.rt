@@ -1,5 +1,6 @@
 //! Small plans whose prefixes are worked out by hand.
-ghost use Rattle.std.specs.Prelude.{◌≡◌, ◌<◌, ◌≤◌, ◌^◌, IfOk, IsTrue, Some, [], ◌∷◌, length};
+ghost use Rattle.std.specs.Prelude.{◌≡◌, ◌<◌, ◌≤◌, ◌^◌, Contains, IfOk, IsTrue, Some, [], ◌∷◌, length};
+ghost use Rattle.raid_params.specs.declared.types.Level.TheVariants.{Raid5, Raid6};
 ghost use Rattle.raid_params.specs.declared.types.Pattern.TheVariants.{Ls};
 ghost use Rattle.image_source.specs.Memory.{seen_of};
 ghost use Rattle.raid_params.specs.Validity.{is_valid_head};
@@ -33,7 +34,8 @@ fn filled<T: Copy + Default, const N: usize>(items: &[T]) -> ArrayVec<T, N>
 
 // Three members of level 5 over three images of two sectors.
 fn three_of_two(alloc: Global) -> Plan
-    ensures { IsPlan result }
+    ensures plan { IsPlan result }
+    ensures levels { Contains result.bounds.levels.items Raid5 }
 {
     Plan {
         lengths: filled(&[2, 2, 2]),
@@ -65,7 +67,8 @@ fn three_of_two(alloc: Global) -> Plan
 fn allowing(plan: Plan, badrows: u64) -> Plan
     requires plan { IsPlan plan }
     requires few { badrows < 2 ^ 55 }
-    ensures { IsPlan result }
+    ensures plan { IsPlan result }
+    ensures bounds { result.bounds ≡ plan.bounds }
 {
     let mut more = plan;
     more.limits.badrows = badrows;
@@ -76,6 +79,7 @@ fn allowing(plan: Plan, badrows: u64) -> Plan
 fn four_of_one(alloc: Global) -> Plan
     ensures plan { IsPlan result }
     ensures images { length result.lengths.items ≡ 4 }
+    ensures levels { Contains result.bounds.levels.items Raid6 }
 {
     Plan {
         lengths: filled(&[1, 1, 1, 1]),
@@ -117,7 +121,7 @@ fn header(image: u8) -> Mark
 
 // Three members of level 5 over three images of one sector: the second and the third hold such a header.
 fn two_headers(alloc: Global) -> Result<Plan, Fail>
-    ensures { IfOk result (λ plan. IsPlan plan × (length plan.lengths.items ≡ 3)) }
+    ensures { IfOk result (λ plan. IsPlan plan × (length plan.lengths.items ≡ 3) × Contains plan.bounds.levels.items Raid5) }
 {
     let mut marks = Marks::new(alloc);
     marks.push(header(1))?;
@@ -218,6 +222,7 @@ fn admits(
     requires head { IsTrue (is_valid_head head.now) }
     requires images { AreOfPlan plan.now (seen_of images.old).attached }
     requires offset { head.now.offset < 2 ^ 55 }
+    requires level { Contains plan.now.bounds.levels.items head.now.level }
     requires prefix { IsPrefix plan.now head.now prefix.now.items }
 {
     let marks = MarkTable::build(alloc, plan, head).ok()?;

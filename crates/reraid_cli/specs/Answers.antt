@@ -78,9 +78,10 @@ unfoldable pub output : Reading → List Image → Option (List ℕ)
 output reading attached = command_output reading.words reading attached
 
 -- the most sectors that a command reads, where its plan is one: `survey` reads each sector of each image from the
--- smallest offset to the end, and one of entries for each partition table that counts; `list` reads at most twice
--- the tested rows of each image for each set of its range, `check` at most those of its set, both none of a set of
--- which nothing can break a row; `write` and `rebuild` at most each sector of each member that is there, `map` none
+-- smallest offset to the end, and one of entries for each partition table that counts; `list` reads at most
+-- the tested rows of each image for each set of its range, and once for each offset those of the chunk that has most;
+-- `check` at most the tested rows of its set, both none of a set of which nothing can break a row; `write` and
+-- `rebuild` at most each sector of each member that is there, `map` none
 abbrev pub command_reads : Result Command ℕ → Reading → List Image → Option ℕ
 command_reads (Ok (SurveyCommand asked)) reading attached = Some (survey_reads asked attached)
 command_reads (Ok (ListCommand from size span pages form names)) reading attached = plan_reads (list_reads (asked_of from size span pages form)) reading.plan

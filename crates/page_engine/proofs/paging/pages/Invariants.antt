@@ -1,7 +1,7 @@
-use Rattle.std.proofs.Common.{◌≡◌, ◌≤◌, ◌+◌, ◌*◌, length}
+use Rattle.std.proofs.Common.{◌≡◌, ◌≤◌, ◌+◌, ◌*◌, [], All, length}
 use Rattle.image_source.specs.Attached.{told_all}
-use Rattle.image_source.specs.Seen.{OnlyReads}
-use Rattle.page_engine.specs.Pages.{page_reads}
+use Rattle.page_engine.specs.Pages.{rank_reads}
+use Rattle.page_engine.specs.Walk.{left_reads, IsKept, Spends}
 use Rattle.page_engine.proofs.PageByPage.{Begun, Going}
 use Rattle.page_engine.proofs.paging.pages.Given as goal
 
@@ -12,5 +12,6 @@ invariant-loop g l = record {
   forward : l.from ≤ l.at;
   near : l.at ≤ l.from + l.counter * l.span;
   begun : Begun l.plan l.from l.counter l.at (g.I.Images.seen l.fn.images) (g.I.Images.seen l.images);
-  reads : OnlyReads (g.I.Images.seen l.fn.images) (g.I.Images.seen l.images) (page_reads l.plan l.from l.at);
+  reads : Spends (left_reads l.plan []) (left_reads l.plan l.kept) (g.I.Images.seen l.fn.images) (g.I.Images.seen l.images) (rank_reads l.plan l.from l.at);
+  kept : All (IsKept (told_all (g.I.Images.seen l.fn.images).attached) l.plan) l.kept;
 }

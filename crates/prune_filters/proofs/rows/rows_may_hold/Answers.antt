@@ -17,7 +17,7 @@ pub returns-clause-bytes : goal.returns-clause-bytes
 returns-clause-bytes c = λ bytes are.
     let needs = sym c.needs_table.ensures ∙ c.if-not-needs_table.false in
     ap (λ (n : ℕ). nat_le n c.args.plan.now.limits.badrows) c.broken_rows.ensures
-    ∙ rows_known bytes c.args.plan.now c.args.head.now c.args.prefix.now c.in-Some.table.now c.requires.head c.requires.plan c.requires.prefix needs
+    ∙ rows_known bytes c.args.plan.now c.args.head.now c.args.prefix.now c.in-Some.table.now c.requires.head c.requires.plan c.requires.prefix needs c.requires.level
     (subst (λ o. IsSomeAnd (option_map (λ table. table.now) o) (λ table. IsXorTable bytes c.args.plan.now c.args.head.now.chunk c.args.head.now.offset table)) c.in-Some.is (are needs))
 
 pub returns-then-not-needs_table-clause-tables : goal.returns-then-not-needs_table-clause-tables

@@ -1,4 +1,7 @@
-use Rattle.std.proofs.Common.{◌≡◌, List, [], ◌∷◌, ◌++◌, length, ap, ap₂, refl, ◌∙◌}
+use Rattle.std.proofs.Common.{◌≡◌, List, [], ◌∷◌, ◌++◌, length, ap, ap₂, arith, refl, subst, sym, ◌∙◌}
+use Rattle.std.specs.List.{Contains}
+use Rattle.raid_params.specs.declared.types.Level.{Level}
+use Rattle.raid_params.specs.declared.types.Level.TheVariants.{Raid5}
 use Rattle.raid_params.specs.Validity.{is_chunk}
 use Rattle.landmark_rules.specs.declared.marks.Group.{Group}
 use Rattle.landmark_rules.specs.declared.marks.GroupKind.TheVariants.{Gpt as GptGroup}
@@ -15,4 +18,5 @@ returns c =
     = c.in_ok-push-3.ensures.ok ∙ ap₂ (λ (l : List Group) (marks : List Mark). l ++ record { kind = GptGroup; marks = marks } ∷ []) c.new-groups.ensures both in (
       plan_is _ _ _ _ _ _ _ _ _ _ _ _ _ _ _ _ _ _ _ _ _ _ _ _ _ c.filled.ensures c.filled-2.ensures c.filled-3.ensures c.filled-4.ensures c.filled-5.ensures c.filled-6.ensures c.filled-7.ensures c.filled-8.ensures groups two_headers_are refl,
       ap length c.filled.ensures,
+      subst (λ (l : List Level). Contains l Raid5) (sym c.filled-2.ensures) (0, omega arith, refl),
     )

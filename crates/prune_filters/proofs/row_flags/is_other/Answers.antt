@@ -1,7 +1,7 @@
 use Rattle.std.proofs.Common.{ap, not, nat_eq, List, ℕ, ◌∙◌}
 use Rattle.std.specs.Cmp.Lexicographic.{pointwise}
 use Rattle.prune_filters.proofs.Sectors.{other_tells}
-use Rattle.prune_filters.proofs.row_counts.is_other.Goals as goal
+use Rattle.prune_filters.proofs.row_flags.is_other.Goals as goal
 
 pub returns : goal.returns
 returns c =

@@ -1,7 +1,7 @@
 use Rattle.std.proofs.Common.{length, bit_xor, ap, refl, sym, ◌∙◌}
 use Rattle.std.proofs.lemmas.Simd.{length-zip2}
 use Rattle.prune_filters.proofs.Sectors.{sum_step, xor_none}
-use Rattle.prune_filters.proofs.row_counts.sum_of.Goals as goal
+use Rattle.prune_filters.proofs.row_flags.sum_of.Goals as goal
 
 pub loop-image-init : goal.loop-image-init
 loop-image-init c = record { sum = λ x lt. xor_none 512 x; room = refl }

@@ -1,7 +1,7 @@
 use Rattle.std.proofs.Common.{◌≡◌, ℕ, ◌<◌, length, map, get_or}
 use Rattle.prune_filters.specs.Rows.{every, xor_all}
 use Rattle.prune_filters.specs.Xors.{byte_in}
-use Rattle.prune_filters.proofs.row_counts.sum_of.Given as goal
+use Rattle.prune_filters.proofs.row_flags.sum_of.Given as goal
 
 abbrev pub invariant-loop-image : goal.invariant-loop-image
 invariant-loop-image l = record {

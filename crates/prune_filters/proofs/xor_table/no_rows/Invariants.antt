@@ -1,0 +1,10 @@
+use Rattle.std.proofs.Common.{◌≡◌, ℕ, List, All, length}
+use Rattle.prune_filters.specs.Xors.{AreAllFew, CountRows}
+use Rattle.prune_filters.proofs.xor_table.no_rows.Given as goal
+
+abbrev pub invariant-loop : goal.invariant-loop
+invariant-loop l = record {
+  long : length l.tables.items ≡ l.counter;
+  counts : (images : List (List ℕ)) (members chunk offset : ℕ) → All (CountRows images members chunk offset 0) l.tables.items;
+  few : AreAllFew 0 l.tables.items;
+}

@@ -8,9 +8,11 @@ one bash, from the top of the repository; the first of them change to an empty f
 --root alone. Status 1 where something differs.
 """
 
+import os
 import pathlib
 import subprocess
 import sys
+import tempfile
 
 TOP = pathlib.Path(__file__).resolve().parent.parent
 MARK = "=== as printed"
@@ -36,10 +38,11 @@ def commands(page, prompts):
 
 
 def run(found):
-    """What each command printed, in one bash."""
+    """What each command printed, in one bash. Its temporary folders are gone afterwards."""
     script = "".join("\n".join(command) + f"\necho '{MARK}' >&3\n" for _, command, _ in found)
-    done = subprocess.run(["bash", "-c", "exec 3>&1 2>&1\n" + script], cwd=TOP, text=True, errors="replace",
-                          stdin=subprocess.DEVNULL, stdout=subprocess.PIPE, check=False)
+    with tempfile.TemporaryDirectory() as folder:
+        done = subprocess.run(["bash", "-c", "exec 3>&1 2>&1\n" + script], cwd=TOP, env=os.environ | {"TMPDIR": folder},
+                              text=True, errors="replace", stdin=subprocess.DEVNULL, stdout=subprocess.PIPE, check=False)
     return [part.strip("\n") for part in done.stdout.split(MARK)]
 
 

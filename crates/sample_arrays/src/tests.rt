@@ -1,0 +1,1 @@
+//! Words and sectors that were computed by another program.

@@ -1,6 +1,7 @@
 -- What the survey of a generated array is asked for.
-use Rattle.std.proofs.Common.{◌≡◌, ℕ, zero, suc, ◌+◌, ◌*◌, ◌-◌, ◌<◌, ◌≤◌, ◌^◌, Bool, true, List, [], ◌∷◌, length, All, IfSome, None, Some, Option, refl, sym, ap, ◌∙◌, subst, arith, inr, max}
+use Rattle.std.proofs.Common.{◌≡◌, ℕ, zero, suc, ◌+◌, ◌*◌, ◌-◌, ◌<◌, ◌≤◌, ◌^◌, Bool, cond, true, List, [], ◌∷◌, length, All, IfSome, None, Some, Option, refl, sym, ap, ◌∙◌, subst, arith, inr, max}
 use Rattle.std.proofs.lemmas.List.Elements.{All-cons, All-nil, All-weaker}
+use Rattle.std.proofs.lemmas.List.Sums.{count_by-le-length, count_by_more_no, count_by_more_yes, sum_by-cons}
 use Rattle.std.specs.List.{count_by}
 use Rattle.std.specs.Option.{is_some}
 use Rattle.arrayvec.specs.ArrayVec.{ArrayVec}
@@ -30,7 +31,7 @@ use Rattle.sample_job.specs.Sampling.{sample_ask, sampled_images}
 
 -- a list of one number rises
 one_rises : (n : ℕ) → AreRising (n ∷ [])
-one_rises n = record { some = omega arith; rising = record { some = omega arith; rising = λ k lt. absurd (omega arith) } }
+one_rises n = record { some = omega arith; rising = λ k lt. absurd (omega arith) }
 
 -- an array keeps at most as many members empty as may be missing, and some are filled
 few_lost : (level : Level) → redundancy level ≤ 2
@@ -41,8 +42,8 @@ few_lost Raid6 = omega arith
 pub all_places : (slots : List (Option ℕ)) → held slots + empties slots ≡ length slots
 unfolding held empties
 all_places [] = refl
-all_places (None ∷ slots) = omega (arith, all_places slots)
-all_places (Some i ∷ slots) = omega (arith, all_places slots)
+all_places (None ∷ slots) = omega (arith, sum_by-cons (λ (s : Option ℕ). cond (is_some s) 1 0) None slots, all_places slots)
+all_places (Some i ∷ slots) = omega (arith, sum_by-cons (λ (s : Option ℕ). cond (is_some s) 1 0) (Some i) slots, all_places slots)
 
 two_at_least : (level : Level) → 2 + redundancy level ≤ fewest level
 two_at_least level = omega arith

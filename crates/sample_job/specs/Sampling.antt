@@ -15,6 +15,7 @@ use Rattle.raid_terms.specs.Page.{page_next, page_ranks}
 use Rattle.search_plan.specs.Sets.{passes_at, rank_of, total_of}
 use Rattle.search_plan.specs.declared.plan.Plan.{Plan}
 use Rattle.plan_text.specs.Spelling.{line}
+use Rattle.page_engine.specs.declared.page_parts.ListPage.{ListPage}
 use Rattle.command_words.specs.Commands.{plain_survey}
 use Rattle.survey_engine.specs.declared.ask.Ask.{Ask}
 use Rattle.survey_job.specs.Surveying.{ask_of, survey_plan}
@@ -37,11 +38,13 @@ sampled_bytes number set rows xfs = map (λ file. file.1) (sampled number set ro
 -- and the number of those that are missing
 unfoldable pub sample_ask : Geometry → ℕ → Ask
 sample_ask set end =
-    ask_of (record plain_survey { bounds = record plain_survey.bounds {
-      levels = record { items = set.head.level ∷ [] };
-      members = record { items = set.head.members ∷ [] };
-      missing = empties set.slots.items;
-    } }) (held set.slots.items) end
+    ask_of (record plain_survey {
+      bounds = record plain_survey.bounds {
+        levels = record { items = set.head.level ∷ [] };
+        members = record { items = set.head.members ∷ [] };
+        missing = empties set.slots.items;
+      };
+    }) (held set.slots.items) end
 
 -- the plan of the survey
 unfoldable pub sample_plan : ℕ → Geometry → ℕ → Bool → Plan
@@ -103,6 +106,16 @@ sample_text set end images plan =
     ++ number_line (codes "total ") (total_of plan)
     ++ found_line (is_among plan set (page_of images plan))
     ++ share_line (codes "next ") (next_of images plan) (total_of plan)
+
+-- the six lines by a page that was found
+unfoldable pub found_text : Geometry → ℕ → Plan → ListPage → List ℕ
+found_text set end plan page =
+    number_line (codes "images ") (held set.slots.items)
+    ++ number_line (codes "sectors ") end
+    ++ number_line (codes "marks ") (marks_in plan)
+    ++ number_line (codes "total ") page.total
+    ++ found_line (is_among plan set (map (λ held. held.rank) page.lines))
+    ++ share_line (codes "next ") page.next page.total
 
 -- what `sample` prints
 unfoldable pub sample_output : ℕ → Geometry → ℕ → Bool → List ℕ

@@ -38,6 +38,7 @@ impl OwnImages {
 impl Images for OwnImages {
     ghost seen = { seen_of_own };
 
+    #[tactic(auto, using(crate::proofs::Owned::attaches))]
     fn attach(&mut self, name: &str) -> Result<u64, Failed>
         requires room { length (seen_of_own self.old).attached < MOST_ATTACHED }
         requires named { IsTrue ((seen_of_own self.old).world.may_attach name.now) }

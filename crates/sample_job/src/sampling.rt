@@ -1,5 +1,5 @@
 //! The command `sample`.
-ghost use Rattle.std.specs.Prelude.{◌≡◌, ◌<◌, ◌≤◌, ◌*◌, ◌-◌, ◌^◌, ◌++◌, ◌⊎◌, All, IfErr, IfOk, IfSome, IsTrue, None, OnOk, Some, ℕ, List, [], ◌∷◌, decimal, false, length, map, nat_eq};
+ghost use Rattle.std.specs.Prelude.{◌≡◌, ◌<◌, ◌≤◌, ◌*◌, ◌-◌, ◌^◌, ◌++◌, ◌⊎◌, All, IfErr, IfOk, IfSome, IsTrue, None, OnOk, Some, sum_by, ℕ, [], ◌∷◌, decimal, false, length, map, nat_eq};
 ghost use Rattle.std.specs.List.{list_any};
 ghost use Rattle.image_source.specs.Attached.{told_all};
 ghost use Rattle.image_source.specs.Memory.{number_of};
@@ -17,7 +17,7 @@ ghost use Rattle.run_ends.specs.Stops.{IsEarly, IsRefusal, many_refusal};
 ghost use Rattle.run_ends.specs.declared.stop.Stop.TheVariants.{OutOfMemory as OutOfMemoryOf};
 ghost use Rattle.sample_arrays.specs.Arrays.{end_of, sampled};
 ghost use Rattle.sample_job.specs.Own.{seen_of_own};
-ghost use Rattle.sample_job.specs.Sampling.{array_refusals, found_line, is_among, marks_in, next_of, number_line, page_of, sample_ask, sample_output, sample_plan, sample_refusal, sample_text, sampled_images};
+ghost use Rattle.sample_job.specs.Sampling.{array_refusals, found_line, found_text as found_text_of, is_among, number_line, sample_ask, sample_output, sample_plan, sample_refusal, sampled_images};
 
 use crate::own::OwnImages;
 use address_map::volume_sectors;
@@ -25,7 +25,8 @@ use arrayvec::ArrayVec;
 use command_words::{SurveyWords, plain_survey};
 use image_source::{Images, MOST_ATTACHED, MemImages, Memory, Sink};
 use itoa::Buffer;
-use page_engine::{ListPage, PageFault, page};
+use landmark_rules::Group;
+use page_engine::{Line, ListPage, PageFault, page};
 use plan_text::Text;
 use raid_params::{Bounds, Geometry};
 use run_ends::{Stop, add_number, add_share, print};
@@ -79,6 +80,7 @@ fn answer(alloc: Global, number: u64, set: &Geometry, rows: u64, xfs: bool) -> R
 }
 
 /// The image sector after the last one of the members, where the array may be made.
+#[tactic(auto, using(crate::proofs::Refusals::set_refused, crate::proofs::Refusals::array_refused, crate::proofs::Refusals::volume_refused, crate::proofs::Refusals::array_allowed, sample_arrays::proofs::Sampled::ruled, sample_arrays::proofs::Sampled::near_end, raid_layouts::proofs::Shapes::shaped_head))]
 fn checked_end(set: &Geometry, rows: u64, xfs: bool) -> Result<u64, Stop>
     requires set { HasWord set.now }
     requires most { rows ≤ 65536 }
@@ -130,6 +132,7 @@ fn found(
 }
 
 /// The images of the array, attached in their order.
+#[tactic(auto, using(sample_arrays::proofs::Sampled::ruled, sample_arrays::proofs::Sampled::few_slots))]
 fn attached(
     alloc: Global,
     number: u64,
@@ -165,6 +168,7 @@ fn attach(images: &mut MemImages, number: u8)
 
 /// What the survey is asked for: all that `survey` asks for without operands, but for the level and the numbers of
 /// members and of missing ones, which are the set's.
+#[tactic(auto, using(crate::proofs::Asked::all_places), unfolding(crate::specs::Sampling::sample_ask))]
 fn ask_for(set: &Geometry, end: u64) -> Ask
     requires few { length set.now.slots.items ≤ 16 }
     ensures { result ≡ sample_ask set.now end }
@@ -217,6 +221,7 @@ fn first_page(alloc: Global, images: &mut OwnImages, plan: &Plan) -> Result<List
 }
 
 /// The six lines.
+#[tactic(auto, using(crate::proofs::Sampled::few_ranks), unfolding(crate::specs::Sampling::found_text))]
 fn lines(
     alloc: Global,
     set: &Geometry,
@@ -226,13 +231,13 @@ fn lines(
 ) -> Result<Text, Memory>
     requires plan { IsPlan plan.now }
     requires few { length set.now.slots.items ≤ 16 }
-    requires total { page.now.total ≡ total_of plan.now }
-    ensures { IfOk result (λ text. (images : List (List ℕ)) → IsPageOf images plan.now 0 FIRST_PAGE (2 ^ 64 - 1) page.now → text ≡ sample_text set.now end images plan.now) }
+    requires allowed { many_refusal plan.now ≡ None }
+    ensures { IfOk result (λ text. text ≡ found_text_of set.now end plan.now page.now) }
 {
     let mut text = Text::new(alloc);
     add_line(&mut text, b"images ", u64::from(count_held(&set.slots)))?;
     add_line(&mut text, b"sectors ", end)?;
-    add_line(&mut text, b"marks ", count_marks(plan))?;
+    add_line(&mut text, b"marks ", count_marks(plan.groups.as_slice())?)?;
     add_line(&mut text, b"total ", page.total)?;
     text.extend_from_slice(found_text(is_on(plan, set, page)))?;
     add_share(&mut text, b"next ", page.next, page.total)?;
@@ -249,35 +254,36 @@ fn add_line(text: &mut Text, name: &[u8], number: u64) -> Result<(), Memory>
     text.extend_from_slice(b"\n")
 }
 
-/// How many marks a plan has.
-fn count_marks(plan: &Plan) -> u64
-    requires { IsPlan plan.now }
-    ensures { result ≡ marks_in plan.now }
+/// How many marks some groups have. More than a number of 64 bits tells are more than memory holds.
+fn count_marks(groups: &[Group]) -> Result<u64, Memory>
+    ensures { IfOk result (λ marks. marks ≡ sum_by (λ group. length group.marks) groups.now) }
 {
-    let mut marks = 0;
-    for group in plan.groups.as_slice() {
-        marks += group.marks.as_slice().len() as u64;
+    let mut marks = 0u64;
+    for group in groups {
+        let more = group.marks.as_slice().len() as u64;
+        marks = marks.checked_add(more).ok_or(Memory)?;
     }
-    marks
+    Ok(marks)
 }
 
 /// Whether the set is on a page.
+
 fn is_on(plan: &Plan, set: &Geometry, page: &ListPage) -> bool
     requires plan { IsPlan plan.now }
     requires total { total_of plan.now < 2 ^ 64 }
     ensures { result ≡ is_among plan.now set.now (map (λ held. held.rank) page.now.lines) }
 {
     match product_rank(plan, set) {
-        Some(rank) => has_rank(page, rank),
+        Some(rank) => has_rank(page.lines.as_slice(), rank),
         None => false,
     }
 }
 
-/// Whether a page has a set of this rank.
-fn has_rank(page: &ListPage, rank: u64) -> bool
-    ensures { result ≡ list_any (λ other. nat_eq other rank) (map (λ held. held.rank) page.now.lines) }
+/// Whether one of the lines has this rank.
+fn has_rank(lines: &[Line], rank: u64) -> bool
+    ensures { result ≡ list_any (λ held. nat_eq held.rank rank) lines.now }
 {
-    page.lines.as_slice().iter().any(|held| held.rank == rank)
+    lines.iter().any(|held| held.rank == rank)
 }
 
 /// The line that says whether the set is found.
@@ -285,9 +291,5 @@ fn has_rank(page: &ListPage, rank: u64) -> bool
 fn found_text(found: bool) -> &'static [u8]
     ensures { result.now ≡ found_line found }
 {
-    if found {
-        b"found yes\n"
-    } else {
-        b"found no\n"
-    }
+    if found { b"found yes\n" } else { b"found no\n" }
 }

@@ -35,8 +35,10 @@ fn an_array_without_marks(rt: HostRuntime) -> Result<(), Fail> {
     for _ in 0..2u8 {
         let (status, met) = run(&rt, alloc, SMALL)?;
         assert_eq!(rt; status, 0);
-        assert_eq!(rt; met.out.bytes(),
-            b"images 3\nsectors 16\nmarks 0\ntotal 1296\nfound yes\nnext 1296 of 1296\n".as_slice());
+        assert_eq!(rt;
+            met.out.bytes(),
+            b"images 3\nsectors 16\nmarks 0\ntotal 1296\nfound yes\nnext 1296 of 1296\n".as_slice()
+        );
         assert_eq!(rt; met.notes.bytes().len(), 0);
     }
     Ok(())

@@ -115,10 +115,7 @@ impl Stop {
             Stop::Images(_) => 4,
             Stop::Many => 5,
             Stop::Cursor(_) => 6,
-            Stop::Set(_)
-            | Stop::Slot(_)
-            | Stop::ArraySectors(_)
-            | Stop::VolumeSectors(_) => 7,
+            Stop::Set(_) | Stop::Slot(_) | Stop::ArraySectors(_) | Stop::VolumeSectors(_) => 7,
             Stop::Sector(_) => 8,
             Stop::ImageFault => 10,
             Stop::PlanFault => 11,

@@ -51,12 +51,24 @@ fn members_of_seven(rt: HostRuntime) -> Result<(), Fail> {
     let zeros = [0; 8];
     let q_and_data = begins(&rt, alloc, 0)?;
     assert_eq!(rt; q_and_data[0], zeros);
-    assert_eq!(rt; q_and_data[1], [0xf8, 0x90, 0xf8, 0xfd, 0x71, 0x40, 0x90, 0x8f]);
-    assert_eq!(rt; q_and_data[2], [0xc2, 0x47, 0x16, 0x4b, 0xed, 0x3e, 0x6e, 0x95]);
+    assert_eq!(rt;
+        q_and_data[1],
+        [0xf8, 0x90, 0xf8, 0xfd, 0x71, 0x40, 0x90, 0x8f]
+    );
+    assert_eq!(rt;
+        q_and_data[2],
+        [0xc2, 0x47, 0x16, 0x4b, 0xed, 0x3e, 0x6e, 0x95]
+    );
     let p_and_q = begins(&rt, alloc, 3)?;
     assert_eq!(rt; p_and_q[0], zeros);
-    assert_eq!(rt; p_and_q[1], [0x4e, 0xcd, 0x57, 0x0b, 0x20, 0x3f, 0x68, 0x15]);
-    assert_eq!(rt; p_and_q[2], [0x28, 0x55, 0x11, 0x08, 0xd9, 0xce, 0xf5, 0xb0]);
+    assert_eq!(rt;
+        p_and_q[1],
+        [0x4e, 0xcd, 0x57, 0x0b, 0x20, 0x3f, 0x68, 0x15]
+    );
+    assert_eq!(rt;
+        p_and_q[2],
+        [0x28, 0x55, 0x11, 0x08, 0xd9, 0xce, 0xf5, 0xb0]
+    );
     Ok(())
 }
 
@@ -68,15 +80,24 @@ fn last_group(rt: HostRuntime) {
         blocks: Some(1),
     };
     let block = volume_sector(&filling, 504);
-    assert_eq!(rt; &block[..8], [0x58, 0x46, 0x53, 0x42, 0, 0, 0x10, 0].as_slice());
+    assert_eq!(rt;
+        &block[..8],
+        [0x58, 0x46, 0x53, 0x42, 0, 0, 0x10, 0].as_slice()
+    );
     assert_eq!(rt; &block[30..34], [0, 0, 0xA5, 0xA5].as_slice());
     assert_eq!(rt; &block[46..50], [0xA5, 0xA5, 0, 0].as_slice());
     assert_eq!(rt; &block[84..92], [0, 0, 0, 1, 0, 0, 0, 64].as_slice());
     assert_eq!(rt; &block[100..105], [0, 0, 2, 0, 0].as_slice());
     let free = volume_sector(&filling, 505);
-    assert_eq!(rt; &free[..13], [0x58, 0x41, 0x47, 0x46, 0, 0, 0, 1, 0, 0, 0, 63, 0].as_slice());
+    assert_eq!(rt;
+        &free[..13],
+        [0x58, 0x41, 0x47, 0x46, 0, 0, 0, 1, 0, 0, 0, 63, 0].as_slice()
+    );
     let inodes = volume_sector(&filling, 506);
-    assert_eq!(rt; &inodes[..13], [0x58, 0x41, 0x47, 0x49, 0, 0, 0, 1, 0, 0, 0, 63, 0].as_slice());
+    assert_eq!(rt;
+        &inodes[..13],
+        [0x58, 0x41, 0x47, 0x49, 0, 0, 0, 1, 0, 0, 0, 63, 0].as_slice()
+    );
     let words = volume_sector(&filling, 507);
     assert_eq!(rt; words.as_slice(), random_sector(7, 507).as_slice());
     let past = volume_sector(&filling, 512);

@@ -1,6 +1,8 @@
-use Rattle.std.proofs.Common.{subst}
+use Rattle.std.proofs.Common.{Ok, subst, sym}
+use Rattle.run_ends.specs.Jobs.{Leaves}
+use Rattle.reraid_cli.specs.Answers.{streams}
 use Rattle.command_words.specs.declared.command.Command.{Command}
-use Rattle.reraid_cli.specs.Asked.{IsAsked}
+use Rattle.reraid_cli.specs.Asked.{IsAsked, counts_of}
 use Rattle.reraid_cli.proofs.Serving.{survey_asked, survey_order, survey_read, sample_asked, sample_order, sample_read, check_asked, check_order, check_read, list_asked, list_order, list_read, map_asked, map_order, rebuild_asked, rebuild_order, rebuild_reads, write_asked, write_order, write_reads}
 use Rattle.reraid_cli.proofs.running.serve.Goals as goal
 
@@ -139,7 +141,11 @@ returns-in-Sample-clause-order g c reading asked =
 pub returns-in-Sample-clause-leaves : goal.returns-in-Sample-clause-leaves
 returns-in-Sample-clause-leaves g c =
     let seen = g.I.Images.seen c.args.images.now in
-    c.sample.ensures.leaves seen.faults (g.S.Source.faults c.args.plan.now) seen.sectors_read
+    let plan = g.S.Source.faults c.args.plan.now in
+    let P : Command → Type 0 = λ k.
+    Leaves (streams (Ok k)) (counts_of (g.I.Images.seen c.args.images.now) (g.S.Source.faults c.args.plan.now) (g.K.Sink.faults c.args.out.now))
+    (counts_of (g.I.Images.seen c.args.images.now) (g.S.Source.faults c.args.plan.now) (g.K.Sink.faults c.sample.new.out)) (g.K.Sink.gained c.args.out.now) (g.K.Sink.gained c.sample.new.out) c.sample.result in
+    subst P (sym c.in-Sample.is) (c.sample.ensures.leaves seen.faults plan seen.sectors_read)
 
 pub returns-in-Sample-clause-reads : goal.returns-in-Sample-clause-reads
 returns-in-Sample-clause-reads g c reading asked =

@@ -12,9 +12,9 @@ use Rattle.raid_params.specs.declared.types.Geometry.{Geometry}
 use Rattle.plan_text.specs.SetText.{HasWord}
 use Rattle.search_plan.specs.Places.{level_place, pattern_place, syndrome_place}
 use Rattle.search_plan.specs.Plans.{AreBounds, AreRising, AreTests}
-use Rattle.command_words.specs.Commands.{AreAsked, IsCommandLine, IsWithin, bounds_of, chunks_or, command_of, drops_or, has_landmark, kinds_or, levels_or, members_or, number_in, number_or, patterns_or, sectors_or, set_in, survey_of, syndromes_or, tests_of}
+use Rattle.command_words.specs.Commands.{AreAsked, IsCommandLine, IsWithin, bounds_of, chunks_or, command_of, drops_or, has_landmark, kinds_or, levels_or, members_or, number_in, number_or, patterns_or, plain_survey, sectors_or, set_in, survey_of, syndromes_or, tests_of}
 use Rattle.command_words.specs.Items.{landmark_place}
-use Rattle.command_words.specs.Operands.{AreDrops, AreFitting, AreMembers, IsValueOf, kind_of, value_of}
+use Rattle.command_words.specs.Operands.{AreDrops, AreFitting, AreMembers, IsFitting, IsValueOf, kind_of, value_of}
 use Rattle.command_words.specs.declared.command.Command.{Command}
 use Rattle.command_words.specs.declared.command.Verb.{Verb}
 use Rattle.command_words.specs.declared.command.Verb.TheVariants.{Survey, List as ListVerb, Check, Map, Write, Rebuild, Sample}
@@ -224,6 +224,14 @@ number_is name os low high n kind fit e = subst (λ r. IfSome r (LiesIn low high
 
 lines_are : (m n : ℕ) → nat_le (m * n) 4000000 ≡ true → m * n ≤ 4000000
 lines_are m n is = leb-true (m * n) 4000000 is
+
+-- so it is with no operand
+none_fit : AreFitting []
+none_fit = All-nil (λ (operand : Operand). IsFitting operand)
+
+pub plain_asked : AreAsked plain_survey
+unfolding plain_survey
+plain_asked = asked_are [] 2 none_fit
 
 within : (verb : Verb) (os : List Operand) (n : ℕ) (command : Command) → AreFitting os → command_of verb os n ≡ Some command → IsWithin command
 within Survey os n command fit e = made_survey os n command IsWithin e (asked_are os n fit)

@@ -134,6 +134,10 @@ survey_of operands names = record {
   names = names;
 }
 
+-- what `survey` asks for where no operand is given
+unfoldable pub plain_survey : SurveyWords
+plain_survey = survey_of [] 2
+
 -- the command with these operands and so many words up to the names, unless an operand is missing that it
 -- asks for. A listing has 4,000,000 lines at most on all its pages together
 abbrev pub command_of : Verb → List Operand → ℕ → Option Command

@@ -1,6 +1,6 @@
 //! The commands, from their operands and defaults.
 ghost use Rattle.std.specs.Prelude.{◌≡◌, ◌≤◌, ◌<◌, ◌^◌, IfSome, length};
-ghost use Rattle.command_words.specs.Commands.{bounds_of, chunks_or, command_of, drops_or, form_or, kinds_or, levels_or, marks_or, members_or, number_in, patterns_or, sectors_or, set_in, survey_of, syndromes_or, tests_of, has_landmark};
+ghost use Rattle.command_words.specs.Commands.{AreAsked, plain_survey as plain_survey_words, bounds_of, chunks_or, command_of, drops_or, form_or, kinds_or, levels_or, marks_or, members_or, number_in, patterns_or, sectors_or, set_in, survey_of, syndromes_or, tests_of, has_landmark};
 ghost use Rattle.command_words.specs.Operands.{AreFitting, value_of};
 ghost use Rattle.command_words.specs.Steps.{lines_fit};
 
@@ -140,6 +140,15 @@ fn both_fit(size: Option<u64>, pages: Option<u64>) -> bool
         },
         None => true,
     }
+}
+
+/// What `survey` asks for where no operand is given.
+#[tactic(auto, using(crate::proofs::Limits::plain_asked), unfolding(crate::specs::Commands::plain_survey))]
+pub fn plain_survey() -> SurveyWords
+    ensures words { result ≡ plain_survey_words }
+    ensures asked { AreAsked result }
+{
+    survey(&[], 2)
 }
 
 /// What a survey is asked for.

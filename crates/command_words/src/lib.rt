@@ -23,6 +23,7 @@ mod tests;
 mod values;
 mod word;
 
+pub use building::plain_survey;
 pub use command::{Command, Form, SurveyWords};
 pub use laws::words_have_one_reading;
 pub use reading::read_words;

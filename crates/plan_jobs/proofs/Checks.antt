@@ -17,8 +17,8 @@ use Rattle.run_ends.specs.Agreement.{lengths_of, plan_fault}
 use Rattle.plan_jobs.specs.Checking.{check_output, check_refusal, check_text}
 use Rattle.run_ends.specs.Jobs.{Ends, IsPrinted, Refuses}
 use Rattle.plan_jobs.specs.Preparing.{IsPrepared}
-use Rattle.plan_jobs.specs.Plans.{IsTextOf, PlanReading, Reads, Refused, many_refusal}
-use Rattle.run_ends.specs.Stops.{first_of}
+use Rattle.plan_jobs.specs.Plans.{IsTextOf, PlanReading, Reads, Refused}
+use Rattle.run_ends.specs.Stops.{first_of, many_refusal}
 use Rattle.run_ends.specs.declared.stop.Stop.{Stop}
 use Rattle.run_ends.specs.declared.stop.Stop.TheVariants.{Many}
 

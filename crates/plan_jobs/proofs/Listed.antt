@@ -10,8 +10,7 @@ use Rattle.page_engine.specs.declared.page_parts.CursorFault.{CursorFault}
 use Rattle.page_engine.specs.declared.page_parts.PageFault.{PageFault}
 use Rattle.page_engine.specs.declared.page_parts.PageFault.TheVariants.{Many as PageMany, Cursor as PageCursor, ReadFault, Memory as PageMemory}
 use Rattle.run_ends.specs.Jobs.{HasCauses, IsUnreached, Orders, Refuses}
-use Rattle.plan_jobs.specs.Plans.{many_refusal}
-use Rattle.run_ends.specs.Stops.{first_of, stop_of_page}
+use Rattle.run_ends.specs.Stops.{first_of, stop_of_page, many_refusal}
 use Rattle.run_ends.specs.declared.stop.Stop.TheVariants.{Many, Cursor}
 use Rattle.raid_terms.specs.Page.{page_next, page_ranks}
 use Rattle.search_plan.specs.declared.plan.Plan.{Plan}

@@ -13,12 +13,12 @@ use Rattle.plan_text.specs.declared.fault.PlanFault.{PlanFault as PlanFaultOf}
 use Rattle.plan_text.specs.declared.fault.PlanFault.TheVariants.{Line as PlanLineOf, Memory}
 use Rattle.run_ends.specs.Agreement.{plan_fault}
 use Rattle.plan_jobs.specs.Preparing.{EndsPreparing, IsPrepared}
-use Rattle.plan_jobs.specs.Plans.{IsTextOf, PlanReading, Reads, Refused, many_refusal, plan_refusal, read_refusal}
+use Rattle.plan_jobs.specs.Plans.{IsTextOf, PlanReading, Reads, Refused, plan_refusal, read_refusal}
 use Rattle.run_ends.specs.Source.{EndsReading}
-use Rattle.run_ends.specs.Stops.{first_of, stop_of_plan}
+use Rattle.run_ends.specs.Stops.{first_of, stop_of_plan, many_refusal}
 use Rattle.run_ends.specs.declared.agreement.Disagreement.{Disagreement}
 use Rattle.run_ends.specs.declared.stop.Stop.{Stop}
-use Rattle.run_ends.specs.declared.stop.Stop.TheVariants.{Word, PlanLine, PlanIsLong, Images, Many, Cursor, Set, Slot, Sector, ImageFault, PlanFault, OutFault, NotBuilt, OutOfMemory}
+use Rattle.run_ends.specs.declared.stop.Stop.TheVariants.{Word, PlanLine, PlanIsLong, Images, Many, Cursor, Set, Slot, ArraySectors, VolumeSectors, Sector, ImageFault, PlanFault, OutFault, OutOfMemory}
 
 -- a text that was read as a plan says that plan
 says_plan : (text : List ℕ) (plan : Plan) (read : PlanReading) → ReadsPlan text (Ok plan) → IsTextOf text read → read ≡ Reads plan
@@ -58,11 +58,12 @@ reading_ends left names attached before now Many ends = absurd ends
 reading_ends left names attached before now (Cursor fault) ends = absurd ends
 reading_ends left names attached before now (Set fault) ends = absurd ends
 reading_ends left names attached before now (Slot slot) ends = absurd ends
+reading_ends left names attached before now (ArraySectors sectors) ends = absurd ends
+reading_ends left names attached before now (VolumeSectors sectors) ends = absurd ends
 reading_ends left names attached before now (Sector fault) ends = absurd ends
 reading_ends left names attached before now ImageFault ends = absurd ends
 reading_ends left names attached before now PlanFault ends = ends
 reading_ends left names attached before now OutFault ends = absurd ends
-reading_ends left names attached before now NotBuilt ends = absurd ends
 reading_ends left names attached before now OutOfMemory ends = tt
 
 -- the text is no plan

@@ -13,10 +13,10 @@ use Rattle.search_plan.specs.declared.plan.Plan.{Plan}
 use Rattle.run_ends.specs.Agreement.{count_fault, length_fault, lengths_of, other_length, plan_fault}
 use Rattle.run_ends.specs.Jobs.{Counts, HasCauses, Orders, Refuses}
 use Rattle.plan_jobs.specs.Preparing.{EndsPreparing, IsPrepared}
-use Rattle.plan_jobs.specs.Plans.{IsTextOf, PlanReading, Reads, many_refusal, plan_refusal}
-use Rattle.run_ends.specs.Stops.{EndsBy, IsExcused, IsRefusal, first_of}
+use Rattle.plan_jobs.specs.Plans.{IsTextOf, PlanReading, Reads, plan_refusal}
+use Rattle.run_ends.specs.Stops.{EndsBy, IsExcused, IsRefusal, first_of, many_refusal}
 use Rattle.run_ends.specs.declared.stop.Stop.{Stop}
-use Rattle.run_ends.specs.declared.stop.Stop.TheVariants.{Word, PlanLine, PlanIsLong, Images, Many, Cursor, Set, Slot, Sector, ImageFault, PlanFault, OutFault, NotBuilt, OutOfMemory}
+use Rattle.run_ends.specs.declared.stop.Stop.TheVariants.{Word, PlanLine, PlanIsLong, Images, Many, Cursor, Set, Slot, ArraySectors, VolumeSectors, Sector, ImageFault, PlanFault, OutFault, OutOfMemory}
 
 no_other : (given planned : List ℕ) (a n k : ℕ) → find (λ i. not (nat_eq (slice_index given i) (slice_index planned i))) (range_with_len a n) ≡ None → k < n → slice_index given (a + k) ≡ slice_index planned (a + k)
 no_other given planned a zero k e lt = absurd (omega arith)
@@ -125,11 +125,12 @@ unprepared left names attached before now Many later ends = by_refusal left name
 unprepared left names attached before now (Cursor fault) later ends = by_refusal left names attached before now (Cursor fault) later tt ends.1
 unprepared left names attached before now (Set fault) later ends = by_refusal left names attached before now (Set fault) later tt ends.1
 unprepared left names attached before now (Slot slot) later ends = by_refusal left names attached before now (Slot slot) later tt ends.1
+unprepared left names attached before now (ArraySectors sectors) later ends = by_refusal left names attached before now (ArraySectors sectors) later tt ends.1
+unprepared left names attached before now (VolumeSectors sectors) later ends = by_refusal left names attached before now (VolumeSectors sectors) later tt ends.1
 unprepared left names attached before now (Sector fault) later ends = by_refusal left names attached before now (Sector fault) later tt ends.1
 unprepared left names attached before now ImageFault later ends = absurd ends.0
 unprepared left names attached before now PlanFault later ends = by_outside left names attached before now PlanFault later tt (λ e. ends) (λ e. cc) (λ e. cc)
 unprepared left names attached before now OutFault later ends = absurd ends.0
-unprepared left names attached before now NotBuilt later ends = by_refusal left names attached before now NotBuilt later tt ends.1
 unprepared left names attached before now OutOfMemory later ends = by_outside left names attached before now OutOfMemory later tt (λ e. absurd (cc)) (λ e. cc) (λ e. cc)
 
 pub cause_unprepared : (left : Option (List ℕ)) (names : ℕ) (seen : Seen) (before now : ℕ) (stop : Stop) → before ≤ now → EndsPreparing left names seen.attached before now stop →

@@ -1,5 +1,5 @@
 -- What a text says as a plan, and the refusals of the commands over a plan.
-use Rattle.std.specs.Prelude.{ℕ, ◌≡◌, ◌^◌, nat_le, nat_lt, if◌then◌else◌, List, [], ◌∷◌, length}
+use Rattle.std.specs.Prelude.{ℕ, ◌≡◌, nat_lt, if◌then◌else◌, List, [], ◌∷◌, length}
 use Rattle.std.specs.Option.{option_map}
 use Rattle.std.specs.declared.option.Option.{Option}
 use Rattle.std.specs.declared.option.Option.TheVariants.{None, Some}
@@ -7,12 +7,11 @@ use Rattle.image_source.specs.Seen.{Image}
 use Rattle.raid_params.specs.declared.limits.TheConstants.{PLAN_BYTES}
 use Rattle.plan_text.specs.PlanText.{plan_text, IsRefusedLine}
 use Rattle.search_plan.specs.Plans.{IsPlan}
-use Rattle.search_plan.specs.Sets.{total_of}
 use Rattle.search_plan.specs.declared.plan.Plan.{Plan}
 use Rattle.run_ends.specs.Agreement.{plan_fault}
-use Rattle.run_ends.specs.Stops.{first_of}
+use Rattle.run_ends.specs.Stops.{first_of, many_refusal}
 use Rattle.run_ends.specs.declared.stop.Stop.{Stop}
-use Rattle.run_ends.specs.declared.stop.Stop.TheVariants.{PlanIsLong, PlanLine, Images, Many}
+use Rattle.run_ends.specs.declared.stop.Stop.TheVariants.{PlanIsLong, PlanLine, Images}
 
 -- what a text says: a plan, or none, and the line from which on it is none
 pub data PlanReading : Type 0 where
@@ -23,10 +22,6 @@ pub data PlanReading : Type 0 where
 abbrev pub IsTextOf : List ℕ → PlanReading → Type 0
 IsTextOf text (Reads plan) = IsPlan plan × (text ≡ plan_text plan)
 IsTextOf text (Refused number) = IsRefusedLine text number
-
--- the product has more sets than ranks
-abbrev pub many_refusal : Plan → Option Stop
-many_refusal plan = if nat_le (2 ^ 64) (total_of plan) then Some Many else None
 
 -- the images against the plan, then the product, then what else the command refuses
 abbrev pub agreed_refusal : Plan → ℕ → List Image → Option Stop → Option Stop

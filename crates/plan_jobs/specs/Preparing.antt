@@ -5,8 +5,8 @@ use Rattle.std.specs.declared.option.Option.TheVariants.{Some}
 use Rattle.image_source.specs.Causes.{Rose}
 use Rattle.image_source.specs.Seen.{Image}
 use Rattle.search_plan.specs.declared.plan.Plan.{Plan}
-use Rattle.plan_jobs.specs.Plans.{IsTextOf, PlanReading, Reads, many_refusal, plan_refusal}
-use Rattle.run_ends.specs.Stops.{IsRefusal, first_of}
+use Rattle.plan_jobs.specs.Plans.{IsTextOf, PlanReading, Reads, plan_refusal}
+use Rattle.run_ends.specs.Stops.{IsRefusal, first_of, many_refusal}
 use Rattle.run_ends.specs.declared.stop.Stop.{Stop}
 use Rattle.run_ends.specs.declared.stop.Stop.TheVariants.{PlanFault, OutOfMemory}
 

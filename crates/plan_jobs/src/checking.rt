@@ -5,8 +5,8 @@ ghost use Rattle.plan_jobs.specs.Checking.{check_output, check_reads, check_refu
 ghost use Rattle.run_ends.specs.Jobs.{Ends, HasCauses, Leaves, Orders, Refuses};
 ghost use Rattle.run_ends.specs.Source.{TakesFew};
 ghost use Rattle.std.specs.Io.KnownBytes.{IsAtEnd};
-ghost use Rattle.plan_jobs.specs.Plans.{IsTextOf, PlanReading, Reads, many_refusal};
-ghost use Rattle.run_ends.specs.Stops.{IsRefusal, first_of};
+ghost use Rattle.plan_jobs.specs.Plans.{IsTextOf, PlanReading, Reads};
+ghost use Rattle.run_ends.specs.Stops.{IsRefusal, first_of, many_refusal};
 ghost use Rattle.run_ends.specs.declared.stop.Stop.TheVariants.{ImageFault as ImageFaultOf, OutOfMemory as OutOfMemoryOf};
 ghost use Rattle.image_source.specs.Attached.{told_all};
 ghost use Rattle.image_source.specs.Causes.{Rose};

@@ -12,9 +12,9 @@ ghost use Rattle.page_engine.specs.Pages.{AgreeWith, ArePagesFrom, EndsPage};
 ghost use Rattle.page_engine.specs.declared.page_parts.PageFault.TheVariants.{Cursor as PageCursor, Many as PageMany};
 ghost use Rattle.run_ends.specs.Jobs.{Ends, HasCauses, Leaves, Orders, Refuses};
 ghost use Rattle.run_ends.specs.Source.{TakesFew};
-ghost use Rattle.run_ends.specs.Stops.{first_of};
+ghost use Rattle.run_ends.specs.Stops.{first_of, many_refusal};
 ghost use Rattle.plan_jobs.specs.Listing.{cursor_refusal, found_text, line_in, list_output, list_reads, list_refusal, listing, next_in};
-ghost use Rattle.plan_jobs.specs.Plans.{IsTextOf, PlanReading, Reads, many_refusal};
+ghost use Rattle.plan_jobs.specs.Plans.{IsTextOf, PlanReading, Reads};
 
 use crate::preparing::prepare;
 use command_words::Form;

@@ -6,13 +6,14 @@ use Rattle.image_source.specs.Seen.{Image, Seen, World}
 use Rattle.image_source.specs.Streams.{AppendsFront}
 use Rattle.std.proofs.lemmas.List.Elements.{All-cons, All-nil}
 use Rattle.command_words.specs.declared.command.Command.{Command}
-use Rattle.command_words.specs.Commands.{Reads, names_after}
+use Rattle.command_words.specs.Commands.{EndsInNames, Reads, names_after}
+use Rattle.command_words.specs.declared.command.Command.TheVariants.{Survey as SurveyCommand, Sample as SampleCommand, List as ListCommand, Check as CheckCommand, Map as MapCommand, Write as WriteCommand, Rebuild as RebuildCommand}
 use Rattle.command_words.proofs.OneReading.{one_reading as readings_agree}
 use Rattle.run_ends.specs.Jobs.{Ends, Leaves, MayHaveRead}
 use Rattle.run_ends.specs.declared.stop.Stop.{Stop}
 use Rattle.run_ends.specs.declared.stop.Stop.TheVariants.{ImageFault, Word}
 use Rattle.run_ends.proofs.Printed.{front_of_nothing, keeps_itself}
-use Rattle.reraid_cli.specs.Answers.{Reading, Says, IsPlanned, command_output, command_reads, command_refusal, most_reads, output, refusal}
+use Rattle.reraid_cli.specs.Answers.{Reading, Says, IsOwn, IsPlanned, command_output, command_reads, command_refusal, most_reads, output, refusal}
 use Rattle.reraid_cli.specs.Asked.{IsAsked, counts_of}
 
 -- words have one reading
@@ -96,3 +97,20 @@ leaves_after streams old attached new plan planned out gone gained now result fa
   nothing = leaves.nothing;
   unread = subst (λ (n : ℕ). IfErr result (λ stop. (MayHaveRead streams stop → ⊥) → new.sectors_read ≡ n)) read leaves.unread;
 }
+
+-- a command that works on images of its own names none
+pub own_names : (words : List (List ℕ)) (command : Command) → EndsInNames words command → IsOwn command → names_after words ≡ []
+own_names words (SampleCommand number set rows xfs) ends own = ends
+own_names words (SurveyCommand asked) ends own = absurd own
+own_names words (ListCommand from size span pages form names) ends own = absurd own
+own_names words (CheckCommand set names) ends own = absurd own
+own_names words (MapCommand set sector end names) ends own = absurd own
+own_names words (WriteCommand set end names) ends own = absurd own
+own_names words (RebuildCommand set slot end names) ends own = absurd own
+
+-- so nothing is attached for it
+pub none_named : (words names : List (List ℕ)) (said command : Command) → EndsInNames words said → Reads words (Ok said) → Reads words (Ok command) → IsOwn command → names ≡ names_after words → names ≡ []
+none_named words names said command ends one other own are =
+    let both : Ok command ≡ Ok said = one_reading words (Ok said) (Ok command) one other in
+    let same : command ≡ said = cc in
+    are ∙ own_names words said ends (subst IsOwn same own)

@@ -17,7 +17,7 @@ use Rattle.set_jobs.specs.Writing.{members_reads, rebuild_output, rebuild_refusa
 use Rattle.survey_job.specs.Surveying.{survey_output, survey_reads, survey_refusal}
 use Rattle.plan_jobs.specs.Plans.{IsTextOf, PlanReading, Reads, Refused, plan_reads}
 use Rattle.run_ends.specs.declared.stop.Stop.{Stop}
-use Rattle.run_ends.specs.declared.stop.Stop.TheVariants.{NotBuilt}
+use Rattle.sample_job.specs.Sampling.{sample_output, sample_refusal}
 use Rattle.run_ends.proofs.Printed.{keeps_itself, order_refused}
 use Rattle.reraid_cli.specs.Answers.{Reading, asked_of, command_output, command_reads, command_refusal, most_reads, output, refusal}
 use Rattle.reraid_cli.specs.Asked.{IsAsked}
@@ -75,18 +75,6 @@ pub rebuild_asked : (set : Geometry) (slot : ℕ) (end : Option ℕ) (n names : 
 rebuild_asked set slot end n names left reading attached old new r asked ends =
     let Q : ℕ → Type 0 = λ k. Ends (rebuild_refusal set slot end k attached) (rebuild_output set slot end attached (told_all attached)) old new r in
     ends_as (RebuildCommand set slot end n) reading attached old new r asked.command_is (subst Q (sym asked.names_are) ends)
-
-pub nothing_left : (streams : Bool) (counts : Counts) (old : Option (List ℕ)) → Leaves {T = Unit {0}} streams counts counts old old (Err NotBuilt)
-nothing_left streams counts old = record {
-  image_fault = λ e. absurd (cc);
-  plan_fault = λ e. absurd (cc);
-  out_fault = λ e. absurd (cc);
-  images_later = omega arith;
-  plan_later = omega arith;
-  out_later = omega arith;
-  nothing = λ h. keeps_itself old;
-  unread = λ h. refl;
-}
 
 -- a job that takes no plan leaves the counts of the plan as they are
 pub planless : {T : Type 0} (streams : Bool) (images later out after sectors read plan : ℕ) (gained now : Option (List ℕ)) (r : Result T Stop) →
@@ -194,15 +182,15 @@ pub survey_read : (asked : SurveyWords) (names before after : ℕ) (left : Optio
     IfSome (most_reads reading attached) (λ k. after ≤ before + k)
 survey_read asked names before after left reading attached is few = reads_as (SurveyCommand asked) reading attached before after is.command_is few
 
--- a command that is not built
-pub sample_ends : (number : ℕ) (set : Geometry) (rows : ℕ) (xfs : Bool) (names : ℕ) (left : Option (List ℕ)) (reading : Reading) (attached : List Image) (old : Option (List ℕ)) → IsAsked (SampleCommand number set rows xfs) names left reading →
-    Ends {T = Unit {0}} (refusal reading attached) (output reading attached) old old (Err NotBuilt)
-sample_ends number set rows xfs names left reading attached old is =
-    ends_as (SampleCommand number set rows xfs) reading attached old old (Err NotBuilt) is.command_is (record { ends = inr refl; passes = tt; puts = tt; front = tt })
+-- `sample` looks at no image that is given
+pub sample_asked : (number : ℕ) (set : Geometry) (rows : ℕ) (xfs : Bool) (names : ℕ) (left : Option (List ℕ)) (reading : Reading) (attached : List Image) (old new : Option (List ℕ)) (r : Result (Unit {0}) Stop) →
+    IsAsked (SampleCommand number set rows xfs) names left reading → Ends (sample_refusal number set rows xfs) (Some (sample_output number set rows xfs)) old new r → Ends (refusal reading attached) (output reading attached) old new r
+sample_asked number set rows xfs names left reading attached old new r is ends = ends_as (SampleCommand number set rows xfs) reading attached old new r is.command_is ends
 
-pub sample_order : (number : ℕ) (set : Geometry) (rows : ℕ) (xfs : Bool) (reading : Reading) (attached : List Image) (read : ℕ) (old : Option (List ℕ)) →
-    Orders {T = Unit {0}} (refusal reading attached) read read old old (Err NotBuilt)
-sample_order number set rows xfs reading attached read old = order_refused (refusal reading attached) read old NotBuilt tt
+pub sample_order : (number : ℕ) (set : Geometry) (rows : ℕ) (xfs : Bool) (names read : ℕ) (left : Option (List ℕ)) (reading : Reading) (attached : List Image) (old new : Option (List ℕ)) (r : Result (Unit {0}) Stop) →
+    IsAsked (SampleCommand number set rows xfs) names left reading → Orders (sample_refusal number set rows xfs) read read old new r → Orders (refusal reading attached) read read old new r
+sample_order number set rows xfs names read left reading attached old new r is order =
+    order_as (SampleCommand number set rows xfs) reading attached read read old new r is.command_is order
 
 pub sample_read : (number : ℕ) (set : Geometry) (rows : ℕ) (xfs : Bool) (names before : ℕ) (left : Option (List ℕ)) (reading : Reading) (attached : List Image) → IsAsked (SampleCommand number set rows xfs) names left reading →
     IfSome (most_reads reading attached) (λ k. before ≤ before + k)

@@ -4,7 +4,7 @@ use Rattle.std.proofs.lemmas.List.{take_all}
 use Rattle.image_source.specs.Causes.{HasCause}
 use Rattle.image_source.specs.Streams.{Puts}
 use Rattle.run_ends.specs.declared.stop.Stop.{Stop}
-use Rattle.run_ends.specs.declared.stop.Stop.TheVariants.{Word, PlanLine, PlanIsLong, Images, Many, Cursor, Set, Slot, Sector, ImageFault, PlanFault, OutFault, NotBuilt, OutOfMemory}
+use Rattle.run_ends.specs.declared.stop.Stop.TheVariants.{Word, PlanLine, PlanIsLong, Images, Many, Cursor, Set, Slot, ArraySectors, VolumeSectors, Sector, ImageFault, PlanFault, OutFault, OutOfMemory}
 use Rattle.run_ends.specs.Jobs.{MayHavePut, MayHaveRead}
 use Rattle.run_ends.specs.Stops.{EndsBy, IsExcused, note_of, status_of}
 use Rattle.reraid_cli.specs.Answers.{IsNoted, has_numbers, note_by, note_for, status_by, statuses}
@@ -19,12 +19,13 @@ status_known Many = (5, omega arith, refl)
 status_known (Cursor fault) = (6, omega arith, refl)
 status_known (Set fault) = (7, omega arith, refl)
 status_known (Slot slot) = (7, omega arith, refl)
+status_known (ArraySectors sectors) = (7, omega arith, refl)
+status_known (VolumeSectors sectors) = (7, omega arith, refl)
 status_known (Sector fault) = (8, omega arith, refl)
 status_known ImageFault = (9, omega arith, refl)
 status_known PlanFault = (10, omega arith, refl)
 status_known OutFault = (11, omega arith, refl)
-status_known NotBuilt = (12, omega arith, refl)
-status_known OutOfMemory = (13, omega arith, refl)
+status_known OutOfMemory = (12, omega arith, refl)
 
 -- no status is 0
 pub status_some : (stop : Stop) → status_of stop ≢ 0
@@ -36,11 +37,12 @@ status_some Many e = absurd (omega arith)
 status_some (Cursor fault) e = absurd (omega arith)
 status_some (Set fault) e = absurd (omega arith)
 status_some (Slot slot) e = absurd (omega arith)
+status_some (ArraySectors sectors) e = absurd (omega arith)
+status_some (VolumeSectors sectors) e = absurd (omega arith)
 status_some (Sector fault) e = absurd (omega arith)
 status_some ImageFault e = absurd (omega arith)
 status_some PlanFault e = absurd (omega arith)
 status_some OutFault e = absurd (omega arith)
-status_some NotBuilt e = absurd (omega arith)
 status_some OutOfMemory e = absurd (omega arith)
 
 -- the line of a stop is that of its status, unless it holds numbers
@@ -53,11 +55,12 @@ note_same Many other = refl
 note_same (Cursor fault) other = absurd (cc)
 note_same (Set fault) other = absurd (cc)
 note_same (Slot slot) other = absurd (cc)
+note_same (ArraySectors sectors) other = absurd (cc)
+note_same (VolumeSectors sectors) other = absurd (cc)
 note_same (Sector fault) other = absurd (cc)
 note_same ImageFault other = refl
 note_same PlanFault other = refl
 note_same OutFault other = refl
-note_same NotBuilt other = refl
 note_same OutOfMemory other = refl
 
 -- an excused stop has one of these statuses
@@ -70,11 +73,12 @@ not_excused Many a b c d h = h
 not_excused (Cursor fault) a b c d h = h
 not_excused (Set fault) a b c d h = h
 not_excused (Slot slot) a b c d h = h
+not_excused (ArraySectors sectors) a b c d h = h
+not_excused (VolumeSectors sectors) a b c d h = h
 not_excused (Sector fault) a b c d h = h
 not_excused ImageFault a b c d h = a refl
 not_excused PlanFault a b c d h = b refl
 not_excused OutFault a b c d h = c refl
-not_excused NotBuilt a b c d h = h
 not_excused OutOfMemory a b c d h = d refl
 
 by_refusal_of : (refused : Option Stop) (stop : Stop) → EndsBy refused stop → (IsExcused stop → ⊥) → refused ≡ Some stop
@@ -111,11 +115,12 @@ with_numbers Many e h = h
 with_numbers (Cursor fault) e h = h
 with_numbers (Set fault) e h = h
 with_numbers (Slot slot) e h = h
+with_numbers (ArraySectors sectors) e h = h
+with_numbers (VolumeSectors sectors) e h = h
 with_numbers (Sector fault) e h = h
 with_numbers ImageFault e h = absurd (cc)
 with_numbers PlanFault e h = absurd (cc)
 with_numbers OutFault e h = absurd (cc)
-with_numbers NotBuilt e h = h
 with_numbers OutOfMemory e h = absurd (cc)
 
 -- the line that holds numbers is that of the refusal
@@ -135,11 +140,12 @@ put_nothing streams Many status is ten twelve h = h
 put_nothing streams (Cursor fault) status is ten twelve h = h
 put_nothing streams (Set fault) status is ten twelve h = h
 put_nothing streams (Slot slot) status is ten twelve h = h
+put_nothing streams (ArraySectors sectors) status is ten twelve h = h
+put_nothing streams (VolumeSectors sectors) status is ten twelve h = h
 put_nothing streams (Sector fault) status is ten twelve h = h
 put_nothing streams ImageFault status is ten twelve h = ten is
 put_nothing streams PlanFault status is ten twelve h = h
 put_nothing streams OutFault status is ten twelve h = twelve is
-put_nothing streams NotBuilt status is ten twelve h = h
 put_nothing streams OutOfMemory status is ten twelve h = h
 
 pub put_before : (stop : Stop) (status : ℕ) → status ≡ status_of stop → status ≡ 10 → MayHavePut false stop → ⊥
@@ -151,11 +157,12 @@ put_before Many status is ten h = h
 put_before (Cursor fault) status is ten h = h
 put_before (Set fault) status is ten h = h
 put_before (Slot slot) status is ten h = h
+put_before (ArraySectors sectors) status is ten h = h
+put_before (VolumeSectors sectors) status is ten h = h
 put_before (Sector fault) status is ten h = h
 put_before ImageFault status is ten h = absurd (cc)
 put_before PlanFault status is ten h = h
 put_before OutFault status is ten h = absurd (omega arith)
-put_before NotBuilt status is ten h = h
 put_before OutOfMemory status is ten h = h
 
 pub read_nothing : (streams : Bool) (stop : Stop) (status : ℕ) → status ≡ status_of stop → status ≢ 10 → status ≢ 12 → status ≢ 20 → MayHaveRead streams stop → ⊥
@@ -167,11 +174,12 @@ read_nothing streams Many status is ten twelve twenty h = h
 read_nothing streams (Cursor fault) status is ten twelve twenty h = h
 read_nothing streams (Set fault) status is ten twelve twenty h = h
 read_nothing streams (Slot slot) status is ten twelve twenty h = h
+read_nothing streams (ArraySectors sectors) status is ten twelve twenty h = h
+read_nothing streams (VolumeSectors sectors) status is ten twelve twenty h = h
 read_nothing streams (Sector fault) status is ten twelve twenty h = h
 read_nothing streams ImageFault status is ten twelve twenty h = ten is
 read_nothing streams PlanFault status is ten twelve twenty h = h
 read_nothing streams OutFault status is ten twelve twenty h = twelve is
-read_nothing streams NotBuilt status is ten twelve twenty h = h
 read_nothing streams OutOfMemory status is ten twelve twenty h = twenty is
 
 -- a job that puts as it reads has not read where memory is wanting
@@ -184,11 +192,12 @@ read_no_memory Many status is twenty h = h
 read_no_memory (Cursor fault) status is twenty h = h
 read_no_memory (Set fault) status is twenty h = h
 read_no_memory (Slot slot) status is twenty h = h
+read_no_memory (ArraySectors sectors) status is twenty h = h
+read_no_memory (VolumeSectors sectors) status is twenty h = h
 read_no_memory (Sector fault) status is twenty h = h
 read_no_memory ImageFault status is twenty h = absurd (omega arith)
 read_no_memory PlanFault status is twenty h = h
 read_no_memory OutFault status is twenty h = absurd (omega arith)
-read_no_memory NotBuilt status is twenty h = h
 read_no_memory OutOfMemory status is twenty h = absurd (cc)
 
 -- only faults of the images and of the output have their statuses
@@ -201,11 +210,12 @@ not_ten Many status is other ten = absurd (omega arith)
 not_ten (Cursor fault) status is other ten = absurd (omega arith)
 not_ten (Set fault) status is other ten = absurd (omega arith)
 not_ten (Slot slot) status is other ten = absurd (omega arith)
+not_ten (ArraySectors sectors) status is other ten = absurd (omega arith)
+not_ten (VolumeSectors sectors) status is other ten = absurd (omega arith)
 not_ten (Sector fault) status is other ten = absurd (omega arith)
 not_ten ImageFault status is other ten = other refl
 not_ten PlanFault status is other ten = absurd (omega arith)
 not_ten OutFault status is other ten = absurd (omega arith)
-not_ten NotBuilt status is other ten = absurd (omega arith)
 not_ten OutOfMemory status is other ten = absurd (omega arith)
 
 pub not_twelve : (stop : Stop) (status : ℕ) → status ≡ status_of stop → (IsErrOf {T = Unit {0}} (Err stop) OutFault → ⊥) → status ≢ 12
@@ -217,9 +227,10 @@ not_twelve Many status is other twelve = absurd (omega arith)
 not_twelve (Cursor fault) status is other twelve = absurd (omega arith)
 not_twelve (Set fault) status is other twelve = absurd (omega arith)
 not_twelve (Slot slot) status is other twelve = absurd (omega arith)
+not_twelve (ArraySectors sectors) status is other twelve = absurd (omega arith)
+not_twelve (VolumeSectors sectors) status is other twelve = absurd (omega arith)
 not_twelve (Sector fault) status is other twelve = absurd (omega arith)
 not_twelve ImageFault status is other twelve = absurd (omega arith)
 not_twelve PlanFault status is other twelve = absurd (omega arith)
 not_twelve OutFault status is other twelve = other refl
-not_twelve NotBuilt status is other twelve = absurd (omega arith)
 not_twelve OutOfMemory status is other twelve = absurd (omega arith)

@@ -19,8 +19,9 @@ use Rattle.set_jobs.specs.Mapping.{map_refusal, map_text, set_refusal}
 use Rattle.plan_jobs.specs.Plans.{IsTextOf, PlanReading, plan_reads}
 use Rattle.set_jobs.specs.Writing.{members_reads, rebuild_output, rebuild_refusal, write_output}
 use Rattle.run_ends.specs.Stops.{note_of, status_of}
+use Rattle.sample_job.specs.Sampling.{sample_output, sample_refusal}
 use Rattle.run_ends.specs.declared.stop.Stop.{Stop}
-use Rattle.run_ends.specs.declared.stop.Stop.TheVariants.{Word, PlanIsLong, Many, ImageFault, PlanFault, OutFault, NotBuilt, OutOfMemory}
+use Rattle.run_ends.specs.declared.stop.Stop.TheVariants.{Word, PlanIsLong, Many, ImageFault, PlanFault, OutFault, OutOfMemory}
 
 -- what a run is asked: the command that the words say, or the refused word; how many images they name; and,
 -- for a command over a plan, the text that the source had left, and what it says as a plan
@@ -35,6 +36,11 @@ abbrev pub IsPlanned : Result Command ℕ → Type 0
 IsPlanned (Ok (ListCommand from size span pages form names)) = Unit {0}
 IsPlanned (Ok (CheckCommand set names)) = Unit {0}
 IsPlanned _ = ⊥
+
+-- the command works on images of its own
+abbrev pub IsOwn : Command → Type 0
+IsOwn (SampleCommand number set rows xfs) = Unit {0}
+IsOwn _ = ⊥
 
 -- the words and the source say this
 pub record Says (words : List (List ℕ)) (left : Option (List ℕ)) (reading : Reading) : Type 0 where
@@ -56,7 +62,7 @@ command_refusal (Ok (CheckCommand set names)) reading attached = check_refusal s
 command_refusal (Ok (MapCommand set sector end names)) reading attached = map_refusal set sector end reading.names attached
 command_refusal (Ok (WriteCommand set end names)) reading attached = set_refusal set end reading.names attached
 command_refusal (Ok (RebuildCommand set slot end names)) reading attached = rebuild_refusal set slot end reading.names attached
-command_refusal (Ok (SampleCommand number set rows xfs)) reading attached = Some NotBuilt
+command_refusal (Ok (SampleCommand number set rows xfs)) reading attached = sample_refusal number set rows xfs
 
 -- the first refusal of a run, in the order of work
 unfoldable pub refusal : Reading → List Image → Option Stop
@@ -71,7 +77,7 @@ command_output (Ok (CheckCommand set names)) reading attached = check_output set
 command_output (Ok (MapCommand set sector end names)) reading attached = Some (map_text set sector)
 command_output (Ok (WriteCommand set end names)) reading attached = write_output set end attached (told_all attached)
 command_output (Ok (RebuildCommand set slot end names)) reading attached = rebuild_output set slot end attached (told_all attached)
-command_output (Ok (SampleCommand number set rows xfs)) reading attached = None
+command_output (Ok (SampleCommand number set rows xfs)) reading attached = Some (sample_output number set rows xfs)
 
 -- what a run prints
 unfoldable pub output : Reading → List Image → Option (List ℕ)
@@ -81,7 +87,8 @@ output reading attached = command_output reading.words reading attached
 -- smallest offset to the end, and one of entries for each partition table that counts; `list` reads at most
 -- the tested rows of each image for each set of its range, and once for each offset those of the chunk that has most;
 -- `check` at most the tested rows of its set, both none of a set of which nothing can break a row; `write` and
--- `rebuild` at most each sector of each member that is there, `map` none
+-- `rebuild` at most each sector of each member that is there, `map` none, and `sample`
+-- none of those given
 abbrev pub command_reads : Result Command ℕ → Reading → List Image → Option ℕ
 command_reads (Ok (SurveyCommand asked)) reading attached = Some (survey_reads asked attached)
 command_reads (Ok (ListCommand from size span pages form names)) reading attached = plan_reads (list_reads (asked_of from size span pages form)) reading.plan
@@ -118,7 +125,6 @@ note_for status =
     else if status == 10 then note_of ImageFault
     else if status == 11 then note_of PlanFault
     else if status == 12 then note_of OutFault
-    else if status == 19 then note_of NotBuilt
     else note_of OutOfMemory
 
 -- the statuses whose line holds numbers
@@ -127,7 +133,7 @@ has_numbers status = if status == 1 then true else if status == 2 then true else
 
 -- the statuses that a run may end with
 abbrev pub statuses : List ℕ
-statuses = 0 ∷ 1 ∷ 2 ∷ 3 ∷ 4 ∷ 5 ∷ 6 ∷ 7 ∷ 8 ∷ 10 ∷ 11 ∷ 12 ∷ 19 ∷ 20 ∷ []
+statuses = 0 ∷ 1 ∷ 2 ∷ 3 ∷ 4 ∷ 5 ∷ 6 ∷ 7 ∷ 8 ∷ 10 ∷ 11 ∷ 12 ∷ 20 ∷ []
 
 -- the notes gained the line, or a front of it where they failed
 pub record IsNoted (faults : ℕ) (old new : Option (List ℕ)) (noted : List ℕ) : Type 0 where

@@ -6,13 +6,14 @@ ghost use Rattle.run_ends.specs.Jobs.{Ends, Leaves, Orders};
 ghost use Rattle.run_ends.specs.Source.{TakesFew};
 ghost use Rattle.command_words.specs.Commands.{EndsInNames, IsCommandLine, IsWithin, Reads, names_after};
 ghost use Rattle.command_words.specs.declared.command.Command.{Command as CommandOf};
-ghost use Rattle.reraid_cli.specs.Answers.{IsPlanned, Reading, Says, most_reads, output, refusal, streams};
+ghost use Rattle.reraid_cli.specs.Answers.{IsOwn, IsPlanned, Reading, Says, most_reads, output, refusal, streams};
 ghost use Rattle.reraid_cli.specs.Asked.{IsAsked, counts_of};
 
 use command_words::{Command, Word, read_words};
 use image_source::{Images, MOST_ATTACHED, Sink, Source};
 use plan_jobs::{Listing, check, list};
 use run_ends::{Stop, attach_front};
+use sample_job::sample;
 use set_jobs::{map, rebuild, write};
 use std::alloc::Global;
 use survey_job::survey;
@@ -40,6 +41,7 @@ pub fn run<S: Source, I: Images, K: Sink>(
     ensures words { (number : ℕ) → Reads words.now (Err number) → IsErrOf result (Stop.Word number) × (I.seen images.new ≡ I.seen images.old) }
     ensures unasked { (read : Result CommandOf ℕ) → Reads words.now read → (IsPlanned read → ⊥) →
         (S.left plan.new ≡ S.left plan.old) × (S.faults plan.new ≡ S.faults plan.old) }
+    ensures own { (command : CommandOf) → Reads words.now (Ok command) → IsOwn command → I.seen images.new ≡ I.seen images.old }
     ensures cut { length (I.seen images.new).attached < min (length (names_after words.now)) MOST_ATTACHED →
         Keeps (K.gained out.old) (K.gained out.new) × ((I.seen images.new).sectors_read ≡ (I.seen images.old).sectors_read)
         × (S.left plan.new ≡ S.left plan.old) × (S.faults plan.new ≡ S.faults plan.old) × (K.faults out.new ≡ K.faults out.old) }
@@ -97,6 +99,7 @@ fn serve<S: Source, I: Images, K: Sink>(
     ensures reads { (reading : Reading) → IsAsked command names (S.left plan.old) reading →
         IfSome (most_reads reading (I.seen images.old).attached) (λ n. (I.seen images.new).sectors_read ≤ (I.seen images.old).sectors_read + n) }
     ensures unasked { (IsPlanned (Ok command) → ⊥) → (S.left plan.new ≡ S.left plan.old) × (S.faults plan.new ≡ S.faults plan.old) }
+    ensures own { IsOwn command → I.seen images.new ≡ I.seen images.old }
     ensures world { (I.seen images.new).world ≡ (I.seen images.old).world }
     ensures kept { (I.seen images.new).attached ≡ (I.seen images.old).attached }
 {
@@ -130,6 +133,11 @@ fn serve<S: Source, I: Images, K: Sink>(
         Command::Rebuild { set, slot, end, .. } => {
             rebuild(alloc, images, names, &set, slot, end, out)
         }
-        Command::Sample { .. } => Err(Stop::NotBuilt),
+        Command::Sample {
+            number,
+            set,
+            rows,
+            xfs,
+        } => sample(alloc, number, &set, rows, xfs, out),
     }
 }

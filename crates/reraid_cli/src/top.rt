@@ -8,7 +8,7 @@ ghost use Rattle.image_source.specs.Attached.{AreImagesOf};
 ghost use Rattle.image_source.specs.Streams.{AppendsFront};
 ghost use Rattle.command_words.specs.Commands.{IsCommandLine, Reads, names_after};
 ghost use Rattle.command_words.specs.declared.command.Command.{Command};
-ghost use Rattle.reraid_cli.specs.Answers.{IsNoted, IsOrdered, IsPlanned, Reading, Says, has_numbers, most_reads, note_by, note_for, output, refusal, status_by, statuses, streams};
+ghost use Rattle.reraid_cli.specs.Answers.{IsNoted, IsOrdered, IsOwn, IsPlanned, Reading, Says, has_numbers, most_reads, note_by, note_for, output, refusal, status_by, statuses, streams};
 
 use crate::running::run;
 use command_words::Word;
@@ -22,7 +22,7 @@ use std::thread::Threads;
 /// plan. 4: the images are not those that the plan or the command takes. 5: the plan has more sets
 /// than ranks. 6: the first rank asked for is past the total. 7: the set breaks a rule. 8: the
 /// sector asked for is past the end of the volume. 10, 11 and 12: the images, the plan or the output
-/// failed. 19: the command is `sample`, which is not built yet. 20: out of memory.
+/// failed. 20: out of memory.
 pub fn reraid<R: Threads + Sync, S: Source, I: Images, K: Sink, N: Sink>(
     _rt: &R,
     alloc: Global,
@@ -55,6 +55,9 @@ pub fn reraid<R: Threads + Sync, S: Source, I: Images, K: Sink, N: Sink>(
 
     // Words that are no command line are refused before anything is touched.
     ensures words { (number : ℕ) → Reads words.now (Err number) → (result ≡ 1) × (I.seen images.new ≡ I.seen images.old) }
+
+    // `sample` works on images of its own: those given are not touched.
+    ensures own { (command : Command) → IsCommandLine words.now command → IsOwn command → I.seen images.new ≡ I.seen images.old }
 
     // Only a command over a plan takes from the source.
     ensures unasked { (read : Result Command ℕ) → Reads words.now read → (IsPlanned read → ⊥) →

@@ -1,7 +1,7 @@
 //! Tests that run the whole program over objects in memory.
 //!
 //! Each run has words, images and a plan, and a status, an output and a note that were worked out by hand.
-//! `listings`, `checks`, `landmarks`, `surveys` and `volumes` have answers, `refusals` what is refused, `faults` each call of each
+//! `listings`, `checks`, `landmarks`, `samples`, `surveys` and `volumes` have answers, `refusals` what is refused, `faults` each call of each
 //! object made to fail in turn. That objects are ready for a run stands in `specs/Named`.
 #![tactic(auto)]
 
@@ -23,6 +23,8 @@ mod plans;
 mod refusals;
 #[cfg(test)]
 mod rows;
+#[cfg(test)]
+mod samples;
 #[cfg(test)]
 mod surveys;
 #[cfg(test)]

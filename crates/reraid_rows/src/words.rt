@@ -43,6 +43,8 @@ pub enum Command<'a> {
     Write(&'a [Operand<'a>]),
     /// The member of a slot of a set.
     Rebuild(&'a [Operand<'a>]),
+    /// What of an array that is generated is found.
+    Sample(&'a [Operand<'a>]),
 }
 
 /// The words of a command over images of these names.
@@ -66,6 +68,7 @@ fn words_before_names(alloc: Global, command: &Command) -> Result<Vec<Word>, Mem
         Command::Map(operands) => words_of(alloc, "map", operands),
         Command::Write(operands) => words_of(alloc, "write", operands),
         Command::Rebuild(operands) => words_of(alloc, "rebuild", operands),
+        Command::Sample(operands) => words_of(alloc, "sample", operands),
     }
 }
 

@@ -1,10 +1,12 @@
 -- What a stop says: its status and its line.
-use Rattle.std.specs.Prelude.{ℕ, ◌≡◌, ◌⊎◌, List, [], ◌∷◌, ◌++◌, codes, decimal}
+use Rattle.std.specs.Prelude.{ℕ, ◌≡◌, ◌^◌, ◌⊎◌, nat_le, if◌then◌else◌, List, [], ◌∷◌, ◌++◌, codes, decimal}
 use Rattle.std.specs.declared.option.Option.{Option}
 use Rattle.std.specs.declared.option.Option.TheVariants.{None, Some}
 use Rattle.raid_params.specs.declared.types.GeoFault.{GeoFault}
 use Rattle.raid_params.specs.declared.types.GeoFault.TheVariants.{Members, Pattern, Syndrome, Chunk, Image, Repeat, Missing, NoRow}
 use Rattle.search_plan.specs.Places.{pattern_place, syndrome_place}
+use Rattle.search_plan.specs.Sets.{total_of}
+use Rattle.search_plan.specs.declared.plan.Plan.{Plan}
 use Rattle.page_engine.specs.declared.page_parts.PageFault.{PageFault}
 use Rattle.page_engine.specs.declared.page_parts.PageFault.TheVariants.{Many as PageMany, Cursor as PageCursor, ReadFault, Memory as PageMemory}
 use Rattle.virtual_volume.specs.declared.volume.VolumeFault.{VolumeFault}
@@ -14,7 +16,7 @@ use Rattle.plan_text.specs.declared.fault.PlanFault.TheVariants.{Line as PlanLin
 use Rattle.run_ends.specs.declared.agreement.Kind.{Kind}
 use Rattle.run_ends.specs.declared.agreement.Kind.TheVariants.{Count, Length, End}
 use Rattle.run_ends.specs.declared.stop.Stop.{Stop}
-use Rattle.run_ends.specs.declared.stop.Stop.TheVariants.{Word, PlanLine, PlanIsLong, Images, Many, Cursor, Set, Slot, Sector, ImageFault, PlanFault, OutFault, NotBuilt, OutOfMemory}
+use Rattle.run_ends.specs.declared.stop.Stop.TheVariants.{Word, PlanLine, PlanIsLong, Images, Many, Cursor, Set, Slot, ArraySectors, VolumeSectors, Sector, ImageFault, PlanFault, OutFault, OutOfMemory}
 
 -- the number of a set rule, in the order of the rules
 abbrev pub rule_of : GeoFault → ℕ
@@ -48,11 +50,12 @@ status_of Many = 5
 status_of (Cursor fault) = 6
 status_of (Set fault) = 7
 status_of (Slot slot) = 7
+status_of (ArraySectors sectors) = 7
+status_of (VolumeSectors sectors) = 7
 status_of (Sector fault) = 8
 status_of ImageFault = 10
 status_of PlanFault = 11
 status_of OutFault = 12
-status_of NotBuilt = 19
 status_of OutOfMemory = 20
 
 -- the stop of a fault of the plan
@@ -93,11 +96,12 @@ note_of Many = codes "reraid: the product has more than 18446744073709551615 set
 note_of (Cursor fault) = codes "reraid: cursor " ++ decimal fault.from ++ codes " is past " ++ decimal fault.total ++ codes "\n"
 note_of (Set fault) = rule_line (rule_of fault) (value_of fault)
 note_of (Slot slot) = rule_line 9 slot
+note_of (ArraySectors sectors) = rule_line 10 sectors
+note_of (VolumeSectors sectors) = rule_line 11 sectors
 note_of (Sector fault) = codes "reraid: sector " ++ decimal fault.sector ++ codes " of " ++ decimal fault.size ++ codes "\n"
 note_of ImageFault = codes "reraid: image read fault\n"
 note_of PlanFault = codes "reraid: plan read fault\n"
 note_of OutFault = codes "reraid: output fault\n"
-note_of NotBuilt = codes "reraid: not built\n"
 note_of OutOfMemory = codes "reraid: out of memory\n"
 
 -- a stop for which the outside, or memory, is the cause
@@ -129,3 +133,7 @@ abbrev pub first_of : List (Option Stop) → Option Stop
 first_of [] = None
 first_of (None ∷ refusals) = first_of refusals
 first_of (Some stop ∷ refusals) = Some stop
+
+-- the product has more sets than ranks
+abbrev pub many_refusal : Plan → Option Stop
+many_refusal plan = if nat_le (2 ^ 64) (total_of plan) then Some Many else None

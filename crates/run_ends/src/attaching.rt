@@ -22,15 +22,20 @@ fn attach_all<I: Images>(images: &mut I, names: &[Word]) -> Result<(), Failed>
     Ok(())
 }
 
-/// Attaches the images of the first of these names, of as many as may be attached.
-#[tactic(auto, using(crate::proofs::OneByOne::attached_front))]
+/// Attaches the images of the first of these names, of as many as may be attached. Without names nothing
+/// is touched.
+#[tactic(auto, using(crate::proofs::OneByOne::attached_front, crate::proofs::OneByOne::none_attached))]
 pub fn attach_front<I: Images>(images: &mut I, names: &[Word]) -> Result<(), Failed>
     requires fresh { (I.seen images.old).attached ≡ [] }
     requires named { All (λ name. IsTrue ((I.seen images.old).world.may_attach name)) names.now }
     ensures some { AttachesSome (I.seen images.old) (I.seen images.new) names.now }
+    ensures none { names.now ≡ [] → I.seen images.new ≡ I.seen images.old }
     ensures all { OnOk result (length (I.seen images.new).attached ≡ min (length names.now) MOST_ATTACHED) }
     ensures fewer { OnErr result (length (I.seen images.new).attached < min (length names.now) MOST_ATTACHED) }
     ensures cause { HasCause (I.seen images.old).faults (I.seen images.new).faults result }
 {
+    if names.is_empty() {
+        return Ok(());
+    }
     attach_all(images, &names[..names.len().min(MOST_ATTACHED)])
 }

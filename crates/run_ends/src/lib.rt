@@ -3,7 +3,7 @@
 //! A [`Stop`] says why a run ends without its answer. The images are attached by [`attach_front`], a source is
 //! read to its end by [`read_all`], and answers are put by [`print()`]. How a job ends stands in `specs/Jobs`,
 //! statuses and lines in `specs/Stops`, when images disagree in `specs/Agreement`. `plan_jobs`,
-//! `set_jobs` and `survey_job` have the jobs of the commands.
+//! `set_jobs`, `survey_job` and `sample_job` have the jobs of the commands.
 #![tactic(auto)]
 
 mod agreement;

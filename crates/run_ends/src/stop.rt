@@ -40,6 +40,10 @@ pub enum Stop {
     Set(GeoFault),
     /// The slot is none of the set's, or it holds an image.
     Slot(u8),
+    /// The members of an array that is generated have more sectors than they may, so many.
+    ArraySectors(u64),
+    /// The volume of an array that is generated has fewer sectors than an XFS takes, so many.
+    VolumeSectors(u64),
     /// The sector asked for is past the end of the volume.
     Sector(SectorFault),
     /// The images failed.
@@ -48,8 +52,6 @@ pub enum Stop {
     PlanFault,
     /// The output failed.
     OutFault,
-    /// The command is `sample`, which is not built yet.
-    NotBuilt,
     /// Out of memory.
     OutOfMemory,
 }
@@ -113,12 +115,11 @@ impl Stop {
             Stop::Images(_) => 4,
             Stop::Many => 5,
             Stop::Cursor(_) => 6,
-            Stop::Set(_) | Stop::Slot(_) => 7,
+            Stop::Set(_) | Stop::Slot(_) | Stop::ArraySectors(_) | Stop::VolumeSectors(_) => 7,
             Stop::Sector(_) => 8,
             Stop::ImageFault => 10,
             Stop::PlanFault => 11,
             Stop::OutFault => 12,
-            Stop::NotBuilt => 19,
             Stop::OutOfMemory => 20,
         }
     }
@@ -136,11 +137,12 @@ impl Stop {
             Stop::Cursor(fault) => cursor_line(fault),
             Stop::Set(fault) => rule_line(rule(fault), value(fault)),
             Stop::Slot(slot) => rule_line(9, *slot as u64),
+            Stop::ArraySectors(sectors) => rule_line(10, *sectors),
+            Stop::VolumeSectors(sectors) => rule_line(11, *sectors),
             Stop::Sector(fault) => sector_line(fault),
             Stop::ImageFault => text("reraid: image read fault\n"),
             Stop::PlanFault => text("reraid: plan read fault\n"),
             Stop::OutFault => text("reraid: output fault\n"),
-            Stop::NotBuilt => text("reraid: not built\n"),
             Stop::OutOfMemory => text("reraid: out of memory\n"),
         }
     }

@@ -6,4 +6,4 @@
 
 mod surveying;
 
-pub use surveying::survey;
+pub use surveying::{ask_of, survey};

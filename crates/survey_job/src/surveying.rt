@@ -87,7 +87,7 @@ fn surveyed<I: Images>(alloc: Global, images: &mut I, ask: &Ask) -> Result<Text,
 }
 
 /// What the words ask of a survey of so many images.
-fn ask_of(asked: SurveyWords, names: usize, end: u64) -> Ask
+pub fn ask_of(asked: SurveyWords, names: usize, end: u64) -> Ask
     requires names { names ≤ MOST }
     ensures { result ≡ ask_of_words asked names end }
 {

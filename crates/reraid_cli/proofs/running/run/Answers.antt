@@ -6,8 +6,8 @@ use Rattle.image_source.specs.Seen.{Image}
 use Rattle.run_ends.proofs.Printed.{order_refused}
 use Rattle.run_ends.specs.Jobs.{Ends, Orders}
 use Rattle.run_ends.specs.declared.stop.Stop.TheVariants.{Word}
-use Rattle.reraid_cli.specs.Answers.{IsPlanned, most_reads, output, refusal, streams}
-use Rattle.reraid_cli.proofs.Runs.{asked_of, images_small, leaves_after, one_reading, words_end}
+use Rattle.reraid_cli.specs.Answers.{IsOwn, IsPlanned, most_reads, output, refusal, streams}
+use Rattle.reraid_cli.proofs.Runs.{asked_of, images_small, leaves_after, none_named, one_reading, words_end}
 use Rattle.reraid_cli.proofs.running.run.Goals as goal
 
 pub serve-requires-clause-small : goal.serve-requires-clause-small
@@ -75,3 +75,10 @@ pub returns-in-Ok-attach_front-clause-unasked : goal.returns-in-Ok-attach_front-
 returns-in-Ok-attach_front-clause-unasked g c read reads unplanned =
     let same = one_reading c.args.words.now (Ok c.in-Ok.command) read c.in-Ok.ensures.reads reads in
     c.serve.ensures.unasked (λ planned. unplanned (subst IsPlanned (sym same) planned))
+
+pub returns-in-Ok-attach_front-clause-own : goal.returns-in-Ok-attach_front-clause-own
+returns-in-Ok-attach_front-clause-own g c command line own =
+    let both : Ok command ≡ Ok c.in-Ok.command = one_reading c.args.words.now (Ok c.in-Ok.command) (Ok command) c.in-Ok.ensures.reads line in
+    let same : command ≡ c.in-Ok.command = cc in
+    c.serve.ensures.own (subst IsOwn same own)
+    ∙ c.attach_front.ensures.none (none_named c.args.words.now c.names_of-names.result.now c.in-Ok.command command c.in-Ok.ensures.names c.in-Ok.ensures.reads line own c.names_of-names.ensures)

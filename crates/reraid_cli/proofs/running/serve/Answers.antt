@@ -1,7 +1,9 @@
-use Rattle.std.proofs.Common.{subst}
+use Rattle.std.proofs.Common.{Ok, subst, sym}
+use Rattle.run_ends.specs.Jobs.{Leaves}
+use Rattle.reraid_cli.specs.Answers.{streams}
 use Rattle.command_words.specs.declared.command.Command.{Command}
-use Rattle.reraid_cli.specs.Asked.{IsAsked}
-use Rattle.reraid_cli.proofs.Serving.{survey_asked, survey_order, survey_read, sample_ends, sample_order, sample_read, check_asked, check_order, check_read, list_asked, list_order, list_read, map_asked, map_order, rebuild_asked, rebuild_order, rebuild_reads, write_asked, write_order, write_reads}
+use Rattle.reraid_cli.specs.Asked.{IsAsked, counts_of}
+use Rattle.reraid_cli.proofs.Serving.{survey_asked, survey_order, survey_read, sample_asked, sample_order, sample_read, check_asked, check_order, check_read, list_asked, list_order, list_read, map_asked, map_order, rebuild_asked, rebuild_order, rebuild_reads, write_asked, write_order, write_reads}
 use Rattle.reraid_cli.proofs.running.serve.Goals as goal
 
 pub returns-in-List-clause-ends : goal.returns-in-List-clause-ends
@@ -125,13 +127,25 @@ pub returns-in-Sample-clause-ends : goal.returns-in-Sample-clause-ends
 returns-in-Sample-clause-ends g c reading asked =
     let left = g.S.Source.left c.args.plan.now in
     let P : Command → Type 0 = λ k. IsAsked k c.args.names left reading in
-    sample_ends c.in-Sample.number c.in-Sample.set c.in-Sample.rows c.in-Sample.xfs c.args.names left reading (g.I.Images.seen c.args.images.now).attached (g.K.Sink.gained c.args.out.now)
-    (subst P c.in-Sample.is asked)
+    sample_asked c.in-Sample.number c.in-Sample.set c.in-Sample.rows c.in-Sample.xfs c.args.names left reading (g.I.Images.seen c.args.images.now).attached (g.K.Sink.gained c.args.out.now) (g.K.Sink.gained c.sample.new.out) c.sample.result
+    (subst P c.in-Sample.is asked) c.sample.ensures.ends
 
 pub returns-in-Sample-clause-order : goal.returns-in-Sample-clause-order
 returns-in-Sample-clause-order g c reading asked =
+    let left = g.S.Source.left c.args.plan.now in
+    let P : Command → Type 0 = λ k. IsAsked k c.args.names left reading in
     let seen = g.I.Images.seen c.args.images.now in
-    sample_order c.in-Sample.number c.in-Sample.set c.in-Sample.rows c.in-Sample.xfs reading seen.attached seen.sectors_read (g.K.Sink.gained c.args.out.now)
+    sample_order c.in-Sample.number c.in-Sample.set c.in-Sample.rows c.in-Sample.xfs c.args.names seen.sectors_read left reading seen.attached (g.K.Sink.gained c.args.out.now) (g.K.Sink.gained c.sample.new.out) c.sample.result
+    (subst P c.in-Sample.is asked) (c.sample.ensures.order seen.sectors_read)
+
+pub returns-in-Sample-clause-leaves : goal.returns-in-Sample-clause-leaves
+returns-in-Sample-clause-leaves g c =
+    let seen = g.I.Images.seen c.args.images.now in
+    let plan = g.S.Source.faults c.args.plan.now in
+    let P : Command → Type 0 = λ k.
+    Leaves (streams (Ok k)) (counts_of (g.I.Images.seen c.args.images.now) (g.S.Source.faults c.args.plan.now) (g.K.Sink.faults c.args.out.now))
+    (counts_of (g.I.Images.seen c.args.images.now) (g.S.Source.faults c.args.plan.now) (g.K.Sink.faults c.sample.new.out)) (g.K.Sink.gained c.args.out.now) (g.K.Sink.gained c.sample.new.out) c.sample.result in
+    subst P (sym c.in-Sample.is) (c.sample.ensures.leaves seen.faults plan seen.sectors_read)
 
 pub returns-in-Sample-clause-reads : goal.returns-in-Sample-clause-reads
 returns-in-Sample-clause-reads g c reading asked =

@@ -1,0 +1,90 @@
+//! Arrays that are generated, and what of them is found. The totals were worked out by hand, the marks by another
+//! program.
+use crate::outside::{Outside, images_of, run_command};
+use crate::words::{Command, Operand};
+use image_source::Memory;
+use std::alloc::Global;
+use std::process::Abort;
+use std::test::Fail;
+use std::thread::Threads;
+
+/// Runs `sample` with these words, over no images.
+fn run<R: Threads + Sync>(
+    rt: &R,
+    alloc: Global,
+    operands: &[Operand],
+) -> Result<(u8, Outside), Memory> {
+    let mut met = images_of(alloc, &[], &[], b"")?;
+    let status = run_command(rt, alloc, &Command::Sample(operands), &[], &mut met)?;
+    Ok((status, met))
+}
+
+/// Three members of two rows of chunks of eight sectors: 16 sectors, in which chunks of 8 and of 16 have a row.
+/// So 6 patterns of level 5, 2 chunks and 6 orders pass, and below them are 7 chunks and 3 offsets more that
+/// have no row: 6 * 9 * 4 * 6 are 1296.
+const SMALL: &[Operand] = &[
+    Operand::Said("number=7"),
+    Operand::Set("5:ls:none:8:0:0,1,2"),
+    Operand::Said("rows=2"),
+    Operand::Said("marks=none"),
+];
+
+#[test]
+fn an_array_without_marks(rt: HostRuntime) -> Result<(), Fail> {
+    let alloc = rt.alloc();
+    for _ in 0..2u8 {
+        let (status, met) = run(&rt, alloc, SMALL)?;
+        assert_eq!(rt; status, 0);
+        assert_eq!(rt;
+            met.out.bytes(),
+            b"images 3\nsectors 16\nmarks 0\ntotal 1296\nfound yes\nnext 1296 of 1296\n".as_slice()
+        );
+        assert_eq!(rt; met.notes.bytes().len(), 0);
+    }
+    Ok(())
+}
+
+/// A refusal by the rule of a set, and its line.
+type Refusal = (&'static [Operand<'static>], &'static str);
+
+const REFUSED: &[Refusal] = &[
+    (
+        &[
+            Operand::Said("number=7"),
+            Operand::Set("5:ls:none:8:0:0,1,2"),
+            Operand::Said("rows=2"),
+            Operand::Said("marks=xfs"),
+        ],
+        "reraid: set rule 11 value 32\n",
+    ),
+    (
+        &[
+            Operand::Said("number=7"),
+            Operand::Set("5:ls:none:8:0:0,2,-"),
+            Operand::Said("rows=2"),
+        ],
+        "reraid: set rule 5 value 2\n",
+    ),
+    // 3 * (699,051 + 1) sectors are 2,097,156.
+    (
+        &[
+            Operand::Said("number=7"),
+            Operand::Set("5:ls:none:1:699051:0,1,2"),
+            Operand::Said("rows=1"),
+            Operand::Said("marks=xfs"),
+        ],
+        "reraid: set rule 10 value 2097156\n",
+    ),
+];
+
+#[test]
+fn arrays_that_are_refused(rt: HostRuntime) -> Result<(), Fail> {
+    let alloc = rt.alloc();
+    for (operands, line) in REFUSED {
+        let (status, met) = run(&rt, alloc, operands)?;
+        assert_eq!(rt; status, 7);
+        assert_eq!(rt; met.out.bytes().len(), 0);
+        assert_eq!(rt; met.notes.bytes(), line.as_bytes());
+    }
+    Ok(())
+}

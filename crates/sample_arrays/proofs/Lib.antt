@@ -1,0 +1,9 @@
+pub mod States
+pub mod Near
+pub mod Ranges
+pub mod Sums
+pub mod Roles
+pub mod Images
+pub mod Sampled
+pub mod Lies
+pub mod GroupSizes

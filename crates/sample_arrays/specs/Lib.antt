@@ -1,0 +1,4 @@
+pub mod Words
+pub mod Marks
+pub mod Arrays
+pub mod Laws

@@ -1,0 +1,108 @@
+-- What a survey and a page find of a generated array.
+use Rattle.std.proofs.Common.{◌≡◌, ℕ, ◌*◌, ◌-◌, ◌<◌, ◌≤◌, ◌^◌, ◌⊎◌, Bool, true, false, cond, nat_eq, nat_le, ◌||◌, map, List, [], ◌∷◌, length, All, IfSome, IfErr, IfOk, OnOk, None, Some, Option, Ok, Err, Result, refl, sym, ap, ◌∙◌, subst, arith, inl, inr}
+use Rattle.std.proofs.lemmas.Bool.{cases_lt}
+use Rattle.std.proofs.lemmas.Bool.Decides.{nat_tests}
+use Rattle.image_source.specs.Attached.{told_all}
+use Rattle.image_source.specs.Seen.{Image}
+use Rattle.page_engine.specs.Pages.{IsPageOf}
+use Rattle.page_engine.specs.declared.page_parts.Line.{Line}
+use Rattle.page_engine.specs.declared.page_parts.ListPage.{ListPage}
+use Rattle.std.specs.List.{list_any}
+use Rattle.std.specs.Option.{option_map_or}
+use Rattle.raid_params.specs.declared.types.Geometry.{Geometry}
+use Rattle.run_ends.specs.Jobs.{HasCauses, Refuses}
+use Rattle.run_ends.specs.Stops.{IsEarly, IsExcused, IsRefusal, first_of, many_refusal}
+use Rattle.run_ends.specs.declared.stop.Stop.{Stop}
+use Rattle.run_ends.specs.declared.stop.Stop.TheVariants.{Many, OutOfMemory}
+use Rattle.sample_arrays.specs.Arrays.{end_of, sampled}
+use Rattle.search_plan.specs.Sets.{rank_of, total_of}
+use Rattle.search_plan.specs.declared.plan.Plan.{Plan}
+use Rattle.survey_job.specs.Surveying.{survey_plan}
+use Rattle.sample_job.proofs.Attached.{all_told}
+use Rattle.sample_job.specs.Sampling.{array_refusals, found_text, is_among, sample_ask, sample_output, sample_plan, sample_refusal, sample_text, sampled_bytes, sampled_images}
+
+-- the images that are attached are told whole
+pub told : (number : ℕ) (set : Geometry) (rows : ℕ) (xfs : Bool) (attached : List Image) → All (λ file. length file.1 ≡ 512 * end_of set.head rows) (sampled number set rows xfs) →
+    attached ≡ sampled_images number set rows xfs → told_all attached ≡ Some (sampled_bytes number set rows xfs)
+told number set rows xfs attached long there = ap told_all there ∙ all_told number set rows xfs long
+
+-- so the plan of their survey is that of the array
+pub plan_is : (number : ℕ) (set : Geometry) (rows : ℕ) (xfs : Bool) (end : ℕ) (attached : List Image) (plan : Plan) → All (λ file. length file.1 ≡ 512 * end_of set.head rows) (sampled number set rows xfs) →
+    attached ≡ sampled_images number set rows xfs → end ≡ end_of set.head rows → IfSome (told_all attached) (λ bytes. plan ≡ survey_plan (sample_ask set end) attached bytes) → plan ≡ sample_plan number set rows xfs
+unfolding sample_plan
+plan_is number set rows xfs end attached plan long there is made =
+    let here : plan ≡ survey_plan (sample_ask set end) attached (sampled_bytes number set rows xfs) =
+    subst (λ (t : Option (List (List ℕ))). IfSome t (λ bytes. plan ≡ survey_plan (sample_ask set end) attached bytes)) (told number set rows xfs attached long there) made in
+    here ∙ ap (λ (e : ℕ). survey_plan (sample_ask set e) attached (sampled_bytes number set rows xfs)) is
+    ∙ ap (λ (images : List Image). survey_plan (sample_ask set (end_of set.head rows)) images (sampled_bytes number set rows xfs)) there
+
+-- and the lines are those of the array
+lines_are : (set : Geometry) (end : ℕ) (images : List (List ℕ)) (plan : Plan) (page : ListPage) → IsPageOf images plan 0 1000 (2 ^ 64 - 1) page → page.total ≡ total_of plan →
+    found_text set end plan page ≡ sample_text set end images plan
+unfolding found_text sample_text
+lines_are set end images plan page is total = rw (is.front, is.goes_on, total) refl
+
+pub text_is : (number : ℕ) (set : Geometry) (rows : ℕ) (xfs : Bool) (end : ℕ) (attached : List Image) (plan : Plan) (page : ListPage) (text : List ℕ) →
+    All (λ file. length file.1 ≡ 512 * end_of set.head rows) (sampled number set rows xfs) → attached ≡ sampled_images number set rows xfs → end ≡ end_of set.head rows → plan ≡ sample_plan number set rows xfs →
+    IfSome (told_all attached) (λ bytes. IsPageOf bytes plan 0 1000 (2 ^ 64 - 1) page) → page.total ≡ total_of plan → text ≡ found_text set end plan page → text ≡ sample_output number set rows xfs
+unfolding sample_output
+text_is number set rows xfs end attached plan page text long there is made found total lines =
+    let here : IsPageOf (sampled_bytes number set rows xfs) plan 0 1000 (2 ^ 64 - 1) page =
+    subst (λ (t : Option (List (List ℕ))). IfSome t (λ bytes. IsPageOf bytes plan 0 1000 (2 ^ 64 - 1) page)) (told number set rows xfs attached long there) found in
+    lines ∙ lines_are set end (sampled_bytes number set rows xfs) plan page here total
+    ∙ ap (λ (e : ℕ). sample_text set e (sampled_bytes number set rows xfs) plan) is
+    ∙ ap (λ (p : Plan). sample_text set (end_of set.head rows) (sampled_bytes number set rows xfs) p) made
+
+-- the refusal is the first of those before the array is made, and then that of the product
+pub refused_before : (number : ℕ) (set : Geometry) (rows : ℕ) (xfs : Bool) (stop : Stop) → array_refusals set rows xfs ≡ Some stop → sample_refusal number set rows xfs ≡ Some stop
+unfolding sample_refusal
+refused_before number set rows xfs stop e = ap (λ (r : Option Stop). first_of (r ∷ many_refusal (sample_plan number set rows xfs) ∷ [])) e
+
+pub refused_many : (number : ℕ) (set : Geometry) (rows : ℕ) (xfs : Bool) (stop : Stop) → array_refusals set rows xfs ≡ None → many_refusal (sample_plan number set rows xfs) ≡ Some stop → sample_refusal number set rows xfs ≡ Some stop
+unfolding sample_refusal
+refused_many number set rows xfs stop none e =
+    ap (λ (r : Option Stop). first_of (r ∷ many_refusal (sample_plan number set rows xfs) ∷ [])) none ∙ ap (λ (r : Option Stop). first_of (r ∷ [])) e
+
+pub refused_none : (number : ℕ) (set : Geometry) (rows : ℕ) (xfs : Bool) → array_refusals set rows xfs ≡ None → many_refusal (sample_plan number set rows xfs) ≡ None → sample_refusal number set rows xfs ≡ None
+unfolding sample_refusal
+refused_none number set rows xfs none e =
+    ap (λ (r : Option Stop). first_of (r ∷ many_refusal (sample_plan number set rows xfs) ∷ [])) none ∙ ap (λ (r : Option Stop). first_of (r ∷ [])) e
+
+-- the product is not too large, or it is
+pub few_sets : (plan : Plan) → total_of plan < 2 ^ 64 → many_refusal plan ≡ None
+few_sets plan few = grind (arith, nat_tests)
+
+pub many_sets : (plan : Plan) → 2 ^ 64 ≤ total_of plan → many_refusal plan ≡ Some Many
+many_sets plan many = grind (arith, nat_tests)
+
+pub few_ranks : (plan : Plan) → many_refusal plan ≡ None → total_of plan < 2 ^ 64
+few_ranks plan none = elim (cases_lt (total_of plan) (2 ^ 64)) [
+  | inl few ↦ few
+  | inr many ↦ absurd (let e = many_sets plan many in cc)
+]
+
+-- a rank is on a page by its lines
+pub any_rank : (lines : List Line) (rank : ℕ) → list_any (λ held. nat_eq held.rank rank) lines ≡ list_any (λ other. nat_eq other rank) (map (λ held. held.rank) lines)
+any_rank [] rank = refl
+any_rank (held ∷ lines) rank = ap (λ (b : Bool). nat_eq held.rank rank || b) (any_rank lines rank)
+
+-- how the work of an array that may be made ends
+pub refused_is : (plan other : Plan) (stop : Stop) → plan ≡ other → (stop ≡ OutOfMemory) ⊎ ((many_refusal plan ≡ Some stop) × IsRefusal stop) → (stop ≡ OutOfMemory) ⊎ ((many_refusal other ≡ Some stop) × IsRefusal stop)
+refused_is plan other stop same is = subst (λ (p : Plan). (stop ≡ OutOfMemory) ⊎ ((many_refusal p ≡ Some stop) × IsRefusal stop)) same is
+
+pub found_early : (answer : Result (List ℕ) Stop) (many : Option Stop) → IfErr answer (λ stop. (stop ≡ OutOfMemory) ⊎ ((many ≡ Some stop) × IsRefusal stop)) → IfErr answer IsEarly
+unfolding IsEarly
+found_early (Ok text) many ends = tt
+found_early (Err stop) many (inl short) = inl short
+found_early (Err stop) many (inr is) = inr is.1
+
+pub found_refuses : (number : ℕ) (set : Geometry) (rows : ℕ) (xfs : Bool) (answer : Result (List ℕ) Stop) → array_refusals set rows xfs ≡ None → OnOk answer (many_refusal (sample_plan number set rows xfs) ≡ None) →
+    IfErr answer (λ stop. (stop ≡ OutOfMemory) ⊎ ((many_refusal (sample_plan number set rows xfs) ≡ Some stop) × IsRefusal stop)) → Refuses (sample_refusal number set rows xfs) answer
+found_refuses number set rows xfs (Ok text) before none ends = record { ends = tt; passes = refused_none number set rows xfs before none }
+found_refuses number set rows xfs (Err stop) before none (inl short) = record { ends = inl (subst IsExcused (sym short) tt); passes = tt }
+found_refuses number set rows xfs (Err stop) before none (inr is) = record { ends = inr (refused_many number set rows xfs stop before is.0); passes = tt }
+
+pub among_is : (plan : Plan) (set : Geometry) (lines : List Line) (rank : ℕ) (found : Bool) → rank_of plan set ≡ Some rank → found ≡ list_any (λ held. nat_eq held.rank rank) lines →
+    found ≡ is_among plan set (map (λ held. held.rank) lines)
+among_is plan set lines rank found has is =
+    is ∙ any_rank lines rank ∙ sym (ap (λ (r : Option ℕ). option_map_or (λ k. list_any (λ other. nat_eq other k) (map (λ (held : Line). held.rank) lines)) r false) has)

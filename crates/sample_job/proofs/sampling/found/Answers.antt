@@ -1,0 +1,40 @@
+use Rattle.std.proofs.Common.{◌≡◌, ◌-◌, ◌^◌, ℕ, List, IfSome, sym, ap, ◌∙◌, subst}
+use Rattle.image_source.specs.Attached.{told_all}
+use Rattle.image_source.specs.Seen.{Image}
+use Rattle.page_engine.specs.Pages.{IsPageOf}
+use Rattle.run_ends.specs.Stops.{many_refusal}
+use Rattle.search_plan.specs.declared.plan.Plan.{Plan}
+use Rattle.survey_engine.specs.declared.ask.Ask.{Ask}
+use Rattle.survey_job.specs.Surveying.{survey_plan}
+use Rattle.sample_job.proofs.Asked.{surveyable}
+use Rattle.sample_job.proofs.Sampled.{plan_is, refused_is, text_is}
+use Rattle.sample_job.specs.Own.{seen_of_own}
+use Rattle.sample_job.specs.Sampling.{sample_ask, sample_plan}
+use Rattle.sample_job.proofs.sampling.found.Goals as goal
+
+pub surveyed-requires : goal.surveyed-requires
+surveyed-requires c =
+    rw c.ask_for.ensures
+    (surveyable c.args.number c.args.set.now c.args.rows c.args.xfs c.args.end (seen_of_own c.in_ok-images.images).attached c.requires.ruled c.requires.size c.in_ok-images.ensures.long c.requires.end c.in_ok-images.ensures.images)
+
+pub returns-in-Ok-clause-text : goal.returns-in-Ok-clause-text
+returns-in-Ok-clause-text c =
+    let made = subst (λ (ask : Ask). IfSome (told_all (seen_of_own c.in_ok-images.images).attached) (λ bytes. c.in_ok-plan.plan ≡ survey_plan ask (seen_of_own c.in_ok-images.images).attached bytes)) c.ask_for.ensures c.in_ok-plan.ensures.made in
+    text_is c.args.number c.args.set.now c.args.rows c.args.xfs c.args.end (seen_of_own c.in_ok-images.images).attached c.in_ok-plan.plan c.in-Ok.page c.in_ok-lines-in-Ok.field-0
+    c.in_ok-images.ensures.long c.in_ok-images.ensures.images c.requires.end
+    (plan_is c.args.number c.args.set.now c.args.rows c.args.xfs c.args.end (seen_of_own c.in_ok-images.images).attached c.in_ok-plan.plan c.in_ok-images.ensures.long c.in_ok-images.ensures.images c.requires.end made)
+    (subst (λ (images : List Image). IfSome (told_all images) (λ bytes. IsPageOf bytes c.in_ok-plan.plan 0 1000 (2 ^ 64 - 1) c.in-Ok.page)) c.in_ok-plan.ensures.kept c.in-Ok.ensures.page)
+    c.in-Ok.ensures.total c.in_ok-lines-in-Ok.ensures
+
+pub returns-in-Ok-clause-allowed : goal.returns-in-Ok-clause-allowed
+returns-in-Ok-clause-allowed c =
+    let made = subst (λ (ask : Ask). IfSome (told_all (seen_of_own c.in_ok-images.images).attached) (λ bytes. c.in_ok-plan.plan ≡ survey_plan ask (seen_of_own c.in_ok-images.images).attached bytes)) c.ask_for.ensures c.in_ok-plan.ensures.made in
+    ap many_refusal (sym (plan_is c.args.number c.args.set.now c.args.rows c.args.xfs c.args.end (seen_of_own c.in_ok-images.images).attached c.in_ok-plan.plan c.in_ok-images.ensures.long c.in_ok-images.ensures.images c.requires.end made))
+    ∙ c.in-Ok.ensures.allowed
+
+pub returns-clause-refused : goal.returns-clause-refused
+returns-clause-refused c =
+    let made = subst (λ (ask : Ask). IfSome (told_all (seen_of_own c.in_ok-images.images).attached) (λ bytes. c.in_ok-plan.plan ≡ survey_plan ask (seen_of_own c.in_ok-images.images).attached bytes)) c.ask_for.ensures c.in_ok-plan.ensures.made in
+    refused_is c.in_ok-plan.plan (sample_plan c.args.number c.args.set.now c.args.rows c.args.xfs) c.in-Err.stop
+    (plan_is c.args.number c.args.set.now c.args.rows c.args.xfs c.args.end (seen_of_own c.in_ok-images.images).attached c.in_ok-plan.plan c.in_ok-images.ensures.long c.in_ok-images.ensures.images c.requires.end made)
+    c.in-Err.ensures.refused

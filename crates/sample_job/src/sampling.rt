@@ -1,0 +1,295 @@
+//! The command `sample`.
+ghost use Rattle.std.specs.Prelude.{◌≡◌, ◌<◌, ◌≤◌, ◌*◌, ◌-◌, ◌^◌, ◌++◌, ◌⊎◌, All, IfErr, IfOk, IfSome, IsTrue, None, OnOk, Some, sum_by, ℕ, [], ◌∷◌, decimal, false, length, map, nat_eq};
+ghost use Rattle.std.specs.List.{list_any};
+ghost use Rattle.image_source.specs.Attached.{told_all};
+ghost use Rattle.image_source.specs.Memory.{number_of};
+ghost use Rattle.member_regions.specs.Members.{held as held_in};
+ghost use Rattle.plan_text.specs.SetText.{HasWord};
+ghost use Rattle.raid_params.specs.Size.{volume_sectors as volume_sectors_of};
+ghost use Rattle.raid_params.specs.Validity.{first_fault};
+ghost use Rattle.search_plan.specs.Plans.{IsPlan};
+ghost use Rattle.search_plan.specs.Sets.{rank_of, total_of};
+ghost use Rattle.page_engine.specs.Pages.{AgreeWith, IsPageOf};
+ghost use Rattle.survey_engine.specs.Surveys.{IsSurveyable};
+ghost use Rattle.survey_job.specs.Surveying.{survey_plan};
+ghost use Rattle.run_ends.specs.Jobs.{Ends, Leaves, Orders, Refuses};
+ghost use Rattle.run_ends.specs.Stops.{IsEarly, IsRefusal, many_refusal};
+ghost use Rattle.run_ends.specs.declared.stop.Stop.TheVariants.{OutOfMemory as OutOfMemoryOf};
+ghost use Rattle.sample_arrays.specs.Arrays.{end_of, sampled};
+ghost use Rattle.sample_job.specs.Own.{seen_of_own};
+ghost use Rattle.sample_job.specs.Sampling.{array_refusals, found_line, found_text as found_text_of, is_among, number_line, sample_ask, sample_output, sample_plan, sample_refusal, sampled_images};
+
+use crate::own::OwnImages;
+use address_map::volume_sectors;
+use arrayvec::ArrayVec;
+use command_words::{SurveyWords, plain_survey};
+use image_source::{Images, MOST_ATTACHED, MemImages, Memory, Sink};
+use itoa::Buffer;
+use landmark_rules::Group;
+use page_engine::{Line, ListPage, PageFault, page};
+use plan_text::Text;
+use raid_params::{Bounds, Geometry};
+use run_ends::{Stop, add_number, add_share, print};
+use sample_arrays::{LEAST_MARKED, MOST_SAMPLED, count_held};
+use search_plan::Plan;
+use set_product::product_rank;
+use std::alloc::Global;
+use survey_engine::{Ask, SurveyFault};
+use survey_job::ask_of;
+
+/// The most sets of the first page.
+const FIRST_PAGE: u64 = 1000;
+
+/// Prints what a survey and the first page of a listing find of an array that is generated, whole or not at
+/// all. `number` is that from which its bytes are made, `rows` its rows of chunks; `xfs` says whether its volume gets
+/// the landmarks of an XFS file system.
+pub fn sample<K: Sink>(
+    alloc: Global,
+    number: u64,
+    set: &Geometry,
+    rows: u64,
+    xfs: bool,
+    out: &mut K,
+) -> Result<(), Stop>
+    requires set { HasWord set.now }
+    requires some { 1 ≤ rows }
+    requires most { rows ≤ 65536 }
+    ensures ends { Ends (sample_refusal number set.now rows xfs) (Some (sample_output number set.now rows xfs)) (K.gained out.old) (K.gained out.new) result }
+    ensures order { (read : ℕ) → Orders (sample_refusal number set.now rows xfs) read read (K.gained out.old) (K.gained out.new) result }
+    ensures leaves { (images plan read : ℕ) → Leaves false
+        (record { images = images; plan = plan; out = K.faults out.old; sectors = read })
+        (record { images = images; plan = plan; out = K.faults out.new; sectors = read })
+        (K.gained out.old) (K.gained out.new) result }
+{
+    print(out, answer(alloc, number, set, rows, xfs))
+}
+
+/// The text of `sample`, or why there is none.
+fn answer(alloc: Global, number: u64, set: &Geometry, rows: u64, xfs: bool) -> Result<Text, Stop>
+    requires set { HasWord set.now }
+    requires some { 1 ≤ rows }
+    requires most { rows ≤ 65536 }
+    ensures text { IfOk result (λ text. text ≡ sample_output number set.now rows xfs) }
+    ensures refuses { Refuses (sample_refusal number set.now rows xfs) result }
+    ensures early { IfErr result IsEarly }
+{
+    match checked_end(set, rows, xfs) {
+        Ok(end) => found(alloc, number, set, rows, xfs, end),
+        Err(stop) => Err(stop),
+    }
+}
+
+/// The image sector after the last one of the members, where the array may be made.
+#[tactic(auto, using(crate::proofs::Refusals::set_refused, crate::proofs::Refusals::array_refused, crate::proofs::Refusals::volume_refused, crate::proofs::Refusals::array_allowed, sample_arrays::proofs::Sampled::ruled, sample_arrays::proofs::Sampled::near_end, raid_layouts::proofs::Shapes::shaped_head))]
+fn checked_end(set: &Geometry, rows: u64, xfs: bool) -> Result<u64, Stop>
+    requires set { HasWord set.now }
+    requires most { rows ≤ 65536 }
+    ensures end { IfOk result (λ end. end ≡ end_of set.now.head rows) }
+    ensures ruled { OnOk result (first_fault set.now (held_in set.now.slots.items) (end_of set.now.head rows) ≡ None) }
+    ensures size { OnOk result (set.now.head.members * end_of set.now.head rows ≤ MOST_SAMPLED) }
+    ensures marked { OnOk result (IsTrue xfs → LEAST_MARKED ≤ volume_sectors_of set.now.head (end_of set.now.head rows)) }
+    ensures allowed { OnOk result (array_refusals set.now rows xfs ≡ None) }
+    ensures refused { IfErr result (λ stop. (array_refusals set.now rows xfs ≡ Some stop) × IsRefusal stop) }
+{
+    let end = set.head.offset + rows * set.head.chunk;
+    if let Err(fault) = set.validate(count_held(&set.slots), end) {
+        return Err(Stop::Set(fault));
+    }
+    let sectors = set.head.members as u64 * end;
+    if sectors > MOST_SAMPLED {
+        return Err(Stop::ArraySectors(sectors));
+    }
+    let volume = volume_sectors(&set.head, end);
+    if xfs && volume < LEAST_MARKED {
+        return Err(Stop::VolumeSectors(volume));
+    }
+    Ok(end)
+}
+
+/// The text of `sample` of an array that may be made, or why there is none.
+fn found(
+    alloc: Global,
+    number: u64,
+    set: &Geometry,
+    rows: u64,
+    xfs: bool,
+    end: u64,
+) -> Result<Text, Stop>
+    requires end { end ≡ end_of set.now.head rows }
+    requires ruled { first_fault set.now (held_in set.now.slots.items) (end_of set.now.head rows) ≡ None }
+    requires size { set.now.head.members * end_of set.now.head rows ≤ MOST_SAMPLED }
+    requires marked { IsTrue xfs → LEAST_MARKED ≤ volume_sectors_of set.now.head (end_of set.now.head rows) }
+    ensures text { IfOk result (λ text. text ≡ sample_output number set.now rows xfs) }
+    ensures allowed { OnOk result (many_refusal (sample_plan number set.now rows xfs) ≡ None) }
+    ensures refused { IfErr result (λ stop. (stop ≡ OutOfMemoryOf) ⊎ ((many_refusal (sample_plan number set.now rows xfs) ≡ Some stop) × IsRefusal stop)) }
+{
+    let mut images = attached(alloc, number, set, rows, xfs)?;
+    let plan = surveyed(alloc, &mut images, &ask_for(set, end))?;
+    match first_page(alloc, &mut images, &plan) {
+        Ok(page) => Ok(lines(alloc, set, end, &plan, &page)?),
+        Err(stop) => Err(stop),
+    }
+}
+
+/// The images of the array, attached in their order.
+#[tactic(auto, using(sample_arrays::proofs::Sampled::ruled, sample_arrays::proofs::Sampled::few_slots))]
+fn attached(
+    alloc: Global,
+    number: u64,
+    set: &Geometry,
+    rows: u64,
+    xfs: bool,
+) -> Result<OwnImages, Memory>
+    requires ruled { first_fault set.now (held_in set.now.slots.items) (end_of set.now.head rows) ≡ None }
+    requires size { set.now.head.members * end_of set.now.head rows ≤ MOST_SAMPLED }
+    requires marked { IsTrue xfs → LEAST_MARKED ≤ volume_sectors_of set.now.head (end_of set.now.head rows) }
+    ensures images { IfOk result (λ own. (seen_of_own own).attached ≡ sampled_images number set.now rows xfs) }
+    ensures long { OnOk result (All (λ file. length file.1 ≡ 512 * end_of set.now.head rows) (sampled number set.now rows xfs)) }
+{
+    let mut images = sample_arrays::sample(alloc, number, set, rows, xfs)?;
+    for image in 0..count_held(&set.slots) {
+        attach(&mut images, image);
+    }
+    Ok(OwnImages::of(images))
+}
+
+/// Attaches the image whose name is its number.
+fn attach(images: &mut MemImages, number: u8)
+    requires failing { images.old.failing ≡ [] }
+    requires there { number_of images.old.files (decimal number) ≡ Some number }
+    requires room { length images.old.attached < MOST_ATTACHED }
+    ensures files { images.new.files ≡ images.old.files }
+    ensures failing { images.new.failing ≡ [] }
+    ensures attached { images.new.attached ≡ images.old.attached ++ number ∷ [] }
+{
+    let mut buffer = Buffer::new();
+    images.attach(buffer.format(number)).unwrap();
+}
+
+/// What the survey is asked for: all that `survey` asks for without operands, but for the level and the numbers of
+/// members and of missing ones, which are the set's.
+#[tactic(auto, using(crate::proofs::Asked::all_places), unfolding(crate::specs::Sampling::sample_ask))]
+fn ask_for(set: &Geometry, end: u64) -> Ask
+    requires few { length set.now.slots.items ≤ 16 }
+    ensures { result ≡ sample_ask set.now end }
+{
+    let plain = plain_survey();
+    let mut levels = ArrayVec::new();
+    levels.push(set.head.level);
+    let mut members = ArrayVec::new();
+    members.push(set.head.members);
+    let images = count_held(&set.slots);
+    let bounds = Bounds {
+        levels,
+        members,
+        missing: set.slots.len() as u8 - images,
+        ..plain.bounds
+    };
+    ask_of(SurveyWords { bounds, ..plain }, images as usize, end)
+}
+
+/// The plan of a survey of the images, which fails for want of memory alone.
+fn surveyed(alloc: Global, images: &mut OwnImages, ask: &Ask) -> Result<Plan, Memory>
+    requires { IsSurveyable ask.now (seen_of_own images.old).attached }
+    ensures plan { IfOk result IsPlan }
+    ensures made { IfOk result (λ plan. IfSome (told_all (seen_of_own images.old).attached) (λ bytes. plan ≡ survey_plan ask.now (seen_of_own images.old).attached bytes)) }
+    ensures lengths { IfOk result (λ plan. AgreeWith plan (seen_of_own images.old).attached) }
+    ensures kept { (seen_of_own images.new).attached ≡ (seen_of_own images.old).attached }
+{
+    match survey_engine::survey(alloc, images, ask) {
+        Ok(plan) => Ok(plan),
+        Err(SurveyFault::Memory) => Err(Memory),
+        Err(SurveyFault::ReadFault) => unreachable!(),
+    }
+}
+
+/// The first page of the sets of a plan that pass, or why there is none.
+fn first_page(alloc: Global, images: &mut OwnImages, plan: &Plan) -> Result<ListPage, Stop>
+    requires plan { IsPlan plan.now }
+    requires lengths { AgreeWith plan.now (seen_of_own images.old).attached }
+    ensures page { IfOk result (λ page. IfSome (told_all (seen_of_own images.old).attached) (λ bytes. IsPageOf bytes plan.now 0 FIRST_PAGE (2 ^ 64 - 1) page)) }
+    ensures total { IfOk result (λ page. page.total ≡ total_of plan.now) }
+    ensures allowed { OnOk result (many_refusal plan.now ≡ None) }
+    ensures refused { IfErr result (λ stop. (stop ≡ OutOfMemoryOf) ⊎ ((many_refusal plan.now ≡ Some stop) × IsRefusal stop)) }
+{
+    match page(alloc, images, plan, 0, FIRST_PAGE, u64::MAX) {
+        Ok(found) => Ok(found),
+        Err(PageFault::Many) => Err(Stop::Many),
+        Err(PageFault::Memory) => Err(Stop::OutOfMemory),
+        Err(PageFault::Cursor(_) | PageFault::ReadFault) => unreachable!(),
+    }
+}
+
+/// The six lines.
+#[tactic(auto, using(crate::proofs::Sampled::few_ranks), unfolding(crate::specs::Sampling::found_text))]
+fn lines(
+    alloc: Global,
+    set: &Geometry,
+    end: u64,
+    plan: &Plan,
+    page: &ListPage,
+) -> Result<Text, Memory>
+    requires plan { IsPlan plan.now }
+    requires few { length set.now.slots.items ≤ 16 }
+    requires allowed { many_refusal plan.now ≡ None }
+    ensures { IfOk result (λ text. text ≡ found_text_of set.now end plan.now page.now) }
+{
+    let mut text = Text::new(alloc);
+    add_line(&mut text, b"images ", u64::from(count_held(&set.slots)))?;
+    add_line(&mut text, b"sectors ", end)?;
+    add_line(&mut text, b"marks ", count_marks(plan.groups.as_slice())?)?;
+    add_line(&mut text, b"total ", page.total)?;
+    text.extend_from_slice(found_text(is_on(plan, set, page)))?;
+    add_share(&mut text, b"next ", page.next, page.total)?;
+    Ok(text)
+}
+
+/// Appends a line of a name, which ends with a space, and a number.
+#[tactic(auto, unfolding(crate::specs::Sampling::number_line))]
+fn add_line(text: &mut Text, name: &[u8], number: u64) -> Result<(), Memory>
+    ensures { OnOk result (text.new ≡ text.old ++ number_line name.now number) }
+{
+    text.extend_from_slice(name)?;
+    add_number(text, number)?;
+    text.extend_from_slice(b"\n")
+}
+
+/// How many marks some groups have. More than a number of 64 bits tells are more than memory holds.
+fn count_marks(groups: &[Group]) -> Result<u64, Memory>
+    ensures { IfOk result (λ marks. marks ≡ sum_by (λ group. length group.marks) groups.now) }
+{
+    let mut marks = 0u64;
+    for group in groups {
+        let more = group.marks.as_slice().len() as u64;
+        marks = marks.checked_add(more).ok_or(Memory)?;
+    }
+    Ok(marks)
+}
+
+/// Whether the set is on a page.
+
+fn is_on(plan: &Plan, set: &Geometry, page: &ListPage) -> bool
+    requires plan { IsPlan plan.now }
+    requires total { total_of plan.now < 2 ^ 64 }
+    ensures { result ≡ is_among plan.now set.now (map (λ held. held.rank) page.now.lines) }
+{
+    match product_rank(plan, set) {
+        Some(rank) => has_rank(page.lines.as_slice(), rank),
+        None => false,
+    }
+}
+
+/// Whether one of the lines has this rank.
+fn has_rank(lines: &[Line], rank: u64) -> bool
+    ensures { result ≡ list_any (λ held. nat_eq held.rank rank) lines.now }
+{
+    lines.iter().any(|held| held.rank == rank)
+}
+
+/// The line that says whether the set is found.
+#[tactic(auto, unfolding(crate::specs::Sampling::found_line))]
+fn found_text(found: bool) -> &'static [u8]
+    ensures { result.now ≡ found_line found }
+{
+    if found { b"found yes\n" } else { b"found no\n" }
+}

@@ -196,7 +196,15 @@ for count in (65535, 65536, 65537, 70000):
     print(count, run.returncode, run.stderr.decode(), end="")
 END
 if [ "$(cat many)" = refused ]; then
-    echo "not run: no more files may be opened"
+    # so many files may not be opened here: the names are attached up to that
+    python3 - "$program" >many 2>err <<'END'
+import subprocess
+import sys
+sys.exit(subprocess.run([sys.argv[1], "survey", "--", *["a"] * 65537], stdout=sys.stdout, stderr=sys.stderr, timeout=60).returncode)
+END
+    status=$?
+    cp many out
+    judge "65537 names, of which $(ulimit -n) files at most may be open" 10 "$fault" ""
 else
     for count in 65535 65536 65537 70000; do
         status=$(sed -n "s/^$count \([0-9]*\) .*/\1/p" many)

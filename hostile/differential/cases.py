@@ -5,8 +5,9 @@ of the formats. `make(command, rng)` gives one.
 import struct
 import zlib
 
-import reference
-from reference import FAR, FIVE, KINDS, LEVELS, LISTS, MARKS_OF, PATTERNS, RANKS, REDUNDANCY, SECTOR, SIX, SYNDROMES, Plan, Set
+from arrays import Product, cells
+from generated import array_images
+from texts import FAR, FIVE, KINDS, LEVELS, MARKS_OF, PATTERNS, RANKS, REDUNDANCY, SECTOR, SIX, SYNDROMES, Plan, Set
 
 EDGES = [0, 1, 2, 3, 15, 16, 17, 63, 64, 65, 100, 4095, 4096, 4097, 32767, 32768, 65535, 65536, 65537, 999999, 1000000, 1000001,
          2 ** 32 - 1, 2 ** 32, FAR - 1, FAR, FAR + 1, RANKS - 1, RANKS, 10 ** 25]
@@ -51,7 +52,7 @@ def some_array(rng):
     found = some_set(rng)
     rows = rng.randint(1, 4)
     size = rows * found.chunk * found.data
-    made = reference.array_images(found, rows, some_bytes(rng, size * SECTOR))
+    made = array_images(found, rows, some_bytes(rng, size * SECTOR))
     images = [bytearray(some_bytes(rng, found.offset * SECTOR)) + image[found.offset * SECTOR:] for image in made]
     tail = rng.choice([0, 0, 1, found.chunk - 1, found.chunk, found.chunk + 1])
     for image in images:
@@ -93,7 +94,7 @@ def some_marks(rng, found, images, size, plan_end):
             place = rng.randrange(size)
             chunk, inner = divmod(place, found.chunk)
             row, item = divmod(chunk, found.data)
-            image = found.slots[reference.cells(found.level, found.pattern, found.members, row).index(item)]
+            image = found.slots[cells(found.level, found.pattern, found.members, row).index(item)]
             sector = found.offset + row * found.chunk + inner
             if image is None or rng.random() < 0.15:
                 image = rng.randrange(len(images))
@@ -141,7 +142,7 @@ def some_plan(rng, found, images, size, most=1500):
     plan = Plan(lengths, end, given, some_marks(rng, found, images, size, end))
     known = {"levels": found.level, "members": found.members, "patterns": found.pattern, "syndromes": found.syndrome,
              "chunks": found.chunk, "offsets": found.offset}
-    while reference.Product(plan).total > most:
+    while Product(plan).total > most:
         longer = [name for name in known if len(getattr(plan, name)) > 1]
         if not longer:
             break
@@ -280,7 +281,7 @@ def list_case(rng):
         return large_product(rng)
     found, images, size = some_array(rng)
     plan = some_plan(rng, found, images, size, 400)
-    total = reference.Product(plan).total
+    total = Product(plan).total
     operands = []
     if rng.random() < 0.5:
         operands.append(f"from={rng.choice([0, 1, total // 2, max(0, total - 1), total, total + 1, rng.randint(0, total)])}")
@@ -310,7 +311,7 @@ def large_product(rng):
              "least": 1}
     given["patterns"].sort(key=PATTERNS.index)
     plan = Plan([4] * 16, 4, given, [])
-    total = reference.Product(plan).total
+    total = Product(plan).total
     first = rng.choice([0, 1, total - 5, total - 1, total, total + 1, rng.randint(0, total), RANKS - 1])
     return Case(["list", f"from={min(max(0, first), RANKS - 1)}", f"span={rng.randint(1, 8)}", "size=5", "--", *NAMES[:16]],
                 plan.text().encode(), files_of(images))

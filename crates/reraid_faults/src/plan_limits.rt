@@ -7,8 +7,9 @@ use std::alloc::Global;
 use std::test::Fail;
 
 /// Other texts for a line of the first plan, and the line that is refused with it, or 0.
-const LINES: [(usize, &str, u64); 103] = [
+const LINES: [(usize, &str, u64); 106] = [
     (1, "reraid-plan 2", 1),
+    (1, "reraid-plan 1\r", 1),
     (2, "images 0", 2),
     (2, "images 17", 2),
     (2, "images 03", 2),
@@ -48,6 +49,7 @@ const LINES: [(usize, &str, u64); 103] = [
     ),
     (11, "chunks 0", 11),
     (11, "chunks 3", 11),
+    (11, "chunks 2,1", 11),
     (11, "chunks 65536", 11),
     (12, "offsets 0,36028797018963967", 0),
     (12, "offsets 36028797018963968", 12),
@@ -98,6 +100,7 @@ const LINES: [(usize, &str, u64); 103] = [
     (20, "Done", 20),
     (20, "done ", 20),
     (20, "done\n", 21),
+    (20, "done\ndone", 21),
     (20, "group gpt\ndone", 0),
     (20, "group gpt\ngroup gpt\ndone", 21),
     (20, "group ntfs\ngroup gpt\ndone", 21),

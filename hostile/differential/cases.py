@@ -7,7 +7,7 @@ import zlib
 
 from arrays import Product, cells
 from generated import array_images
-from texts import FAR, FIVE, KINDS, LEVELS, MARKS_OF, PATTERNS, RANKS, REDUNDANCY, SECTOR, SIX, SYNDROMES, Plan, Set
+from texts import FAR, FIVE, KINDS, LEVELS, MARKS_OF, PATTERNS, RANKS, REDUNDANCY, SECTOR, SIX, SYNDROMES, Plan, Set, Stop, read_plan
 
 EDGES = [0, 1, 2, 3, 15, 16, 17, 63, 64, 65, 100, 4095, 4096, 4097, 32767, 32768, 65535, 65536, 65537, 999999, 1000000, 1000001,
          2 ** 32 - 1, 2 ** 32, FAR - 1, FAR, FAR + 1, RANKS - 1, RANKS, 10 ** 25]
@@ -17,8 +17,9 @@ NAMES = "abcdefghijklmnopqrstuvwxyz"
 class Case:
     """What a run is given."""
 
-    def __init__(self, words, text=b"", files=None):
+    def __init__(self, words, text=b"", files=None, large=False):
         self.words, self.text, self.files = words, text, files or {}
+        self.large = large  # a plan of more sets than can be gone through, of which the words ask for a few
 
 
 # Arrays
@@ -152,7 +153,18 @@ def some_plan(rng, found, images, size, most=1500):
 
 
 def torn(rng, text):
-    """A text that is no plan any more, mostly."""
+    """A text that is no plan any more, or one of no more sets than can be gone through."""
+    for _ in range(20):
+        other = torn_once(rng, text)
+        try:
+            if Product(read_plan(other)).total <= 1500:
+                return other
+        except Stop:
+            return other
+    return text
+
+
+def torn_once(rng, text):
     lines = text.split(b"\n")
     place = rng.randrange(len(lines))
     way = rng.randrange(10)
@@ -215,12 +227,6 @@ def long_plan(rng, plan):
     return plan.text().encode()
 
 
-def spread(plan):
-    """The plan over images that are long enough for one group of very many marks."""
-    plan.lengths = [4200 for _ in plan.lengths]
-    return plan
-
-
 # Words
 
 def shuffled(rng, operands):
@@ -255,7 +261,7 @@ def torn_words(rng, words):
 def finished(rng, case):
     """The case, sometimes with something wrong in it."""
     way = rng.random()
-    if way < 0.06:
+    if way < 0.06 and not case.large:
         case.words = torn_words(rng, case.words)
     elif way < 0.09 and case.text:
         case.text = torn(rng, case.text)
@@ -270,7 +276,7 @@ def finished(rng, case):
     elif way < 0.125:
         case.words = [word for word in case.words if word not in case.files]
     elif way < 0.13 and "--" in case.words:
-        case.words += (["a"] * rng.choice([1, 14, 17]))
+        case.words += ["a"] * rng.choice([1, 14, 17])
     return case
 
 
@@ -299,7 +305,7 @@ def list_case(rng):
     elif rng.random() < 0.01:
         text = long_plan(rng, plan)
     files = files_of(images)
-    return Case(["list", *shuffled(rng, operands), "--", *files], text, files)
+    return Case(["list", *shuffled(rng, operands), "--", *files], text, files, total > 400)
 
 
 def large_product(rng):
@@ -314,7 +320,7 @@ def large_product(rng):
     total = Product(plan).total
     first = rng.choice([0, 1, total - 5, total - 1, total, total + 1, rng.randint(0, total), RANKS - 1])
     return Case(["list", f"from={min(max(0, first), RANKS - 1)}", f"span={rng.randint(1, 8)}", "size=5", "--", *NAMES[:16]],
-                plan.text().encode(), files_of(images))
+                plan.text().encode(), files_of(images), True)
 
 
 def changed_set(rng, found, images):

@@ -1,12 +1,12 @@
 -- Which names may be attached, and what is left of words past the mark.
-use Rattle.std.proofs.Common.{ℕ, ◌≡◌, ◌∙◌, ◌+◌, ◌<◌, ◌≤◌, nat_lt, not, true, false, Bool, Bor, cond, Some, None, List, [], ◌∷◌, ◌++◌, All, IsTrue, ap, refl, length, get_or, take, map, codes, arith, subst, sym}
+use Rattle.std.proofs.Common.{ℕ, ◌≡◌, ◌∙◌, ◌+◌, ◌<◌, ◌≤◌, nat_lt, not, true, false, Bool, cond, Some, None, List, [], ◌∷◌, ◌++◌, All, IsTrue, ap, refl, length, get_or, take, codes, arith, subst, sym}
 use Rattle.std.specs.List.{position_or_len}
 use Rattle.std.specs.Option.{is_some}
 use Rattle.std.specs.Str.{bytes_eq}
 use Rattle.std.proofs.lemmas.Bool.Decides.{nat_tests}
 use Rattle.std.proofs.lemmas.Grind.{common_steps}
-use Rattle.std.proofs.lemmas.List.Elements.{All-push, All-same, All-tail, All-weaker}
-use Rattle.std.proofs.lemmas.List.{take_all, take_push}
+use Rattle.std.proofs.lemmas.List.Elements.{All-more, All-tail, All-weaker}
+use Rattle.std.proofs.lemmas.List.{take_all}
 use Rattle.std.proofs.lemmas.List.Folds.{position_or_len_push}
 use Rattle.std.proofs.lemmas.List.Sums.{prefix_len-le-length}
 use Rattle.std.proofs.lemmas.Slice.Eq.{bytes_eq-Decides}
@@ -50,6 +50,16 @@ added files name bytes =
     let p : List ℕ × List ℕ → Bool = λ f. bytes_eq f.0 name in
     let same : p (name, bytes) ≡ true = (bytes_eq-Decides name name).1 refl in
     below_known _ _ (found_last p files (name, bytes) same)
+
+-- one more word may be attached, and those before it still
+pub one_more : (before after : List ℕ → Bool) (words : List (List ℕ)) (i : ℕ) (d : List ℕ) → i < length words → ((other : List ℕ) → IsTrue (before other) → IsTrue (after other)) → IsTrue (after (get_or words i d)) → All (λ word. IsTrue (before word)) (take i words) → All (λ word. IsTrue (after word)) (take (i + 1) words)
+one_more before after words i d inside others new known =
+    All-more (λ word. IsTrue (after word)) words i d inside
+    (All-weaker (λ word. IsTrue (before word)) (λ word. IsTrue (after word)) others (take i words) known) new
+
+-- past the last word all of them may be attached
+pub all_taken : (may : List ℕ → Bool) (words : List (List ℕ)) (i : ℕ) → length words ≤ i → All (λ word. IsTrue (may word)) (take i words) → All (λ word. IsTrue (may word)) words
+all_taken may words i past known = rw take_all at known
 
 -- objects that a run may begin with are such still where calls of theirs are listed to fail
 pub still_ready : (words : List (List ℕ)) (images later : Shelf) (plan later_plan : Tape) (out later_out notes later_notes : Tray) → later.files ≡ images.files → later.attached ≡ images.attached → later.faults ≡ images.faults → later_plan.faults ≡ plan.faults → later_out.faults ≡ out.faults → later_notes.faults ≡ notes.faults → AreReady words images plan out notes → AreReady words later later_plan later_out later_notes

@@ -1,5 +1,5 @@
 -- What the words before the names leave of them, and which names may be attached.
-use Rattle.std.proofs.Common.{ℕ, ◌≡◌, ◌∙◌, ◌+◌, ◌<◌, ◌≤◌, nat_lt, not, true, Bool, Bor, cond, Some, None, List, [], ◌∷◌, ◌++◌, All, IsTrue, ap, refl, length, get_or, take, map, codes, arith, subst, sym}
+use Rattle.std.proofs.Common.{ℕ, ◌≡◌, ◌∙◌, ◌+◌, ◌<◌, ◌≤◌, nat_lt, not, true, Bool, Bor, cond, Some, None, List, [], ◌∷◌, ◌++◌, All, IsTrue, ap, refl, length, get_or, take, map, codes, arith}
 use Rattle.std.specs.List.{position_or_len}
 use Rattle.std.specs.Option.{is_some}
 use Rattle.std.specs.Str.{bytes_eq}
@@ -11,8 +11,8 @@ use Rattle.std.proofs.lemmas.List.Folds.{position_or_len_push}
 use Rattle.std.proofs.lemmas.List.Sums.{prefix_len-le-length}
 use Rattle.std.proofs.lemmas.Slice.Eq.{bytes_eq-Decides}
 use Rattle.command_words.specs.Commands.{names_after}
-use Rattle.image_source.specs.Memory.{Shelf, Tape, Tray, number_of}
-use Rattle.reraid_rows.specs.Named.{AreReady, IsNoMark, Name}
+use Rattle.image_source.specs.Memory.{number_of}
+use Rattle.reraid_rows.specs.Named.{IsNoMark}
 
 -- the names are what follows words that are not the mark, and the mark
 pub names_past : (words names : List (List ℕ)) → All IsNoMark words → names_after (words ++ codes "--" ∷ names) ≡ names
@@ -63,14 +63,3 @@ all_taken may names i past known = rw take_all at known
 -- the names that words end in may be attached where these names may be
 pub named_by_words : (may : List ℕ → Bool) (words items names : List (List ℕ)) → words ≡ items → names_after items ≡ names → All (λ name. IsTrue (may name)) names → All (λ name. IsTrue (may name)) (names_after words)
 named_by_words may words items names same says known = All-same (λ name. IsTrue (may name)) (names_after words) names (ap names_after same ∙ says) known
-
--- objects that a run may begin with are such still where calls of theirs are listed to fail
-pub still_ready : (names : List Name) (images later : Shelf) (plan later_plan : Tape) (out later_out notes later_notes : Tray) → later.files ≡ images.files → later.attached ≡ images.attached → later.faults ≡ images.faults → later_plan.faults ≡ plan.faults → later_out.faults ≡ out.faults → later_notes.faults ≡ notes.faults → AreReady names images plan out notes → AreReady names later later_plan later_out later_notes
-still_ready names images later plan later_plan out later_out notes later_notes files attached faults plan_faults out_faults notes_faults ready = record {
-  fresh = attached ∙ ready.fresh;
-  named = subst (λ (fs : List (List ℕ × List ℕ)). All (λ name. IsTrue (is_some (number_of fs name))) names) (sym files) ready.named;
-  images_whole = faults ∙ ready.images_whole;
-  plan_whole = plan_faults ∙ ready.plan_whole;
-  out_whole = out_faults ∙ ready.out_whole;
-  notes_whole = notes_faults ∙ ready.notes_whole;
-}

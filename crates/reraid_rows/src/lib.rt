@@ -1,22 +1,18 @@
 //! Tests that run the whole program over objects in memory.
 //!
 //! Each run has words, images and a plan, and a status, an output and a note that were worked out by hand.
-//! `listings`, `checks`, `landmarks`, `samples`, `surveys` and `volumes` have answers, `refusals` what is refused, `faults` each call of each
-//! object made to fail in turn. That objects are ready for a run stands in `specs/Named`.
+//! `listings`, `checks`, `landmarks`, `samples`, `surveys` and `volumes` have answers, `refusals` what is refused. That objects are
+//! ready for a run stands in `specs/Named`. What fails, is cut off or stands at a limit is tried in `reraid_faults`.
 #![tactic(auto)]
 
 #[cfg(test)]
 mod checks;
-#[cfg(test)]
-mod faults;
 #[cfg(test)]
 mod landmarks;
 #[cfg(test)]
 mod listings;
 #[cfg(test)]
 mod outside;
-#[cfg(test)]
-mod pieces;
 #[cfg(test)]
 mod plans;
 #[cfg(test)]

@@ -4,12 +4,10 @@ ghost use Rattle.std.specs.List.{flat_map};
 ghost use Rattle.image_source.specs.Memory.{seen_of};
 ghost use Rattle.reraid_rows.specs.Named.{AreReady, Name};
 
-use crate::pieces::Pieces;
 use crate::words::{Command, command_words};
 use image_source::{MemImages, MemSink, MemSource, Memory, SECTOR};
 use reraid_cli::reraid;
 use std::alloc::Global;
-use std::mem::replace;
 use std::thread::Threads;
 
 /// The names of images, in their order.
@@ -152,31 +150,6 @@ pub(crate) fn run_command<R: Threads + Sync>(
         alloc,
         &words,
         &mut outside.plan,
-        &mut outside.images,
-        &mut outside.out,
-        &mut outside.notes,
-    ))
-}
-
-/// The same, with the plan in pieces of at most so many bytes.
-pub(crate) fn run_in_pieces<R: Threads + Sync>(
-    rt: &R,
-    alloc: Global,
-    command: &Command,
-    names: &[&str],
-    outside: &mut Outside,
-    most: usize,
-) -> Result<u8, Memory>
-    requires { AreReady (map (λ name. name.now) names.now) outside.old.images outside.old.plan outside.old.out outside.old.notes }
-{
-    let words = command_words(alloc, command, names)?;
-    let source = replace(&mut outside.plan, MemSource::new(alloc, b"")?);
-    let mut plan = Pieces::of(source, most);
-    Ok(reraid(
-        rt,
-        alloc,
-        &words,
-        &mut plan,
         &mut outside.images,
         &mut outside.out,
         &mut outside.notes,

@@ -13,9 +13,6 @@ pub const LISTING: &str =
 pub const PLAN_WITH_A_BAD_ROW: &str =
     "reraid-plan 1\nimages 3\nlength 2\nlength 2\nlength 2\nend 2\nlevels 5\nmembers 3\npatterns ls\nsyndromes none\nchunks 1\noffsets 0\norigins 0\nmissing 0\nforeign 0\nbadrows 1\nwindow 2\nmisfits 0\nleast 1\ndone\n";
 
-/// A plan that ends in the middle of a line.
-pub const TORN_PLAN: &str = "reraid-plan 1\nimages 3\nlength 2\nleng";
-
 /// Two images of an array of three members.
 pub const ONE_LOST: &str =
     "reraid-plan 1\nimages 2\nlength 2\nlength 2\nend 2\nlevels 5\nmembers 3\npatterns ls\nsyndromes none\nchunks 1\noffsets 0\norigins 0\nmissing 1\nforeign 0\nbadrows 0\nwindow 2\nmisfits 0\nleast 1\ndone\n";
@@ -71,47 +68,3 @@ pub const XFS_AT_THE_START: &str =
 /// A mark that lies nowhere: its rule has no distance.
 pub const NO_DISTANCE: &str =
     "reraid-plan 1\nimages 3\nlength 2\nlength 2\nlength 2\nend 2\nlevels 5\nmembers 3\npatterns ls\nsyndromes none\nchunks 1\noffsets 0\norigins 0\nmissing 0\nforeign 0\nbadrows 0\nwindow 2\nmisfits 0\nleast 1\ngroup ntfs\nmark boot 0 0 every:0:0:0\ndone\n";
-
-/// The greatest distance of the mark is 2^55.
-pub const DISTANCE_TOO_GREAT: &str =
-    "reraid-plan 1\nimages 3\nlength 2\nlength 2\nlength 2\nend 2\nlevels 5\nmembers 3\npatterns ls\nsyndromes none\nchunks 1\noffsets 0\norigins 0\nmissing 0\nforeign 0\nbadrows 0\nwindow 2\nmisfits 0\nleast 1\ngroup ntfs\nmark boot 0 0 every:18014398509481984:2:0\ndone\n";
-
-/// The partition table comes after a file system.
-pub const TABLE_TOO_LATE: &str =
-    "reraid-plan 1\nimages 3\nlength 2\nlength 2\nlength 2\nend 2\nlevels 5\nmembers 3\npatterns ls\nsyndromes none\nchunks 1\noffsets 0\norigins 0\nmissing 0\nforeign 0\nbadrows 0\nwindow 2\nmisfits 0\nleast 1\ngroup ntfs\nmark boot 0 0 at:0\ngroup gpt\ndone\n";
-
-/// Marks in the order of images.
-pub const MARKS_BY_IMAGE: &str =
-    "reraid-plan 1\nimages 3\nlength 2\nlength 2\nlength 2\nend 2\nlevels 5\nmembers 3\npatterns ls\nsyndromes none\nchunks 1\noffsets 0\norigins 0\nmissing 0\nforeign 0\nbadrows 0\nwindow 2\nmisfits 0\nleast 1\ngroup ntfs\nmark boot 0 1 at:0\nmark boot 1 0 at:0\ndone\n";
-
-/// A mark past the end of its image.
-pub const MARK_PAST_THE_END: &str =
-    "reraid-plan 1\nimages 3\nlength 2\nlength 2\nlength 2\nend 2\nlevels 5\nmembers 3\npatterns ls\nsyndromes none\nchunks 1\noffsets 0\norigins 0\nmissing 0\nforeign 0\nbadrows 0\nwindow 2\nmisfits 0\nleast 1\ngroup ntfs\nmark boot 0 2 at:0\ndone\n";
-
-/// The plan of the first listing without its last line feed.
-pub const WITHOUT_THE_LAST_END: &str =
-    "reraid-plan 1\nimages 3\nlength 2\nlength 2\nlength 2\nend 2\nlevels 5\nmembers 3\npatterns ls\nsyndromes none\nchunks 1\noffsets 0\norigins 0\nmissing 0\nforeign 0\nbadrows 0\nwindow 2\nmisfits 0\nleast 1\ndone";
-
-/// The same with a carriage return before the first line feed.
-pub const WITH_A_RETURN: &str =
-    "reraid-plan 1\r\nimages 3\nlength 2\nlength 2\nlength 2\nend 2\nlevels 5\nmembers 3\npatterns ls\nsyndromes none\nchunks 1\noffsets 0\norigins 0\nmissing 0\nforeign 0\nbadrows 0\nwindow 2\nmisfits 0\nleast 1\ndone\n";
-
-/// The same with chunks that do not rise.
-pub const CHUNKS_FALL: &str =
-    "reraid-plan 1\nimages 3\nlength 2\nlength 2\nlength 2\nend 2\nlevels 5\nmembers 3\npatterns ls\nsyndromes none\nchunks 2,1\noffsets 0\norigins 0\nmissing 0\nforeign 0\nbadrows 0\nwindow 2\nmisfits 0\nleast 1\ndone\n";
-
-/// The same with a line after the last.
-pub const AFTER_THE_END: &str =
-    "reraid-plan 1\nimages 3\nlength 2\nlength 2\nlength 2\nend 2\nlevels 5\nmembers 3\npatterns ls\nsyndromes none\nchunks 1\noffsets 0\norigins 0\nmissing 0\nforeign 0\nbadrows 0\nwindow 2\nmisfits 0\nleast 1\ndone\ndone\n";
-
-/// The same with an end past the shortest image.
-pub const END_TOO_HIGH: &str =
-    "reraid-plan 1\nimages 3\nlength 2\nlength 2\nlength 2\nend 3\nlevels 5\nmembers 3\npatterns ls\nsyndromes none\nchunks 1\noffsets 0\norigins 0\nmissing 0\nforeign 0\nbadrows 0\nwindow 2\nmisfits 0\nleast 1\ndone\n";
-
-/// The same with 2^55 bad rows.
-pub const BADROWS_TOO_MANY: &str =
-    "reraid-plan 1\nimages 3\nlength 2\nlength 2\nlength 2\nend 2\nlevels 5\nmembers 3\npatterns ls\nsyndromes none\nchunks 1\noffsets 0\norigins 0\nmissing 0\nforeign 0\nbadrows 36028797018963968\nwindow 2\nmisfits 0\nleast 1\ndone\n";
-
-/// The same without a tested row.
-pub const NO_WINDOW: &str =
-    "reraid-plan 1\nimages 3\nlength 2\nlength 2\nlength 2\nend 2\nlevels 5\nmembers 3\npatterns ls\nsyndromes none\nchunks 1\noffsets 0\norigins 0\nmissing 0\nforeign 0\nbadrows 0\nwindow 0\nmisfits 0\nleast 1\ndone\n";

@@ -1,99 +1,11 @@
 //! Refusals of plans, images and sets.
-use crate::plans::{
-    AFTER_THE_END, BADROWS_TOO_MANY, CHUNKS_FALL, DISTANCE_TOO_GREAT, END_TOO_HIGH,
-    MARK_PAST_THE_END, MARKS_BY_IMAGE, NO_WINDOW, PLAN, TABLE_TOO_LATE, TOO_MANY_SETS, TORN_PLAN,
-    TWO_LEVELS, WITH_A_RETURN, WITHOUT_THE_LAST_END,
-};
+use crate::plans::{PLAN, TOO_MANY_SETS, TWO_LEVELS};
 use crate::rows::{Row, SET, STRIPES, STRIPES_LOST, check, check_all, run};
 use crate::words::{Command, Operand};
 use std::test::Fail;
 
 /// The first ten sets.
 const FIRST: Command<'static> = Command::List(&[Operand::From(0), Operand::Size(10)]);
-
-/// A plan that is refused at a line, and the line on the notes.
-#[derive(Clone, Copy)]
-struct Refused<'a> {
-    plan: &'a str,
-    notes: &'a str,
-}
-
-impl<'a> Refused<'a> {
-    /// The listing over the three images of the first plan.
-    fn row(&self) -> Row<'a> {
-        Row {
-            command: FIRST,
-            images: STRIPES,
-            plan: self.plan,
-            status: 2,
-            out: "",
-            notes: self.notes,
-        }
-    }
-}
-
-// The line is the first with which no plan goes on.
-#[test]
-fn a_text_is_refused_at_a_line(rt: HostRuntime) -> Result<(), Fail> {
-    let plans = [
-        Refused {
-            plan: TORN_PLAN,
-            notes: "reraid: plan line 4 is not understood\n",
-        },
-        Refused {
-            plan: "",
-            notes: "reraid: plan line 1 is not understood\n",
-        },
-        Refused {
-            plan: WITH_A_RETURN,
-            notes: "reraid: plan line 1 is not understood\n",
-        },
-        Refused {
-            plan: CHUNKS_FALL,
-            notes: "reraid: plan line 11 is not understood\n",
-        },
-        Refused {
-            plan: WITHOUT_THE_LAST_END,
-            notes: "reraid: plan line 20 is not understood\n",
-        },
-        Refused {
-            plan: AFTER_THE_END,
-            notes: "reraid: plan line 21 is not understood\n",
-        },
-        Refused {
-            plan: END_TOO_HIGH,
-            notes: "reraid: plan line 6 is not understood\n",
-        },
-        Refused {
-            plan: BADROWS_TOO_MANY,
-            notes: "reraid: plan line 16 is not understood\n",
-        },
-        Refused {
-            plan: NO_WINDOW,
-            notes: "reraid: plan line 17 is not understood\n",
-        },
-        Refused {
-            plan: DISTANCE_TOO_GREAT,
-            notes: "reraid: plan line 21 is not understood\n",
-        },
-        Refused {
-            plan: TABLE_TOO_LATE,
-            notes: "reraid: plan line 22 is not understood\n",
-        },
-        Refused {
-            plan: MARKS_BY_IMAGE,
-            notes: "reraid: plan line 22 is not understood\n",
-        },
-        Refused {
-            plan: MARK_PAST_THE_END,
-            notes: "reraid: plan line 21 is not understood\n",
-        },
-    ];
-    for plan in &plans {
-        check(&rt, rt.alloc(), &plan.row())?;
-    }
-    Ok(())
-}
 
 /// One byte more than a plan may have.
 const TOO_LONG: usize = 4_194_305;

@@ -1,0 +1,269 @@
+//! Landmark sectors at both sides of their limits, and images at the limits of a survey.
+use crate::plans::bytes_of;
+use crate::rows::run;
+use image_source::{Memory, SECTOR};
+use std::alloc::Global;
+use std::test::Fail;
+
+/// A field of a landmark sector: where it stands, and its bytes.
+pub type Field = (usize, &'static [u8]);
+
+/// A landmark sector of an image: its number, and its fields.
+#[derive(Clone, Copy)]
+pub struct Placed<'a> {
+    pub image: usize,
+    pub sector: usize,
+    pub fields: &'a [Field],
+}
+
+/// Puts each of these sectors into its image.
+pub fn put_all(images: &mut Vec<Vec<u8>>, placed: &[Placed]) {
+    for one in placed {
+        if let Some(bytes) = images.get_mut(one.image) {
+            put(bytes, one);
+        }
+    }
+}
+
+/// Puts the fields of a sector, where it lies within the image.
+fn put(bytes: &mut Vec<u8>, placed: &Placed) {
+    for (at, field) in placed.fields {
+        let start = placed.sector.saturating_mul(SECTOR).saturating_add(*at);
+        for (place, byte) in field.iter().enumerate() {
+            if let Some(old) = bytes.get_mut(start.saturating_add(place)) {
+                *old = *byte;
+            }
+        }
+    }
+}
+
+/// A sector that stands alone on an image of two, and the lines of its group.
+type Seen = (&'static [Field], &'static str);
+
+/// What a survey is asked for here, and what it prints before and after the groups.
+const LINE: &str =
+    "survey levels=0 patterns=plain syndromes=none chunks=1 offsets=0 origins=0 -- a";
+
+const BEFORE: &str =
+    "reraid-plan 1\nimages 1\nlength 2\nend 2\nlevels 0\nmembers 2\npatterns plain\nsyndromes none\nchunks 1\noffsets 0\norigins 0\nmissing 0\nforeign 0\nbadrows 0\nwindow 2\nmisfits 0\nleast 1\n";
+
+/// Headers of partition tables, whose checksums were computed by zlib: MyLBA of 2^55 - 1 and of 2^55; header sizes of 512 and 513,
+/// and of 92 and 91.
+const HEADERS: [Seen; 6] = [
+    (
+        &[
+            (0, b"EFI PART"),
+            (10, &[1]),
+            (12, &[92]),
+            (16, &[0x28, 0xF2, 0x04, 0x79]),
+            (24, &[0xFF, 0xFF, 0xFF, 0xFF, 0xFF, 0xFF, 0x7F]),
+            (32, &[127]),
+            (72, &[2]),
+            (80, &[4]),
+            (84, &[128]),
+        ],
+        "group gpt\nmark gpt 0 0 at:36028797018963967\n",
+    ),
+    (
+        &[
+            (0, b"EFI PART"),
+            (10, &[1]),
+            (12, &[92]),
+            (16, &[0x1C, 0x43, 0x84, 0xC7]),
+            (30, &[0x80]),
+            (32, &[127]),
+            (72, &[2]),
+            (80, &[4]),
+            (84, &[128]),
+        ],
+        "",
+    ),
+    (
+        &[
+            (0, b"EFI PART"),
+            (10, &[1]),
+            (13, &[2]),
+            (16, &[0x80, 0xBE, 0x4D, 0x30]),
+            (24, &[1]),
+            (32, &[127]),
+            (72, &[2]),
+            (80, &[4]),
+            (84, &[128]),
+        ],
+        "group gpt\nmark gpt 0 0 at:1\n",
+    ),
+    (
+        &[
+            (0, b"EFI PART"),
+            (10, &[1]),
+            (12, &[1, 2]),
+            (16, &[0x76, 0x26, 0, 0x10]),
+            (24, &[1]),
+            (32, &[127]),
+            (72, &[2]),
+            (80, &[4]),
+            (84, &[128]),
+        ],
+        "",
+    ),
+    (
+        &[
+            (0, b"EFI PART"),
+            (10, &[1]),
+            (12, &[92]),
+            (16, &[0x81, 0xFE, 0xE7, 0x71]),
+            (24, &[1]),
+            (32, &[127]),
+            (72, &[2]),
+            (80, &[4]),
+            (84, &[128]),
+        ],
+        "group gpt\nmark gpt 0 0 at:1\n",
+    ),
+    (
+        &[
+            (0, b"EFI PART"),
+            (10, &[1]),
+            (12, &[91]),
+            (16, &[0x94, 0x3A, 0x8E, 0x71]),
+            (24, &[1]),
+            (32, &[127]),
+            (72, &[2]),
+            (80, &[4]),
+            (84, &[128]),
+        ],
+        "",
+    ),
+];
+
+/// Boot sectors of NTFS with clusters of one sector, $MFT and its copy in clusters 4 and 2, and records of 2^10 bytes: of 2^55 - 1
+/// sectors, of 2^55, and of none; with $MFT as far as record 15 may lie, 30 sectors before 2^55 - 1, and one further.
+const BOOTS: [Seen; 5] = [
+    (
+        &[
+            (3, b"NTFS    "),
+            (12, &[2, 1]),
+            (40, &[0xFF, 0xFF, 0xFF, 0xFF, 0xFF, 0xFF, 0x7F]),
+            (48, &[4]),
+            (56, &[2]),
+            (64, &[0xF6]),
+            (510, &[0x55, 0xAA]),
+        ],
+        "group ntfs\nmark boot 0 0 either:0:36028797018963967\n",
+    ),
+    (
+        &[
+            (3, b"NTFS    "),
+            (12, &[2, 1]),
+            (46, &[0x80]),
+            (48, &[4]),
+            (56, &[2]),
+            (64, &[0xF6]),
+            (510, &[0x55, 0xAA]),
+        ],
+        "",
+    ),
+    (
+        &[
+            (3, b"NTFS    "),
+            (12, &[2, 1]),
+            (48, &[4]),
+            (56, &[2]),
+            (64, &[0xF6]),
+            (510, &[0x55, 0xAA]),
+        ],
+        "",
+    ),
+    (
+        &[
+            (3, b"NTFS    "),
+            (12, &[2, 1]),
+            (40, &[100]),
+            (48, &[0xE1, 0xFF, 0xFF, 0xFF, 0xFF, 0xFF, 0x7F]),
+            (56, &[2]),
+            (64, &[0xF6]),
+            (510, &[0x55, 0xAA]),
+        ],
+        "group ntfs\nmark boot 0 0 either:0:100\n",
+    ),
+    (
+        &[
+            (3, b"NTFS    "),
+            (12, &[2, 1]),
+            (40, &[100]),
+            (48, &[0xE2, 0xFF, 0xFF, 0xFF, 0xFF, 0xFF, 0x7F]),
+            (56, &[2]),
+            (64, &[0xF6]),
+            (510, &[0x55, 0xAA]),
+        ],
+        "",
+    ),
+];
+
+/// Superblocks of XFS: blocks of 65,536 bytes, and as many blocks a group and groups as their fields hold, 128 * (2^32 - 1)^2
+/// sectors, which is more than 2^55; blocks of 512 bytes, 2^27 a group, of 2^28 groups less one, with sectors of 512 bytes, whose
+/// end is 2^55 - 2^27 + 2; and one group more, whose end is 2^55 + 2.
+const SUPERS: [Seen; 3] = [
+    (
+        &[
+            (0, b"XFSB"),
+            (5, &[1]),
+            (84, &[0xFF, 0xFF, 0xFF, 0xFF, 0xFF, 0xFF, 0xFF, 0xFF]),
+            (102, &[2]),
+        ],
+        "",
+    ),
+    (
+        &[
+            (0, b"XFSB"),
+            (6, &[2]),
+            (84, &[8]),
+            (88, &[0x0F, 0xFF, 0xFF, 0xFF]),
+            (102, &[2]),
+        ],
+        "group xfs\nmark super 0 0 every:134217728:268435455:0\n",
+    ),
+    (
+        &[
+            (0, b"XFSB"),
+            (6, &[2]),
+            (84, &[8]),
+            (88, &[0x10]),
+            (102, &[2]),
+        ],
+        "",
+    ),
+];
+
+/// The plan with these groups.
+fn plan_with(alloc: Global, groups: &str) -> Result<Vec<u8>, Memory> {
+    let mut plan = bytes_of(alloc, BEFORE)?;
+    plan.extend_from_slice(groups.as_bytes())
+        .map_err(|_| Memory)?;
+    plan.extend_from_slice(b"done\n").map_err(|_| Memory)?;
+    Ok(plan)
+}
+
+#[test]
+fn sectors_at_their_limits(rt: HostRuntime) -> Result<(), Fail> {
+    let alloc = rt.alloc();
+    let mut seen = Vec::new(alloc);
+    seen.extend_from_slice(&HEADERS)?;
+    seen.extend_from_slice(&BOOTS)?;
+    seen.extend_from_slice(&SUPERS)?;
+    for (place, (fields, groups)) in seen.iter().enumerate() {
+        let mut contents = Vec::new(alloc);
+        contents.push(vec![in alloc; 0u8; 1024]?)?;
+        let placed = Placed {
+            image: 0,
+            sector: 0,
+            fields,
+        };
+        put_all(&mut contents, &[placed]);
+        let plan = plan_with(alloc, groups)?;
+        let (status, met) = run(&rt, alloc, LINE, &contents, b"")?;
+        assert_eq!(rt; status, 0, "at {place}");
+        assert_eq!(rt; met.out.bytes(), plan.as_slice(), "at {place}");
+    }
+    Ok(())
+}

@@ -1,0 +1,299 @@
+"""Layouts, the equations of rows, landmarks in sets, and the product of a plan, as docs/FORMATS.md and docs/LAYOUTS.md have them."""
+
+import bisect
+import functools
+import itertools
+import math
+
+from texts import FEWEST, FIVE, PATTERNS, REDUNDANCY, SECTOR, SIX, Set
+
+
+# Layouts, as docs/LAYOUTS.md draws them
+
+@functools.lru_cache(None)
+def cells(level, pattern, members, row):
+    """What stands in each slot of a row: "P", "Q" or the number of an item."""
+    if level == 0:
+        return tuple(range(members))
+    if level == 6 and pattern.endswith("-6"):
+        return cells(5, pattern[:-2], members - 1, row) + ("Q",)
+    if pattern == "n-restart":
+        return cells(6, "la", members, row + 1)
+    last = members - (1 if level == 5 else 2)
+    left, right = members - 1 - row % members, row % members
+    p = {"la": left, "ra": right, "ls": left, "rs": right, "n-continue": left, "parity-first": 0, "parity-last": last}[pattern]
+    made = [None] * members
+    made[p] = "P"
+    after = p
+    if level == 6:
+        q = (p - 1) % members if pattern == "n-continue" else (p + 1) % members
+        made[q] = "Q"
+        after = p if pattern == "n-continue" else q
+    round_slots = [(after + 1 + step) % members for step in range(members)]
+    order = round_slots if pattern in ("ls", "rs", "n-continue") else range(members)
+    free = [slot for slot in order if made[slot] is None]
+    for item, slot in enumerate(free):
+        made[slot] = item
+    return tuple(made)
+
+
+@functools.lru_cache(None)
+def exponents(pattern, syndrome, members, row):
+    """The exponent of each slot that holds data, and None for the others, at level 6."""
+    made = cells(6, pattern, members, row)
+    q = made.index("Q")
+    walk = [slot for slot in ((q + 1 + step) % members for step in range(members)) if isinstance(made[slot], int)]
+    by = {"after-q": walk.index, "by-data": lambda slot: made[slot], "by-slot": lambda slot: slot}[syndrome]
+    return tuple(by(slot) if isinstance(made[slot], int) else None for slot in range(members))
+
+
+def layout_name(found):
+    plain = {"la": "left-asymmetric", "ra": "right-asymmetric", "ls": "left-symmetric", "rs": "right-symmetric",
+             "parity-first": "parity-first", "parity-last": "parity-last"}
+    if found.level == 0:
+        return "raid0"
+    if found.level == 5:
+        return plain[found.pattern]
+    if found.syndrome == "by-slot":
+        return {"ra": "ddf-zero-restart", "n-restart": "ddf-N-restart", "n-continue": "ddf-N-continue"}.get(found.pattern)
+    if found.syndrome == "after-q":
+        if found.pattern.endswith("-6"):
+            return plain[found.pattern[:-2]] + "-6"
+        return plain.get(found.pattern)
+    return None
+
+
+# The field of bytes, and the equations of a row
+
+POWERS = [1]
+while len(POWERS) < 255:
+    POWERS.append(POWERS[-1] * 2 ^ (0x11D if POWERS[-1] > 127 else 0))
+LOGS = {power: log for log, power in enumerate(POWERS)}
+
+
+@functools.lru_cache(None)
+def scaled(log):
+    """The table of products of each byte with 2 to that power."""
+    return bytes(POWERS[(LOGS[byte] + log) % 255] if byte else 0 for byte in range(256))
+
+
+def times(block, log):
+    return block.translate(scaled(log % 255))
+
+
+def added(blocks):
+    total = 0
+    for block in blocks:
+        total ^= int.from_bytes(block, "little")
+    return total.to_bytes(SECTOR, "little")
+
+
+NOTHING = bytes(SECTOR)
+
+
+class Row:
+    """One sector row of a set: its cells, exponents, and the blocks that are there."""
+
+    def __init__(self, found, images, sector):
+        row = sector // found.chunk
+        self.found = found
+        self.cells = cells(found.level, found.pattern, found.members, row)
+        self.logs = exponents(found.pattern, found.syndrome, found.members, row) if found.level == 6 else [None] * found.members
+        start = (found.offset + sector) * SECTOR
+        self.blocks = [None if image is None else images[image][start:start + SECTOR] for image in found.slots]
+        self.lost = [slot for slot in range(found.members) if self.blocks[slot] is None]
+
+    def sums(self):
+        """What is left of P's equation and of Q's, with zeros for what is lost."""
+        there = [slot for slot in range(self.found.members) if self.blocks[slot] is not None]
+        p = added([self.blocks[slot] for slot in there if self.cells[slot] != "Q"])
+        if self.found.level != 6:
+            return p, NOTHING
+        weighed = [times(self.blocks[slot], self.logs[slot]) for slot in there if isinstance(self.cells[slot], int)]
+        return p, added(weighed + [self.blocks[slot] for slot in there if self.cells[slot] == "Q"])
+
+    def sound(self):
+        if self.found.level == 0 or len(self.lost) >= REDUNDANCY[self.found.level]:
+            return True
+        if self.found.level == 5:
+            return added(self.blocks) == NOTHING
+        p, q = self.sums()
+        if not self.lost:
+            return p == NOTHING and q == NOTHING
+        kind = self.cells[self.lost[0]]
+        if kind == "P":
+            return q == NOTHING
+        if kind == "Q":
+            return p == NOTHING
+        return times(p, self.logs[self.lost[0]]) == q
+
+    def whole(self):
+        """The blocks with the lost ones found."""
+        blocks = list(self.blocks)
+        p, q = self.sums()
+        data = [slot for slot in self.lost if isinstance(self.cells[slot], int)]
+        kinds = [self.cells[slot] for slot in self.lost]
+        if len(data) == 2:
+            # x + y = p and 2^a x + 2^b y = q, so (2^a + 2^b) x = q + 2^b p
+            a, b = self.logs[data[0]], self.logs[data[1]]
+            x = times(added([q, times(p, b)]), -LOGS[POWERS[a % 255] ^ POWERS[b % 255]])
+            blocks[data[0]], blocks[data[1]] = x, added([x, p])
+        elif len(data) == 1 and "P" not in kinds:
+            blocks[data[0]] = p
+        elif len(data) == 1:
+            blocks[data[0]] = times(q, -self.logs[data[0]])
+        items = [slot for slot in range(self.found.members) if isinstance(self.cells[slot], int)]
+        for slot in self.lost:
+            if self.cells[slot] == "P":
+                blocks[slot] = added([blocks[item] for item in items])
+            if self.cells[slot] == "Q":
+                blocks[slot] = added([times(blocks[item], self.logs[item]) for item in items])
+        return blocks
+
+
+def unsound_rows(found, images, tested, most=None):
+    """How many of the first rows are unsound, or one more than `most` once there are so many."""
+    if found.level == 0 or found.lost >= REDUNDANCY[found.level]:
+        return 0
+    count = 0
+    for sector in range(tested):
+        if not Row(found, images, sector).sound():
+            count += 1
+            if most is not None and count > most:
+                break
+    return count
+
+
+# Landmarks
+
+def fits(rule, distance):
+    name, *rest = rule.split(":")
+    values = [int(part) for part in rest]
+    if distance < 0:
+        return False
+    if name in ("at", "either"):
+        return distance in values
+    step, count, plus = values
+    if step == 0:
+        return count > 0 and distance == plus
+    return distance >= plus and (distance - plus) % step == 0 and (distance - plus) // step < count
+
+
+def volume_sector(found, slot, sector, end):
+    """The volume sector that a slot holds at a member sector, if it is one of data."""
+    if not 0 <= sector < found.area(end):
+        return None
+    row = sector // found.chunk
+    item = cells(found.level, found.pattern, found.members, row)[slot]
+    return (row * found.data + item) * found.chunk + sector % found.chunk if isinstance(item, int) else None
+
+
+def held(plan, found, group):
+    """The first origin at which a group holds, with its fits and misfits, or None."""
+    kind, marks = group
+    places = []
+    for _, image, sector, rule in marks:
+        if image in found.slots:
+            place = volume_sector(found, found.slots.index(image), sector - found.offset, plan.end)
+            if place is not None:
+                places.append((place, rule))
+    for origin in [0] if kind == "gpt" else plan.origins:
+        good = sum(fits(rule, place - origin) for place, rule in places)
+        if len(places) - good <= plan.misfits and good >= min(plan.least, len(marks)):
+            return origin, good, len(places) - good
+    return None
+
+
+# The product
+
+class Product:
+    """The sets of a plan by their ranks."""
+
+    def __init__(self, plan):
+        self.plan = plan
+        self.images = len(plan.lengths)
+        self.heads, self.counts, self.known = [], [], {}
+        shapes = itertools.product(plan.levels, plan.members, plan.patterns, plan.syndromes, plan.chunks, plan.offsets)
+        for level, members, pattern, syndrome, chunk, offset in shapes:
+            patterns = {0: PATTERNS[:1], 5: FIVE, 6: SIX}[level]
+            if members >= FEWEST[level] and pattern in patterns and (syndrome != "none") == (level == 6):
+                self.heads.append((level, members, pattern, syndrome, chunk, offset))
+                self.counts.append(self.ways(level, members, 0, 0))
+        self.firsts = [0] + list(itertools.accumulate(self.counts))
+        self.total = self.firsts[-1]
+
+    def ways(self, level, members, used, empty):
+        """How many lists begin with so many images and so many empty slots, in some order."""
+        key = level, members, used, empty
+        if key not in self.known:
+            self.known[key] = self.counted_ways(*key)
+        return self.known[key]
+
+    def counted_ways(self, level, members, used, empty):
+        left, count = members - used - empty, 0
+        for more in range(left + 1):
+            lost, there = empty + more, used + left - more
+            if lost <= min(self.plan.missing, REDUNDANCY[level]) and there <= self.images \
+                    and self.images - there <= self.plan.foreign:
+                count += math.comb(left, more) * math.perm(self.images - used, left - more)
+        return count
+
+    def set_at(self, rank):
+        place = bisect.bisect_right(self.firsts, rank) - 1
+        level, members, *rest = self.heads[place]
+        rank -= self.firsts[place]
+        slots = []
+        while len(slots) < members:
+            for choice in [image for image in range(self.images) if image not in slots] + [None]:
+                empty = slots.count(None) + (choice is None)
+                count = self.ways(level, members, len(slots) + 1 - empty, empty)
+                if rank < count:
+                    slots.append(choice)
+                    break
+                rank -= count
+        return Set(level, *rest, slots)
+
+    def rank_of(self, found):
+        if found.head() not in self.heads:
+            return None
+        place = self.heads.index(found.head())
+        if len({slot for slot in found.slots if slot is not None}) + found.lost < found.members:
+            return None
+        if any(slot is not None and slot >= self.images for slot in found.slots):
+            return None
+        rank, slots = self.firsts[place], []
+        for slot in found.slots:
+            for choice in [image for image in range(self.images) if image not in slots] + [None]:
+                if choice == slot:
+                    break
+                empty = slots.count(None) + (choice is None)
+                rank += self.ways(found.level, found.members, len(slots) + 1 - empty, empty)
+            slots.append(slot)
+        return rank if self.ways(found.level, found.members, found.members - found.lost, found.lost) else None
+
+
+def passes(plan, found, images):
+    if found.rows(plan.end) == 0:
+        return False
+    if any(held(plan, found, group) is None for group in plan.groups):
+        return False
+    return unsound_rows(found, images, min(found.area(plan.end), plan.window), plan.badrows) <= plan.badrows
+
+
+def page(plan, product, images, first, size, span):
+    """The sets of a page with their ranks, and where the next begins."""
+    stop, lines, rank = min(product.total, first + span), [], first - 1
+    while rank + 1 < stop:
+        rank += 1
+        place = bisect.bisect_right(product.firsts, rank) - 1
+        *_, chunk, offset = product.heads[place]
+        if offset + chunk > plan.end:
+            # no set of this head has a whole row
+            rank = product.firsts[place + 1] - 1
+            continue
+        found = product.set_at(rank)
+        if passes(plan, found, images):
+            lines.append((rank, found))
+            if len(lines) == size:
+                return lines, rank + 1
+    return lines, stop

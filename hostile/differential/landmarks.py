@@ -1,0 +1,137 @@
+"""Landmark sectors of images, and the groups and origins of a survey, as docs/FORMATS.md has them. What it does not say, where the
+fields of the sectors stand and the limits of their numbers, is that of the UEFI specification, of the documentation of Linux-NTFS, and of
+"XFS Algorithms & Data Structures", with the limits that the definitions of ntfs_marks and xfs_marks name.
+"""
+
+import struct
+import uuid
+import zlib
+
+from texts import FAR, MARKS_OF, SECTOR
+
+
+def gpt(sector):
+    size, = struct.unpack_from("<I", sector, 12)
+    own, other = struct.unpack_from("<QQ", sector, 24)
+    if sector[:8] != b"EFI PART" or not 92 <= size <= 512 or own >= FAR:
+        return None
+    if zlib.crc32(sector[:16] + bytes(4) + sector[20:size]) != struct.unpack_from("<I", sector, 16)[0]:
+        return None
+    entries, _, entry = struct.unpack_from("<QII", sector, 72)
+    return {"own": own, "other": other, "entries": entries, "entry": entry}
+
+
+def boot(sector):
+    if sector[3:11] != b"NTFS    " or sector[510:] != b"\x55\xAA" or struct.unpack_from("<H", sector, 11)[0] != 512:
+        return None
+    cluster, code = sector[13], struct.unpack_from("b", sector, 64)[0]
+    total, mft, mirror = struct.unpack_from("<QQQ", sector, 40)
+    if cluster not in [2 ** power for power in range(8)]:
+        return None
+    size = 2 ** -code if code < 0 else code * cluster * 512
+    if not 512 <= size <= 65536 or size % 512:
+        return None
+    wide = size // 512
+    if not 0 < total < FAR or mft * cluster + 15 * wide >= FAR or mirror * cluster + 15 * wide >= FAR:
+        return None
+    return cluster, total, mft, mirror, size, sector[72:80]
+
+
+def record(sector):
+    if sector[:4] != b"FILE" or struct.unpack_from("<H", sector, 4)[0] != 48:
+        return None
+    size, place = struct.unpack_from("<I", sector, 28)[0], struct.unpack_from("<I", sector, 44)[0]
+    return (size, place) if place < 16 else None
+
+
+def super_block(sector):
+    if sector[:4] != b"XFSB":
+        return None
+    block, group, groups = struct.unpack_from(">I", sector, 4)[0], *struct.unpack_from(">II", sector, 84)
+    unit = struct.unpack_from(">H", sector, 102)[0]
+    if block not in [2 ** power for power in range(9, 17)] or unit not in [2 ** power for power in range(9, 16)] or unit > block:
+        return None
+    if group == 0 or groups == 0 or group * block // 512 * groups + 2 * (unit // 512) >= FAR:
+        return None
+    return uuid.UUID(bytes=sector[32:48]), block, group, groups, unit
+
+
+def head_of_group(magic):
+    def read(sector):
+        if sector[:4] != magic or struct.unpack_from(">I", sector, 4)[0] != 1:
+            return None
+        return struct.unpack_from(">I", sector, 8)
+    return read
+
+
+READERS = {"gpt": gpt, "boot": boot, "record": record, "super": super_block, "agf": head_of_group(b"XAGF"),
+           "agi": head_of_group(b"XAGI")}
+MAGICS = {b"EFI ": "gpt", b"FILE": "record", b"XFSB": "super", b"XAGF": "agf", b"XAGI": "agi"}
+
+
+def sightings(images, first, end, kinds, passed_over):
+    """The landmark sectors that count, by kind, in order of sector, then image."""
+    wanted = {kind for asked in kinds for kind in MARKS_OF[asked]}
+    seen = {kind: [] for kind in READERS}
+    for sector in range(first, end):
+        for place, image in enumerate(images):
+            block = image[sector * SECTOR:(sector + 1) * SECTOR]
+            kind = MAGICS.get(block[:4]) or ("boot" if block[3:7] == b"NTFS" else None)
+            if kind not in wanted or len(seen[kind]) == 4096 or (place, sector) in passed_over:
+                continue
+            found = READERS[kind](block)
+            last = len(image) // SECTOR - 1
+            if kind == "gpt" and found and found["own"] == sector and \
+                    (found["own"], found["other"]) in ((1, last), (last, 1)):
+                continue
+            if found is not None:
+                seen[kind].append((sector, place, found))
+    return seen
+
+
+def first_blocks(images, headers):
+    """The first blocks of the partitions that headers tell of."""
+    firsts = set()
+    for sector, place, header in headers:
+        if header["entry"] == 128 and header["entries"] == header["own"] + 1 and sector + 1 < len(images[place]) // SECTOR:
+            for at in range(0, SECTOR, 128):
+                entry = images[place][(sector + 1) * SECTOR + at:(sector + 1) * SECTOR + at + 128]
+                first, last = struct.unpack_from("<QQ", entry, 32)
+                if entry[:16] != bytes(16) and first <= last <= header["other"] and first < FAR:
+                    firsts.add(first)
+    return firsts
+
+
+def file_systems(heads, rule, others):
+    """The groups of one kind: a group for each geometry that a head tells, and what belongs to the only one."""
+    geometries = list(dict.fromkeys(found for _, _, found in heads[1]))
+    groups = []
+    for geometry in geometries[:32]:
+        marks = [(heads[0], place, sector, rule(geometry)) for sector, place, found in heads[1] if found == geometry]
+        if len(geometries) == 1:
+            marks += others(geometry)
+        groups.append(sorted(marks, key=lambda mark: (mark[2], mark[1])))
+    return groups
+
+
+def groups_of(seen):
+    groups = []
+    if seen["gpt"]:
+        groups.append(("gpt", [("gpt", place, sector, f"at:{found['own']}") for sector, place, found in seen["gpt"]]))
+
+    def records(geometry):
+        cluster, _, mft, mirror, size, _ = geometry
+        wide = size // 512
+        return [("record", place, sector, f"either:{mft * cluster + found[1] * wide}:{mirror * cluster + found[1] * wide}")
+                for sector, place, found in seen["record"] if found[0] == size]
+
+    def heads(geometry):
+        _, block, group, count, unit = geometry
+        wide = group * block // 512
+        return [(kind, place, sector, f"at:{found[0] * wide + after * (unit // 512)}") for kind, after in (("agf", 1), ("agi", 2))
+                for sector, place, found in seen[kind] if found[0] < count]
+
+    groups += [("ntfs", marks) for marks in file_systems(("boot", seen["boot"]), lambda g: f"either:0:{g[1]}", records)]
+    groups += [("xfs", marks) for marks in
+               file_systems(("super", seen["super"]), lambda g: f"every:{g[2] * g[1] // 512}:{g[3]}:0", heads)]
+    return groups

@@ -1,0 +1,181 @@
+"""A reference of the commands of reraid, independent of the program: written from docs/FORMATS.md and docs/LAYOUTS.md, and
+slow and plain where the program is quick. It holds all images and whole answers in memory, and goes through every set of a
+range one by one.
+
+`answer(words, text, files)` gives status, standard output and standard error of a run with these words over a plan text, where
+`files` has the bytes of each image by its name, and None for a name that is no regular file.
+"""
+
+import itertools
+import json
+import struct
+
+from arrays import Product, Row, cells, held, layout_name, page, unsound_rows, volume_sector
+from generated import array_images, put_file_system, words_of
+from landmarks import first_blocks, groups_of, sightings
+from texts import KINDS, LEVELS, LISTS, PATTERNS, RANKS, SECTOR, SYNDROMES, Plan, Stop, broken_rule, read_plan, read_words
+
+
+def given_images(kind, given, planned):
+    raise Stop(4, f"reraid: images: {kind} given {given} planned {planned}")
+
+
+def planned_work(text, images):
+    """The plan and its product, where the images are those of the plan."""
+    plan = read_plan(text)
+    if len(images) != len(plan.lengths):
+        given_images("count", len(images), len(plan.lengths))
+    for place, (image, length) in enumerate(zip(images, plan.lengths)):
+        if len(image) // SECTOR != length:
+            given_images(f"length {place}", len(image) // SECTOR, length)
+    product = Product(plan)
+    if product.total >= RANKS:
+        raise Stop(5, "reraid: the product has more than 18446744073709551615 sets")
+    return plan, product
+
+
+def usual_end(given, images):
+    """The end that is asked for, where the images are neither too few nor too many nor too short."""
+    if not images:
+        given_images("count", 0, 1)
+    if len(images) > 16:
+        given_images("count", len(images), 16)
+    shortest = min(len(image) // SECTOR for image in images)
+    end = given.get("end", shortest)
+    if end > shortest:
+        given_images("end", end, shortest)
+    return end
+
+
+def follow_rules(found, images, end):
+    broken = broken_rule(found, images, end)
+    if broken:
+        raise Stop(7, f"reraid: set rule {broken[0]} value {broken[1]}")
+
+
+def list_sets(given, text, images):
+    plan, product = planned_work(text, images)
+    first = given.get("from", 0)
+    if first > product.total:
+        raise Stop(6, f"reraid: cursor {first} is past {product.total}")
+    out = []
+    for _ in range(given.get("pages", 1)):
+        lines, first = page(plan, product, images, first, given.get("size", 100), given.get("span", RANKS - 1))
+        if given.get("form") == "json":
+            for rank, found in lines:
+                shown = {"chunk": found.chunk, "level": found.level, "name": layout_name(found), "offset": found.offset,
+                         "pattern": found.pattern, "rank": rank, "slots": list(found.slots), "syndrome": found.syndrome}
+                out.append(json.dumps(shown, separators=(",", ":")))
+            out.append(json.dumps({"next": first, "total": product.total}, separators=(",", ":")))
+        else:
+            out += [f"{rank} {found.word()}" for rank, found in lines] + [f"next {first} of {product.total}"]
+        if first == product.total:
+            break
+    return "".join(line + "\n" for line in out).encode()
+
+
+def check(given, text, images):
+    plan, product = planned_work(text, images)
+    found = given["set"]
+    follow_rules(found, len(images), plan.end)
+    tested = min(found.area(plan.end), plan.window)
+    rank, unsound = product.rank_of(found), unsound_rows(found, images, tested)
+    out, good = [f"rank {'-' if rank is None else rank}", f"unsound {unsound} of {tested}"], unsound <= plan.badrows
+    for place, group in enumerate(plan.groups):
+        at = held(plan, found, group)
+        good = good and at is not None
+        told = "none" if at is None else f"origin {at[0]} fits {at[1]} misfits {at[2]}"
+        out.append(f"group {place} {group[0]} {told}")
+    return "".join(line + "\n" for line in out + ["pass" if good else "fail"]).encode()
+
+
+def map_sector(given, images):
+    end, found = usual_end(given, images), given["set"]
+    follow_rules(found, len(images), end)
+    sector, size = given["sector"], found.area(end) * found.data
+    if sector >= size:
+        raise Stop(8, f"reraid: sector {sector} of {size}")
+    chunk, inner = divmod(sector, found.chunk)
+    row, item = divmod(chunk, found.data)
+    made = cells(found.level, found.pattern, found.members, row)
+    slot = made.index(item)
+    shown = [made.index(kind) if kind in made else "-" for kind in "PQ"]
+    image = "-" if found.slots[slot] is None else found.slots[slot]
+    place = found.offset + row * found.chunk + inner
+    return (f"row {row} item {item} slot {slot} image {image} sector {place} p {shown[0]} q {shown[1]}\n"
+            f"name {layout_name(found) or '-'}\n").encode()
+
+
+def write(given, images):
+    end, found = usual_end(given, images), given["set"]
+    follow_rules(found, len(images), end)
+    out = bytearray(found.area(end) * found.data * SECTOR)
+    for sector in range(found.area(end)):
+        row = Row(found, images, sector)
+        for slot, block in enumerate(row.whole()):
+            place = volume_sector(found, slot, sector, end)
+            if place is not None:
+                out[place * SECTOR:(place + 1) * SECTOR] = block
+    return bytes(out)
+
+
+def rebuild(given, images):
+    end, found, slot = usual_end(given, images), given["set"], given["slot"]
+    follow_rules(found, len(images), end)
+    if slot >= found.members or found.slots[slot] is not None:
+        raise Stop(7, f"reraid: set rule 9 value {slot}")
+    return b"".join(Row(found, images, sector).whole()[slot] for sector in range(found.area(end)))
+
+
+def survey_plan(given, images):
+    end = usual_end(given, images)
+    asked = {"levels": LEVELS, "members": [max(2, len(images))], "patterns": PATTERNS, "syndromes": SYNDROMES,
+             "chunks": [8 * 2 ** power for power in range(9)], "offsets": [0, 2048, 262144, 264192], "origins": [0, 2048],
+             "missing": 0, "foreign": 0, "badrows": 0, "window": max(1, end), "misfits": 0, "least": 1}
+    asked.update({name: value for name, value in given.items() if name in LISTS})
+    seen = sightings(images, asked["offsets"][0], end, given.get("kinds", KINDS), set(given.get("drop", [])))
+    asked["origins"] = sorted(set(asked["origins"]) | first_blocks(images, seen["gpt"]))[:64]
+    return Plan([len(image) // SECTOR for image in images], end, asked, groups_of(seen))
+
+
+def sample(given):
+    found, rows = given["set"], given["rows"]
+    end, images = found.offset + rows * found.chunk, found.members - found.lost
+    follow_rules(found, images, end)
+    if found.members * end > 2097152:
+        raise Stop(7, f"reraid: set rule 10 value {found.members * end}")
+    size = rows * found.chunk * found.data
+    if given.get("marks") == "xfs" and size < 512:
+        raise Stop(7, f"reraid: set rule 11 value {size}")
+    words = itertools.islice(words_of(given["number"]), size * SECTOR // 8)
+    volume = bytearray(b"".join(struct.pack("<Q", word) for word in words))
+    if given.get("marks") == "xfs":
+        put_file_system(volume, found.data)
+    made = array_images(found, rows, bytes(volume))
+    plan = survey_plan({"levels": [found.level], "missing": found.lost, "members": [found.members]}, made)
+    product = Product(plan)
+    if product.total >= RANKS:
+        raise Stop(5, "reraid: the product has more than 18446744073709551615 sets")
+    lines, after = page(plan, product, made, 0, 1000, RANKS - 1)
+    there = "yes" if any(line.word() == found.word() for _, line in lines) else "no"
+    marks = sum(len(group[1]) for group in plan.groups)
+    return (f"images {images}\nsectors {end}\nmarks {marks}\ntotal {product.total}\nfound {there}\n"
+            f"next {after} of {product.total}\n").encode()
+
+
+def answer(words, text, files):
+    """Status, standard output and standard error of a run."""
+    try:
+        command, given, names = read_words(words)
+        images = []
+        for name in names[:65536]:
+            if files.get(name) is None:
+                raise Stop(10, "reraid: image read fault")
+            images.append(files[name])
+        images += [b""] * (len(names) - len(images))
+        jobs = {"survey": lambda: survey_plan(given, images).text().encode(), "list": lambda: list_sets(given, text, images),
+                "check": lambda: check(given, text, images), "map": lambda: map_sector(given, images),
+                "write": lambda: write(given, images), "rebuild": lambda: rebuild(given, images), "sample": lambda: sample(given)}
+        return 0, jobs[command](), b""
+    except Stop as stop:
+        return stop.status, b"", (stop.line + "\n").encode()

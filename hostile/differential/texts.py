@@ -1,0 +1,286 @@
+"""Words, plans and set words, as docs/FORMATS.md has them."""
+
+import re
+
+SECTOR = 512
+FAR = 2 ** 55
+RANKS = 2 ** 64
+PLAN_BYTES = 4194304
+MOST_LINES = 4000000
+LEVELS = [0, 5, 6]
+PATTERNS = ("plain la ra ls rs parity-first parity-last n-restart n-continue la-6 ra-6 ls-6 rs-6 parity-first-6").split()
+SYNDROMES = ["none", "after-q", "by-data", "by-slot"]
+KINDS = ["gpt", "ntfs", "xfs"]
+MARKS_OF = {"gpt": ["gpt"], "ntfs": ["boot", "record"], "xfs": ["super", "agf", "agi"]}
+FIVE = PATTERNS[1:7]
+SIX = PATTERNS[1:]
+REDUNDANCY = {0: 0, 5: 1, 6: 2}
+FEWEST = {0: 2, 5: 3, 6: 4}
+
+
+class Stop(Exception):
+    """The end of a run with a status and its line."""
+
+    def __init__(self, status, line):
+        super().__init__(status, line)
+        self.status, self.line = status, line
+
+
+# Numbers, lists and set words
+
+def number(text, least, most):
+    """The number that the text spells, if it lies between these."""
+    if re.fullmatch("0|[1-9][0-9]*", text, re.ASCII) and len(text) < 40 and least <= int(text) <= most:
+        return int(text)
+    return None
+
+
+def rising(text, element, most=None):
+    """The elements that the text lists, each read by `element` as something that can be compared, if they rise strictly."""
+    elements = [element(part) for part in text.split(",")]
+    if None in elements or (most is not None and len(elements) > most):
+        return None
+    return elements if all(a < b for a, b in zip(elements, elements[1:])) else None
+
+
+def named(names):
+    """How a list of these names is read."""
+    def read(text):
+        places = rising(text, lambda part: names.index(part) if part in names else None)
+        return None if places is None else [names[place] for place in places]
+    return read
+
+
+def numbers(least, most, count=None, only=lambda n: True):
+    """How a list of such numbers is read."""
+    def element(part):
+        value = number(part, least, most)
+        return value if value is not None and only(value) else None
+    return lambda text: rising(text, element, count)
+
+
+def one(least, most):
+    """How a number is read."""
+    return lambda text: number(text, least, most)
+
+
+LISTS = {
+    "levels": lambda text: rising(text, lambda part: int(part) if part in ("0", "5", "6") else None),
+    "members": numbers(2, 16),
+    "patterns": named(PATTERNS),
+    "syndromes": named(SYNDROMES),
+    "chunks": numbers(1, 32768, 16, lambda n: n & (n - 1) == 0),
+    "offsets": numbers(0, FAR - 1, 64),
+    "origins": numbers(0, FAR - 1, 64),
+    "missing": one(0, 2),
+    "foreign": one(0, 16),
+    "badrows": one(0, FAR - 1),
+    "window": one(1, FAR - 1),
+    "misfits": one(0, FAR - 1),
+    "least": one(0, FAR - 1),
+}
+
+
+class Set:
+    """A parameter set."""
+
+    def __init__(self, level, pattern, syndrome, chunk, offset, slots):
+        self.level, self.pattern, self.syndrome, self.chunk, self.offset = level, pattern, syndrome, chunk, offset
+        self.slots = tuple(slots)
+        self.members = len(self.slots)
+        self.data = self.members - REDUNDANCY[level]
+        self.lost = self.slots.count(None)
+
+    def head(self):
+        return (self.level, self.members, self.pattern, self.syndrome, self.chunk, self.offset)
+
+    def word(self):
+        slots = ",".join("-" if image is None else str(image) for image in self.slots)
+        return f"{self.level}:{self.pattern}:{self.syndrome}:{self.chunk}:{self.offset}:{slots}"
+
+    def rows(self, end):
+        return max(0, end - self.offset) // self.chunk
+
+    def area(self, end):
+        return self.rows(end) * self.chunk
+
+
+def set_word(text):
+    parts = text.split(":")
+    if len(parts) != 6 or parts[0] not in ("0", "5", "6") or parts[1] not in PATTERNS or parts[2] not in SYNDROMES:
+        return None
+    chunk, offset = number(parts[3], 0, 2 ** 32 - 1), number(parts[4], 0, FAR - 1)
+    slots = [-1 if part == "-" else number(part, 0, 15) for part in parts[5].split(",")]
+    if chunk is None or offset is None or None in slots or not 1 <= len(slots) <= 16:
+        return None
+    return Set(int(parts[0]), parts[1], parts[2], chunk, offset, [None if slot == -1 else slot for slot in slots])
+
+
+def broken_rule(found, images, end):
+    """The first rule that a set breaks, and its value."""
+    patterns = {0: PATTERNS[:1], 5: FIVE, 6: SIX}[found.level]
+    syndromes = SYNDROMES[1:] if found.level == 6 else SYNDROMES[:1]
+    there = [slot for slot in found.slots if slot is not None]
+    absent = [slot for slot in there if slot >= images]
+    again = [slot for place, slot in enumerate(there) if slot in there[:place]]
+    chunks = [2 ** power for power in range(16)]
+    if not FEWEST[found.level] <= found.members <= 16:
+        return 1, found.members
+    if found.pattern not in patterns:
+        return 2, PATTERNS.index(found.pattern)
+    if found.syndrome not in syndromes:
+        return 3, SYNDROMES.index(found.syndrome)
+    if found.chunk not in chunks:
+        return 4, found.chunk
+    if absent:
+        return 5, absent[0]
+    if again:
+        return 6, again[0]
+    if found.lost > REDUNDANCY[found.level]:
+        return 7, found.lost
+    if found.rows(end) == 0:
+        return 8, found.offset
+    return None
+
+
+# Words
+
+def drops(text):
+    def element(part):
+        parts = part.split(":")
+        if len(parts) != 2:
+            return None
+        pair = number(parts[0], 0, 15), number(parts[1], 0, FAR - 1)
+        return None if None in pair else pair
+    return rising(text, element, 64)
+
+
+def either(*choices):
+    return lambda text: text if text in choices else None
+
+
+OPERANDS = {
+    "survey": {**LISTS, "end": one(0, FAR - 1), "kinds": named(KINDS), "drop": drops},
+    "list": {"from": one(0, RANKS - 1), "size": one(1, 1000000), "span": one(1, RANKS - 1), "pages": one(1, 1000000),
+             "form": either("text", "json")},
+    "check": {"set": set_word},
+    "map": {"set": set_word, "sector": one(0, RANKS - 1), "end": one(0, FAR - 1)},
+    "write": {"set": set_word, "end": one(0, FAR - 1)},
+    "rebuild": {"set": set_word, "slot": one(0, 15), "end": one(0, FAR - 1)},
+    "sample": {"number": one(0, RANKS - 1), "set": set_word, "rows": one(1, 65536), "marks": either("none", "xfs")},
+}
+REQUIRED = {"survey": [], "list": [], "check": ["set"], "map": ["set", "sector"], "write": ["set"], "rebuild": ["set", "slot"],
+            "sample": ["number", "set", "rows"]}
+
+
+def read_words(words):
+    """The command, its operands and the names, or the end with the refused word."""
+    def refuse(place):
+        raise Stop(1, f"reraid: word {place} is not understood")
+    if not words or words[0] not in OPERANDS:
+        refuse(1)
+    command, given = words[0], {}
+    for place, word in enumerate(words[1:], 2):
+        if word == "--":
+            too_long = command == "list" and given.get("size", 100) * given.get("pages", 1) > MOST_LINES
+            if too_long or any(name not in given for name in REQUIRED[command]):
+                refuse(place)
+            if command == "sample" and len(words) > place:
+                refuse(place + 1)
+            return command, given, words[place:]
+        name, mark, text = word.partition("=")
+        if not mark or name in given or name not in OPERANDS[command]:
+            refuse(place)
+        given[name] = OPERANDS[command][name](text)
+        if given[name] is None or given.get("size", 1) * given.get("pages", 1) > MOST_LINES:
+            refuse(place)
+    refuse(len(words) + 1)
+
+
+# The plan
+
+class Plan:
+    """A plan: its lists and numbers by their names, and its groups, each with its kind and its marks."""
+
+    def __init__(self, lengths, end, given, groups):
+        self.lengths, self.end, self.groups = lengths, end, groups
+        for name in LISTS:
+            setattr(self, name, given[name])
+
+    def text(self):
+        def shown(value):
+            return ",".join(str(part) for part in value) if isinstance(value, list) else str(value)
+        lines = ["reraid-plan 1", f"images {len(self.lengths)}"] + [f"length {length}" for length in self.lengths]
+        lines.append(f"end {self.end}")
+        order = "levels members patterns syndromes chunks offsets origins missing foreign badrows window misfits least".split()
+        lines += [f"{name} {shown(getattr(self, name))}" for name in order]
+        for kind, marks in self.groups:
+            lines.append(f"group {kind}")
+            lines += [f"mark {mark[0]} {mark[1]} {mark[2]} {mark[3]}" for mark in marks]
+        return "".join(line + "\n" for line in lines + ["done"])
+
+
+def distances(text):
+    """Whether the text is a rule."""
+    parts = text.split(":")
+    values = [number(part, 0, FAR - 1) for part in parts[1:]]
+    if {"at": 1, "either": 2, "every": 3}.get(parts[0]) != len(values) or None in values:
+        return False
+    return parts[0] != "every" or values[0] * values[1] + values[2] < FAR
+
+
+def read_plan(data):
+    """The plan that the bytes are, or the end with the refused line."""
+    if len(data) > PLAN_BYTES:
+        raise Stop(3, "reraid: plan is longer than 4194304 bytes")
+    lines = data.decode("latin-1").split("\n")
+    place = 0
+
+    def refuse():
+        raise Stop(2, f"reraid: plan line {place} is not understood")
+
+    def line():
+        nonlocal place
+        place += 1
+        if place >= len(lines):
+            refuse()
+        return lines[place - 1]
+
+    def value(name, read):
+        word, _, text = line().partition(" ")
+        result = read(text) if word == name else None
+        if result is None:
+            refuse()
+        return result
+
+    if line() != "reraid-plan 1":
+        refuse()
+    lengths = [value("length", one(0, FAR - 1)) for _ in range(value("images", one(1, 16)))]
+    end = value("end", one(0, min(lengths)))
+    order = "levels members patterns syndromes chunks offsets origins missing foreign badrows window misfits least".split()
+    given = {name: value(name, LISTS[name]) for name in order}
+    groups, seen = [], {kind: 0 for kinds in MARKS_OF.values() for kind in kinds}
+    while (text := line()) != "done":
+        parts = text.split(" ")
+        if parts[0] == "group" and len(parts) == 2 and parts[1] in KINDS:
+            before = [kind for kind, _ in groups]
+            if before and KINDS.index(before[-1]) > KINDS.index(parts[1]):
+                refuse()
+            if before.count(parts[1]) == (1 if parts[1] == "gpt" else 32):
+                refuse()
+            groups.append((parts[1], []))
+        elif parts[0] == "mark" and len(parts) == 5 and groups and parts[1] in MARKS_OF[groups[-1][0]]:
+            image, marks = number(parts[2], 0, len(lengths) - 1), groups[-1][1]
+            sector = None if image is None else number(parts[3], 0, lengths[image] - 1)
+            if sector is None or not distances(parts[4]) or seen[parts[1]] == 4096:
+                refuse()
+            if marks and (marks[-1][2], marks[-1][1]) >= (sector, image):
+                refuse()
+            seen[parts[1]] += 1
+            marks.append((parts[1], image, sector, parts[4]))
+        else:
+            refuse()
+    place += 1
+    if place < len(lines) or lines[-1] != "":
+        refuse()
+    return Plan(lengths, end, given, groups)

@@ -1,5 +1,5 @@
 -- Three images in memory, as the tests have them.
-use Rattle.std.proofs.Common.{Option, Bool, not, ◌≡◌, ℕ, ◌≤◌, ◌<◌, ◌^◌, List, [], ◌∷◌, length, true, refl, ap, ◌∙◌, Some, None, All, IsSomeAnd, slice_get}
+use Rattle.std.proofs.Common.{Option, Bool, not, ◌≡◌, ℕ, ◌≤◌, ◌<◌, ◌^◌, List, [], ◌∷◌, length, get_or, true, refl, ap, ◌∙◌, Some, None, All, IsSomeAnd, slice_get}
 use Rattle.std.specs.Option.{is_some, option_map}
 use Rattle.std.proofs.lemmas.List.Elements.{All-cons, All-nil}
 use Rattle.image_source.specs.Seen.{Image}
@@ -36,3 +36,8 @@ three_scannable geo end attached shaped offset near long = record {
   near = near;
   long = long.1;
 }
+
+-- so can many
+pub all_scannable : (sets : List Geometry) (end : ℕ) (attached : List Image) → All (λ geo. is_shaped geo 3 ≡ true) sets → All (λ geo. geo.head.offset < 2 ^ 55) sets → end < 2 ^ 55 →
+    (length attached ≡ 3) × All (λ image. end ≤ image.sectors) attached → All (λ geo. IsScannable geo end attached) sets
+all_scannable sets end attached shaped near below long = λ k d inside. three_scannable (get_or sets k d) end attached (shaped k d inside) (near k d inside) below long

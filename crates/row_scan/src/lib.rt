@@ -1,15 +1,24 @@
-//! The parity test of a parameter set over the images, and the count of its unsound rows.
+//! The parity test of parameter sets over the images, and the count of a set's unsound rows.
 //!
-//! The members' sectors are read into the regions of `member_regions`, up to 128 KiB a call, and each sector
-//! row is tested there. [`parity_holds`] stops at the first row too many, [`unsound`] counts them all.
-//! `page_engine` tests the sets of a page with it, `plan_jobs` a single set. Which rows are tested stands
-//! in `Parity` of `raid_terms`, what is asked of a set in `specs/Scan`, the rows of regions in
-//! `specs/Block`.
+//! [`scan`] tests many sets in one pass. Some rows of each set are tested first, as samples, and most sets that are
+//! wrong are settled by them. Then the images are read run by run, in the order of image sectors, into one region an
+//! image, and each set that is left takes its rows of the run from there. A tally says of a set how many more rows may
+//! be unsound. Tallies are counted in pieces that may run side by side, and a piece passes the caller's [`Gate`] before
+//! its first run. No more sectors are read of an image than the samples and those in the windows of the sets.
+//!
+//! [`unsound`] counts the unsound rows of one set, and [`parity_holds`] stops at the first row too many: their
+//! members' sectors are read into the regions of `member_regions`, up to 128 KiB a call.
+//!
+//! Which rows are tested stands in `Parity` of `raid_terms`, what is asked of a set in `specs/Scan`, the verdicts in
+//! `specs/Verdicts`, the sectors that a scan may read in `specs/Windows`, the rows of a run in `specs/ImageRows` and
+//! `specs/Block`, and the pass in `specs/Pass` and `specs/Wanted`.
 #![tactic(auto)]
 
 mod gates;
 mod image_rows;
 mod many_sets;
+#[cfg(test)]
+mod many_tests;
 mod one_set;
 mod reading;
 mod rows;

@@ -14,7 +14,7 @@ use std::process::Abort;
 use std::test::Fail;
 
 // Three images, attached in this order.
-fn three_images<R: AllocGlobal>(rt: &R, bytes: [&[u8]; 3]) -> Result<MemImages, Fail> {
+pub fn three_images<R: AllocGlobal>(rt: &R, bytes: [&[u8]; 3]) -> Result<MemImages, Fail> {
     let mut images = MemImages::new(rt.alloc())?;
     images.add("a", bytes[0])?;
     images.add("b", bytes[1])?;
@@ -35,7 +35,7 @@ fn reaches(images: &MemImages, image: u32, end: u64) -> bool
 }
 
 // Whether three images are attached, and each reaches to the end.
-fn three_reach(images: &MemImages, end: u64) -> bool
+pub fn three_reach(images: &MemImages, end: u64) -> bool
     ensures { IsTrue result → (length (seen_of images.now).attached ≡ 3) × All (λ a. end ≤ a.sectors) (seen_of images.now).attached }
 {
     if !reaches(images, 0, end) || !reaches(images, 1, end) || !reaches(images, 2, end) {
@@ -93,7 +93,7 @@ fn room(alloc: Global, members: usize) -> Result<Regions, Fail>
 }
 
 // Images 0, 1 and 2 in this order, left-symmetric at level 5.
-fn three_members(chunk: u64) -> Geometry
+pub fn three_members(chunk: u64) -> Geometry
     ensures slots { length result.slots.items ≡ 3 }
     ensures offset { result.head.offset ≡ 0 }
 {

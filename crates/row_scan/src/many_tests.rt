@@ -1,0 +1,221 @@
+//! Scans of many sets over images in memory.
+ghost use Rattle.std.specs.Prelude.{◌≡◌, ◌≤◌, ◌<◌, ◌^◌, length, vec_len, All, IfOk, IsTrue, true};
+ghost use Rattle.raid_params.specs.Validity.{is_shaped};
+ghost use Rattle.row_scan.specs.declared.many_sets.TheConstants.{MOST_SETS};
+
+use crate::tests::{three_images, three_members, three_reach};
+use crate::{Gate, MOST_SETS, OpenGate, ScanFault, Verdicts, scan};
+use arrayvec::ArrayVec;
+use image_source::{Images, MemImages};
+use landmark_rules::{Groups, MarkTests};
+use raid_params::{Bounds, Geometry};
+use search_plan::{Limits, Plan};
+use std::alloc::Global;
+use std::hint;
+use std::process::Abort;
+use std::sync::atomic::{AtomicBool, Ordering};
+use std::test::Fail;
+use std::thread::Threads;
+
+/// How often a piece looks for the other before it gives up.
+const TURNS: u32 = 50_000_000;
+
+// A plan over three images of two sectors, in which no row may be unsound.
+fn two_sectors(alloc: Global) -> Plan
+    ensures lengths { length result.lengths.items ≡ 3 }
+    ensures end { result.end ≡ 2 }
+{
+    let mut lengths = ArrayVec::new();
+    lengths.push(2);
+    lengths.push(2);
+    lengths.push(2);
+    Plan {
+        lengths,
+        end: 2,
+        bounds: Bounds {
+            levels: ArrayVec::new(),
+            members: ArrayVec::new(),
+            patterns: ArrayVec::new(),
+            syndromes: ArrayVec::new(),
+            chunks: ArrayVec::new(),
+            offsets: ArrayVec::new(),
+            missing: 0,
+            foreign: 0,
+        },
+        limits: Limits {
+            badrows: 0,
+            window: 2,
+        },
+        tests: MarkTests {
+            origins: ArrayVec::new(),
+            misfits: 0,
+            least: 1,
+        },
+        groups: Groups::new(alloc),
+    }
+}
+
+// Sets of three members, of which every third begins at sector 0 and the others at sector 1.
+fn some_sets(alloc: Global, count: usize) -> Result<Vec<Geometry>, Fail>
+    ensures long { IfOk result (λ sets. vec_len sets ≡ count) }
+    ensures near { IfOk result (λ sets. All (λ geo. geo.head.offset < 2 ^ 55) sets.items) }
+{
+    let mut sets = Vec::new(alloc);
+    for k in 0..count {
+        sets.push(set_at(if k % 3 == 0 { 0 } else { 1 }))?;
+    }
+    Ok(sets)
+}
+
+// Three members from a sector on, which is near.
+fn set_at(offset: u64) -> Geometry
+    requires { offset ≤ 1 }
+    ensures { result.head.offset < 2 ^ 55 }
+{
+    let mut geo = three_members(1);
+    geo.head.offset = offset;
+    geo
+}
+
+// Whether all sets have a sensible shape over three images.
+fn are_shaped(sets: &[Geometry]) -> bool
+    ensures { IsTrue result → All (λ geo. is_shaped geo 3 ≡ true) sets.now }
+{
+    sets.iter().all(|geo| geo.is_shaped(3))
+}
+
+// A scan over three images.
+#[tactic(auto, using(crate::proofs::TestSets::all_scannable))]
+fn verdicts<R: Threads + Sync + Abort, G: Gate + Sync>(
+    rt: &R,
+    alloc: Global,
+    images: &mut MemImages,
+    plan: &Plan,
+    sets: &[Geometry],
+    gate: &G,
+) -> Result<Verdicts, ScanFault>
+    requires some { 1 ≤ length sets.now }
+    requires most { length sets.now ≤ MOST_SETS }
+    requires near { All (λ geo. geo.head.offset < 2 ^ 55) sets.now }
+    requires lengths { length plan.now.lengths.items ≡ 3 }
+    requires end { plan.now.end ≡ 2 }
+{
+    assert!(rt; are_shaped(sets));
+    assert!(rt; three_reach(images, 2));
+    scan(rt, alloc, images, plan, sets, gate)
+}
+
+// Sector 0 of the images holds 1, 3 and the last one's first byte. Sector 1 is a sound row, since 2, 4 and 6 cancel
+// bit by bit.
+fn two_rows<R: AllocGlobal>(rt: &R, first: u8) -> Result<MemImages, Fail> {
+    let (mut a, mut b, mut c) = ([1; 1024], [3; 1024], [first; 1024]);
+    a[512..].fill(2);
+    b[512..].fill(4);
+    c[512..].fill(6);
+    three_images(rt, [&a, &b, &c])
+}
+
+// 1, 3 and 7 do not cancel bit by bit, so that sector 0 is no sound row.
+fn broken_first<R: AllocGlobal>(rt: &R) -> Result<MemImages, Fail> {
+    two_rows(rt, 7)
+}
+
+// Each verdict of a scan of so many sets is that of a scan of the set alone.
+fn scan_of<R: Threads + Sync + Abort + AllocGlobal>(rt: &R, count: usize) -> Result<(), Fail>
+    requires some { 1 ≤ count }
+    requires most { count ≤ MOST_SETS }
+{
+    let plan = two_sectors(rt.alloc());
+    let mut images = broken_first(rt)?;
+    let sets = some_sets(rt.alloc(), count)?;
+    let found = verdicts(rt, rt.alloc(), &mut images, &plan, &sets, &OpenGate)?;
+    assert_eq!(rt; found.as_slice().len(), count);
+    for k in 0..found.as_slice().len() {
+        assert_eq!(rt; found.as_slice()[k], k % 3 != 0);
+    }
+    Ok(())
+}
+
+#[test]
+fn one_set(rt: HostRuntime) -> Result<(), Fail> {
+    scan_of(&rt, 1)
+}
+
+#[test]
+fn about_a_piece(rt: HostRuntime) -> Result<(), Fail> {
+    scan_of(&rt, 511)?;
+    scan_of(&rt, 512)?;
+    scan_of(&rt, 513)
+}
+
+#[test]
+fn as_many_as_may_be(rt: HostRuntime) -> Result<(), Fail> {
+    scan_of(&rt, MOST_SETS)
+}
+
+// Three attachments come before: the fourth call is the first reading, and the fifth the second.
+#[test]
+fn a_reading_fails(rt: HostRuntime) -> Result<(), Fail> {
+    let plan = two_sectors(rt.alloc());
+    let sets = some_sets(rt.alloc(), 2)?;
+    for call in 4..6 {
+        let mut images = broken_first(&rt)?;
+        images.fail_call(call)?;
+        let found = verdicts(&rt, rt.alloc(), &mut images, &plan, &sets, &OpenGate);
+        assert!(rt; matches!(found, Err(ScanFault::ReadFault)));
+    }
+    Ok(())
+}
+
+// Pieces 0 and 1 each wait until the other has come.
+#[derive(Drop)]
+struct Meeting {
+    first: AtomicBool,
+    second: AtomicBool,
+    gave_up: AtomicBool,
+}
+
+impl Meeting {
+    fn new() -> Meeting {
+        Meeting {
+            first: AtomicBool::new(false),
+            second: AtomicBool::new(false),
+            gave_up: AtomicBool::new(false),
+        }
+    }
+
+    fn wait_for(&self, other: &AtomicBool) {
+        for _ in 0..TURNS {
+            if other.load(Ordering::SeqCst) {
+                return;
+            }
+            hint::spin_loop();
+        }
+        self.gave_up.store(true, Ordering::SeqCst);
+    }
+}
+
+impl Gate for Meeting {
+    fn pass(&self, piece: usize) {
+        if piece == 0 {
+            self.first.store(true, Ordering::SeqCst);
+            self.wait_for(&self.second);
+        } else if piece == 1 {
+            self.second.store(true, Ordering::SeqCst);
+            self.wait_for(&self.first);
+        }
+    }
+}
+
+// 1, 3 and 2 cancel bit by bit, so that all sets are tested to the end, in two pieces.
+#[test]
+fn pieces_meet(rt: HostRuntime) -> Result<(), Fail> {
+    let mut images = two_rows(&rt, 2)?;
+    let plan = two_sectors(rt.alloc());
+    let sets = some_sets(rt.alloc(), 1024)?;
+    let gate = Meeting::new();
+    let found = verdicts(&rt, rt.alloc(), &mut images, &plan, &sets, &gate)?;
+    assert!(rt; !gate.gave_up.load(Ordering::SeqCst));
+    assert!(rt; found.as_slice().iter().all(|passes| *passes));
+    Ok(())
+}

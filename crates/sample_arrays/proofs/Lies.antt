@@ -1,5 +1,5 @@
 -- The data lie by the address map.
-use Rattle.std.proofs.Common.{◌≡◌, ◌/◌, refl}
+use Rattle.std.proofs.Common.{◌/◌, refl}
 use Rattle.address_map.proofs.Lies.{made_lies}
 use Rattle.raid_terms.specs.Role.{item_of}
 use Rattle.sample_arrays.specs.Laws.{DataLieWhereTheMapSays}

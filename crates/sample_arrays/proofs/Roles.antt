@@ -1,5 +1,5 @@
 -- The sectors of a slot by its role.
-use Rattle.std.proofs.Common.{◌≡◌, ℕ, ◌/◌, List, None, Some, Option, Bool, true, false, cond, refl, sym, ap, ◌∙◌}
+use Rattle.std.proofs.Common.{◌≡◌, ℕ, ◌/◌, List, Some, Bool, true, false, cond, refl, sym, ap, ◌∙◌}
 use Rattle.std.specs.Prelude.{IsTrue}
 use Rattle.raid_layouts.proofs.Levels.{layout_of}
 use Rattle.raid_layouts.proofs.Parts.{stands_elsewhere, stands_here}
@@ -11,7 +11,7 @@ use Rattle.raid_params.specs.declared.types.Level.TheVariants.{Raid0, Raid5, Rai
 use Rattle.raid_params.specs.declared.types.Pattern.{Pattern}
 use Rattle.raid_terms.specs.Cells.{stands_in}
 use Rattle.raid_terms.specs.Exponent.{item_in}
-use Rattle.raid_terms.specs.Role.{HasRole, Item, P, Q, item_of, p_of, q_at, q_of}
+use Rattle.raid_terms.specs.Role.{HasRole, Item, item_of, p_of, q_at, q_of}
 use Rattle.sample_arrays.specs.Arrays.{member_sector, p_sector, q_sector, row_sector}
 
 -- which of three it is

@@ -1,5 +1,5 @@
 -- The images, one by one.
-use Rattle.std.proofs.Common.{◌≡◌, ℕ, ◌+◌, ◌-◌, ◌*◌, ◌/◌, ◌%◌, ◌<◌, ◌≤◌, ◌^◌, Bool, true, List, [], ◌∷◌, ◌++◌, length, map, decimal, All, None, Some, Option, refl, sym, ap, subst, arith}
+use Rattle.std.proofs.Common.{◌≡◌, ℕ, ◌+◌, ◌-◌, ◌*◌, ◌/◌, ◌<◌, ◌≤◌, ◌^◌, Bool, true, List, [], ◌∷◌, ◌++◌, length, map, decimal, All, None, Some, Option, refl, sym, ap, subst, arith}
 use Rattle.std.proofs.lemmas.List.Elements.{All-append, All-cons, All-nil}
 use Rattle.std.proofs.lemmas.List.FromFn.{map-range_with_len_more}
 use Rattle.std.proofs.lemmas.Nat.{div-add-mod', mul-le}
@@ -12,10 +12,11 @@ use Rattle.raid_layouts.proofs.Levels.{at_most, enough}
 use Rattle.raid_layouts.proofs.Shapes.{shaped_head, shaped_slots}
 use Rattle.raid_params.specs.Size.{area, data_blocks, volume_sectors}
 use Rattle.raid_params.specs.Validity.{first_fault, is_shaped, is_valid_head, row_fault, shape_fault}
+use Rattle.image_source.specs.Memory.{told_bytes}
 use Rattle.raid_params.specs.declared.types.GeoFault.{GeoFault}
 use Rattle.raid_params.specs.declared.types.Geometry.{Geometry}
 use Rattle.raid_params.specs.declared.types.Head.{Head}
-use Rattle.sample_arrays.specs.Arrays.{end_of, sampled, sampled_image}
+use Rattle.sample_arrays.specs.Arrays.{end_of, sampled, sampled_image, IsFile}
 use Rattle.sample_arrays.specs.Marks.{group_blocks}
 
 -- the first n images, under their numbers
@@ -36,17 +37,17 @@ unfolding sampled_front sampled
 all_sampled number geo rows xfs n all = ap (λ (k : ℕ). sampled_front number geo rows xfs k) all
 
 -- each image has whole sectors up to the end
-pub none_long : (number : ℕ) (geo : Geometry) (rows : ℕ) (xfs : Bool) → All (λ file. length file.1 ≡ 512 * end_of geo.head rows) (sampled_front number geo rows xfs 0)
+pub none_long : (number : ℕ) (geo : Geometry) (rows : ℕ) (xfs : Bool) → All (IsFile (end_of geo.head rows)) (sampled_front number geo rows xfs 0)
 unfolding sampled_front
-none_long number geo rows xfs = All-nil (λ (file : List ℕ × List ℕ). length file.1 ≡ 512 * end_of geo.head rows)
+none_long number geo rows xfs = All-nil (IsFile (end_of geo.head rows))
 
-pub one_long_more : (number : ℕ) (geo : Geometry) (rows : ℕ) (xfs : Bool) (n : ℕ) → All (λ file. length file.1 ≡ 512 * end_of geo.head rows) (sampled_front number geo rows xfs n) →
-    length (sampled_image number geo rows xfs n) ≡ 512 * end_of geo.head rows → All (λ file. length file.1 ≡ 512 * end_of geo.head rows) (sampled_front number geo rows xfs (n + 1))
-one_long_more number geo rows xfs n before long =
-    let P : List ℕ × List ℕ → Type 0 = λ file. length file.1 ≡ 512 * end_of geo.head rows in
+pub one_long_more : (number : ℕ) (geo : Geometry) (rows : ℕ) (xfs : Bool) (n : ℕ) → All (IsFile (end_of geo.head rows)) (sampled_front number geo rows xfs n) →
+    length (sampled_image number geo rows xfs n) ≡ 512 * end_of geo.head rows → told_bytes (sampled_image number geo rows xfs n) ≡ Some (sampled_image number geo rows xfs n) → All (IsFile (end_of geo.head rows)) (sampled_front number geo rows xfs (n + 1))
+one_long_more number geo rows xfs n before long told =
+    let P : List ℕ × List ℕ → Type 0 = IsFile (end_of geo.head rows) in
     let last : List ℕ × List ℕ = (decimal n, sampled_image number geo rows xfs n) in
     subst (λ (files : List (List ℕ × List ℕ)). All P files) (sym (one_sampled_more number geo rows xfs n))
-    (All-append P (sampled_front number geo rows xfs n) (last ∷ []) before (All-cons P last [] long (All-nil P)))
+    (All-append P (sampled_front number geo rows xfs n) (last ∷ []) before (All-cons P last [] (record { long = long; told = told }) (All-nil P)))
 
 -- a set that keeps the rules has a sensible shape
 shape_of : (r : Option GeoFault) (geo : Geometry) (end : ℕ) → row_fault geo end r ≡ None → is_none r ≡ true

@@ -1,10 +1,11 @@
 -- Arrays that are generated: the members of a set over a generated volume.
-use Rattle.std.specs.Prelude.{ℕ, zero, suc, ◌+◌, ◌*◌, ◌/◌, ◌%◌, Bool, if◌then◌else◌, List, ◌++◌, map, replicate, bit_xor, decimal, unwrap_or}
+use Rattle.std.specs.Prelude.{ℕ, zero, suc, ◌≡◌, ◌+◌, ◌*◌, ◌/◌, ◌%◌, Bool, if◌then◌else◌, List, ◌++◌, map, length, replicate, bit_xor, decimal, unwrap_or}
 use Rattle.std.specs.List.{flat_map, range_with_len}
 use Rattle.std.specs.Simd.Lanes.{zip2}
 use Rattle.std.specs.declared.option.Option.{Option}
 use Rattle.std.specs.declared.option.Option.TheVariants.{None, Some}
 use Rattle.gf256.specs.Field.{product, power_of}
+use Rattle.image_source.specs.Memory.{told_bytes}
 use Rattle.landmark_rules.specs.Marks.{slot_holding}
 use Rattle.member_regions.specs.Members.{held}
 use Rattle.raid_params.specs.Size.{data_blocks, volume_sectors}
@@ -18,6 +19,11 @@ use Rattle.sample_arrays.specs.Marks.{group_blocks, volume_sector}
 -- the image sector after the last one of so many rows of chunks
 abbrev pub end_of : Head → ℕ → ℕ
 end_of head rows = head.offset + rows * head.chunk
+
+-- a file of whole sectors up to an end, of which each number is a byte, so that all of it is told
+pub record IsFile (end : ℕ) (file : List ℕ × List ℕ) : Type 0 where
+  pub long : length file.1 ≡ 512 * end
+  pub told : told_bytes file.1 ≡ Some file.1
 
 -- the volume sector of an item that stands at member sector t
 abbrev pub row_sector : Head → ℕ → ℕ → ℕ

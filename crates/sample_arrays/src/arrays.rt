@@ -1,12 +1,12 @@
 //! The images of an array.
-ghost use Rattle.std.specs.Prelude.{◌≡◌, ◌==◌, ◌<◌, ◌≤◌, ◌*◌, ◌^◌, ◌++◌, [], ◌∷◌, All, IfOk, IfSome, IsTrue, OnOk, None, decimal, false, length, unwrap_or};
+ghost use Rattle.std.specs.Prelude.{◌≡◌, ◌==◌, ◌<◌, ◌≤◌, ◌*◌, ◌^◌, ◌++◌, [], ◌∷◌, All, IfOk, IfSome, IsTrue, OnOk, None, Some, decimal, false, length, unwrap_or};
 ghost use Rattle.std.specs.Option.{option_map_or};
-ghost use Rattle.image_source.specs.Memory.{no_images};
+ghost use Rattle.image_source.specs.Memory.{no_images, told_bytes};
 ghost use Rattle.landmark_rules.specs.Marks.{slot_holding};
 ghost use Rattle.member_regions.specs.Members.{held as held_in};
 ghost use Rattle.raid_params.specs.Size.{volume_sectors as volume_sectors_of};
 ghost use Rattle.raid_params.specs.Validity.{first_fault, is_valid_head};
-ghost use Rattle.sample_arrays.specs.Arrays.{end_of, groups_of, image_of, sampled, slot_of as slot_of_image};
+ghost use Rattle.sample_arrays.specs.Arrays.{end_of, groups_of, image_of, sampled, slot_of as slot_of_image, IsFile};
 ghost use Rattle.sample_arrays.specs.Marks.{volume_sector};
 
 use crate::marks::{Filling, group_blocks};
@@ -39,7 +39,7 @@ pub fn sample(
     requires size { geo.now.head.members * end_of geo.now.head rows ≤ MOST_SAMPLED }
     requires marked { IsTrue xfs → LEAST_MARKED ≤ volume_sectors_of geo.now.head (end_of geo.now.head rows) }
     ensures images { IfOk result (λ images. images ≡ record no_images { files = sampled number geo.now rows xfs }) }
-    ensures long { OnOk result (All (λ file. length file.1 ≡ 512 * end_of geo.now.head rows) (sampled number geo.now rows xfs)) }
+    ensures long { OnOk result (All (IsFile (end_of geo.now.head rows)) (sampled number geo.now rows xfs)) }
 {
     let blocks = groups(&geo.head, rows, xfs);
     let filling = Filling { number, blocks };
@@ -94,6 +94,8 @@ fn add_image(
           (decimal number, image_of (volume_sector filling.now.number filling.now.blocks) geo.now.head rows (slot_of_image geo.now number)) ∷ [];
     }) }
     ensures long { OnOk result (length (image_of (volume_sector filling.now.number filling.now.blocks) geo.now.head rows (slot_of_image geo.now number)) ≡ 512 * end_of geo.now.head rows) }
+    ensures told { OnOk result (told_bytes (image_of (volume_sector filling.now.number filling.now.blocks) geo.now.head rows (slot_of_image geo.now number))
+        ≡ Some (image_of (volume_sector filling.now.number filling.now.blocks) geo.now.head rows (slot_of_image geo.now number))) }
 {
     let slot = slot_of(&geo.slots, number);
     let bytes = image(alloc, filling, &geo.head, slot, rows)?;

@@ -1,27 +1,23 @@
 -- What the survey of a generated array is asked for.
-use Rattle.std.proofs.Common.{◌≡◌, ℕ, zero, suc, ◌+◌, ◌*◌, ◌-◌, ◌<◌, ◌≤◌, ◌^◌, Bool, cond, true, List, [], ◌∷◌, length, All, IfSome, None, Some, Option, refl, sym, ap, ◌∙◌, subst, arith, inr, max}
+use Rattle.std.proofs.Common.{◌≡◌, ℕ, ◌+◌, ◌*◌, ◌<◌, ◌≤◌, ◌^◌, Bool, cond, true, List, [], ◌∷◌, length, All, IfSome, None, Some, Option, refl, sym, ap, subst, arith}
 use Rattle.std.proofs.lemmas.List.Elements.{All-cons, All-nil, All-weaker}
-use Rattle.std.proofs.lemmas.List.Sums.{count_by-le-length, count_by_more_no, count_by_more_yes, sum_by-cons}
-use Rattle.std.specs.List.{count_by}
+use Rattle.std.proofs.lemmas.List.Sums.{sum_by-cons}
 use Rattle.std.specs.Option.{is_some}
-use Rattle.arrayvec.specs.ArrayVec.{ArrayVec}
 use Rattle.command_words.proofs.Limits.{plain_asked}
-use Rattle.command_words.specs.Commands.{AreAsked, plain_survey}
+use Rattle.command_words.specs.Commands.{plain_survey}
 use Rattle.command_words.specs.Operands.{AreMembers}
 use Rattle.image_source.specs.Seen.{Image}
-use Rattle.member_regions.proofs.Held.{held_few}
 use Rattle.member_regions.specs.Members.{held}
 use Rattle.raid_layouts.proofs.Levels.{at_most, enough}
 use Rattle.raid_layouts.proofs.Shapes.{shaped_head, shaped_missing, shaped_slots}
 use Rattle.raid_params.specs.Size.{redundancy}
 use Rattle.raid_params.specs.Slots.{empties}
 use Rattle.raid_params.specs.Validity.{fewest, first_fault, is_shaped}
-use Rattle.raid_params.specs.declared.types.Bounds.{Bounds}
 use Rattle.raid_params.specs.declared.types.Geometry.{Geometry}
 use Rattle.raid_params.specs.declared.types.Level.{Level}
 use Rattle.raid_params.specs.declared.types.Level.TheVariants.{Raid0, Raid5, Raid6}
 use Rattle.sample_arrays.proofs.Sampled.{near_end, ruled}
-use Rattle.sample_arrays.specs.Arrays.{end_of, sampled}
+use Rattle.sample_arrays.specs.Arrays.{end_of, sampled, IsFile}
 use Rattle.search_plan.specs.Places.{level_place}
 use Rattle.search_plan.specs.Plans.{AreBounds, AreRising}
 use Rattle.survey_engine.specs.Surveys.{IsAsk, IsSurveyable}
@@ -111,7 +107,7 @@ ask_is set end shaped near =
     }
 
 pub surveyable : (number : ℕ) (set : Geometry) (rows : ℕ) (xfs : Bool) (end : ℕ) (attached : List Image) → first_fault set (held set.slots.items) (end_of set.head rows) ≡ None →
-    set.head.members * end_of set.head rows ≤ 2097152 → All (λ file. length file.1 ≡ 512 * end_of set.head rows) (sampled number set rows xfs) →
+    set.head.members * end_of set.head rows ≤ 2097152 → All (IsFile (end_of set.head rows)) (sampled number set rows xfs) →
     end ≡ end_of set.head rows → attached ≡ sampled_images number set rows xfs → IsSurveyable (sample_ask set end) attached
 unfolding sample_ask
 surveyable number set rows xfs end attached kept size long is there =

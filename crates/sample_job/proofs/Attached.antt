@@ -1,5 +1,5 @@
 -- The images of a generated array, attached in their order.
-use Rattle.std.proofs.Common.{◌≡◌, ℕ, zero, suc, ◌+◌, ◌*◌, ◌/◌, ◌<◌, ◌≤◌, ◌^◌, Bool, true, false, cond, List, [], ◌∷◌, ◌++◌, length, map, get_or, take, decimal, All, None, Some, Option, refl, sym, ap, ◌∙◌, subst, arith}
+use Rattle.std.proofs.Common.{◌≡◌, ℕ, suc, ◌*◌, ◌/◌, ◌<◌, ◌≤◌, ◌^◌, Bool, true, false, cond, List, [], ◌∷◌, length, map, get_or, decimal, All, None, Some, Option, refl, sym, ap, ◌∙◌, arith}
 use Rattle.std.proofs.Math.ListN.{get_or-map}
 use Rattle.std.proofs.lemmas.Fmt.{decimal_injective}
 use Rattle.std.proofs.lemmas.List.{take_all}
@@ -8,17 +8,17 @@ use Rattle.std.proofs.lemmas.List.Sums.{position_or_len_is}
 use Rattle.std.proofs.lemmas.Slice.Eq.{bytes_eq-Decides}
 use Rattle.std.specs.Str.{bytes_eq}
 use Rattle.std.specs.List.{position_or_len}
-use Rattle.std.specs.Prelude.{nat_lt, position}
+use Rattle.std.specs.Prelude.{nat_lt, option_and_then, position}
 use Rattle.std.proofs.lemmas.List.Elements.{All-cons, All-head, All-nil, All-tail}
 use Rattle.std.proofs.lemmas.List.FromFn.{fill_by_all, get_or-map-range_with_len, length-map-range_with_len}
 use Rattle.std.specs.List.{range_with_len}
 use Rattle.std.specs.Option.{option_map}
 use Rattle.image_source.specs.Attached.{told_all}
-use Rattle.image_source.specs.Memory.{Shelf, bytes_of, image_of, number_of, seen_of}
+use Rattle.image_source.specs.Memory.{Shelf, bytes_of, image_of, number_of, seen_of, told_bytes}
 use Rattle.image_source.specs.Seen.{Image, whole_sectors}
 use Rattle.member_regions.specs.Members.{held}
 use Rattle.raid_params.specs.declared.types.Geometry.{Geometry}
-use Rattle.sample_arrays.specs.Arrays.{end_of, sampled, sampled_image}
+use Rattle.sample_arrays.specs.Arrays.{end_of, sampled, sampled_image, IsFile}
 use Rattle.sample_job.specs.Sampling.{sampled_bytes, sampled_images}
 
 -- images that reach to an end are told whole
@@ -27,27 +27,30 @@ whole bytes end long =
     let sectors : length bytes / 512 ≡ end = omega arith in
     take_all (512 * (length bytes / 512)) bytes (omega arith)
 
-told_files : (files : List (List ℕ × List ℕ)) (end : ℕ) → All (λ file. length file.1 ≡ 512 * end) files → told_all (map (λ file. image_of file.1) files) ≡ Some (map (λ file. file.1) files)
+told_files : (files : List (List ℕ × List ℕ)) (end : ℕ) → All (IsFile end) files → told_all (map (λ file. image_of file.1) files) ≡ Some (map (λ file. file.1) files)
 told_files [] end all = refl
 told_files (file ∷ files) end all =
-    let P : List ℕ × List ℕ → Type 0 = λ f. length f.1 ≡ 512 * end in
-    ap (λ (told : Option (List (List ℕ))). option_map (λ others. whole_sectors file.1 ∷ others) told) (told_files files end (All-tail P file files all))
-    ∙ ap (λ (bytes : List ℕ). Some (bytes ∷ map (λ (f : List ℕ × List ℕ). f.1) files)) (whole file.1 end (All-head P file files all))
+    let P : List ℕ × List ℕ → Type 0 = IsFile end in
+    let first = All-head P file files all in
+    let is : option_map whole_sectors (told_bytes file.1) ≡ Some file.1 =
+    ap (λ (t : Option (List ℕ)). option_map whole_sectors t) first.told ∙ ap (λ (bytes : List ℕ). Some bytes) (whole file.1 end first.long) in
+    ap (λ (t : Option (List ℕ)). option_and_then (λ bytes. option_map (λ others. bytes ∷ others) (told_all (map (λ (f : List ℕ × List ℕ). image_of f.1) files))) t) is
+    ∙ ap (λ (told : Option (List (List ℕ))). option_map (λ others. file.1 ∷ others) told) (told_files files end (All-tail P file files all))
 
-pub all_told : (number : ℕ) (set : Geometry) (rows : ℕ) (xfs : Bool) → All (λ file. length file.1 ≡ 512 * end_of set.head rows) (sampled number set rows xfs) →
+pub all_told : (number : ℕ) (set : Geometry) (rows : ℕ) (xfs : Bool) → All (IsFile (end_of set.head rows)) (sampled number set rows xfs) →
     told_all (sampled_images number set rows xfs) ≡ Some (sampled_bytes number set rows xfs)
 unfolding sampled_images sampled_bytes
 all_told number set rows xfs all = told_files (sampled number set rows xfs) (end_of set.head rows) all
 
 -- and have so many sectors
-lengths_are : (files : List (List ℕ × List ℕ)) (end : ℕ) → All (λ file. length file.1 ≡ 512 * end) files → All (λ image. image.sectors ≡ end) (map (λ file. image_of file.1) files)
+lengths_are : (files : List (List ℕ × List ℕ)) (end : ℕ) → All (IsFile end) files → All (λ image. image.sectors ≡ end) (map (λ file. image_of file.1) files)
 lengths_are [] end all = All-nil (λ (image : Image). image.sectors ≡ end)
 lengths_are (file ∷ files) end all =
-    let P : List ℕ × List ℕ → Type 0 = λ f. length f.1 ≡ 512 * end in
-    let long = All-head P file files all in
+    let P : List ℕ × List ℕ → Type 0 = IsFile end in
+    let long = (All-head P file files all).long in
     All-cons (λ (image : Image). image.sectors ≡ end) (image_of file.1) (map (λ (f : List ℕ × List ℕ). image_of f.1) files) (omega arith) (lengths_are files end (All-tail P file files all))
 
-pub all_long : (number : ℕ) (set : Geometry) (rows : ℕ) (xfs : Bool) → All (λ file. length file.1 ≡ 512 * end_of set.head rows) (sampled number set rows xfs) →
+pub all_long : (number : ℕ) (set : Geometry) (rows : ℕ) (xfs : Bool) → All (IsFile (end_of set.head rows)) (sampled number set rows xfs) →
     All (λ image. image.sectors ≡ end_of set.head rows) (sampled_images number set rows xfs)
 unfolding sampled_images
 all_long number set rows xfs all = lengths_are (sampled number set rows xfs) (end_of set.head rows) all

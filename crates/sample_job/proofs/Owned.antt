@@ -1,5 +1,5 @@
 -- Images that never fail are those in memory.
-use Rattle.std.proofs.Common.{◌≡◌, ℕ, List, Result}
+use Rattle.std.proofs.Common.{ℕ, List, Result}
 use Rattle.image_source.specs.declared.Failed.{Failed}
 use Rattle.image_source.specs.Memory.{Shelf, seen_of}
 use Rattle.image_source.specs.Seen.{Attaches}

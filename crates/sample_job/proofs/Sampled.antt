@@ -1,5 +1,5 @@
 -- What a survey and a page find of a generated array.
-use Rattle.std.proofs.Common.{◌≡◌, ℕ, ◌*◌, ◌-◌, ◌<◌, ◌≤◌, ◌^◌, ◌⊎◌, Bool, true, false, cond, nat_eq, nat_le, ◌||◌, map, List, [], ◌∷◌, length, All, IfSome, IfErr, IfOk, OnOk, None, Some, Option, Ok, Err, Result, refl, sym, ap, ◌∙◌, subst, arith, inl, inr}
+use Rattle.std.proofs.Common.{◌≡◌, ℕ, ◌-◌, ◌<◌, ◌≤◌, ◌^◌, ◌⊎◌, Bool, false, nat_eq, ◌||◌, map, List, [], ◌∷◌, All, IfSome, IfErr, OnOk, None, Some, Option, Ok, Err, Result, refl, sym, ap, ◌∙◌, subst, arith, inl, inr}
 use Rattle.std.proofs.lemmas.Bool.{cases_lt}
 use Rattle.std.proofs.lemmas.Bool.Decides.{nat_tests}
 use Rattle.image_source.specs.Attached.{told_all}
@@ -10,11 +10,11 @@ use Rattle.page_engine.specs.declared.page_parts.ListPage.{ListPage}
 use Rattle.std.specs.List.{list_any}
 use Rattle.std.specs.Option.{option_map_or}
 use Rattle.raid_params.specs.declared.types.Geometry.{Geometry}
-use Rattle.run_ends.specs.Jobs.{HasCauses, Refuses}
+use Rattle.run_ends.specs.Jobs.{Refuses}
 use Rattle.run_ends.specs.Stops.{IsEarly, IsExcused, IsRefusal, first_of, many_refusal}
 use Rattle.run_ends.specs.declared.stop.Stop.{Stop}
 use Rattle.run_ends.specs.declared.stop.Stop.TheVariants.{Many, OutOfMemory}
-use Rattle.sample_arrays.specs.Arrays.{end_of, sampled}
+use Rattle.sample_arrays.specs.Arrays.{end_of, sampled, IsFile}
 use Rattle.search_plan.specs.Sets.{rank_of, total_of}
 use Rattle.search_plan.specs.declared.plan.Plan.{Plan}
 use Rattle.survey_job.specs.Surveying.{survey_plan}
@@ -22,12 +22,12 @@ use Rattle.sample_job.proofs.Attached.{all_told}
 use Rattle.sample_job.specs.Sampling.{array_refusals, found_text, is_among, sample_ask, sample_output, sample_plan, sample_refusal, sample_text, sampled_bytes, sampled_images}
 
 -- the images that are attached are told whole
-pub told : (number : ℕ) (set : Geometry) (rows : ℕ) (xfs : Bool) (attached : List Image) → All (λ file. length file.1 ≡ 512 * end_of set.head rows) (sampled number set rows xfs) →
+pub told : (number : ℕ) (set : Geometry) (rows : ℕ) (xfs : Bool) (attached : List Image) → All (IsFile (end_of set.head rows)) (sampled number set rows xfs) →
     attached ≡ sampled_images number set rows xfs → told_all attached ≡ Some (sampled_bytes number set rows xfs)
 told number set rows xfs attached long there = ap told_all there ∙ all_told number set rows xfs long
 
 -- so the plan of their survey is that of the array
-pub plan_is : (number : ℕ) (set : Geometry) (rows : ℕ) (xfs : Bool) (end : ℕ) (attached : List Image) (plan : Plan) → All (λ file. length file.1 ≡ 512 * end_of set.head rows) (sampled number set rows xfs) →
+pub plan_is : (number : ℕ) (set : Geometry) (rows : ℕ) (xfs : Bool) (end : ℕ) (attached : List Image) (plan : Plan) → All (IsFile (end_of set.head rows)) (sampled number set rows xfs) →
     attached ≡ sampled_images number set rows xfs → end ≡ end_of set.head rows → IfSome (told_all attached) (λ bytes. plan ≡ survey_plan (sample_ask set end) attached bytes) → plan ≡ sample_plan number set rows xfs
 unfolding sample_plan
 plan_is number set rows xfs end attached plan long there is made =
@@ -43,7 +43,7 @@ unfolding found_text sample_text
 lines_are set end images plan page is total = rw (is.front, is.goes_on, total) refl
 
 pub text_is : (number : ℕ) (set : Geometry) (rows : ℕ) (xfs : Bool) (end : ℕ) (attached : List Image) (plan : Plan) (page : ListPage) (text : List ℕ) →
-    All (λ file. length file.1 ≡ 512 * end_of set.head rows) (sampled number set rows xfs) → attached ≡ sampled_images number set rows xfs → end ≡ end_of set.head rows → plan ≡ sample_plan number set rows xfs →
+    All (IsFile (end_of set.head rows)) (sampled number set rows xfs) → attached ≡ sampled_images number set rows xfs → end ≡ end_of set.head rows → plan ≡ sample_plan number set rows xfs →
     IfSome (told_all attached) (λ bytes. IsPageOf bytes plan 0 1000 (2 ^ 64 - 1) page) → page.total ≡ total_of plan → text ≡ found_text set end plan page → text ≡ sample_output number set rows xfs
 unfolding sample_output
 text_is number set rows xfs end attached plan page text long there is made found total lines =

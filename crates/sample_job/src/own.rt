@@ -1,6 +1,7 @@
 //! The images of a generated array.
 ghost use Rattle.std.specs.Prelude.{◌≡◌, ◌<◌, ◌/◌, [], IsOk, IsTrue, OnOk, length, slice_get};
 ghost use Rattle.std.specs.Option.{option_map};
+ghost use Rattle.image_source.specs.Bytes.{shelf_tells};
 ghost use Rattle.image_source.specs.Causes.{HasCause};
 ghost use Rattle.image_source.specs.Seen.{AreTold, AreWithin, Attaches, OnlyReads};
 ghost use Rattle.sample_job.specs.Own.{seen_of_own};
@@ -37,6 +38,8 @@ impl OwnImages {
 
 impl Images for OwnImages {
     ghost seen = { seen_of_own };
+
+    ghost tells_bytes = { shelf_tells };
 
     #[tactic(auto, using(crate::proofs::Owned::attaches))]
     fn attach(&mut self, name: &str) -> Result<u64, Failed>

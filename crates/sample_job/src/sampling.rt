@@ -15,7 +15,7 @@ ghost use Rattle.survey_job.specs.Surveying.{survey_plan};
 ghost use Rattle.run_ends.specs.Jobs.{Ends, Leaves, Orders, Refuses};
 ghost use Rattle.run_ends.specs.Stops.{IsEarly, IsRefusal, many_refusal};
 ghost use Rattle.run_ends.specs.declared.stop.Stop.TheVariants.{OutOfMemory as OutOfMemoryOf};
-ghost use Rattle.sample_arrays.specs.Arrays.{end_of, sampled};
+ghost use Rattle.sample_arrays.specs.Arrays.{end_of, sampled, IsFile};
 ghost use Rattle.sample_job.specs.Own.{seen_of_own};
 ghost use Rattle.sample_job.specs.Sampling.{array_refusals, found_line, found_text as found_text_of, is_among, number_line, sample_ask, sample_output, sample_plan, sample_refusal, sampled_images};
 
@@ -144,7 +144,7 @@ fn attached(
     requires size { set.now.head.members * end_of set.now.head rows ≤ MOST_SAMPLED }
     requires marked { IsTrue xfs → LEAST_MARKED ≤ volume_sectors_of set.now.head (end_of set.now.head rows) }
     ensures images { IfOk result (λ own. (seen_of_own own).attached ≡ sampled_images number set.now rows xfs) }
-    ensures long { OnOk result (All (λ file. length file.1 ≡ 512 * end_of set.now.head rows) (sampled number set.now rows xfs)) }
+    ensures long { OnOk result (All (IsFile (end_of set.now.head rows)) (sampled number set.now rows xfs)) }
 {
     let mut images = sample_arrays::sample(alloc, number, set, rows, xfs)?;
     for image in 0..count_held(&set.slots) {

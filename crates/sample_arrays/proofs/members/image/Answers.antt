@@ -1,4 +1,4 @@
-use Rattle.std.proofs.Common.{◌≡◌, ℕ, ◌*◌, arith}
+use Rattle.std.proofs.Common.{◌≡◌, ◌*◌, arith}
 use Rattle.sample_arrays.proofs.Images.{image_is}
 use Rattle.sample_arrays.specs.Marks.{volume_sector}
 use Rattle.sample_arrays.proofs.members.image.Goals as goal

@@ -1,4 +1,4 @@
-use Rattle.std.proofs.Common.{◌≡◌, ℕ, arith}
+use Rattle.std.proofs.Common.{◌≡◌, arith}
 use Rattle.raid_params.specs.Size.{data_blocks}
 use Rattle.sample_arrays.proofs.Sums.{p_is}
 use Rattle.sample_arrays.specs.Marks.{volume_sector}

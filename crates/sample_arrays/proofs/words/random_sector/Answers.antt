@@ -1,4 +1,4 @@
-use Rattle.std.proofs.Common.{◌≡◌, ◌+◌, ◌*◌, ℕ, ap, ◌∙◌, arith}
+use Rattle.std.proofs.Common.{◌≡◌, ◌*◌, ℕ, ap, ◌∙◌, arith}
 use Rattle.sample_arrays.proofs.States.{all_words, state_moved, word_appended, words_front}
 use Rattle.sample_arrays.proofs.words.random_sector.Goals as goal
 

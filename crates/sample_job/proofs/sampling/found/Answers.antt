@@ -1,15 +1,14 @@
-use Rattle.std.proofs.Common.{◌≡◌, ◌-◌, ◌^◌, ℕ, List, IfSome, sym, ap, ◌∙◌, subst}
+use Rattle.std.proofs.Common.{◌≡◌, ◌-◌, ◌^◌, List, IfSome, sym, ap, ◌∙◌, subst}
 use Rattle.image_source.specs.Attached.{told_all}
 use Rattle.image_source.specs.Seen.{Image}
 use Rattle.page_engine.specs.Pages.{IsPageOf}
 use Rattle.run_ends.specs.Stops.{many_refusal}
-use Rattle.search_plan.specs.declared.plan.Plan.{Plan}
 use Rattle.survey_engine.specs.declared.ask.Ask.{Ask}
 use Rattle.survey_job.specs.Surveying.{survey_plan}
 use Rattle.sample_job.proofs.Asked.{surveyable}
 use Rattle.sample_job.proofs.Sampled.{plan_is, refused_is, text_is}
 use Rattle.sample_job.specs.Own.{seen_of_own}
-use Rattle.sample_job.specs.Sampling.{sample_ask, sample_plan}
+use Rattle.sample_job.specs.Sampling.{sample_plan}
 use Rattle.sample_job.proofs.sampling.found.Goals as goal
 
 pub surveyed-requires : goal.surveyed-requires

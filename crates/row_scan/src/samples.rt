@@ -71,6 +71,10 @@ fn test_sample<I: Images>(
     if point < at || plan.end <= point {
         return Ok(at);
     }
+    // Where all sets are settled, no image has to be looked up among them.
+    if tallies.iter().all(|tally| tally.is_none()) {
+        return Ok(at);
+    }
     let run = Run {
         first: point,
         count: 1,

@@ -51,11 +51,12 @@ added files name bytes =
     let same : p (name, bytes) ≡ true = (bytes_eq-Decides name name).1 refl in
     below_known _ _ (found_last p files (name, bytes) same)
 
--- one more word may be attached, and those before it still
-pub one_more : (before after : List ℕ → Bool) (words : List (List ℕ)) (i : ℕ) (d : List ℕ) → i < length words → ((other : List ℕ) → IsTrue (before other) → IsTrue (after other)) → IsTrue (after (get_or words i d)) → All (λ word. IsTrue (before word)) (take i words) → All (λ word. IsTrue (after word)) (take (i + 1) words)
-one_more before after words i d inside others new known =
+-- one more word may be attached, by its name, and those before it still
+pub one_more : (before after : List ℕ → Bool) (words : List (List ℕ)) (i : ℕ) (d name : List ℕ) → i < length words → name ≡ get_or words i d → ((other : List ℕ) → IsTrue (before other) → IsTrue (after other)) → IsTrue (after name) → All (λ word. IsTrue (before word)) (take i words) → All (λ word. IsTrue (after word)) (take (i + 1) words)
+one_more before after words i d name inside same others new known =
     All-more (λ word. IsTrue (after word)) words i d inside
-    (All-weaker (λ word. IsTrue (before word)) (λ word. IsTrue (after word)) others (take i words) known) new
+    (All-weaker (λ word. IsTrue (before word)) (λ word. IsTrue (after word)) others (take i words) known)
+    (subst (λ (n : List ℕ). IsTrue (after n)) same new)
 
 -- past the last word all of them may be attached
 pub all_taken : (may : List ℕ → Bool) (words : List (List ℕ)) (i : ℕ) → length words ≤ i → All (λ word. IsTrue (may word)) (take i words) → All (λ word. IsTrue (may word)) words

@@ -1,11 +1,11 @@
-use Rattle.std.proofs.Common.{◌∙◌, IsTrue, subst, sym}
+use Rattle.std.proofs.Common.{◌∙◌}
 use Rattle.image_source.specs.Memory.{seen_of}
 use Rattle.reraid_faults.proofs.Ready.{all_taken, one_more}
 use Rattle.reraid_faults.proofs.outside.name_words.Goals as goal
 
 pub loop-word-preserved : goal.loop-word-preserved
 loop-word-preserved c = record {
-  named = one_more _ _ _ _ _ c.loop-word-test.true c.in_ok-add.ensures.others (subst (λ n. IsTrue ((seen_of c.in_ok-add.images).world.may_attach n)) c.as_str.ensures c.in_ok-add.ensures.named) c.loop-word.invariant.named;
+  named = one_more _ _ _ _ c.word-item.result _ c.loop-word-test.true (c.as_str.ensures ∙ c.word-item.is) c.in_ok-add.ensures.others c.in_ok-add.ensures.named c.loop-word.invariant.named;
   attached = c.in_ok-add.ensures.attached ∙ c.loop-word.invariant.attached;
   faults = c.in_ok-add.ensures.faults ∙ c.loop-word.invariant.faults;
 }

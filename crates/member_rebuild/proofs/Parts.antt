@@ -1,5 +1,5 @@
 -- Sectors of a member, part by part.
-use Rattle.std.proofs.Common.{◌≡◌, ℕ, ◌+◌, ◌-◌, ◌*◌, ◌≤◌, List, [], ◌++◌, length, take, drop, Option, Result, Ok, Err, All, refl, sym, ap, ◌∙◌, subst, arith}
+use Rattle.std.proofs.Common.{◌≡◌, ℕ, zero, suc, ◌+◌, ◌-◌, ◌*◌, ◌≤◌, List, [], ◌++◌, length, take, drop, Option, Result, Ok, Err, All, refl, sym, ap, ◌∙◌, subst, arith, length-append}
 use Rattle.std.specs.Io.KnownBytes.{Appends}
 use Rattle.std.specs.Prelude.{MatchResult, slice_range}
 use Rattle.std.specs.Result.{IsErrAnd}
@@ -11,9 +11,10 @@ use Rattle.raid_terms.specs.Volume.{member, member_sector}
 use Rattle.member_regions.proofs.Sets.{reaches_less}
 use Rattle.member_regions.specs.Members.{Reaches}
 use Rattle.member_regions.specs.Regions.{HoldSlot}
-use Rattle.virtual_volume.proofs.Blocks.{region_sectors}
-use Rattle.virtual_volume.proofs.Fronts.{appends_join, appends_none, front_after, front_more}
-use Rattle.virtual_volume.proofs.Ranges.{flat_same, flat_shift, flat_split}
+use Rattle.virtual_volume.proofs.Blocks.{region_sectors, sector_long}
+use Rattle.virtual_volume.proofs.Fronts.{appends_join, appends_none, front_after, front_more, sectors_are}
+use Rattle.virtual_volume.proofs.Ranges.{flat_more, flat_same, flat_shift, flat_split}
+use Rattle.virtual_volume.specs.Gained.{AppendsSectors}
 use Rattle.member_rebuild.specs.Sectors.{sectors_of}
 
 -- the region of a slot holds its sectors
@@ -36,6 +37,18 @@ pub sectors_join : (images : List (List ℕ)) (geo : Geometry) (slot first n m k
     sectors_of images geo slot first k ≡ sectors_of images geo slot first n ++ sectors_of images geo slot next m
 unfolding sectors_of
 sectors_join images geo slot first n m k next e f = flat_split (member_sector images geo slot) first n m k next e f
+
+-- the bytes of so many sectors
+sectors_long : (images : List (List ℕ)) (geo : Geometry) (slot first n : ℕ) → length (sectors_of images geo slot first n) ≡ 512 * n
+unfolding sectors_of
+sectors_long images geo slot first zero = refl
+sectors_long images geo slot first (suc n) =
+    let before : length (sectors_of images geo slot first n) ≡ 512 * n = sectors_long images geo slot first n in
+    let last : length (member_sector images geo slot (first + n)) ≡ 512 = sector_long images geo slot (first + n) in
+    let all : length (sectors_of images geo slot first (suc n)) ≡ length (sectors_of images geo slot first n) + length (member_sector images geo slot (first + n))
+    = ap (λ (l : List ℕ). length l) (flat_more (member_sector images geo slot) first n (suc n) (first + n) (omega arith) refl)
+    ∙ length-append (sectors_of images geo slot first n) (member_sector images geo slot (first + n)) in
+    omega arith
 
 -- all of them are the member
 pub sectors_whole : (images : List (List ℕ)) (geo : Geometry) (end slot n : ℕ) → n ≡ area geo.head end → sectors_of images geo slot 0 n ≡ member images geo end slot
@@ -61,6 +74,13 @@ sectors_cut images geo slot first count n a b c few p q =
     (sectors_join images geo slot 0 first (n - first) n first (omega arith) (omega arith)) p
     (front_more b c (sectors_of images geo slot first count) (sectors_of images geo slot (first + count) (n - (first + count))) (sectors_of images geo slot first (n - first))
     (sectors_join images geo slot first count (n - (first + count)) (n - first) (first + count) (omega arith) refl) q)
+
+-- sectors that were put are the first of more
+pub sectors_first : (images : List (List ℕ)) (geo : Geometry) (slot first n : ℕ) (a b : Option (List ℕ)) → first ≤ n →
+    Appends a b (sectors_of images geo slot 0 first) → AppendsSectors a b (sectors_of images geo slot 0 n)
+sectors_first images geo slot first n a b few p =
+    sectors_are a b (sectors_of images geo slot 0 n) (sectors_of images geo slot 0 first) (sectors_of images geo slot first (n - first)) first (sectors_long images geo slot 0 first)
+    (sectors_join images geo slot 0 first (n - first) n first (omega arith) (omega arith)) p
 
 -- what is known of a put, where its error was turned into another
 pub puts_as : {T E F : Type 0} (Q : E → F → Type 0) (old new : Option (List ℕ)) (bytes : List ℕ) (r : Result T E) (m : Result T F) →

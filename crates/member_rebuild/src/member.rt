@@ -10,6 +10,7 @@ ghost use Rattle.raid_params.specs.Size.{area as area_of};
 ghost use Rattle.raid_terms.specs.Volume.{member};
 ghost use Rattle.member_regions.specs.Members.{IsTestable, Reaches, held};
 ghost use Rattle.member_regions.specs.Regions.{IsRoomFor, KeepsRoom};
+ghost use Rattle.virtual_volume.specs.Gained.{AppendsSectors};
 ghost use Rattle.virtual_volume.specs.Served.{Ends, IsServed};
 ghost use Rattle.member_rebuild.specs.Sectors.{sectors_of};
 
@@ -40,6 +41,7 @@ fn write_block<I: Images, K: Sink>(
     requires missing { slice_index_or geo.now.slots.items slot None ≡ None }
     ensures put { IfSome (told_all (I.seen images.old).attached)
         (λ bytes. Puts (K.gained sink.old) (K.gained sink.new) result (sectors_of bytes geo.now slot first count)) }
+    ensures unput { IsErrOf result VolumeFault.ReadFault → K.gained sink.new ≡ K.gained sink.old }
     ensures reads { OnlyReads (I.seen images.old) (I.seen images.new) (held geo.now.slots.items * count) }
     ensures later { K.faults sink.old ≤ K.faults sink.new }
     ensures ends { IfErr result (Ends (I.seen images.old).faults (I.seen images.new).faults (K.faults sink.old) (K.faults sink.new)) }
@@ -70,6 +72,8 @@ fn write_sectors<I: Images, K: Sink>(
     requires missing { slice_index_or geo.now.slots.items slot None ≡ None }
     ensures put { IfSome (told_all (I.seen images.old).attached)
         (λ bytes. Puts (K.gained sink.old) (K.gained sink.new) result (sectors_of bytes geo.now slot 0 sectors)) }
+    ensures whole { IsErrOf result VolumeFault.ReadFault → IfSome (told_all (I.seen images.old).attached)
+        (λ bytes. AppendsSectors (K.gained sink.old) (K.gained sink.new) (sectors_of bytes geo.now slot 0 sectors)) }
     ensures reads { OnlyReads (I.seen images.old) (I.seen images.new) (held geo.now.slots.items * sectors) }
     ensures later { K.faults sink.old ≤ K.faults sink.new }
     ensures ends { IfErr result (Ends (I.seen images.old).faults (I.seen images.new).faults (K.faults sink.old) (K.faults sink.new)) }
@@ -87,7 +91,8 @@ fn write_sectors<I: Images, K: Sink>(
 /// slot, from its data offset on, to the end of the whole rows before the image sector `end`.
 ///
 /// It fails for want of memory before anything is read or written, and after that only by a fault
-/// of the images or of the sink: then a front of the member was written. No more sectors are read
+/// of the images or of the sink: then a front of the member was written, of whole sectors where the
+/// images failed. No more sectors are read
 /// than the members that are there hold in whole rows.
 #[tactic(auto, using(virtual_volume::proofs::Sets::served_head, virtual_volume::proofs::Sets::served_slots, virtual_volume::proofs::Sets::served_testable))]
 pub fn rebuild<I: Images, K: Sink>(
@@ -105,6 +110,8 @@ pub fn rebuild<I: Images, K: Sink>(
         (λ bytes. Appends (K.gained sink.old) (K.gained sink.new) (member bytes geo.now end slot))) }
     ensures front { IfErr result (λ _. IfSome (told_all (I.seen images.old).attached)
         (λ bytes. AppendsFront (K.gained sink.old) (K.gained sink.new) (member bytes geo.now end slot))) }
+    ensures whole { IsErrOf result VolumeFault.ReadFault → IfSome (told_all (I.seen images.old).attached)
+        (λ bytes. AppendsSectors (K.gained sink.old) (K.gained sink.new) (member bytes geo.now end slot)) }
     ensures memory { IsErrOf result VolumeFault.Memory →
         (K.gained sink.new ≡ K.gained sink.old) × (I.seen images.new ≡ I.seen images.old) }
     ensures read_fault { IsErrOf result VolumeFault.ReadFault →

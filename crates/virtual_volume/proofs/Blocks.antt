@@ -47,7 +47,7 @@ sector_byte : (images : List (List ℕ)) (geo : Geometry) (slot t x : ℕ) → x
 unfolding member_sector
 sector_byte images geo slot t x h = get_or-map-range_with_len (λ x. byte_in images geo t slot x (slice_index_or geo.slots.items slot None)) 0 512 x x 0 h (omega arith)
 
-sector_long : (images : List (List ℕ)) (geo : Geometry) (slot t : ℕ) → length (member_sector images geo slot t) ≡ 512
+pub sector_long : (images : List (List ℕ)) (geo : Geometry) (slot t : ℕ) → length (member_sector images geo slot t) ≡ 512
 unfolding member_sector
 sector_long images geo slot t = length-map-range_with_len (λ x. byte_in images geo t slot x (slice_index_or geo.slots.items slot None)) 0 512
 

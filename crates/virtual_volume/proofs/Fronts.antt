@@ -1,11 +1,12 @@
 -- What a sink gains, part by part.
-use Rattle.std.proofs.Common.{◌≡◌, ℕ, ◌+◌, List, [], ◌++◌, length, take, Option, None, Some, Result, Ok, Err, refl, sym, ap, ◌∙◌, subst, arith, append_assoc, length-append}
+use Rattle.std.proofs.Common.{◌≡◌, ℕ, ◌+◌, ◌*◌, ◌/◌, ◌%◌, List, [], ◌++◌, length, take, Option, None, Some, Result, Ok, Err, refl, sym, ap, ◌∙◌, subst, arith, append_assoc, length-append}
 use Rattle.std.specs.Io.KnownBytes.{Appends}
 use Rattle.std.specs.Result.{IsErr, IsErrAnd}
 use Rattle.std.specs.Prelude.{MatchResult, IfSome, IfErr, OnOk}
 use Rattle.std.proofs.lemmas.List.{append-nil, take-append-le}
 use Rattle.std.proofs.Math.Seq.{take-append-add, take-append_seam}
 use Rattle.image_source.specs.Streams.{AppendsFront, Puts}
+use Rattle.virtual_volume.specs.Gained.{AppendsSectors}
 use Rattle.virtual_volume.specs.Waiting.{Passed, Passes}
 
 pub appends_none : (old : Option (List ℕ)) → Appends old old []
@@ -25,6 +26,13 @@ front_is old new all front rest e p =
     let it : take (length front) all ≡ front = ap (λ (l : List ℕ). take (length front) l) e ∙ take-append_seam front rest in
     (length front, omega arith, subst (λ (l : List ℕ). Appends old new l) (sym it) p)
 
+-- a front of whole sectors, by the list that it is
+pub sectors_are : (old new : Option (List ℕ)) (all front rest : List ℕ) (n : ℕ) → length front ≡ 512 * n → all ≡ front ++ rest → Appends old new front → AppendsSectors old new all
+sectors_are old new all front rest n long e p =
+    let whole : length all ≡ length front + length rest = ap (λ (l : List ℕ). length l) e ∙ length-append front rest in
+    let it : take (512 * n) all ≡ front = ap (λ (t : ℕ). take t all) (sym long) ∙ ap (λ (l : List ℕ). take (length front) l) e ∙ take-append_seam front rest in
+    (n, omega arith, subst (λ (l : List ℕ). Appends old new l) (sym it) p)
+
 -- a front of a part after a part
 pub front_after : (a b c : Option (List ℕ)) (x y all : List ℕ) → all ≡ x ++ y → Appends a b x → AppendsFront b c y → AppendsFront a c all
 front_after a b c x y all e p q =
@@ -43,7 +51,7 @@ front_more old new x z all e q =
 
 -- nothing passed
 pub passes_none : (old : Option (List ℕ)) (waits : List ℕ) → Passes old old waits waits []
-passes_none old waits = record { front = []; gained = appends_none old; whole = append-nil waits }
+passes_none old waits = record { front = []; gained = appends_none old; sectors = refl; whole = append-nil waits }
 
 -- parts that pass one after the other
 pub passes_join : (a b c : Option (List ℕ)) (before between after x y all : List ℕ) → all ≡ x ++ y →
@@ -51,6 +59,7 @@ pub passes_join : (a b c : Option (List ℕ)) (before between after x y all : Li
 passes_join a b c before between after x y all e p q = record {
   front = p.front ++ q.front;
   gained = appends_join a b c p.front q.front p.gained q.gained;
+  sectors = let one = p.sectors in let other = q.sectors in omega (arith, length-append p.front q.front);
   whole =
       ap (λ (l : List ℕ). before ++ l) e ∙ sym (append_assoc before x y) ∙ ap (λ (l : List ℕ). l ++ y) p.whole ∙ append_assoc p.front between y
       ∙ ap (λ (l : List ℕ). p.front ++ l) q.whole ∙ sym (append_assoc p.front q.front after);
@@ -64,20 +73,20 @@ passes_cut a b c before between x y all e p q =
     (ap (λ (l : List ℕ). before ++ l) e ∙ sym (append_assoc before x y) ∙ ap (λ (l : List ℕ). l ++ y) p.whole ∙ append_assoc p.front between y)
     p.gained q
 
--- what passed is a front of more
-pub passes_front : (a b : Option (List ℕ)) (before between x y all : List ℕ) → all ≡ x ++ y → Passes a b before between x → AppendsFront a b (before ++ all)
-passes_front a b before between x y all e p =
-    front_is a b (before ++ all) p.front (between ++ y)
+-- bytes that are put while none wait
+pub put_through : {T E : Type 0} (a b c : Option (List ℕ)) (before between bytes : List ℕ) (result : Result T E) → between ≡ [] → length bytes % 512 ≡ 0 →
+    Passes a b before between [] → Puts b c result bytes → Passed a c before between result bytes
+put_through a b c before between bytes (Ok v) e whole p q =
+    passes_join a b c before between between [] bytes bytes refl p (record { front = bytes; gained = q; sectors = whole; whole = ap (λ (l : List ℕ). l ++ bytes) e ∙ sym (append-nil bytes) ∙ ap (λ (l : List ℕ). bytes ++ l) (sym e) })
+put_through a b c before between bytes (Err v) e whole p q =
+    passes_cut a b c before between [] bytes bytes refl p (subst (λ (l : List ℕ). AppendsFront b c (l ++ bytes)) (sym e) q)
+
+-- what passed is the first sectors of more
+pub passes_sectors : (a b : Option (List ℕ)) (before between x y all : List ℕ) → all ≡ x ++ y → Passes a b before between x → AppendsSectors a b (before ++ all)
+passes_sectors a b before between x y all e p =
+    sectors_are a b (before ++ all) p.front (between ++ y) (length p.front / 512) (let whole = p.sectors in omega arith)
     (ap (λ (l : List ℕ). before ++ l) e ∙ sym (append_assoc before x y) ∙ ap (λ (l : List ℕ). l ++ y) p.whole ∙ append_assoc p.front between y)
     p.gained
-
--- bytes that are put while none wait
-pub put_through : {T E : Type 0} (a b c : Option (List ℕ)) (before between bytes : List ℕ) (result : Result T E) → between ≡ [] →
-    Passes a b before between [] → Puts b c result bytes → Passed a c before between result bytes
-put_through a b c before between bytes (Ok v) e p q =
-    passes_join a b c before between between [] bytes bytes refl p (record { front = bytes; gained = q; whole = ap (λ (l : List ℕ). l ++ bytes) e ∙ sym (append-nil bytes) ∙ ap (λ (l : List ℕ). bytes ++ l) (sym e) })
-put_through a b c before between bytes (Err v) e p q =
-    passes_cut a b c before between [] bytes bytes refl p (subst (λ (l : List ℕ). AppendsFront b c (l ++ bytes)) (sym e) q)
 
 -- nothing was put
 pub front_none : (old : Option (List ℕ)) (all : List ℕ) → AppendsFront old old all

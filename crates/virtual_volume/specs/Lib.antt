@@ -1,3 +1,4 @@
+pub mod Gained
 pub mod Waiting
 pub mod Parts
 pub mod Served

@@ -1,5 +1,5 @@
 //! Small pieces are put many at once.
-ghost use Rattle.std.specs.Prelude.{◌≡◌, [], ◌++◌, ◌+◌, ◌≤◌, length, IfOk, OnOk};
+ghost use Rattle.std.specs.Prelude.{◌≡◌, [], ◌++◌, ◌+◌, ◌%◌, ◌≤◌, length, IfOk, OnOk};
 ghost use Rattle.image_source.specs.Causes.{HasCause};
 ghost use Rattle.virtual_volume.specs.Waiting.{Passed};
 
@@ -11,7 +11,7 @@ use std::marker::Model;
 /// The bytes that wait at most.
 const PENDING: usize = BLOCK * SECTOR;
 
-/// Bytes that wait to be put. Contracts see them.
+/// Whole sectors that wait to be put. Contracts see their bytes.
 #[derive(Drop)]
 pub(crate) struct Pending {
     room: Vec<u8>,
@@ -19,14 +19,14 @@ pub(crate) struct Pending {
 }
 
 impl Model for Pending {
-    ghost use Rattle.std.specs.Prelude.{ℕ, List, ◌≡◌, ◌≤◌, length, take};
+    ghost use Rattle.std.specs.Prelude.{ℕ, List, ◌≡◌, ◌%◌, ◌≤◌, length, take};
     ghost use Rattle.virtual_volume.specs.declared.pending.TheConstants.{PENDING};
 
     ghost Value = { List ℕ };
 
     ghost view = { λ p. take p.filled p.room.items };
 
-    ghost invariant = { λ p. (length p.room.items ≡ PENDING) × (p.filled ≤ PENDING) };
+    ghost invariant = { λ p. (length p.room.items ≡ PENDING) × (p.filled ≤ PENDING) × (p.filled % 512 ≡ 0) };
 }
 
 impl Pending {
@@ -59,9 +59,10 @@ impl Pending {
         PENDING - self.filled
     }
 
-    /// Lets bytes wait.
+    /// Lets whole sectors wait.
     fn push(&mut self, bytes: &[u8])
-        requires { length self.old + length bytes.now ≤ PENDING }
+        requires room { length self.old + length bytes.now ≤ PENDING }
+        requires whole { length bytes.now % 512 ≡ 0 }
         ensures { self.new ≡ self.old ++ bytes.now }
     {
         let end = self.filled + bytes.len();
@@ -82,8 +83,9 @@ impl Pending {
         self.flush(sink)
     }
 
-    /// Appends bytes: they wait, or are put after all that waits.
+    /// Appends whole sectors: they wait, or are put after all that waits.
     pub(crate) fn put<K: Sink>(&mut self, sink: &mut K, bytes: &[u8]) -> Result<(), Failed>
+        requires whole { length bytes.now % 512 ≡ 0 }
         ensures passed { Passed (K.gained sink.old) (K.gained sink.new) self.old self.new result bytes.now }
         ensures cause { HasCause (K.faults sink.old) (K.faults sink.new) result }
     {

@@ -1,5 +1,5 @@
 //! The volume, written out.
-ghost use Rattle.std.specs.Prelude.{ℕ, List, [], ◌≡◌, ◌+◌, ◌*◌, ◌^◌, ◌<◌, ◌≤◌, length, All, IfErr, IfSome, OnOk, IsTrue};
+ghost use Rattle.std.specs.Prelude.{ℕ, List, [], ◌≡◌, ◌+◌, ◌*◌, ◌^◌, ◌<◌, ◌≤◌, length, ◌++◌, All, IfErr, IfSome, OnOk, IsTrue};
 ghost use Rattle.std.specs.Io.KnownBytes.{Appends};
 ghost use Rattle.std.specs.Result.{IsErrOf};
 ghost use Rattle.image_source.specs.Attached.{told_all};
@@ -11,6 +11,7 @@ ghost use Rattle.raid_params.specs.Validity.{is_valid_head};
 ghost use Rattle.raid_terms.specs.Volume.{volume};
 ghost use Rattle.member_regions.specs.Members.{IsTestable, Reaches, held};
 ghost use Rattle.member_regions.specs.Regions.{HoldAll, IsRoomFor, KeepsRoom};
+ghost use Rattle.virtual_volume.specs.Gained.{AppendsSectors};
 ghost use Rattle.virtual_volume.specs.Parts.{items_of, rows_of};
 ghost use Rattle.virtual_volume.specs.Served.{Ends, IsServed};
 ghost use Rattle.virtual_volume.specs.Waiting.{Passed};
@@ -121,6 +122,7 @@ fn write_batch<I: Images, K: Sink>(
     requires room { IsRoomFor (length geo.now.slots.items) (rows * geo.now.head.chunk) regions.old }
     ensures passed { IfSome (told_all (I.seen images.old).attached) (λ bytes.
         Passed (K.gained sink.old) (K.gained sink.new) pending.old pending.new result (rows_of bytes geo.now first rows)) }
+    ensures unput { IsErrOf result VolumeFault.ReadFault → K.gained sink.new ≡ K.gained sink.old }
     ensures reads { OnlyReads (I.seen images.old) (I.seen images.new)
         (held geo.now.slots.items * (rows * geo.now.head.chunk)) }
     ensures later { K.faults sink.old ≤ K.faults sink.new }
@@ -154,6 +156,8 @@ fn write_rows<I: Images, K: Sink>(
     requires batch { 1 ≤ batch }
     ensures passed { IfSome (told_all (I.seen images.old).attached) (λ bytes.
         Passed (K.gained sink.old) (K.gained sink.new) pending.old pending.new result (rows_of bytes geo.now 0 rows)) }
+    ensures whole { IsErrOf result VolumeFault.ReadFault → IfSome (told_all (I.seen images.old).attached)
+        (λ bytes. AppendsSectors (K.gained sink.old) (K.gained sink.new) (pending.old ++ rows_of bytes geo.now 0 rows)) }
     ensures reads { OnlyReads (I.seen images.old) (I.seen images.new)
         (held geo.now.slots.items * (rows * geo.now.head.chunk)) }
     ensures later { K.faults sink.old ≤ K.faults sink.new }
@@ -185,6 +189,8 @@ fn write_all<I: Images, K: Sink>(
     requires batch { 1 ≤ batch }
     ensures put { IfSome (told_all (I.seen images.old).attached)
         (λ bytes. Puts (K.gained sink.old) (K.gained sink.new) result (volume bytes geo.now end)) }
+    ensures whole { IsErrOf result VolumeFault.ReadFault → IfSome (told_all (I.seen images.old).attached)
+        (λ bytes. AppendsSectors (K.gained sink.old) (K.gained sink.new) (volume bytes geo.now end)) }
     ensures reads { OnlyReads (I.seen images.old) (I.seen images.new) (held geo.now.slots.items * area geo.now.head end) }
     ensures later { K.faults sink.old ≤ K.faults sink.new }
     ensures ends { IfErr result (Ends (I.seen images.old).faults (I.seen images.new).faults (K.faults sink.old) (K.faults sink.new)) }
@@ -198,7 +204,8 @@ fn write_all<I: Images, K: Sink>(
 /// their order. Only whole rows before the image sector `end` count.
 ///
 /// It fails for want of memory before anything is read or written, and after that only by a fault
-/// of the images or of the sink: then a front of the volume was written. No more sectors are read
+/// of the images or of the sink: then a front of the volume was written, of whole sectors where the
+/// images failed. No more sectors are read
 /// than the members that are there hold in whole rows.
 #[tactic(auto, using(crate::proofs::Sets::served_head, crate::proofs::Sets::served_slots))]
 pub fn write_volume<I: Images, K: Sink>(
@@ -213,6 +220,8 @@ pub fn write_volume<I: Images, K: Sink>(
         (λ bytes. Appends (K.gained sink.old) (K.gained sink.new) (volume bytes geo.now end))) }
     ensures front { IfErr result (λ _. IfSome (told_all (I.seen images.old).attached)
         (λ bytes. AppendsFront (K.gained sink.old) (K.gained sink.new) (volume bytes geo.now end))) }
+    ensures whole { IsErrOf result VolumeFault.ReadFault → IfSome (told_all (I.seen images.old).attached)
+        (λ bytes. AppendsSectors (K.gained sink.old) (K.gained sink.new) (volume bytes geo.now end)) }
     ensures memory { IsErrOf result VolumeFault.Memory →
         (K.gained sink.new ≡ K.gained sink.old) × (I.seen images.new ≡ I.seen images.old) }
     ensures read_fault { IsErrOf result VolumeFault.ReadFault →

@@ -6,6 +6,7 @@ use Rattle.member_regions.proofs.Sets.{testable_chunk}
 use Rattle.virtual_volume.proofs.Fronts.{puts_front, puts_written}
 use Rattle.member_regions.proofs.IfTold.{if_told}
 use Rattle.virtual_volume.proofs.Sets.{served_end, served_held, served_testable}
+use Rattle.virtual_volume.specs.Gained.{AppendsSectors}
 use Rattle.member_rebuild.specs.Sectors.{sectors_of}
 use Rattle.member_rebuild.proofs.Parts.{sectors_whole}
 use Rattle.member_rebuild.proofs.member.rebuild.Goals as goal
@@ -33,3 +34,11 @@ returns-clause-front g c =
     (λ bytes. Puts (g.K.Sink.gained c.args.sink.now) (g.K.Sink.gained c.write_sectors.new.sink) c.write_sectors.result (member bytes c.args.geo.now c.args.end c.args.slot))
     (λ bytes p. subst (λ (l : List ℕ). Puts (g.K.Sink.gained c.args.sink.now) (g.K.Sink.gained c.write_sectors.new.sink) c.write_sectors.result l) (sectors_whole bytes c.args.geo.now c.args.end c.args.slot c.area-sectors.result c.area-sectors.ensures) p)
     c.write_sectors.ensures.put)
+
+pub returns-clause-whole : goal.returns-clause-whole
+returns-clause-whole g c = λ is.
+    if_told (told_all (g.I.Images.seen c.args.images.now).attached)
+    (λ bytes. AppendsSectors (g.K.Sink.gained c.args.sink.now) (g.K.Sink.gained c.write_sectors.new.sink) (sectors_of bytes c.args.geo.now c.args.slot 0 c.area-sectors.result))
+    (λ bytes. AppendsSectors (g.K.Sink.gained c.args.sink.now) (g.K.Sink.gained c.write_sectors.new.sink) (member bytes c.args.geo.now c.args.end c.args.slot))
+    (λ bytes p. subst (λ (l : List ℕ). AppendsSectors (g.K.Sink.gained c.args.sink.now) (g.K.Sink.gained c.write_sectors.new.sink) l) (sectors_whole bytes c.args.geo.now c.args.end c.args.slot c.area-sectors.result c.area-sectors.ensures) p)
+    (c.write_sectors.ensures.whole is)

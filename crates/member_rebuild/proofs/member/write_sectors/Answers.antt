@@ -1,4 +1,4 @@
-use Rattle.std.proofs.Common.{◌+◌, ◌≤◌, refl, ◌∙◌, arith}
+use Rattle.std.proofs.Common.{ℕ, ◌≡◌, ◌+◌, ◌≤◌, List, Option, IfSome, refl, sym, ◌∙◌, subst, arith, rules}
 use Rattle.std.specs.Io.KnownBytes.{Appends}
 use Rattle.image_source.specs.Attached.{told_all}
 use Rattle.image_source.specs.Streams.{AppendsFront, Puts}
@@ -6,9 +6,10 @@ use Rattle.image_source.proofs.Reading.{reads_none, reads_up}
 use Rattle.member_regions.proofs.Held.{reads_on}
 use Rattle.member_regions.specs.Members.{held}
 use Rattle.virtual_volume.proofs.Fronts.{puts_err}
-use Rattle.member_regions.proofs.IfTold.{if_any, if_both}
+use Rattle.member_regions.proofs.IfTold.{if_any, if_both, if_told}
+use Rattle.virtual_volume.specs.Gained.{AppendsSectors}
 use Rattle.member_rebuild.specs.Sectors.{sectors_of}
-use Rattle.member_rebuild.proofs.Parts.{block_held, sectors_cut, sectors_on, sectors_start}
+use Rattle.member_rebuild.proofs.Parts.{block_held, sectors_cut, sectors_first, sectors_on, sectors_start}
 use Rattle.member_rebuild.proofs.member.write_sectors.Goals as goal
 
 pub loop-first-init : goal.loop-first-init
@@ -41,6 +42,18 @@ returns-in_err-write_block-clause-put g c =
     (sectors_cut bytes c.args.geo.now c.args.slot c.loop-first.first c.min-count.result c.args.sectors (g.K.Sink.gained c.args.sink.now) (g.K.Sink.gained c.loop-first.sink) (g.K.Sink.gained c.write_block.new.sink) few p q))
     c.loop-first.invariant.put
     (rw (← c.loop-first.invariant.reads.attached) c.in_err-write_block.ensures.put)
+
+pub returns-in_err-write_block-clause-whole : goal.returns-in_err-write_block-clause-whole
+returns-in_err-write_block-clause-whole g c = λ is.
+    let few : c.loop-first.first ≤ c.args.sectors = omega arith in
+    let still : g.K.Sink.gained c.write_block.new.sink ≡ g.K.Sink.gained c.loop-first.sink = c.in_err-write_block.ensures.unput (search rules) in
+    subst (λ (gained : Option (List ℕ)). IfSome (told_all (g.I.Images.seen c.args.images.now).attached)
+    (λ bytes. AppendsSectors (g.K.Sink.gained c.args.sink.now) gained (sectors_of bytes c.args.geo.now c.args.slot 0 c.args.sectors))) (sym still)
+    (if_told (told_all (g.I.Images.seen c.args.images.now).attached)
+    (λ bytes. Appends (g.K.Sink.gained c.args.sink.now) (g.K.Sink.gained c.loop-first.sink) (sectors_of bytes c.args.geo.now c.args.slot 0 c.loop-first.first))
+    (λ bytes. AppendsSectors (g.K.Sink.gained c.args.sink.now) (g.K.Sink.gained c.loop-first.sink) (sectors_of bytes c.args.geo.now c.args.slot 0 c.args.sectors))
+    (λ bytes p. sectors_first bytes c.args.geo.now c.args.slot c.loop-first.first c.args.sectors (g.K.Sink.gained c.args.sink.now) (g.K.Sink.gained c.loop-first.sink) few p)
+    c.loop-first.invariant.put)
 
 pub returns-in_err-write_block-clause-reads : goal.returns-in_err-write_block-clause-reads
 returns-in_err-write_block-clause-reads g c =

@@ -1,9 +1,10 @@
-use Rattle.std.proofs.Common.{◌≡◌, ℕ, ◌+◌, ◌*◌, List, ◌++◌, ap, subst, arith}
+use Rattle.std.proofs.Common.{◌≡◌, ℕ, ◌+◌, ◌*◌, List, ◌++◌, ap, subst, arith, rules}
 use Rattle.image_source.specs.Attached.{told_all}
 use Rattle.image_source.specs.Streams.{AppendsFront, Puts}
 use Rattle.raid_params.specs.Size.{rows}
 use Rattle.raid_terms.specs.Volume.{volume}
 use Rattle.member_regions.proofs.Sets.{testable_chunk}
+use Rattle.virtual_volume.specs.Gained.{AppendsSectors}
 use Rattle.virtual_volume.specs.Parts.{rows_of}
 use Rattle.virtual_volume.specs.Waiting.{Passes}
 use Rattle.virtual_volume.proofs.Fronts.{puts_err}
@@ -29,6 +30,16 @@ returns-in_err-write_rows-clause-put g c =
     (subst (λ (l : List ℕ). AppendsFront (g.K.Sink.gained c.args.sink.now) (g.K.Sink.gained c.write_rows.new.sink) l)
     (rows_whole bytes c.args.geo.now c.args.end c.rows-rows.result c.args.pending.now c.requires.empty c.rows-rows.ensures) q))
     c.in_err-write_rows.ensures.passed
+
+pub returns-in_err-write_rows-clause-whole : goal.returns-in_err-write_rows-clause-whole
+returns-in_err-write_rows-clause-whole g c = λ is.
+    if_told (told_all (g.I.Images.seen c.args.images.now).attached)
+    (λ bytes. AppendsSectors (g.K.Sink.gained c.args.sink.now) (g.K.Sink.gained c.write_rows.new.sink) (c.args.pending.now ++ rows_of bytes c.args.geo.now 0 c.rows-rows.result))
+    (λ bytes. AppendsSectors (g.K.Sink.gained c.args.sink.now) (g.K.Sink.gained c.write_rows.new.sink) (volume bytes c.args.geo.now c.args.end))
+    (λ bytes q.
+    subst (λ (l : List ℕ). AppendsSectors (g.K.Sink.gained c.args.sink.now) (g.K.Sink.gained c.write_rows.new.sink) l)
+    (rows_whole bytes c.args.geo.now c.args.end c.rows-rows.result c.args.pending.now c.requires.empty c.rows-rows.ensures) q)
+    (c.in_err-write_rows.ensures.whole (search rules))
 
 pub returns-clause-put : goal.returns-clause-put
 returns-clause-put g c =

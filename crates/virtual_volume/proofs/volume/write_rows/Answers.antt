@@ -1,13 +1,14 @@
-use Rattle.std.proofs.Common.{◌+◌, ◌*◌, ◌≤◌, ◌++◌, refl, ◌∙◌, arith}
+use Rattle.std.proofs.Common.{ℕ, ◌≡◌, ◌+◌, ◌-◌, ◌*◌, ◌≤◌, List, ◌++◌, Option, IfSome, refl, sym, ◌∙◌, subst, arith, rules}
 use Rattle.image_source.specs.Attached.{told_all}
 use Rattle.image_source.specs.Streams.{AppendsFront}
 use Rattle.image_source.proofs.Reading.{reads_none, reads_up}
 use Rattle.member_regions.proofs.Held.{reads_on}
 use Rattle.member_regions.specs.Members.{held}
+use Rattle.virtual_volume.specs.Gained.{AppendsSectors}
 use Rattle.virtual_volume.specs.Parts.{rows_of}
 use Rattle.virtual_volume.specs.Waiting.{Passed, Passes}
-use Rattle.virtual_volume.proofs.Fronts.{passed_err, passes_join}
-use Rattle.member_regions.proofs.IfTold.{if_any, if_both}
+use Rattle.virtual_volume.proofs.Fronts.{passed_err, passes_join, passes_sectors}
+use Rattle.member_regions.proofs.IfTold.{if_any, if_both, if_told}
 use Rattle.virtual_volume.proofs.Puts.{rows_cut, rows_start}
 use Rattle.virtual_volume.proofs.Sets.{batch_held, batch_inside}
 use Rattle.virtual_volume.proofs.Whole.{rows_join}
@@ -50,6 +51,21 @@ returns-in_err-write_batch-clause-passed g c =
     few (omega arith) p q))
     c.loop-first.invariant.passes
     (rw (← c.loop-first.invariant.reads.attached) c.in_err-write_batch.ensures.passed)
+
+pub returns-in_err-write_batch-clause-whole : goal.returns-in_err-write_batch-clause-whole
+returns-in_err-write_batch-clause-whole g c = λ is.
+    let few : c.loop-first.first ≤ c.args.rows = omega arith in
+    let still : g.K.Sink.gained c.write_batch.new.sink ≡ g.K.Sink.gained c.loop-first.sink = c.in_err-write_batch.ensures.unput (search rules) in
+    subst (λ (gained : Option (List ℕ)). IfSome (told_all (g.I.Images.seen c.args.images.now).attached)
+    (λ bytes. AppendsSectors (g.K.Sink.gained c.args.sink.now) gained (c.args.pending.now ++ rows_of bytes c.args.geo.now 0 c.args.rows))) (sym still)
+    (if_told (told_all (g.I.Images.seen c.args.images.now).attached)
+    (λ bytes. Passes (g.K.Sink.gained c.args.sink.now) (g.K.Sink.gained c.loop-first.sink) c.args.pending.now c.loop-first.pending (rows_of bytes c.args.geo.now 0 c.loop-first.first))
+    (λ bytes. AppendsSectors (g.K.Sink.gained c.args.sink.now) (g.K.Sink.gained c.loop-first.sink) (c.args.pending.now ++ rows_of bytes c.args.geo.now 0 c.args.rows))
+    (λ bytes p.
+    passes_sectors (g.K.Sink.gained c.args.sink.now) (g.K.Sink.gained c.loop-first.sink) c.args.pending.now c.loop-first.pending
+    (rows_of bytes c.args.geo.now 0 c.loop-first.first) (rows_of bytes c.args.geo.now c.loop-first.first (c.args.rows - c.loop-first.first)) (rows_of bytes c.args.geo.now 0 c.args.rows)
+    (rows_join bytes c.args.geo.now 0 c.loop-first.first (c.args.rows - c.loop-first.first) c.args.rows c.loop-first.first (omega arith) (omega arith)) p)
+    c.loop-first.invariant.passes)
 
 pub returns-in_err-write_batch-clause-reads : goal.returns-in_err-write_batch-clause-reads
 returns-in_err-write_batch-clause-reads g c =

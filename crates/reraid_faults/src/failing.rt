@@ -1,11 +1,13 @@
 //! Each call of each object made to fail in turn.
-ghost use Rattle.std.specs.Prelude.{◌≡◌};
+ghost use Rattle.std.specs.Prelude.{◌≡◌, IfOk};
+ghost use Rattle.reraid_faults.specs.Ready.{AreReady};
 
 use crate::outside::{Outside, filled, images_of, ready, run_in_pieces, run_words, words_of};
 use crate::plans::{LEVEL_SIX, LISTING, NO_LANDMARK, PLAN, bytes_of};
 use crate::rows::{STRIPES, STRIPES_LOST};
 use crate::sector_limits::{Placed, put_all};
 use image_source::Memory;
+use reraid_cli::Word;
 use std::alloc::Global;
 use std::process::Abort;
 use std::test::Fail;
@@ -45,8 +47,16 @@ struct Run<'a> {
     calls: (u64, u64, u64, u64),
 }
 
-/// Lists a call of an object to fail, of which a put takes five bytes.
-fn fail(outside: &mut Outside, object: Object, call: u64) -> Result<(), Memory>
+/// A call that fails: that of this number of an object. A put takes so many bytes before.
+#[derive(Clone, Copy)]
+struct Fault {
+    object: Object,
+    call: u64,
+    taken: usize,
+}
+
+/// Lists the call to fail.
+fn fail(outside: &mut Outside, fault: Fault) -> Result<(), Memory>
     ensures files { outside.new.images.files ≡ outside.old.images.files }
     ensures attached { outside.new.images.attached ≡ outside.old.images.attached }
     ensures images { outside.new.images.faults ≡ outside.old.images.faults }
@@ -54,15 +64,30 @@ fn fail(outside: &mut Outside, object: Object, call: u64) -> Result<(), Memory>
     ensures out { outside.new.out.faults ≡ outside.old.out.faults }
     ensures notes { outside.new.notes.faults ≡ outside.old.notes.faults }
 {
-    match object {
-        Object::Images => outside.images.fail_call(call),
-        Object::Plan => outside.plan.fail_call(call),
-        Object::Out => outside.out.fail_call(call, 5),
-        Object::Notes => outside.notes.fail_call(call, 5),
+    match fault.object {
+        Object::Images => outside.images.fail_call(fault.call),
+        Object::Plan => outside.plan.fail_call(fault.call),
+        Object::Out => outside.out.fail_call(fault.call, fault.taken),
+        Object::Notes => outside.notes.fail_call(fault.call, fault.taken),
     }
 }
 
-/// The run with a call that fails.
+/// Objects for a run of these words with a call that fails.
+fn ready_to_fail(
+    alloc: Global,
+    words: &[Word],
+    contents: &[Vec<u8>],
+    plan: &[u8],
+    fault: Fault,
+) -> Result<Outside, Memory>
+    ensures { IfOk result (λ o. AreReady words.now o.images o.plan o.out o.notes) }
+{
+    let mut met = ready(alloc, words, contents, plan)?;
+    fail(&mut met, fault)?;
+    Ok(met)
+}
+
+/// The run with a call that fails, of which a put takes five bytes.
 fn run_failing<R: Threads + Sync>(
     rt: &R,
     alloc: Global,
@@ -72,8 +97,12 @@ fn run_failing<R: Threads + Sync>(
     call: u64,
 ) -> Result<(u8, Outside), Memory> {
     let words = words_of(alloc, run.line)?;
-    let mut met = ready(alloc, &words, contents, run.plan.as_bytes())?;
-    fail(&mut met, object, call)?;
+    let fault = Fault {
+        object,
+        call,
+        taken: 5,
+    };
+    let mut met = ready_to_fail(alloc, &words, contents, run.plan.as_bytes(), fault)?;
     let status = run_words(rt, alloc, &words, &mut met);
     Ok((status, met))
 }
@@ -283,8 +312,12 @@ fn listed_in_pieces<R: Threads + Sync>(
 ) -> Result<(u8, Outside), Memory> {
     let words = words_of(alloc, "list size=10 -- a b c")?;
     let contents = images_of(alloc, STRIPES)?;
-    let mut met = ready(alloc, &words, &contents, PLAN.as_bytes())?;
-    fail(&mut met, Object::Plan, call)?;
+    let fault = Fault {
+        object: Object::Plan,
+        call,
+        taken: 0,
+    };
+    let mut met = ready_to_fail(alloc, &words, &contents, PLAN.as_bytes(), fault)?;
     let status = run_in_pieces(rt, alloc, &words, &mut met, 7)?;
     Ok((status, met))
 }
@@ -314,10 +347,14 @@ const LONGEST: usize = 4_194_304;
 fn a_source_is_asked_once_more_than_a_plan_is_long(rt: HostRuntime) -> Result<(), Fail> {
     let alloc = rt.alloc();
     let words = words_of(alloc, "list -- a b c")?;
+    let fault = Fault {
+        object: Object::Plan,
+        call: 4_194_306,
+        taken: 0,
+    };
     for (more, status) in [(0, 2), (1, 3)] {
         let plan = vec![in alloc; b'x'; LONGEST + more]?;
-        let mut met = ready(alloc, &words, &[], &plan)?;
-        fail(&mut met, Object::Plan, 4_194_306)?;
+        let mut met = ready_to_fail(alloc, &words, &[], &plan, fault)?;
         assert_eq!(rt; run_in_pieces(&rt, alloc, &words, &mut met, 1)?, status);
     }
     Ok(())
@@ -329,8 +366,12 @@ fn a_front_of_the_volume_may_be_written(rt: HostRuntime) -> Result<(), Fail> {
     let alloc = rt.alloc();
     let words = words_of(alloc, "write set=5:ls:none:1:0:0,1,2 -- a b c")?;
     let contents = images_of(alloc, STRIPES)?;
-    let mut met = ready(alloc, &words, &contents, b"")?;
-    met.out.fail_call(1, 100)?;
+    let fault = Fault {
+        object: Object::Out,
+        call: 1,
+        taken: 100,
+    };
+    let mut met = ready_to_fail(alloc, &words, &contents, b"", fault)?;
     assert_eq!(rt; run_words(&rt, alloc, &words, &mut met), 12);
     assert_eq!(rt; met.out.bytes(), [1; 100].as_slice());
     assert_eq!(rt; met.notes.bytes(), b"reraid: output fault\n".as_slice());

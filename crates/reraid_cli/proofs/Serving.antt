@@ -76,21 +76,6 @@ rebuild_asked set slot end n names left reading attached old new r asked ends =
     let Q : ℕ → Type 0 = λ k. Ends (rebuild_refusal set slot end k attached) (rebuild_output set slot end attached (told_all attached)) old new r in
     ends_as (RebuildCommand set slot end n) reading attached old new r asked.command_is (subst Q (sym asked.names_are) ends)
 
--- a job that takes no plan leaves the counts of the plan as they are
-pub planless : {T : Type 0} (streams : Bool) (images later out after sectors read plan : ℕ) (gained now : Option (List ℕ)) (r : Result T Stop) →
-    Leaves streams (record { images = images; plan = 0; out = out; sectors = sectors }) (record { images = later; plan = 0; out = after; sectors = read }) gained now r →
-    Leaves streams (record { images = images; plan = plan; out = out; sectors = sectors }) (record { images = later; plan = plan; out = after; sectors = read }) gained now r
-planless streams images later out after sectors read plan gained now r leaves = record {
-  image_fault = leaves.image_fault;
-  plan_fault = λ e. absurd (let h : Rose 0 0 = leaves.plan_fault e in omega arith);
-  out_fault = leaves.out_fault;
-  images_later = leaves.images_later;
-  plan_later = omega arith;
-  out_later = leaves.out_later;
-  nothing = leaves.nothing;
-  unread = leaves.unread;
-}
-
 -- what is refused comes before the job
 abbrev IsFirst : ℕ → ℕ → Option (List ℕ) → Option (List ℕ) → Result (Unit {0}) Stop → Option Stop → Type 0
 IsFirst before after old new r refused = Orders refused before after old new r

@@ -525,9 +525,11 @@ def survey_operands(rng, images):
 
 
 def survey_case(rng):
-    crowded = rng.random()
-    if crowded < 0.004:
+    way = rng.random()
+    if way < 0.004:
         return crowded_survey(rng)
+    if way < 0.06:
+        return many_file_systems(rng)
     images = [bytearray(some_bytes(rng, rng.choice([0, 1, 2, 3, 40, 60, 64]) * SECTOR) if rng.random() < 0.3 else 64 * SECTOR)
               for _ in range(rng.choice([1, 2, 3, 4, 4, 16]))]
     variety = rng.choice([1, 1, 1, 2, 40])
@@ -545,6 +547,50 @@ def survey_case(rng):
         images[0] += bytes(rng.choice([1, 511]))
     files = files_of([bytes(image) for image in images])
     return Case(["survey", *shuffled(rng, survey_operands(rng, images)), "--", *files], b"", files)
+
+
+def plain_boot(seed, total=100, mft=4, mirror=2):
+    """A boot sector of clusters of one sector and records of two."""
+    block = bytearray(SECTOR)
+    block[3:11], block[510:512] = b"NTFS    ", b"\x55\xAA"
+    struct.pack_into("<HB", block, 11, 512, 1)
+    struct.pack_into("<QQQbxxxxxxxQ", block, 40, total, mft, mirror, -10, seed)
+    return bytes(block)
+
+
+def plain_super(seed, count=4, unit=512):
+    """A superblock of blocks of 4,096 bytes, 17 a group."""
+    block = bytearray(SECTOR)
+    block[0:4] = b"XFSB"
+    struct.pack_into(">I", block, 4, 4096)
+    block[32:48] = seed.to_bytes(16, "big")
+    struct.pack_into(">II", block, 84, 17, count)
+    struct.pack_into(">H", block, 102, unit)
+    return bytes(block)
+
+
+def many_file_systems(rng):
+    """Heads of about as many file systems as make groups, which differ in one number alone, or in none; or with numbers at a limit;
+    or with about as many sectors to pass over as may be named."""
+    way, images = rng.randrange(4), [bytearray(64 * SECTOR) for _ in range(2)]
+    count, blocks, operands = rng.choice([31, 32, 33, 34]), [], []
+    if way == 0:
+        blocks = [plain_boot(seed) for seed in range(count)] if rng.random() < 0.5 else [plain_super(seed) for seed in range(count)]
+    elif way == 1:
+        blocks = [plain_boot(rng.choice([7, 7, 8])) for _ in range(4)] + [plain_super(rng.choice([7, 7, 8])) for _ in range(4)]
+        blocks += [record_sector(rng), head_sector(rng, b"XAGF"), head_sector(rng, b"XAGI")]
+    elif way == 2:
+        edge = FAR - 30 + rng.choice([-2, -1, 0, 1])
+        blocks = [plain_boot(1, FAR + rng.choice([-2, -1, 0])), plain_boot(2, 100, edge), plain_boot(3, 100, 4, edge)]
+    else:
+        blocks = [plain_boot(seed % 3) for seed in range(rng.choice([63, 64, 65, 66]))]
+        operands = ["drop=" + ",".join(f"{place // 64}:{place % 64}" for place in range(rng.choice([62, 63, 64, 65])))]
+    if way < 2:
+        rng.shuffle(blocks)
+    for place, block in enumerate(blocks):
+        images[place // 64][place % 64 * SECTOR:(place % 64 + 1) * SECTOR] = block
+    files = files_of([bytes(image) for image in images])
+    return Case(["survey", *operands, "--", *files], b"", files)
 
 
 def crowded_survey(rng):

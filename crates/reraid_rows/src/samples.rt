@@ -44,6 +44,27 @@ fn an_array_without_marks(rt: HostRuntime) -> Result<(), Fail> {
     Ok(())
 }
 
+/// Twelve members, of which the six at even places have the landmarks. The others have none, and at level 5 the
+/// order of members does not change their sum: so their 720 orders pass, and no other set does.
+const MARKED: &[Operand] = &[
+    Operand::Said("number=7"),
+    Operand::Set("5:ls:none:8:0:0,1,2,3,4,5,6,7,8,9,10,11"),
+    Operand::Said("rows=200"),
+    Operand::Said("marks=xfs"),
+];
+
+#[test]
+fn an_array_with_landmarks(rt: HostRuntime) -> Result<(), Fail> {
+    let alloc = rt.alloc();
+    let (status, met) = run(&rt, alloc, MARKED)?;
+    assert_eq!(rt; status, 0);
+    assert_eq!(rt;
+        met.out.bytes(),
+        b"images 12\nsectors 1600\nmarks 192\ntotal 103464345600\nfound yes\nnext 103464345600 of 103464345600\n".as_slice()
+    );
+    Ok(())
+}
+
 /// A refusal by the rule of a set, and its line.
 type Refusal = (&'static [Operand<'static>], &'static str);
 

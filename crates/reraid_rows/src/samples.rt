@@ -29,11 +29,18 @@ const SMALL: &[Operand] = &[
     Operand::Said("marks=none"),
 ];
 
+/// The same, with the marks left to their default. (With marks these words are refused, as below.)
+const UNSAID: &[Operand] = &[
+    Operand::Said("number=7"),
+    Operand::Set("5:ls:none:8:0:0,1,2"),
+    Operand::Said("rows=2"),
+];
+
 #[test]
 fn an_array_without_marks(rt: HostRuntime) -> Result<(), Fail> {
     let alloc = rt.alloc();
-    for _ in 0..2u8 {
-        let (status, met) = run(&rt, alloc, SMALL)?;
+    for operands in [SMALL, SMALL, UNSAID] {
+        let (status, met) = run(&rt, alloc, operands)?;
         assert_eq!(rt; status, 0);
         assert_eq!(rt;
             met.out.bytes(),

@@ -13,12 +13,14 @@ use Rattle.raid_params.specs.Size.{redundancy}
 use Rattle.raid_params.specs.Slots.{empties}
 use Rattle.raid_params.specs.declared.types.Geometry.{Geometry}
 use Rattle.raid_terms.specs.Cells.{row_cells}
-use Rattle.raid_terms.specs.Parity.{is_sound_row, member_byte, member_column, unsound_rows}
+use Rattle.raid_terms.specs.Parity.{is_sound_row, member_byte, member_column, passes_parity, tested_rows, unsound_rows}
 use Rattle.pq_parity.proofs.Soundness.{sound_where_full}
 use Rattle.member_regions.proofs.Counting.{count_suc}
 use Rattle.member_regions.specs.Members.{IsTestable}
 use Rattle.row_scan.specs.Block.{IsRest}
-use Rattle.row_scan.specs.Scan.{is_unbreakable}
+use Rattle.row_scan.specs.Scan.{is_unbreakable, IsScannable}
+use Rattle.row_scan.proofs.Parity.{at_most}
+use Rattle.row_scan.proofs.Sets.{scannable_testable}
 
 -- the images hold bytes
 abbrev pub HoldBytes : List (List ℕ) → Type 0
@@ -70,6 +72,17 @@ all_left attached geo n left tells set none = by_told (told_all attached) refl
     by_told : (told : Option (List (List ℕ))) → told_all attached ≡ told → IfSome told (λ bytes. IsRest bytes geo n left (Some left))
     by_told None e = tt
     by_told (Some bytes) e = let no = none_unsound bytes geo n (λ i k. told_below attached bytes i k tells e) set none in omega arith
+
+-- such a set passes the parity test over the bytes of its images, however few rows may be unsound
+pub unbreakable_passes : (attached : List Image) (geo : Geometry) (end window badrows : ℕ) → All TellsBytes attached → IsScannable geo end attached → is_unbreakable geo ≡ true →
+    IfSome (told_all attached) (λ bytes. passes_parity bytes geo end window badrows ≡ true)
+unbreakable_passes attached geo end window badrows tells set none = by_told (told_all attached) refl
+  where
+    by_told : (told : Option (List (List ℕ))) → told_all attached ≡ told → IfSome told (λ bytes. passes_parity bytes geo end window badrows ≡ true)
+    by_told None e = tt
+    by_told (Some bytes) e =
+        let no = none_unsound bytes geo (tested_rows geo end window) (λ i k. told_below attached bytes i k tells e) (scannable_testable geo end attached set) none in
+        at_most (unsound_rows bytes geo (tested_rows geo end window)) badrows (omega arith)
 
 -- nothing is read
 pub reads_nothing : (seen : Seen) (n : ℕ) → OnlyReads seen seen n

@@ -33,6 +33,6 @@ mod wanted;
 
 pub use gates::{Gate, OpenGate};
 pub use many_sets::{MOST_SETS, scan};
-pub use one_set::{ScanFault, parity_holds, unsound};
+pub use one_set::{ScanFault, nothing_can_break, parity_holds, unsound};
 pub use samples::SAMPLES;
 pub use verdict_list::Verdicts;

@@ -137,7 +137,7 @@ fn test_rows<I: Images>(
 
 /// Whether each row of the set is sound whatever its bytes: as many slots are empty as the level has
 /// redundancy.
-pub(crate) fn nothing_can_break(geo: &Geometry) -> bool
+pub fn nothing_can_break(geo: &Geometry) -> bool
     ensures { result ≡ is_unbreakable geo.now }
 {
     count_empty(geo.slots.as_slice()) == geo.head.level.redundancy() as usize

@@ -10,3 +10,5 @@ pub mod Asked
 pub mod Tallying
 pub mod Sweeps
 pub mod Judging
+pub mod ImageSums
+pub mod WholeRows

@@ -5,3 +5,4 @@ pub mod Verdicts
 pub mod ImageRows
 pub mod Pass
 pub mod Wanted
+pub mod ImageSums

@@ -1,5 +1,5 @@
 -- Which images a run is read of.
-use Rattle.std.specs.Prelude.{ℕ, ◌≡◌, ◌≢◌, ◌<◌, ◌⊎◌, true, List, length, slice_index_or}
+use Rattle.std.specs.Prelude.{ℕ, ◌≡◌, ◌≢◌, ◌<◌, ◌⊎◌, Bool, true, false, List, length, slice_index_or}
 use Rattle.std.specs.declared.option.Option.{Option}
 use Rattle.std.specs.declared.option.Option.TheVariants.{None, Some}
 use Rattle.raid_params.specs.declared.types.Geometry.{Geometry}
@@ -20,3 +20,11 @@ IsNotWanted plan sets tallies run n image =
 abbrev pub AreWanted : Plan → List Geometry → List (Option ℕ) → Run → List (Option ℕ) → ℕ → Type 0
 AreWanted plan sets tallies run slots n =
     (i : ℕ) → i < n → (slice_index_or slots i None ≡ Some i) ⊎ ((slice_index_or slots i None ≡ None) × IsNotWanted plan sets tallies run (length sets) i)
+
+-- an image that is not marked now was not before
+abbrev pub KeepMarks : List Bool → List Bool → Type 0
+KeepMarks old new = (image : ℕ) → slice_index_or new image false ≡ false → slice_index_or old image false ≡ false
+
+-- the images that are not marked are needed by none of the first n tallies
+abbrev pub MarkWanted : Plan → List Geometry → List (Option ℕ) → Run → ℕ → List Bool → Type 0
+MarkWanted plan sets tallies run n marks = (image : ℕ) → slice_index_or marks image false ≡ false → IsNotWanted plan sets tallies run n image

@@ -1,21 +1,23 @@
 //! The rows of a set over a block of image sectors.
-ghost use Rattle.std.specs.Prelude.{ℕ, List, ◌≡◌, ◌+◌, ◌-◌, ◌*◌, ◌/◌, ◌^◌, ◌<◌, ◌≤◌, length, slice_index, slice_index_or, All, IfSome, None, Some};
+ghost use Rattle.std.specs.Prelude.{ℕ, List, ◌≡◌, ◌+◌, ◌-◌, ◌*◌, ◌/◌, ◌^◌, ◌<◌, ◌≤◌, ◌&&◌, length, slice_index, slice_index_or, All, IfSome, None, Some};
 ghost use Rattle.std.specs.Option.{is_none};
 ghost use Rattle.raid_terms.specs.Cells.{row_cells as cells_of_row};
-ghost use Rattle.raid_terms.specs.Parity.{is_sound_row, IsRow};
+ghost use Rattle.raid_terms.specs.Parity.{has_q as has_q_of, is_sound, is_sound_row, IsRow};
 ghost use Rattle.raid_params.specs.declared.limits.TheConstants.{MOST};
 ghost use Rattle.member_regions.specs.Members.{IsTestable};
-ghost use Rattle.member_regions.specs.Regions.{IsRoomFor};
+ghost use Rattle.member_regions.specs.Regions.{IsRoomFor, Room};
 ghost use Rattle.row_scan.specs.ImageRows.{asks as asks_for, is_open as is_open_tally, rows_of as tested, rows_before as tested_before, AddsRun, HoldsSet, IsLeftAfter};
+ghost use Rattle.row_scan.specs.ImageSums.{AreImageSums, IsChunkRow, slots_column};
 
+use crate::image_sums::ImageSums;
+use crate::left_out::{ChunkRow, chunk_row, turn_row};
 use crate::one_set::nothing_can_break;
 use crate::runs::Run;
 use address_map::area;
 use image_source::SECTOR;
-use member_regions::{Regions, turn_to};
+use member_regions::Regions;
 use pq_parity::row_holds;
-use raid_layouts::row_cells;
-use raid_params::{Cell, Geometry, MOST};
+use raid_params::{Cell, Geometry, MOST, Part};
 use search_plan::Plan;
 
 /// The bytes of a row of as many members as there may be.
@@ -65,11 +67,13 @@ pub fn tally_after(
     geo: &Geometry,
     tally: Option<u64>,
     regions: &Regions,
+    sums: &ImageSums,
     run: Run,
 ) -> Option<u64>
     requires set { IsTestable geo.now }
     requires offset { geo.now.head.offset < 2 ^ 55 }
     requires images { All (λ slot. IfSome slot (λ image. image < regions.now.members)) geo.now.slots.items }
+    requires sums { AreImageSums regions.now sums.now }
     requires run { run.first + run.count < 2 ^ 55 }
     requires room { 512 * run.count ≤ regions.now.stride }
     ensures { AddsRun plan.now geo.now run regions.now tally result }
@@ -80,15 +84,16 @@ pub fn tally_after(
     }
     let from = rows_before(plan, geo, run.first);
     let to = rows_before(plan, geo, run.first + run.count);
-    rows_left_after(geo, regions, run, from, to, left)
+    rows_left_after(geo, regions, sums, run, from, to, left)
 }
 
 /// How many more rows may be unsound after those from one up to another, where `left` may be, and None where more
 /// are. It stops at the first row too many.
-#[tactic(auto, using(member_regions::proofs::Sets::testable_head, member_regions::proofs::Sets::testable_slots, member_regions::proofs::Sets::testable_chunk, member_regions::proofs::Sets::testable_row, member_regions::proofs::Sets::row_length))]
+#[tactic(auto, using(member_regions::proofs::Sets::testable_head, member_regions::proofs::Sets::testable_slots, member_regions::proofs::Sets::testable_chunk))]
 fn rows_left_after(
     geo: &Geometry,
     regions: &Regions,
+    sums: &ImageSums,
     run: Run,
     from: u64,
     to: u64,
@@ -97,6 +102,7 @@ fn rows_left_after(
     requires set { IsTestable geo.now }
     requires offset { geo.now.head.offset < 2 ^ 55 }
     requires images { All (λ slot. IfSome slot (λ image. image < regions.now.members)) geo.now.slots.items }
+    requires sums { AreImageSums regions.now sums.now }
     requires run { run.first + run.count < 2 ^ 55 }
     requires room { 512 * run.count ≤ regions.now.stride }
     requires from { run.first ≤ geo.now.head.offset + from }
@@ -104,43 +110,94 @@ fn rows_left_after(
     requires rows { from ≤ to }
     ensures { (images : List (List ℕ)) → HoldsSet images run regions.now geo.now → IsLeftAfter images geo.now from to left result }
 {
-    let mut row = [0; ROW];
-    let mut at = from / geo.head.chunk;
-    let mut cells = row_cells(geo, at);
+    let mut room = [0; ROW];
+    let mut row = chunk_row(geo, from / geo.head.chunk, sums.images);
     let mut rest = left;
     for t in from..to {
-        let chunk_row = t / geo.head.chunk;
-        turn_to(geo, &mut cells, at, chunk_row);
-        at = chunk_row;
+        turn_row(geo, &mut row, t / geo.head.chunk, sums.images);
         let place = geo.head.offset + t - run.first;
-        if !is_sound_at(geo, &cells, regions, place as usize, &mut row) {
+        if !is_sound_at(geo, &row, regions, sums, place as usize, &mut room) {
             rest = rest.checked_sub(1)?;
         }
     }
     Some(rest)
 }
 
-/// Whether the sectors number `place` of the regions are a sound row of a set, of these cells. `row` is room for it.
-#[tactic(auto, using(member_regions::proofs::Sets::row_length))]
+/// Whether the sectors number `place` of the regions are a sound row of a set, in this chunk row. `room` is room for
+/// them.
 fn is_sound_at(
+    geo: &Geometry,
+    row: &ChunkRow,
+    regions: &Regions,
+    sums: &ImageSums,
+    place: usize,
+    room: &mut [u8],
+) -> bool
+    requires set { IsTestable geo.now }
+    requires row { IsChunkRow geo.now sums.now.images row.now.at row.now }
+    requires images { All (λ slot. IfSome slot (λ image. image < regions.now.members)) geo.now.slots.items }
+    requires sums { AreImageSums regions.now sums.now }
+    requires place { 512 * place + 512 ≤ regions.now.stride }
+    requires room { length room.old ≡ ROW }
+    ensures sound { (images : List (List ℕ)) (run : Run) (t : ℕ) → HoldsSet images run regions.now geo.now → place < run.count →
+        geo.now.head.offset + t ≡ run.first + place → row.now.at ≡ t / geo.now.head.chunk → result ≡ is_sound_row images geo.now t }
+    ensures room { length room.new ≡ ROW }
+{
+    if let Some(sound) = told_sound(row, sums, place) {
+        return sound;
+    }
+    is_row_sound(geo, &row.cells, regions, place, room)
+}
+
+/// Whether a row at a place is sound, where the sums tell it: P's equation does not hold, or there is no other.
+fn told_sound(row: &ChunkRow, sums: &ImageSums, place: usize) -> Option<bool>
+    requires { sums.now.places ≤ 256 }
+    ensures { (room : Room) (geo : Geometry) → AreImageSums room sums.now → IsTestable geo → IsChunkRow geo sums.now.images row.now.at row.now →
+        IfSome result (λ sound. sound ≡ is_sound row.now.cells.items (slots_column room geo.slots.items place)) }
+{
+    let out = row.out?;
+    let holds = sums.p_holds(out, place)?;
+    if needs_q(holds, &row.cells) {
+        return None;
+    }
+    Some(holds)
+}
+
+/// Whether Q's equation decides of a row: P's holds, and there is a Q.
+fn needs_q(holds: bool, cells: &[Cell]) -> bool
+    ensures { result ≡ (holds && has_q_of cells.now) }
+{
+    holds && has_q(cells)
+}
+
+/// Whether a row has a Q.
+fn has_q(cells: &[Cell]) -> bool
+    ensures { result ≡ has_q_of cells.now }
+{
+    cells.iter().any(|cell| matches!(cell.part, Part::Q))
+}
+
+/// The same by the cells alone.
+#[tactic(auto, using(member_regions::proofs::Sets::row_length))]
+fn is_row_sound(
     geo: &Geometry,
     cells: &[Cell],
     regions: &Regions,
     place: usize,
-    row: &mut [u8],
+    room: &mut [u8],
 ) -> bool
     requires cells { IsRow cells.now }
     requires slots { length cells.now ≡ length geo.now.slots.items }
     requires images { All (λ slot. IfSome slot (λ image. image < regions.now.members)) geo.now.slots.items }
     requires place { 512 * place + 512 ≤ regions.now.stride }
-    requires row { length row.old ≡ ROW }
+    requires room { length room.old ≡ ROW }
     ensures sound { (images : List (List ℕ)) (run : Run) (t : ℕ) → HoldsSet images run regions.now geo.now → place < run.count →
         geo.now.head.offset + t ≡ run.first + place → cells.now ≡ cells_of_row geo.now (t / geo.now.head.chunk) →
         result ≡ is_sound_row images geo.now t }
-    ensures row { length row.new ≡ ROW }
+    ensures room { length room.new ≡ ROW }
 {
-    copy_row(geo, regions, place, row);
-    row_holds(cells, &row[..SECTOR * cells.len()])
+    copy_row(geo, regions, place, room);
+    row_holds(cells, &room[..SECTOR * cells.len()])
 }
 
 /// Copies the sectors number `place` of the images of a set into a row, that of each slot to its place.

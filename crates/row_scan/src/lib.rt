@@ -16,6 +16,8 @@
 
 mod gates;
 mod image_rows;
+mod image_sums;
+mod left_out;
 mod many_sets;
 #[cfg(test)]
 mod many_tests;

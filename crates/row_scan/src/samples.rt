@@ -9,7 +9,7 @@ ghost use Rattle.row_scan.specs.Pass.{AllTallies, CanScan, IsScanned, SettlesOnl
 use crate::image_rows::rows_of;
 use crate::reading::read_wanted;
 use crate::runs::Run;
-use crate::tallies::add_to_piece;
+use crate::tallies::{add_to_piece, sums_for};
 use image_source::{Failed, Images};
 use member_regions::Regions;
 use raid_params::Geometry;
@@ -80,7 +80,8 @@ fn test_sample<I: Images>(
         count: 1,
     };
     read_wanted(images, regions, plan, sets, tallies, run)?;
-    add_to_piece(plan, sets, 0, tallies, regions, run);
+    let sums = sums_for(plan, tallies, regions, run);
+    add_to_piece(plan, sets, 0, tallies, regions, &sums, run);
     Ok(point + 1)
 }
 

@@ -8,7 +8,7 @@ ghost use Rattle.member_regions.specs.Regions.{KeepsRoom};
 use crate::gates::{Gate, OpenGate};
 use crate::reading::read_wanted;
 use crate::runs::next_run;
-use crate::tallies::add_in_pieces;
+use crate::tallies::add_run;
 use image_source::{Failed, Images};
 use member_regions::Regions;
 use raid_params::Geometry;
@@ -33,7 +33,7 @@ pub fn sweep<R: Threads + Sync, I: Images, G: Gate + Sync>(
     ensures reads { ReadsWindows (I.seen images.old) (I.seen images.new) plan.now sets.now 0 plan.now.end }
     ensures cause { HasCause (I.seen images.old).faults (I.seen images.new).faults result }
 {
-    match sweep_run(rt, images, regions, plan, sets, tallies, 0, gate)? {
+    match sweep_run(rt, images, regions, plan, sets, tallies, 0, Some(gate))? {
         Some(at) => sweep_on(rt, images, regions, plan, sets, tallies, at),
         None => Ok(()),
     }
@@ -59,14 +59,23 @@ fn sweep_on<R: Threads + Sync, I: Images>(
     ensures cause { HasCause (I.seen images.old).faults (I.seen images.new).faults result }
 {
     let mut at = from;
-    while let Some(next) = sweep_run(rt, images, regions, plan, sets, tallies, at, &OpenGate)? {
+    while let Some(next) = sweep_run(
+        rt,
+        images,
+        regions,
+        plan,
+        sets,
+        tallies,
+        at,
+        None::<&OpenGate>,
+    )? {
         at = next;
     }
     Ok(())
 }
 
 /// Tests the next rows of all open sets from an image sector on. Ok tells up to where, and None where no rows are
-/// left. Each piece of the sets passes the gate first.
+/// left. Each piece of the sets passes the gate first, where there is one.
 fn sweep_run<R: Threads + Sync, I: Images, G: Gate + Sync>(
     rt: &R,
     images: &mut I,
@@ -75,7 +84,7 @@ fn sweep_run<R: Threads + Sync, I: Images, G: Gate + Sync>(
     sets: &[Geometry],
     tallies: &mut [Option<u64>],
     at: u64,
-    gate: &G,
+    gate: Option<&G>,
 ) -> Result<Option<u64>, Failed>
     requires can { CanScan plan.now sets.now (I.seen images.old).attached regions.old }
     requires long { length tallies.old ≡ length sets.now }
@@ -92,6 +101,6 @@ fn sweep_run<R: Threads + Sync, I: Images, G: Gate + Sync>(
         return Ok(None);
     };
     read_wanted(images, regions, plan, sets, tallies, run)?;
-    add_in_pieces(rt, plan, sets, tallies, regions, run, gate);
+    add_run(rt, plan, sets, tallies, regions, run, gate);
     Ok(Some(run.first + run.count))
 }

@@ -1,8 +1,9 @@
 //! Which images a run is read of.
-ghost use Rattle.std.specs.Prelude.{ℕ, ◌≡◌, ◌+◌, ◌^◌, ◌<◌, ◌≤◌, length, All, false, true};
+ghost use Rattle.std.specs.Prelude.{ℕ, ◌≡◌, ◌≢◌, ◌+◌, ◌^◌, ◌<◌, ◌≤◌, length, slice_index_or, All, Some, false, true};
 ghost use Rattle.raid_params.specs.declared.limits.TheConstants.{MOST};
 ghost use Rattle.member_regions.specs.Members.{IsTestable};
-ghost use Rattle.row_scan.specs.Wanted.{AreWanted, HasNone, IsNotWanted};
+ghost use Rattle.row_scan.specs.ImageRows.{asks as asks_for};
+ghost use Rattle.row_scan.specs.Wanted.{AreWanted, HasNone, KeepMarks, MarkWanted};
 
 use crate::image_rows::asks;
 use crate::runs::Run;
@@ -19,11 +20,15 @@ pub fn wanted_images(plan: &Plan, sets: &[Geometry], tallies: &[Option<u64>], ru
     ensures offset { result.head.offset ≡ 0 }
 {
     let images = plan.lengths.len();
+    let marks = wanted_marks(plan, sets, tallies, run);
     let mut slots = Slots::new();
     for image in 0..images {
         let image = image as u8;
-        let wanted = is_wanted(plan, sets, tallies, run, image);
-        slots.push(if wanted { Some(image) } else { None });
+        slots.push(if marks[image as usize] {
+            Some(image)
+        } else {
+            None
+        });
     }
     let head = Head {
         level: Level::Raid0,
@@ -36,24 +41,54 @@ pub fn wanted_images(plan: &Plan, sets: &[Geometry], tallies: &[Option<u64>], ru
     Geometry { head, slots }
 }
 
-/// Whether some asking tally needs a run of an image.
-fn is_wanted(plan: &Plan, sets: &[Geometry], tallies: &[Option<u64>], run: Run, image: u8) -> bool
+/// Marks the images of which some asking tally needs a run.
+fn wanted_marks(plan: &Plan, sets: &[Geometry], tallies: &[Option<u64>], run: Run) -> [bool; 256]
     requires sets { All IsTestable sets.now }
     requires long { length tallies.now ≡ length sets.now }
     requires run { run.first + run.count < 2 ^ 64 }
-    ensures { result ≡ false → IsNotWanted plan.now sets.now tallies.now run (length sets.now) image }
+    ensures { MarkWanted plan.now sets.now tallies.now run (length sets.now) result }
 {
+    let mut marks = [false; 256];
     for k in 0..sets.len() {
-        if asks(plan, &sets[k], tallies[k], run) && holds(&sets[k].slots, image) {
-            return true;
-        }
+        mark_set(&mut marks, plan, &sets[k], tallies[k], run);
     }
-    false
+    marks
 }
 
-/// Whether an image stands in some slot.
-fn holds(slots: &Slots, image: u8) -> bool
-    ensures { result ≡ false → HasNone slots.now.items image }
+/// Marks the images of a set where its tally asks for the run.
+fn mark_set(marks: &mut [bool], plan: &Plan, geo: &Geometry, tally: Option<u64>, run: Run)
+    requires marks { length marks.old ≡ 256 }
+    requires set { IsTestable geo.now }
+    requires run { run.first + run.count < 2 ^ 64 }
+    ensures kept { KeepMarks marks.old marks.new }
+    ensures marked { asks_for plan.now geo.now tally run ≡ true → (image : ℕ) → slice_index_or marks.new image false ≡ false → HasNone geo.now.slots.items image }
+    ensures long { length marks.new ≡ 256 }
 {
-    slots.contains(&Some(image))
+    if asks(plan, geo, tally, run) {
+        mark_images(marks, &geo.slots);
+    }
+}
+
+/// Marks the images in some slots.
+fn mark_images(marks: &mut [bool], slots: &[Option<u8>])
+    requires { length marks.old ≡ 256 }
+    ensures kept { KeepMarks marks.old marks.new }
+    ensures marked { (image : ℕ) → slice_index_or marks.new image false ≡ false → HasNone slots.now image }
+    ensures long { length marks.new ≡ 256 }
+{
+    for slot in 0..slots.len() {
+        mark_slot(marks, slots[slot]);
+    }
+}
+
+/// Marks the image in a slot.
+fn mark_slot(marks: &mut [bool], held: Option<u8>)
+    requires { length marks.old ≡ 256 }
+    ensures kept { KeepMarks marks.old marks.new }
+    ensures marked { (image : ℕ) → slice_index_or marks.new image false ≡ false → held ≢ Some image }
+    ensures long { length marks.new ≡ 256 }
+{
+    if let Some(image) = held {
+        marks[image as usize] = true;
+    }
 }

@@ -1,15 +1,14 @@
-use Rattle.std.proofs.Common.{◌≡◌, ◌+◌, ◌/◌, ◌∙◌, arith}
-use Rattle.raid_terms.specs.Cells.{row_cells}
+use Rattle.std.proofs.Common.{◌≡◌, ◌+◌, ◌/◌, arith}
 use Rattle.raid_terms.specs.Parity.{is_sound_row}
 use Rattle.row_scan.proofs.ImageRows.{next_sound, next_unsound, unsound_rises}
+use Rattle.row_scan.proofs.WholeRows.{row_itself}
 use Rattle.row_scan.proofs.image_rows.rows_left_after.Goals as goal
 use Rattle.row_scan.proofs.image_rows.rows_left_after.Goals.{then-not-is_sound_at+in_ok-rest, else-not-is_sound_at}
 
 pub returns-in_err-rest : goal.returns-in_err-rest
 returns-in_err-rest c = λ images hold.
-    let here : c.deref.result.now ≡ row_cells c.args.geo.now (c.loop-t.t / c.args.geo.now.head.chunk) = c.deref.ensures.0 ∙ c.turn_to.ensures in
     let sound : c.is_sound_at.result ≡ is_sound_row images c.args.geo.now c.loop-t.t =
-    c.is_sound_at.ensures.sound images c.args.run c.loop-t.t hold (omega arith) (omega arith) here in
+    c.is_sound_at.ensures.sound images c.args.run c.loop-t.t hold (omega arith) (omega arith) c.turn_row.ensures.place in
     let more = next_unsound images c.args.geo.now c.loop-t.t c.is_sound_at.result sound c.if-not-is_sound_at.true in
     let grows = unsound_rises images c.args.geo.now (c.loop-t.t + 1) c.args.to (omega arith) in
     let so_far = c.loop-t.invariant.counted images hold in
@@ -17,13 +16,12 @@ returns-in_err-rest c = λ images hold.
 
 pub loop-t-preserved : goal.loop-t-preserved
 loop-t-preserved c =
-    let here : c.deref.result.now ≡ row_cells c.args.geo.now (c.loop-t.t / c.args.geo.now.head.chunk) = c.deref.ensures.0 ∙ c.turn_to.ensures in
     record {
-      cells = c.turn_to.ensures;
-      row = c.is_sound_at.ensures.row;
+      row = row_itself c.args.geo.now c.args.sums.now.images (c.loop-t.t / c.args.geo.now.head.chunk) c.turn_row.new.row c.turn_row.ensures;
+      room = c.is_sound_at.ensures.room;
       counted = λ images hold.
           let sound : c.is_sound_at.result ≡ is_sound_row images c.args.geo.now c.loop-t.t =
-          c.is_sound_at.ensures.sound images c.args.run c.loop-t.t hold (omega arith) (omega arith) here in
+          c.is_sound_at.ensures.sound images c.args.run c.loop-t.t hold (omega arith) (omega arith) c.turn_row.ensures.place in
           let so_far = c.loop-t.invariant.counted images hold in
           elim c.if-not-is_sound_at.branch [
             | then-not-is_sound_at+in_ok-rest w ↦
@@ -34,3 +32,6 @@ loop-t-preserved c =
                 omega arith
           ];
     }
+
+pub is_sound_at-requires-clause-row : goal.is_sound_at-requires-clause-row
+is_sound_at-requires-clause-row c = row_itself c.args.geo.now c.args.sums.now.images (c.loop-t.t / c.args.geo.now.head.chunk) c.turn_row.new.row c.turn_row.ensures

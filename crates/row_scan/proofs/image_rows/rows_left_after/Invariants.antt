@@ -1,12 +1,12 @@
 use Rattle.std.proofs.Common.{◌≡◌, ◌+◌, ℕ, List, length}
-use Rattle.raid_terms.specs.Cells.{row_cells}
 use Rattle.raid_terms.specs.Parity.{unsound_rows}
 use Rattle.row_scan.specs.ImageRows.{HoldsSet}
+use Rattle.row_scan.specs.ImageSums.{IsChunkRow}
 use Rattle.row_scan.proofs.image_rows.rows_left_after.Given as goal
 
 abbrev pub invariant-loop-t : goal.invariant-loop-t
 invariant-loop-t l = record {
-  cells : l.cells.items ≡ row_cells l.geo l.at;
-  row : length l.row ≡ 8192;
+  row : IsChunkRow l.geo l.sums.images l.row.at l.row;
+  room : length l.room ≡ 8192;
   counted : (images : List (List ℕ)) → HoldsSet images l.run l.regions l.geo → unsound_rows images l.geo l.t + l.rest ≡ unsound_rows images l.geo l.from + l.left;
 }

@@ -27,9 +27,9 @@ returns-clause-told g c =
     if_told (told_all (g.I.Images.seen c.args.images.now).attached)
     (λ bytes. HoldAsked bytes c.args.plan.now c.args.sets.now c.args.tallies.now c.in-Some.run' c.read_wanted.new.regions)
     (λ bytes. AllTallies (TalliesTo bytes c.args.plan.now c.args.at) c.args.sets.now c.args.tallies.now →
-    AllTallies (TalliesTo bytes c.args.plan.now (c.in-Some.run'.first + c.in-Some.run'.count)) c.args.sets.now c.add_in_pieces.new.tallies)
-    (λ bytes hold so_far. to_after bytes c.args.plan.now c.args.sets.now c.in-Some.run' c.read_wanted.new.regions c.args.at c.args.tallies.now c.add_in_pieces.new.tallies
-    c.requires.long c.in-Some.ensures c.add_in_pieces.ensures.added hold so_far)
+    AllTallies (TalliesTo bytes c.args.plan.now (c.in-Some.run'.first + c.in-Some.run'.count)) c.args.sets.now c.add_run.new.tallies)
+    (λ bytes hold so_far. to_after bytes c.args.plan.now c.args.sets.now c.in-Some.run' c.read_wanted.new.regions c.args.at c.args.tallies.now c.add_run.new.tallies
+    c.requires.long c.in-Some.ensures c.add_run.ensures.added hold so_far)
     c.in_ok-read_wanted.ensures.told
 
 pub returns-clause-reads : goal.returns-clause-reads

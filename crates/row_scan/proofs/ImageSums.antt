@@ -10,10 +10,9 @@ use Rattle.raid_params.specs.declared.types.Cell.{Cell}
 use Rattle.raid_terms.specs.Parity.{in_p}
 use Rattle.std.specs.Bool.{Decides}
 use Rattle.pq_parity.specs.Syndromes.{Cancel, known_in, known_sum}
-use Rattle.pq_parity.proofs.Sums.{sum_swap}
 use Rattle.member_regions.specs.Regions.{Room}
 use Rattle.row_scan.proofs.ImageRows.{part_at}
-use Rattle.row_scan.specs.ImageSums.{AddsAllBut, all_sum, AreImageSums, held_byte, IsImageSum, IsUnmarked, marked_sum, room_byte, slots_column, sum_byte}
+use Rattle.row_scan.specs.ImageSums.{AddsAllBut, all_sum, held_byte, IsImageSum, IsUnmarked, marked_sum, room_byte, slots_column, sum_byte}
 use Rattle.row_scan.specs.declared.image_sums.ImageSum.{ImageSum}
 use Rattle.row_scan.specs.declared.left_out.LeftOut.{LeftOut}
 use Rattle.row_scan.specs.declared.left_out.LeftOut.TheVariants.{Nobody, One}

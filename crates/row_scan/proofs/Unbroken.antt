@@ -17,7 +17,6 @@ use Rattle.raid_terms.specs.Parity.{is_sound_row, member_byte, member_column, pa
 use Rattle.pq_parity.proofs.Soundness.{sound_where_full}
 use Rattle.member_regions.proofs.Counting.{count_suc}
 use Rattle.member_regions.specs.Members.{IsTestable}
-use Rattle.row_scan.specs.Block.{IsRest}
 use Rattle.row_scan.specs.Scan.{is_unbreakable, IsScannable}
 use Rattle.row_scan.proofs.Parity.{at_most}
 use Rattle.row_scan.proofs.Sets.{scannable_testable}
@@ -65,13 +64,13 @@ none_unsound images geo (suc n) bytes set none =
     let before = none_unsound images geo n bytes set none in
     omega arith
 
--- and as many may be as before
-pub all_left : (attached : List Image) (geo : Geometry) (n left : ℕ) → All TellsBytes attached → IsTestable geo → is_unbreakable geo ≡ true → IfSome (told_all attached) (λ bytes. IsRest bytes geo n left (Some left))
-all_left attached geo n left tells set none = by_told (told_all attached) refl
+-- over the bytes of the images
+pub none_told : (attached : List Image) (geo : Geometry) (n : ℕ) → All TellsBytes attached → IsTestable geo → is_unbreakable geo ≡ true → IfSome (told_all attached) (λ bytes. 0 ≡ unsound_rows bytes geo n)
+none_told attached geo n tells set none = by_told (told_all attached) refl
   where
-    by_told : (told : Option (List (List ℕ))) → told_all attached ≡ told → IfSome told (λ bytes. IsRest bytes geo n left (Some left))
+    by_told : (told : Option (List (List ℕ))) → told_all attached ≡ told → IfSome told (λ bytes. 0 ≡ unsound_rows bytes geo n)
     by_told None e = tt
-    by_told (Some bytes) e = let no = none_unsound bytes geo n (λ i k. told_below attached bytes i k tells e) set none in omega arith
+    by_told (Some bytes) e = sym (none_unsound bytes geo n (λ i k. told_below attached bytes i k tells e) set none)
 
 -- such a set passes the parity test over the bytes of its images, however few rows may be unsound
 pub unbreakable_passes : (attached : List Image) (geo : Geometry) (end window badrows : ℕ) → All TellsBytes attached → IsScannable geo end attached → is_unbreakable geo ≡ true →

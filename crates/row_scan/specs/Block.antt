@@ -1,14 +1,12 @@
 -- The rows of regions, and how many may be unsound still.
-use Rattle.std.specs.Prelude.{ℕ, ◌≡◌, ◌+◌, ◌*◌, ◌/◌, ◌<◌, ◌≤◌, Bool, not, List, length, count_by, MatchOption}
+use Rattle.std.specs.Prelude.{ℕ, ◌≡◌, ◌+◌, ◌/◌, ◌<◌, Bool, not, List, length, count_by, MatchOption}
 use Rattle.std.specs.declared.option.Option.{Option}
 use Rattle.std.specs.List.{range_with_len}
-use Rattle.image_source.specs.Seen.{Seen, OnlyReads}
 use Rattle.raid_params.specs.declared.types.Geometry.{Geometry}
 use Rattle.raid_terms.specs.Cells.{row_cells}
 use Rattle.raid_terms.specs.Parity.{is_sound, unsound_rows}
 use Rattle.pq_parity.specs.Regions.{region_column}
 use Rattle.member_regions.specs.Regions.{Room}
-use Rattle.member_regions.specs.declared.regions.TheConstants.{BLOCK}
 
 -- the sectors number j of the regions are a sound row, where the regions begin at member sector `first`
 unfoldable pub is_sound_in : Geometry → Room → ℕ → ℕ → Bool
@@ -21,13 +19,3 @@ unsound_in geo room first n = count_by (λ j. not (is_sound_in geo room first j)
 -- n of the first rows may be unsound still, where `left` may be in all, or more are than may be
 abbrev pub IsRest : List (List ℕ) → Geometry → ℕ → ℕ → Option ℕ → Type 0
 IsRest images geo n left rest = MatchOption rest (left < unsound_rows images geo n) (λ k. unsound_rows images geo n + k ≡ left)
-
--- the same from row `first` on, for `count` rows
-abbrev pub IsLeft : List (List ℕ) → Geometry → ℕ → ℕ → ℕ → Option ℕ → Type 0
-IsLeft images geo first count left rest = MatchOption rest
-    (unsound_rows images geo first + left < unsound_rows images geo (first + count))
-    (λ k. unsound_rows images geo (first + count) + k ≡ unsound_rows images geo first + left)
-
--- not more of the rows before some row are unsound than may be, and of n members no row was read past the block from there on
-abbrev pub StopsEarly : List (List ℕ) → Geometry → ℕ → ℕ → Seen → Seen → Type 0
-StopsEarly images geo left n old new = (first : ℕ) × (unsound_rows images geo first ≤ left) × OnlyReads old new (n * (first + BLOCK))

@@ -1,5 +1,5 @@
 -- P's test of the rows of a run, by the exclusive or of the sectors of all images.
-use Rattle.std.specs.Prelude.{ℕ, zero, suc, ◌≡◌, ◌<◌, ◌≤◌, ◌+◌, ◌*◌, Bool, true, false, bit_xor, if◌then◌else◌, List, length, map, slice_index, slice_index_or, IfSome, IsSomeAnd, All}
+use Rattle.std.specs.Prelude.{ℕ, zero, suc, ◌≡◌, ◌<◌, ◌≤◌, ◌+◌, ◌*◌, Bool, true, false, bit_xor, if◌then◌else◌, List, map, slice_index, slice_index_or, IfSome, IsSomeAnd, All}
 use Rattle.std.specs.Bool.{Decides}
 use Rattle.std.specs.declared.option.Option.{Option}
 use Rattle.std.specs.declared.option.Option.TheVariants.{None, Some}

@@ -6,12 +6,15 @@
 //! be unsound. Tallies are counted in pieces that may run side by side, and a piece passes the caller's [`Gate`] before
 //! its first run. No more sectors are read of an image than the samples and those in the windows of the sets.
 //!
-//! [`unsound`] counts the unsound rows of one set, and [`parity_holds`] stops at the first row too many: their
-//! members' sectors are read into the regions of `member_regions`, up to 128 KiB a call.
+//! Where many tallies are open, the exclusive or of the sectors of all images is formed once for each place of a run: it
+//! tells whether P's equation holds in the rows of every set whose P counts all images, or all but one.
+//!
+//! [`unsound`] counts the unsound rows of one set: its members' sectors are read into the regions of `member_regions`, up
+//! to 128 KiB a call. [`nothing_can_break`] tells the sets that pass whatever the bytes.
 //!
 //! Which rows are tested stands in `Parity` of `raid_terms`, what is asked of a set in `specs/Scan`, the verdicts in
-//! `specs/Verdicts`, the sectors that a scan may read in `specs/Windows`, the rows of a run in `specs/ImageRows` and
-//! `specs/Block`, and the pass in `specs/Pass` and `specs/Wanted`.
+//! `specs/Verdicts`, the sectors that a scan may read in `specs/Windows`, the rows of a run in `specs/ImageRows`,
+//! `specs/ImageSums` and `specs/Block`, and the pass in `specs/Pass` and `specs/Wanted`.
 #![tactic(auto)]
 
 mod gates;
@@ -35,6 +38,6 @@ mod wanted;
 
 pub use gates::{Gate, OpenGate};
 pub use many_sets::{MOST_SETS, scan};
-pub use one_set::{ScanFault, nothing_can_break, parity_holds, unsound};
+pub use one_set::{ScanFault, nothing_can_break, unsound};
 pub use samples::SAMPLES;
 pub use verdict_list::Verdicts;

@@ -1,25 +1,21 @@
-//! The parity test of a parameter set, and the count of its unsound rows.
-ghost use Rattle.std.specs.Prelude.{◌≡◌, ◌+◌, ◌-◌, ◌*◌, ◌^◌, ◌<◌, ◌≤◌, length, All, false, true, IfErr, IfOk, IfSome, None};
+//! The count of a set's unsound rows, and the sets that nothing can break.
+ghost use Rattle.std.specs.Prelude.{◌≡◌, ◌+◌, ◌-◌, ◌*◌, ◌^◌, ◌<◌, ◌≤◌, length, All, true, IfErr, IfOk, IfSome};
 ghost use Rattle.image_source.specs.Attached.{told_all};
 ghost use Rattle.image_source.specs.Causes.{HasCause};
 ghost use Rattle.image_source.specs.Seen.{OnlyReads};
-ghost use Rattle.raid_terms.specs.Parity.{passes_parity, tested_rows, unsound_rows};
+ghost use Rattle.raid_terms.specs.Parity.{tested_rows, unsound_rows};
 ghost use Rattle.member_regions.specs.Members.{held, IsTestable, Reaches};
 ghost use Rattle.member_regions.specs.Regions.{IsRoomFor, KeepsRoom};
-ghost use Rattle.row_scan.specs.Block.{IsLeft, IsRest, StopsEarly};
 ghost use Rattle.row_scan.specs.Scan.{EndsScan, is_unbreakable, IsScannable, read_rows};
 
-use crate::rows::rows_left;
+use crate::rows::unsound_of;
 use address_map::area;
 use image_source::{Failed, Images};
 use member_regions::{BLOCK, Regions};
 use raid_params::{Geometry, count_empty};
-use search_plan::{Limits, Plan};
+use search_plan::Plan;
 use std::alloc::Global;
 use thiserror::Error;
-
-/// The sectors of the first block: most sets that are wrong fail in their first rows.
-const FIRST_BLOCK: usize = 8;
 
 /// Why the unsound rows are not counted.
 #[derive(Clone, Copy, Debug, Drop, Error)]
@@ -30,35 +26,6 @@ pub enum ScanFault {
     /// Want of memory.
     #[error("not enough memory")]
     Memory,
-}
-
-/// Whether at most `limits.badrows` of the tested sector rows of a parameter set are unsound: those
-/// below its area, whose whole rows end before the image sector `end`, and below `limits.window`.
-/// It stops at the first row too many: then it has read no further than the block that this row lies
-/// in, at most `BLOCK` sectors a member. Nothing is read where nothing can break a row: where as many
-/// slots are empty as the level has redundancy, so also at level 0.
-#[tactic(auto, using(crate::proofs::Parity::told_passes))]
-pub fn parity_holds<I: Images>(
-    images: &mut I,
-    regions: &mut Regions,
-    geo: &Geometry,
-    end: u64,
-    limits: &Limits,
-) -> Result<bool, Failed>
-    requires set { IsScannable geo.now end (I.seen images.old).attached }
-    requires room { IsRoomFor (length geo.now.slots.items) BLOCK regions.old }
-    ensures told { IfOk result (λ holds. IfSome (told_all (I.seen images.old).attached)
-        (λ bytes. holds ≡ passes_parity bytes geo.now end limits.now.window limits.now.badrows)) }
-    ensures reads { OnlyReads (I.seen images.old) (I.seen images.new)
-        (length (I.seen images.old).attached * read_rows geo.now end limits.now.window) }
-    ensures early { IfOk result (λ holds. holds ≡ false → IfSome (told_all (I.seen images.old).attached)
-        (λ bytes. StopsEarly bytes geo.now limits.now.badrows (length (I.seen images.old).attached) (I.seen images.old) (I.seen images.new))) }
-    ensures unread { is_unbreakable geo.now ≡ true → I.seen images.new ≡ I.seen images.old }
-    ensures cause { HasCause (I.seen images.old).faults (I.seen images.new).faults result }
-    ensures room { KeepsRoom regions.old regions.new }
-{
-    let left = test_rows(images, regions, geo, end, limits.window, limits.badrows)?;
-    Ok(left.is_some())
 }
 
 /// How many of the tested sector rows of a parameter set are unsound: those below its area, whose
@@ -102,37 +69,11 @@ pub(crate) fn count_unsound<I: Images>(
     ensures cause { HasCause (I.seen images.old).faults (I.seen images.new).faults result }
     ensures room { KeepsRoom regions.old regions.new }
 {
-    // There are fewer rows than u64::MAX, so that none is too many.
-    let left = test_rows(images, regions, geo, end, window, u64::MAX)?;
-    Ok(u64::MAX - left.unwrap_or(0))
-}
-
-/// How many more of the tested rows may be unsound, where `left` may be, and None where more are.
-fn test_rows<I: Images>(
-    images: &mut I,
-    regions: &mut Regions,
-    geo: &Geometry,
-    end: u64,
-    window: u64,
-    left: u64,
-) -> Result<Option<u64>, Failed>
-    requires set { IsScannable geo.now end (I.seen images.old).attached }
-    requires room { IsRoomFor (length geo.now.slots.items) BLOCK regions.old }
-    ensures told { IfOk result (λ rest. IfSome (told_all (I.seen images.old).attached)
-        (λ bytes. IsRest bytes geo.now (tested_rows geo.now end window) left rest)) }
-    ensures reads { OnlyReads (I.seen images.old) (I.seen images.new)
-        (length (I.seen images.old).attached * read_rows geo.now end window) }
-    ensures early { IfOk result (λ rest. rest ≡ None → IfSome (told_all (I.seen images.old).attached)
-        (λ bytes. StopsEarly bytes geo.now left (length (I.seen images.old).attached) (I.seen images.old) (I.seen images.new))) }
-    ensures unread { is_unbreakable geo.now ≡ true → I.seen images.new ≡ I.seen images.old }
-    ensures cause { HasCause (I.seen images.old).faults (I.seen images.new).faults result }
-    ensures room { KeepsRoom regions.old regions.new }
-{
     if nothing_can_break(geo) {
-        return Ok(Some(left));
+        return Ok(0);
     }
     let rows = rows_to_test(geo, end, window);
-    test_first(images, regions, geo, rows, left)
+    count_rows(images, regions, geo, rows)
 }
 
 /// Whether each row of the set is sound whatever its bytes: as many slots are empty as the level has
@@ -143,39 +84,31 @@ pub fn nothing_can_break(geo: &Geometry) -> bool
     count_empty(geo.slots.as_slice()) == geo.head.level.redundancy() as usize
 }
 
-/// The same of the first `rows` rows. The first block is small, and each later one as long as all
-/// before it, up to `BLOCK` sectors.
-fn test_first<I: Images>(
+/// How many of the first `rows` rows are unsound. They are read a block at a time.
+fn count_rows<I: Images>(
     images: &mut I,
     regions: &mut Regions,
     geo: &Geometry,
     rows: u64,
-    left: u64,
-) -> Result<Option<u64>, Failed>
+) -> Result<u64, Failed>
     requires set { IsTestable geo.now }
     requires near { geo.now.head.offset + rows < 2 ^ 55 }
     requires held { 1 ≤ rows → All (Reaches (I.seen images.old).attached (geo.now.head.offset + rows)) geo.now.slots.items }
     requires room { IsRoomFor (length geo.now.slots.items) BLOCK regions.old }
-    ensures told { IfOk result (λ rest. IfSome (told_all (I.seen images.old).attached)
-        (λ bytes. IsRest bytes geo.now rows left rest)) }
+    ensures told { IfOk result (λ n. IfSome (told_all (I.seen images.old).attached)
+        (λ bytes. n ≡ unsound_rows bytes geo.now rows)) }
     ensures reads { OnlyReads (I.seen images.old) (I.seen images.new) (held geo.now.slots.items * rows) }
-    ensures early { IfOk result (λ rest. rest ≡ None → IfSome (told_all (I.seen images.old).attached)
-        (λ bytes. StopsEarly bytes geo.now left (held geo.now.slots.items) (I.seen images.old) (I.seen images.new))) }
     ensures room { KeepsRoom regions.old regions.new }
     ensures cause { HasCause (I.seen images.old).faults (I.seen images.new).faults result }
 {
-    let mut rest = left;
+    let mut sum = 0;
     let mut first = 0;
     while first < rows {
-        let most = first.clamp(FIRST_BLOCK as u64, BLOCK as u64);
-        let count = most.min(rows - first);
-        match block_left(images, regions, geo, first, count, rest)? {
-            Some(fewer) => rest = fewer,
-            None => return Ok(None),
-        }
+        let count = (rows - first).min(BLOCK as u64);
+        sum += count_block(images, regions, geo, first, count)?;
         first += count;
     }
-    Ok(Some(rest))
+    Ok(sum)
 }
 
 /// How many member sectors lie below the area and the window.
@@ -188,29 +121,28 @@ fn rows_to_test(geo: &Geometry, end: u64, window: u64) -> u64
     area(&geo.head, end).min(window)
 }
 
-/// How many more rows may be unsound after the `count` rows from `first` on, where `left` may be,
-/// and None where more are. It reads a block of each member that is there.
-fn block_left<I: Images>(
+/// How many of the `count` rows from `first` on are unsound. It reads a block of each member that is there.
+fn count_block<I: Images>(
     images: &mut I,
     regions: &mut Regions,
     geo: &Geometry,
     first: u64,
     count: u64,
-    left: u64,
-) -> Result<Option<u64>, Failed>
+) -> Result<u64, Failed>
     requires set { IsTestable geo.now }
     requires near { geo.now.head.offset + (first + count) < 2 ^ 55 }
     requires held { All (Reaches (I.seen images.old).attached (geo.now.head.offset + (first + count))) geo.now.slots.items }
     requires room { IsRoomFor (length geo.now.slots.items) BLOCK regions.old }
     requires some { 1 ≤ count }
     requires most { count ≤ BLOCK }
-    ensures told { IfOk result (λ rest. IfSome (told_all (I.seen images.old).attached)
-        (λ bytes. IsLeft bytes geo.now first count left rest)) }
+    ensures told { IfOk result (λ n. IfSome (told_all (I.seen images.old).attached)
+        (λ bytes. unsound_rows bytes geo.now (first + count) ≡ unsound_rows bytes geo.now first + n)) }
+    ensures few { IfOk result (λ n. n ≤ count) }
     ensures reads { OnlyReads (I.seen images.old) (I.seen images.new) (held geo.now.slots.items * count) }
     ensures room { KeepsRoom regions.old regions.new }
     ensures cause { HasCause (I.seen images.old).faults (I.seen images.new).faults result }
 {
     let count = count as usize;
     regions.read(images, geo, first, count)?;
-    Ok(rows_left(geo, regions, first, count, left))
+    Ok(unsound_of(geo, regions, first, count))
 }

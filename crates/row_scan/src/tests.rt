@@ -1,14 +1,12 @@
-//! That a test succeeds, over images in memory.
+//! Counts of unsound rows, over images in memory.
 ghost use Rattle.std.specs.Prelude.{◌≡◌, ◌≤◌, ◌^◌, ◌<◌, length, All, IfOk, IsSomeAnd, IsTrue, slice_get};
 ghost use Rattle.image_source.specs.Memory.{seen_of};
 ghost use Rattle.member_regions.specs.Regions.{IsRoomFor, KeepsRoom};
 
 use crate::one_set::count_unsound;
-use crate::parity_holds;
 use image_source::{Images, MemImages};
 use member_regions::{BLOCK, Regions};
 use raid_params::{Geometry, Head, Level, Pattern, Slots, Syndrome};
-use search_plan::Limits;
 use std::alloc::Global;
 use std::process::Abort;
 use std::test::Fail;
@@ -42,27 +40,6 @@ pub fn three_reach(images: &MemImages, end: u64) -> bool
         return false;
     }
     images.length(3).is_none()
-}
-
-// Whether at most `badrows` rows are unsound.
-#[tactic(auto, using(crate::proofs::TestSets::three_scannable))]
-fn holds<R: Abort>(
-    rt: &R,
-    images: &mut MemImages,
-    regions: &mut Regions,
-    geo: &Geometry,
-    end: u64,
-    badrows: u64,
-    window: u64,
-) -> Option<bool>
-    requires offset { geo.now.head.offset < 2 ^ 55 }
-    requires room { IsRoomFor (length geo.now.slots.items) BLOCK regions.old }
-    requires end { end < 2 ^ 55 }
-    ensures { KeepsRoom regions.old regions.new }
-{
-    assert!(rt; geo.is_shaped(3));
-    assert!(rt; three_reach(images, end));
-    parity_holds(images, regions, geo, end, &Limits { badrows, window }).ok()
 }
 
 // How many rows are unsound.
@@ -143,25 +120,11 @@ fn two_rows(rt: HostRuntime) -> Result<(), Fail> {
     b[512..].fill(4);
     c[512..].fill(6);
     let mut images = three_images(&rt, [&a, &b, &c])?;
-    assert_eq!(rt;
-        holds(&rt, &mut images, &mut regions, &geo, 2, 0, 2),
-        Some(true)
-    );
+    assert_eq!(rt; count(&rt, &mut images, &mut regions, &geo, 2, 2), Some(0));
     c[512..].fill(7);
     let mut images = three_images(&rt, [&a, &b, &c])?;
-    assert_eq!(rt;
-        holds(&rt, &mut images, &mut regions, &geo, 2, 0, 2),
-        Some(false)
-    );
-    assert_eq!(rt;
-        holds(&rt, &mut images, &mut regions, &geo, 2, 1, 2),
-        Some(true)
-    );
-    assert_eq!(rt;
-        holds(&rt, &mut images, &mut regions, &geo, 2, 0, 1),
-        Some(true)
-    );
     assert_eq!(rt; count(&rt, &mut images, &mut regions, &geo, 2, 2), Some(1));
+    assert_eq!(rt; count(&rt, &mut images, &mut regions, &geo, 2, 1), Some(0));
     Ok(())
 }
 
@@ -174,22 +137,12 @@ fn many_blocks(rt: HostRuntime) -> Result<(), Fail> {
     let mut images = three_images(&rt, [&zeros, &other, &zeros])?;
     let mut regions = room(rt.alloc(), 4)?;
     let geo = three_members(8);
-    assert_eq!(rt;
-        holds(&rt, &mut images, &mut regions, &geo, 600, 0, 600),
-        Some(false)
-    );
-    assert_eq!(rt;
-        holds(&rt, &mut images, &mut regions, &geo, 600, 0, 599),
-        Some(true)
-    );
-    assert_eq!(rt;
-        holds(&rt, &mut images, &mut regions, &geo, 599, 0, 600),
-        Some(true)
-    );
-    assert_eq!(rt;
-        count(&rt, &mut images, &mut regions, &geo, 600, 600),
-        Some(1)
-    );
+    for (end, window, unsound) in [(600, 600, 1), (600, 599, 0), (599, 600, 0)] {
+        assert_eq!(rt;
+            count(&rt, &mut images, &mut regions, &geo, end, window),
+            Some(unsound)
+        );
+    }
     Ok(())
 }
 
@@ -202,10 +155,7 @@ fn a_missing_member(rt: HostRuntime) -> Result<(), Fail> {
     q[512..].fill(8);
     let mut images = three_images(&rt, [&[3; 1024], &[6; 1024], &q])?;
     let geo = parity_last(Level::Raid6, Syndrome::BySlot);
-    assert_eq!(rt;
-        holds(&rt, &mut images, &mut regions, &geo, 2, 0, 1),
-        Some(true)
-    );
+    assert_eq!(rt; count(&rt, &mut images, &mut regions, &geo, 2, 1), Some(0));
     assert_eq!(rt; count(&rt, &mut images, &mut regions, &geo, 2, 2), Some(1));
     let geo = parity_last(Level::Raid5, Syndrome::NoQ);
     assert_eq!(rt; count(&rt, &mut images, &mut regions, &geo, 2, 2), Some(0));

@@ -1,7 +1,6 @@
-use Rattle.std.proofs.Common.{◌∙◌, ◌≡◌, Bool, ap, subst, Option, IfSome, sym, List}
-use Rattle.raid_params.specs.declared.types.Cell.{Cell}
+use Rattle.std.proofs.Common.{◌∙◌, ◌≡◌, Bool, ap, subst, Option, IfSome}
 use Rattle.raid_terms.specs.Cells.{row_cells}
-use Rattle.raid_terms.specs.Parity.{is_sound, IsRow}
+use Rattle.raid_terms.specs.Parity.{is_sound}
 use Rattle.member_regions.proofs.Sets.{row_length, testable_row}
 use Rattle.row_scan.specs.ImageSums.{slots_column}
 use Rattle.row_scan.proofs.WholeRows.{place_sound}

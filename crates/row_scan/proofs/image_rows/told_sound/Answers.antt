@@ -1,4 +1,4 @@
-use Rattle.std.proofs.Common.{◌∙◌, ◌≡◌, ◌&&◌, Bool, ap, sym, false, List, []}
+use Rattle.std.proofs.Common.{◌∙◌, ◌≡◌, ◌&&◌, ap, sym, false, List, []}
 use Rattle.raid_params.specs.declared.types.Cell.{Cell}
 use Rattle.raid_terms.specs.Parity.{has_q}
 use Rattle.row_scan.proofs.WholeRows.{told_row}

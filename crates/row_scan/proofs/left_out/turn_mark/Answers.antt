@@ -1,4 +1,4 @@
-use Rattle.row_scan.proofs.ImageSums.{is_added_so, not_added}
+use Rattle.row_scan.proofs.ImageSums.{is_added_so}
 use Rattle.row_scan.proofs.left_out.turn_mark.Goals as goal
 
 pub returns-then-added-clause-sums : goal.returns-then-added-clause-sums

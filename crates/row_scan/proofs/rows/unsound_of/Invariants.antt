@@ -1,10 +1,11 @@
-use Rattle.std.proofs.Common.{◌≡◌, ◌+◌}
+use Rattle.std.proofs.Common.{◌≡◌, ◌≤◌}
 use Rattle.raid_terms.specs.Cells.{row_cells}
 use Rattle.row_scan.specs.Block.{unsound_in}
-use Rattle.row_scan.proofs.rows.rows_left.Given as goal
+use Rattle.row_scan.proofs.rows.unsound_of.Given as goal
 
 abbrev pub invariant-loop-j : goal.invariant-loop-j
 invariant-loop-j l = record {
-  counted : unsound_in l.geo l.regions l.first l.j + l.rest ≡ l.left;
+  counted : l.sum ≡ unsound_in l.geo l.regions l.first l.j;
+  few : l.sum ≤ l.j;
   cells : l.cells.items ≡ row_cells l.geo l.at;
 }

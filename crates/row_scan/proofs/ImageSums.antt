@@ -234,6 +234,17 @@ bytes_more room region image place fit is before i x inside below =
           subst (λ (k : ℕ). room_byte room (512 * place + x) k < 256) (sym at) (subst (λ (b : ℕ). b < 256) here (fit x)))
     ]
 
+pub blank_more : (room : Room) (region : List ℕ) (image place : ℕ) → ((x : ℕ) → x < 512 → get_or region x 0 ≡ 0) →
+    region ≡ slice_range room.bytes (room.stride * image + 512 * place) (room.stride * image + 512 * place + 512 * 1) →
+    ((i x : ℕ) → i < image → x < 512 → room_byte room (512 * place + x) i ≡ 0) → (i x : ℕ) → i < image + 1 → x < 512 → room_byte room (512 * place + x) i ≡ 0
+blank_more room region image place zeros is before i x inside below =
+    elim (cases_lt i image) [
+      | inl less ↦ before i x less below
+      | inr more ↦
+          (let at : i ≡ image = omega arith in
+          subst (λ (k : ℕ). room_byte room (512 * place + x) k ≡ 0) (sym at) (sym (region_at room region image place x is below) ∙ zeros x below))
+    ]
+
 same_lists : (xs ys : List ℕ) → length xs ≡ length ys → ((k : ℕ) → k < length xs → get_or xs k 0 ≡ get_or ys k 0) → xs ≡ ys
 same_lists [] [] long same = refl
 same_lists [] (y ∷ ys) long same = absurd (omega arith)

@@ -12,3 +12,4 @@ pub mod Sweeps
 pub mod Judging
 pub mod ImageSums
 pub mod WholeRows
+pub mod BlankRows

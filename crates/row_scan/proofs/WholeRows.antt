@@ -116,4 +116,4 @@ told_row geo n place room row out holds set is there bytes p free =
 
 -- a chunk row by its own number
 pub row_itself : (geo : Geometry) (n at : ℕ) (row : ChunkRow) → IsChunkRow geo n at row → IsChunkRow geo n row.at row
-row_itself geo n at row is = record { place = refl; cells = is.cells ∙ ap (row_cells geo) (sym is.place); whole = is.whole; but = is.but }
+row_itself geo n at row is = record { place = refl; cells = is.cells ∙ ap (row_cells geo) (sym is.place); within = is.within; whole = is.whole; but = is.but }

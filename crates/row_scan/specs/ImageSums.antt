@@ -3,6 +3,8 @@ use Rattle.std.specs.Prelude.{ℕ, zero, suc, ◌≡◌, ◌<◌, ◌≤◌, ◌
 use Rattle.std.specs.Bool.{Decides}
 use Rattle.std.specs.declared.option.Option.{Option}
 use Rattle.std.specs.declared.option.Option.TheVariants.{None, Some}
+use Rattle.member_regions.specs.declared.regions.TheConstants.{BLOCK}
+use Rattle.raid_params.specs.declared.limits.TheConstants.{MOST}
 use Rattle.raid_params.specs.declared.types.Cell.{Cell}
 use Rattle.raid_params.specs.declared.types.Geometry.{Geometry}
 use Rattle.raid_terms.specs.Cells.{row_cells}
@@ -43,16 +45,22 @@ slots_column room slots place x = map (held_byte (room_byte room (512 * place + 
 abbrev pub sum_byte : Room → ℕ → ℕ → ℕ → ℕ
 sum_byte room n place x = all_sum (room_byte room (512 * place + x)) n
 
--- it is as told: zeros or not, and the sector of each image or not. They are bytes
+-- the sectors number `place` of the first n regions are zeros
+abbrev pub IsBlankAt : Room → ℕ → ℕ → Type 0
+IsBlankAt room n place = (image x : ℕ) → image < n → x < 512 → room_byte room (512 * place + x) image ≡ 0
+
+-- the sum is as told: zeros or not, and the sector of each image or not; where they are told to be, all sectors are zeros.
+-- They are bytes
 pub record IsImageSum (room : Room) (n place : ℕ) (sum : ImageSum) : Type 0 where
   pub bytes : (image x : ℕ) → image < n → x < 512 → room_byte room (512 * place + x) image < 256
   pub zero : Decides sum.is_zero ((x : ℕ) → x < 512 → sum_byte room n place x ≡ 0)
+  pub blank : sum.is_blank ≡ true → IsBlankAt room n place
   pub image : (image : ℕ) → image < n → Decides (slice_index_or sum.is_image image false) ((x : ℕ) → x < 512 → sum_byte room n place x ≡ room_byte room (512 * place + x) image)
 
 -- so it is at each of the places
 pub record AreImageSums (room : Room) (known : ImageSums) : Type 0 where
-  pub few : known.images ≤ 16
-  pub short : known.places ≤ 256
+  pub few : known.images ≤ MOST
+  pub short : known.places ≤ BLOCK
   pub each : (place : ℕ) (d : ImageSum) → place < known.places → IsImageSum room known.images place (slice_index_or known.sums place d)
 
 -- P's equation adds up the images that are left where this one is left out, or none
@@ -75,5 +83,6 @@ pub record IsWhole (cells : List Cell) (slots : List (Option ℕ)) (n : ℕ) : T
 pub record IsChunkRow (geo : Geometry) (n at : ℕ) (row : ChunkRow) : Type 0 where
   pub place : row.at ≡ at
   pub cells : row.cells.items ≡ row_cells geo at
+  pub within : row.within ≡ true → All (λ slot. IfSome slot (λ image. image < n)) geo.slots.items
   pub whole : IfSome row.out (λ out. IsWhole row.cells.items geo.slots.items n)
   pub but : IfSome row.out (AddsAllBut row.cells.items geo.slots.items n)

@@ -5,6 +5,7 @@ ghost use Rattle.raid_terms.specs.Cells.{row_cells as cells_of_row};
 ghost use Rattle.raid_terms.specs.Parity.{has_q as has_q_of, is_sound, is_sound_row, IsRow};
 ghost use Rattle.raid_params.specs.declared.limits.TheConstants.{MOST};
 ghost use Rattle.member_regions.specs.Members.{IsTestable};
+ghost use Rattle.member_regions.specs.declared.regions.TheConstants.{BLOCK};
 ghost use Rattle.member_regions.specs.Regions.{IsRoomFor, Room};
 ghost use Rattle.row_scan.specs.ImageRows.{asks as asks_for, is_open as is_open_tally, rows_of as tested, rows_before as tested_before, AddsRun, HoldsSet, IsLeftAfter};
 ghost use Rattle.row_scan.specs.ImageSums.{AreImageSums, IsChunkRow, slots_column};
@@ -149,12 +150,16 @@ fn is_sound_at(
     is_row_sound(geo, &row.cells, regions, place, room)
 }
 
-/// Whether a row at a place is sound, where the sums tell it: P's equation does not hold, or there is no other.
+/// Whether a row at a place is sound, where the sums tell it: all is zeros, or P's equation does not hold, or there is no
+/// other.
 fn told_sound(row: &ChunkRow, sums: &ImageSums, place: usize) -> Option<bool>
-    requires { sums.now.places ≤ 256 }
+    requires { sums.now.places ≤ BLOCK }
     ensures { (room : Room) (geo : Geometry) → AreImageSums room sums.now → IsTestable geo → IsChunkRow geo sums.now.images row.now.at row.now →
         IfSome result (λ sound. sound ≡ is_sound row.now.cells.items (slots_column room geo.slots.items place)) }
 {
+    if row.within && sums.is_blank(place) {
+        return Some(true);
+    }
     let out = row.out?;
     let holds = sums.p_holds(out, place)?;
     if needs_q(holds, &row.cells) {

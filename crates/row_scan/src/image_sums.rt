@@ -1,5 +1,5 @@
 //! The exclusive or of the sectors of all images, at the places of a run: P's test of the rows of many sets, made once.
-ghost use Rattle.std.specs.Prelude.{ℕ, ◌≡◌, ◌<◌, ◌≤◌, ◌+◌, ◌*◌, bit_xor, length, slice_index, slice_index_or, false, IfSome, List, Option};
+ghost use Rattle.std.specs.Prelude.{ℕ, ◌≡◌, ◌<◌, ◌≤◌, ◌+◌, ◌*◌, bit_xor, length, slice_index, slice_index_or, false, IfSome, IsTrue, List, Option};
 ghost use Rattle.std.specs.Bool.{Decides};
 ghost use Rattle.std.specs.Simd.Lanes.{zip2};
 ghost use Rattle.raid_terms.specs.Parity.{in_p};
@@ -7,7 +7,7 @@ ghost use Rattle.pq_parity.specs.Syndromes.{Cancel};
 ghost use Rattle.member_regions.specs.Regions.{IsRoomFor, Room};
 ghost use Rattle.raid_params.specs.declared.limits.TheConstants.{MOST};
 ghost use Rattle.member_regions.specs.declared.regions.TheConstants.{BLOCK};
-ghost use Rattle.row_scan.specs.ImageSums.{AddsAllBut, AreImageSums, IsImageSum, room_byte, slots_column, sum_byte};
+ghost use Rattle.row_scan.specs.ImageSums.{AddsAllBut, AreImageSums, IsBlankAt, IsImageSum, room_byte, slots_column, sum_byte};
 
 use crate::left_out::LeftOut;
 use image_source::SECTOR;
@@ -20,6 +20,8 @@ use raid_params::{Cell, MOST};
 pub struct ImageSum {
     /// It is zeros.
     pub is_zero: bool,
+    /// All of the sectors are zeros.
+    pub is_blank: bool,
     /// It is the sector of this image.
     pub is_image: [bool; MOST],
 }
@@ -41,6 +43,7 @@ impl ImageSums {
     {
         let nothing = ImageSum {
             is_zero: false,
+            is_blank: false,
             is_image: [false; MOST],
         };
         ImageSums {
@@ -64,6 +67,14 @@ impl ImageSums {
         known.images = images;
         known.places = places;
         known
+    }
+
+    /// Whether all sectors at a place are known to be zeros.
+    pub fn is_blank(&self, place: usize) -> bool
+        requires { self.now.places ≤ BLOCK }
+        ensures { IsTrue result → (room : Room) → AreImageSums room self.now → IsBlankAt room self.now.images place }
+    {
+        place < self.places && self.sums[place].is_blank
     }
 
     /// Whether P's equation holds in a row at a place, where it leaves out this image. None where the place is none
@@ -112,8 +123,29 @@ fn sum_at(regions: &Regions, images: usize, place: usize) -> ImageSum
     }
     ImageSum {
         is_zero: first_nonzero(&sum).is_none(),
+        is_blank: are_blank(regions, images, place),
         is_image,
     }
+}
+
+/// Whether the sectors number `place` of so many regions are zeros.
+fn are_blank(regions: &Regions, images: usize, place: usize) -> bool
+    requires room { IsRoomFor images (place + 1) regions.now }
+    ensures { IsTrue result → IsBlankAt regions.now images place }
+{
+    for image in 0..images {
+        if !are_zeros(regions.region(image, place, 1)) {
+            return false;
+        }
+    }
+    true
+}
+
+/// Whether bytes are zeros.
+fn are_zeros(bytes: &[u8]) -> bool
+    ensures { IsTrue result → (x : ℕ) → x < length bytes.now → slice_index bytes.now x ≡ 0 }
+{
+    first_nonzero(bytes).is_none()
 }
 
 /// The exclusive or of the sectors number `place` of so many regions.

@@ -1,5 +1,5 @@
 //! Which image P's equation leaves out in a row.
-ghost use Rattle.std.specs.Prelude.{ℕ, ◌≡◌, ◌<◌, ◌≤◌, ◌+◌, if◌then◌else◌, bit_xor, length, map, slice_index_or, All, Bool, IfSome, IsSomeAnd, List, false};
+ghost use Rattle.std.specs.Prelude.{ℕ, ◌≡◌, ◌<◌, ◌≤◌, ◌+◌, if◌then◌else◌, bit_xor, length, map, slice_index_or, All, Bool, IfSome, IsSomeAnd, IsTrue, List, false};
 ghost use Rattle.raid_params.specs.declared.limits.TheConstants.{MOST};
 ghost use Rattle.raid_terms.specs.Parity.{has_p as has_p_of, in_p};
 ghost use Rattle.pq_parity.specs.LostBytes.{first_missing};
@@ -25,6 +25,8 @@ pub enum LeftOut {
 pub struct ChunkRow {
     pub at: u64,
     pub cells: ArrayVec<Cell, MOST>,
+    /// Each slot that is not empty holds one of the images.
+    pub within: bool,
     pub out: Option<LeftOut>,
 }
 
@@ -36,8 +38,31 @@ pub fn chunk_row(geo: &Geometry, at: u64, images: usize) -> ChunkRow
     ensures { IsChunkRow geo.now images at result }
 {
     let cells = row_cells(geo, at);
+    let within = are_within(&geo.slots, images);
     let out = left_out(&cells, &geo.slots, images);
-    ChunkRow { at, cells, out }
+    ChunkRow {
+        at,
+        cells,
+        within,
+        out,
+    }
+}
+
+/// Whether slots hold none but so many images.
+fn are_within(slots: &[Option<u8>], images: usize) -> bool
+    ensures { IsTrue result → All (λ slot. IfSome slot (λ image. image < images)) slots.now }
+{
+    slots.iter().all(|held| is_within(*held, images))
+}
+
+/// Whether a slot holds none but so many images.
+fn is_within(held: Option<u8>, images: usize) -> bool
+    ensures { IsTrue result → IfSome held (λ image. image < images) }
+{
+    match held {
+        Some(image) => (image as usize) < images,
+        None => true,
+    }
 }
 
 /// Makes a chunk row another.

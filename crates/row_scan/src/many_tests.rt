@@ -1,5 +1,5 @@
 //! Scans of many sets over images in memory.
-ghost use Rattle.std.specs.Prelude.{◌≡◌, ◌≤◌, ◌<◌, ◌^◌, length, vec_len, All, IfOk, IsTrue, true};
+ghost use Rattle.std.specs.Prelude.{◌≡◌, ◌+◌, ◌≤◌, ◌<◌, ◌^◌, length, vec_len, All, IfOk, IsTrue, true};
 ghost use Rattle.raid_params.specs.Validity.{is_shaped};
 ghost use Rattle.row_scan.specs.declared.many_sets.TheConstants.{MOST_SETS};
 
@@ -55,13 +55,14 @@ fn two_sectors(alloc: Global) -> Plan
     }
 }
 
-// Sets of three members, of which every third begins at sector 0 and the others at sector 1.
-fn some_sets(alloc: Global, count: usize) -> Result<Vec<Geometry>, Fail>
+// Sets number `first` on of three members, of which every third begins at sector 0 and the others at sector 1.
+fn some_sets(alloc: Global, first: usize, count: usize) -> Result<Vec<Geometry>, Fail>
+    requires { first + count ≤ MOST_SETS }
     ensures long { IfOk result (λ sets. vec_len sets ≡ count) }
     ensures near { IfOk result (λ sets. All (λ geo. geo.head.offset < 2 ^ 55) sets.items) }
 {
     let mut sets = Vec::new(alloc);
-    for k in 0..count {
+    for k in first..first + count {
         sets.push(set_at(if k % 3 == 0 { 0 } else { 1 }))?;
     }
     Ok(sets)
@@ -120,18 +121,31 @@ fn broken_first<R: AllocGlobal>(rt: &R) -> Result<MemImages, Fail> {
     two_rows(rt, 7)
 }
 
-// Each verdict of a scan of so many sets is that of a scan of the set alone.
+// The verdict of a scan of set number `k` alone.
+fn alone<R: Threads + Sync + Abort + AllocGlobal>(rt: &R, k: usize) -> Result<bool, Fail>
+    requires { k < MOST_SETS }
+{
+    let plan = two_sectors(rt.alloc());
+    let mut images = broken_first(rt)?;
+    let sets = some_sets(rt.alloc(), k, 1)?;
+    let found = verdicts(rt, rt.alloc(), &mut images, &plan, &sets, &OpenGate)?;
+    Ok(found.as_slice().contains(&true))
+}
+
+// Each verdict of a scan of so many sets is that of a scan of the set alone: against those that begin at sector 0.
 fn scan_of<R: Threads + Sync + Abort + AllocGlobal>(rt: &R, count: usize) -> Result<(), Fail>
     requires some { 1 ≤ count }
     requires most { count ≤ MOST_SETS }
 {
     let plan = two_sectors(rt.alloc());
     let mut images = broken_first(rt)?;
-    let sets = some_sets(rt.alloc(), count)?;
+    let sets = some_sets(rt.alloc(), 0, count)?;
     let found = verdicts(rt, rt.alloc(), &mut images, &plan, &sets, &OpenGate)?;
     assert_eq!(rt; found.as_slice().len(), count);
+    let one_by_one = [alone(rt, 0)?, alone(rt, 1)?, alone(rt, 2)?];
+    assert!(rt; one_by_one == [false, true, true]);
     for k in 0..found.as_slice().len() {
-        assert_eq!(rt; found.as_slice()[k], k % 3 != 0);
+        assert_eq!(rt; found.as_slice()[k], one_by_one[k % 3]);
     }
     Ok(())
 }
@@ -157,7 +171,7 @@ fn as_many_as_may_be(rt: HostRuntime) -> Result<(), Fail> {
 #[test]
 fn a_reading_fails(rt: HostRuntime) -> Result<(), Fail> {
     let plan = two_sectors(rt.alloc());
-    let sets = some_sets(rt.alloc(), 2)?;
+    let sets = some_sets(rt.alloc(), 0, 2)?;
     for call in 4..6 {
         let mut images = broken_first(&rt)?;
         images.fail_call(call)?;
@@ -212,7 +226,7 @@ impl Gate for Meeting {
 fn pieces_meet(rt: HostRuntime) -> Result<(), Fail> {
     let mut images = two_rows(&rt, 2)?;
     let plan = two_sectors(rt.alloc());
-    let sets = some_sets(rt.alloc(), 1024)?;
+    let sets = some_sets(rt.alloc(), 0, 1024)?;
     let gate = Meeting::new();
     let found = verdicts(&rt, rt.alloc(), &mut images, &plan, &sets, &gate)?;
     assert!(rt; !gate.gave_up.load(Ordering::SeqCst));

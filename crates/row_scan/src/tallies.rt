@@ -19,8 +19,7 @@ use std::thread::Threads;
 /// The tallies of a piece.
 pub const PIECE: usize = 512;
 
-/// As many open tallies as make sums, and threads, worth their cost: the sums cost about as much as a row of each of
-/// so many sets.
+/// As many open tallies as make sums of all images, and threads, worth their cost.
 const MANY: usize = 16;
 
 /// Adds the rows of a run to the tallies: in pieces that each pass the gate first, where there is one, and else in

@@ -90,13 +90,13 @@ vanish images n geo t x full some sound below =
     (sound_at (row_cells geo (t / geo.head.chunk)) (member_column images geo t) sound x below)
 
 -- a sum over all images is one over the slots
-over_slots : (n : ℕ) (geo : Geometry) (g : ℕ → ℕ) → IsFull n geo → total bit_xor g (every n) ≡ placed bit_xor (λ s i. g i) 0 geo.slots.items
+pub over_slots : (n : ℕ) (geo : Geometry) (g : ℕ → ℕ) → IsFull n geo → total bit_xor g (every n) ≡ placed bit_xor (λ s i. g i) 0 geo.slots.items
 over_slots n geo g full =
     total_same bit_xor g (where_it_stands geo.slots.items g) 0 n
     (λ i le lt. sym (ap (λ (b : Bool). cond b (g i) 0) (each_stands n i geo.slots.items full.long full.filled full.all full.apart (omega arith))))
     ∙ sym (by_image bit_xor g n 0 geo.slots.items xor_is full.all full.apart)
 
-no_q : (level : Level) (pattern : Pattern) (n row : ℕ) → level ≡ Raid5 → q_at level pattern n row ≡ None
+pub no_q : (level : Level) (pattern : Pattern) (n row : ℕ) → level ≡ Raid5 → q_at level pattern n row ≡ None
 no_q Raid0 pattern n row e = refl
 no_q Raid5 pattern n row e = refl
 no_q Raid6 pattern n row e = (cc)
@@ -108,7 +108,7 @@ not_zero_6 : (level : Level) → level ≡ Raid6 → level ≡ Raid0 → ⊥
 not_zero_6 level e f = let bad : Raid6 ≡ Raid0 = sym e ∙ f in (cc)
 
 -- at level 5 no image differs from the others in a sound row
-agree_5 : (images : List (List ℕ)) (plan : Plan) (geo : Geometry) (t : ℕ) → IsFull (length plan.lengths.items) geo → geo.head.level ≡ Raid5 →
+pub agree_5 : (images : List (List ℕ)) (plan : Plan) (geo : Geometry) (t : ℕ) → IsFull (length plan.lengths.items) geo → geo.head.level ≡ Raid5 →
     is_sound_row images geo t ≡ true → differ_in_row images plan geo.head t ≡ false
 agree_5 images plan geo t full level sound =
     let n = length plan.lengths.items in

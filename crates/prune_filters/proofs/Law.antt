@@ -7,10 +7,11 @@ use Rattle.raid_params.specs.declared.types.Geometry.{Geometry}
 use Rattle.raid_terms.specs.Parity.{passes_parity}
 use Rattle.landmark_rules.specs.Groups.{groups_hold}
 use Rattle.search_plan.specs.declared.plan.Plan.{Plan}
-use Rattle.prune_filters.specs.Laws.{PassingSetsAreHopeful, WholeListsTakeTheLandmarkTest}
+use Rattle.prune_filters.specs.Laws.{PassingSetsAreHopeful, RowsDecideLevelFive, WholeListsTakeTheLandmarkTest}
 use Rattle.prune_filters.specs.Marks.{groups_may_hold}
 use Rattle.prune_filters.specs.Rows.{rows_may_hold}
 use Rattle.prune_filters.proofs.Broken.{rows_at}
+use Rattle.prune_filters.proofs.Decided.{rows_decided}
 use Rattle.prune_filters.proofs.Landmarks.{AreSlots, groups_at, whole_groups}
 use Rattle.prune_filters.proofs.Sets.{IsSetOf, set_at}
 use Rattle.prune_filters.proofs.Passing.{true_and}
@@ -37,3 +38,6 @@ hopeful images plan rank geo count here passes =
 
 pub whole : WholeListsTakeTheLandmarkTest
 whole plan rank geo here = whole_groups plan geo (slots_of plan geo (set_at plan rank geo here))
+
+pub decide : RowsDecideLevelFive
+decide images plan rank geo here decides = rows_decided images plan geo (set_at plan rank geo here) decides

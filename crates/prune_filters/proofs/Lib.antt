@@ -14,5 +14,7 @@ pub mod Prefixes
 pub mod Sectors
 pub mod Ordered
 pub mod Turns
+pub mod Decided
+pub mod Admitted
 pub mod TestPlans
 mod Settled

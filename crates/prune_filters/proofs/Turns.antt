@@ -126,7 +126,7 @@ by_turn turn p n (t ∷ rows) below =
     ∙ ap₂ (λ (a b : ℕ). a + b) (hit (λ k. p k t) (turn t) 0 n (omega arith) (let low = below t in omega arith)) (by_turn turn p n rows below)
     ∙ sym (count_cons (λ (s : ℕ). p (turn s) s) t rows)
 
-count_alike : (p q : ℕ → Bool) (rows : List ℕ) → ((t : ℕ) → p t ≡ q t) → count_by p rows ≡ count_by q rows
+pub count_alike : (p q : ℕ → Bool) (rows : List ℕ) → ((t : ℕ) → p t ≡ q t) → count_by p rows ≡ count_by q rows
 count_alike p q [] same = refl
 count_alike p q (t ∷ rows) same =
     count_cons p t rows ∙ ap₂ (λ (b : Bool) (k : ℕ). cond b 1 0 + k) (same t) (count_alike p q rows same) ∙ sym (count_cons q t rows)
@@ -181,7 +181,7 @@ sum_rows images plan head prefix table is count some n known =
 past : (s b : ℕ) → b < 2 ^ 64 - 1 → nat_le (min s (2 ^ 64 - 1)) b ≡ nat_le s b
 past s b below = grind (arith, nat_tests)
 
-not_of : (a b : Bool) → a ≡ true → (not a || b) ≡ b
+pub not_of : (a b : Bool) → a ≡ true → (not a || b) ≡ b
 not_of true b e = refl
 not_of false b e = (cc)
 

@@ -1,5 +1,5 @@
 -- What the exclusive or of whole images tells of a prefix, where every slot list holds every image.
-use Rattle.std.specs.Prelude.{ℕ, ◌+◌, ◌*◌, ◌/◌, min, Bool, false, not, ◌==◌, ◌&&◌, ◌||◌, nat_eq, nat_le, List, [], ◌∷◌, length, map, filter, count_by, bit_xor, slice_index, slice_index_or}
+use Rattle.std.specs.Prelude.{ℕ, ◌+◌, ◌*◌, ◌/◌, min, Bool, true, false, not, ◌==◌, ◌&&◌, ◌||◌, nat_eq, nat_le, List, [], ◌∷◌, length, map, filter, count_by, bit_xor, slice_index, slice_index_or}
 use Rattle.std.specs.List.{list_any, range_with_len}
 use Rattle.std.specs.Option.{option_map_or, option_and_then}
 use Rattle.std.specs.declared.option.Option.{Option}
@@ -40,6 +40,15 @@ holds_every plan head =
 -- then, where there is parity, a table of the rows in which images differ is asked
 abbrev pub needs_table : Plan → Head → Bool
 needs_table plan head = holds_every plan head && nat_le 1 (redundancy head.level)
+
+-- the rows in which the images differ decide the parity test: at level 5, where every slot list holds every image
+abbrev pub is_raid5 : Level → Bool
+is_raid5 Raid0 = false
+is_raid5 Raid5 = true
+is_raid5 Raid6 = false
+
+abbrev pub rows_decide : Plan → Head → Bool
+rows_decide plan head = needs_table plan head && is_raid5 head.level
 
 -- as many of the first rows of sectors are tested
 abbrev pub tested : Plan → Head → ℕ

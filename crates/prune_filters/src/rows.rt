@@ -7,7 +7,7 @@ ghost use Rattle.raid_params.specs.declared.limits.TheConstants.{MOST};
 ghost use Rattle.search_plan.specs.Plans.{IsPlan};
 ghost use Rattle.slot_math.specs.Ways.{AllImages};
 ghost use Rattle.prune_filters.specs.Hopeful.{IsPrefix};
-ghost use Rattle.prune_filters.specs.Rows.{on_q as image_on_q, holds_every as every_list_holds, needs_table as head_needs_table, rows_may_hold as rows_of_may_hold};
+ghost use Rattle.prune_filters.specs.Rows.{on_q as image_on_q, holds_every as every_list_holds, needs_table as head_needs_table, rows_decide as head_rows_decide, rows_may_hold as rows_of_may_hold};
 ghost use Rattle.prune_filters.specs.Xors.{beside_q as beside_q_of, broken_in, rows_hold_by, AreXors};
 
 use crate::xor_table::XorTable;
@@ -21,6 +21,14 @@ pub fn needs_table(plan: &Plan, head: &Head) -> bool
     ensures { result ≡ head_needs_table plan.now head.now }
 {
     holds_every(plan, head) && head.level.redundancy() >= 1
+}
+
+/// Whether the rows in which the images of a plan differ decide the parity test of each set of a head: the head
+/// needs a table of them, and is of level 5. There the exclusive or of all members is the same in every order.
+pub fn rows_decide(plan: &Plan, head: &Head) -> bool
+    ensures { result ≡ head_rows_decide plan.now head.now }
+{
+    needs_table(plan, head) && matches!(head.level, Level::Raid5)
 }
 
 /// Whether every slot list of a head holds every image of a plan.

@@ -1,10 +1,11 @@
--- Of sets that pass, each prefix of the slots is admitted.
-use Rattle.std.proofs.Common.{rules, ℕ, zero, suc, ◌≡◌, ◌<◌, ◌≤◌, ◌+◌, Bool, true, false, ◌&&◌, ◌||◌, not, ◌==◌, nat_le, IsTrue, cond, List, [], ◌∷◌, length, take, filter, refl, sym, ap, ap₂, ◌∙◌, arith, Option, Some, None, IfSome, slice_get, inl, inr, subst}
+-- Of sets that pass, each prefix of the slots is admitted, and of sets that are admitted each is hopeful.
+use Rattle.std.proofs.Common.{rules, ℕ, zero, suc, ◌≡◌, ◌<◌, ◌≤◌, ◌+◌, Bool, true, false, ◌&&◌, ◌==◌, nat_le, cond, List, [], ◌∷◌, length, take, filter, refl, sym, ap, ap₂, ◌∙◌, arith, Option, Some, None, IfSome, slice_get, inl, inr, subst}
 use Rattle.std.specs.List.{Contains, list_all, range_with_len, AllByRecursion}
 use Rattle.std.specs.Option.{option_map_or}
-use Rattle.std.proofs.lemmas.Bool.{and_parts, cases_Bool, eqb-true}
+use Rattle.std.proofs.lemmas.Bool.{and_parts, cases_Bool, eqb-true, leb-true}
 use Rattle.raid_params.specs.Size.{rows}
 use Rattle.raid_params.specs.Validity.{is_valid_head}
+use Rattle.raid_params.specs.declared.types.Geometry.{Geometry}
 use Rattle.raid_params.specs.declared.types.Head.{Head}
 use Rattle.raid_terms.specs.SlotLists.{all_lists, is_kept}
 use Rattle.search_plan.specs.Sets.{passes, sets_of}
@@ -16,13 +17,14 @@ use Rattle.slot_math.specs.Ways.{AllImages}
 use Rattle.slot_math.specs.declared.space.Space.{Space}
 use Rattle.slot_math.proofs.Listed.{each_kept, each_list, each_more}
 use Rattle.candidate_enum.specs.Survivors.{all_admitted}
-use Rattle.prune_filters.specs.Hopeful.{is_hopeful_by, IsPrefix}
+use Rattle.prune_filters.specs.Hopeful.{is_hopeful, is_hopeful_by, IsPrefix}
 use Rattle.prune_filters.specs.Marks.{groups_may_hold}
-use Rattle.prune_filters.specs.Rows.{needs_table, rows_may_hold}
-use Rattle.prune_filters.specs.Xors.{broken_in, rows_hold_by, AreXors, RowTable}
-use Rattle.prune_filters.proofs.Turns.{rows_known}
-use Rattle.prune_filters.proofs.Law.{hopeful}
-use Rattle.page_engine.specs.Walk.{IsAsked, LeavesOutNone}
+use Rattle.prune_filters.specs.Xors.{rows_hold_by, AreXors, RowTable}
+use Rattle.prune_filters.proofs.Admitted.{admitted_is_hopeful}
+use Rattle.prune_filters.proofs.Law.{hopeful, whole}
+use Rattle.page_engine.specs.Pages.{is_hopeful_at}
+use Rattle.page_engine.specs.Walk.{AdmitsHopeful, IsAmong, IsAsked, LeavesOutNone}
+use Rattle.page_engine.proofs.Candidates.{whole_admitted}
 use Rattle.page_engine.proofs.SetTests.{passes_as}
 
 -- a test that holds of each number
@@ -54,16 +56,6 @@ set_prefix plan rank k head slots is_plan stands =
     let long : length slots ≡ head.members = set.long in
     record { short = (let few = take_short k slots in omega arith); images = take_images (length plan.lengths.items) k slots set.images }
 
--- what the tables say of the rows is so
-rows_by : (bytes : List (List ℕ)) (plan : Plan) (head : Head) (xors : Option RowTable) (prefix : List (Option ℕ)) (needs : Bool) → IsTrue (is_valid_head head) → IsPlan plan → IsPrefix plan head prefix → Contains plan.bounds.levels.items head.level → AreXors bytes plan head xors →
-    needs_table plan head ≡ needs → rows_may_hold bytes plan head prefix ≡ true → rows_hold_by xors plan head prefix ≡ true
-rows_by bytes plan head xors prefix false valid is_plan is there are e may = ap (λ (b : Bool). not b || option_map_or (λ (table : RowTable). nat_le (broken_in table head.level head prefix) plan.limits.badrows) xors false) e
-rows_by bytes plan head None prefix true valid is_plan is there are e may = absurd (are e)
-rows_by bytes plan head (Some table) prefix true valid is_plan is there are e may =
-    ap (λ (b : Bool). not b || nat_le (broken_in table head.level head prefix) plan.limits.badrows) e
-    ∙ rows_known bytes plan head prefix table valid is_plan is e there (are e)
-    ∙ may
-
 -- each prefix of a set that passes is hopeful by the tables
 pub tables_admit : (told : Option (List (List ℕ))) (plan : Plan) (head : Head) (xors : Option RowTable) → IsPlan plan → is_valid_head head ≡ true → Contains plan.bounds.levels.items head.level → IfSome told (λ bytes. AreXors bytes plan head xors) →
     LeavesOutNone told plan head (is_hopeful_by xors plan head)
@@ -74,11 +66,44 @@ tables_admit (Some bytes) plan head xors is_plan valid there are = λ rank slots
     one : (rank : ℕ) (slots : List (Option ℕ)) (k : ℕ) → slice_get (sets_of plan) rank ≡ Some (record { head = head; slots = record { items = slots } }) →
         passes bytes plan (record { head = head; slots = record { items = slots } }) ≡ true → is_hopeful_by xors plan head (take k slots) ≡ true
     one rank slots k stands holds =
-        let all = hopeful bytes plan rank (record { head = head; slots = record { items = slots } }) k stands holds in
-        let first = and_parts (nat_le 1 (rows head plan.end)) (groups_may_hold plan head (take k slots) && rows_may_hold bytes plan head (take k slots)) all in
-        let rest = and_parts (groups_may_hold plan head (take k slots)) (rows_may_hold bytes plan head (take k slots)) first.1 in
-        ap₂ (λ (a b : Bool). a && b) first.0
-        (ap₂ (λ (a b : Bool). a && b) rest.0 (rows_by bytes plan head xors (take k slots) (needs_table plan head) valid is_plan (set_prefix plan rank k head slots is_plan stands) there are refl rest.1))
+        admitted_is_hopeful bytes plan head xors (take k slots) is_plan valid there are (set_prefix plan rank k head slots is_plan stands) ∙ hopeful bytes plan rank (record { head = head; slots = record { items = slots } }) k stands holds
+
+-- two tests that agree on each prefix of a list
+same_numbers : (p q : ℕ → Bool) → ((k : ℕ) → p k ≡ q k) → (a n : ℕ) → list_all p (range_with_len a n) ≡ list_all q (range_with_len a n)
+same_numbers p q same a zero = refl
+same_numbers p q same a (suc n) = ap₂ (λ (x y : Bool). x && y) (same a) (same_numbers p q same (a + 1) n)
+
+same_prefixes : (p q : List (Option ℕ) → Bool) (slots : List (Option ℕ)) → ((k : ℕ) → p (take k slots) ≡ q (take k slots)) → all_admitted p slots ≡ all_admitted q slots
+unfolding all_admitted
+same_prefixes p q slots same = same_numbers (λ k. p (take k slots)) (λ k. q (take k slots)) same 0 (length slots + 1)
+
+-- a set of which each prefix is hopeful by the tables is hopeful
+hopeful_by : (told : Option (List (List ℕ))) (plan : Plan) (head : Head) (xors : Option RowTable) (rank : ℕ) (slots : List (Option ℕ)) → IsPlan plan → is_valid_head head ≡ true → Contains plan.bounds.levels.items head.level →
+    IfSome told (λ bytes. AreXors bytes plan head xors) → slice_get (sets_of plan) rank ≡ Some (record { head = head; slots = record { items = slots } }) → all_admitted (is_hopeful_by xors plan head) slots ≡ true → is_hopeful_at told plan rank ≡ true
+unfolding is_hopeful_at
+hopeful_by None plan head xors rank slots is_plan valid there are stands all = refl
+hopeful_by (Some bytes) plan head xors rank slots is_plan valid there are stands all =
+    ap (λ (o : Option Geometry). option_map_or (λ geo. all_admitted (is_hopeful bytes plan geo.head) geo.slots.items) o false) stands
+    ∙ sym (same_prefixes (is_hopeful_by xors plan head) (is_hopeful bytes plan head) slots (λ k. admitted_is_hopeful bytes plan head xors (take k slots) is_plan valid there are (set_prefix plan rank k head slots is_plan stands)))
+    ∙ all
+
+-- the tables admit the slot lists of hopeful sets that meet the landmark test, and leave out none that passes
+pub admits_hopeful : (told : Option (List (List ℕ))) (plan : Plan) (head : Head) (xors : Option RowTable) → IsPlan plan → is_valid_head head ≡ true → IsAmong plan.bounds head → IfSome told (λ bytes. AreXors bytes plan head xors) →
+    AdmitsHopeful told plan head (is_hopeful_by xors plan head)
+admits_hopeful told plan head xors is_plan valid among are = record {
+  leaves_out_none = tables_admit told plan head xors is_plan valid among.level are;
+  hopeful = λ rank slots stands all.
+      let whole_list = whole_admitted (is_hopeful_by xors plan head) slots all in
+      let first = and_parts (nat_le 1 (rows head plan.end)) (groups_may_hold plan head slots && rows_hold_by xors plan head slots) whole_list in
+      let rest = and_parts (groups_may_hold plan head slots) (rows_hold_by xors plan head slots) first.1 in
+      record {
+        set = stands;
+        among = among;
+        row = leb-true 1 (rows head plan.end) first.0;
+        groups = sym (whole plan rank (record { head = head; slots = record { items = slots } }) stands) ∙ rest.0;
+        hopeful = hopeful_by told plan head xors rank slots is_plan valid among.level are stands all;
+      };
+}
 
 -- what begins a list is no longer, and has its images
 shorter : (n : ℕ) (p l : List (Option ℕ)) → begins p l ≡ true → AllImages n l → (length p ≤ length l) × AllImages n p

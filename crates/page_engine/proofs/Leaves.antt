@@ -18,6 +18,7 @@ pub record IsFirst (q : Question) (a b : ℕ) (leaf : Leaf) (rest : List Leaf) :
   pub low : a ≤ leaf.rank
   pub high : leaf.rank < b
   pub list : slice_get (lists_of q.space) leaf.rank ≡ Some leaf.slots.items
+  pub admitted : all_admitted q.admits leaf.slots.items ≡ true
   pub past : (k : ℕ) → a ≤ k → k < leaf.rank → Refused q k
   pub after : rest ≡ admitted_leaves q (leaf.rank + 1) b
 
@@ -49,6 +50,7 @@ first_leaf q a b (suc n) leaf rest e h is =
           low = omega arith;
           high = omega arith;
           list = ap (slice_get (lists_of q.space)) (sym rank) ∙ here ∙ ap (λ (l : Leaf). let o : Option (List (Option ℕ)) = Some l.slots.items in o) same;
+          admitted = ap (λ (l : Leaf). all_admitted q.admits l.slots.items) (sym same) ∙ t;
           past = λ k lo hi. absurd (omega arith);
           after = sym (tails_same _ _ _ _ both) ∙ ap (λ (r : ℕ). admitted_leaves q (r + 1) b) rank;
         }
@@ -60,6 +62,7 @@ first_leaf q a b (suc n) leaf rest e h is =
           low = omega arith;
           high = later.high;
           list = later.list;
+          admitted = later.admitted;
           past = λ k lo hi. elim (cases_lt a k) [
             | inl above ↦ later.past k (omega arith) hi
             | inr at ↦ (let same : a ≡ k = omega arith in

@@ -1,13 +1,17 @@
-pub mod Readings
-pub mod SetTests
+pub mod Counting
 pub mod RankByRank
-pub mod PageByPage
-pub mod Rooms
+pub mod SetTests
 pub mod Leaves
 pub mod Ranges
-pub mod HeadLines
+pub mod Waiting
+pub mod Judging
+pub mod Scanned
+pub mod Passed
+pub mod Candidates
+pub mod Leafwise
 pub mod Ahead
 pub mod HeadByHead
+pub mod PageByPage
 pub mod Admitted
 pub mod Kept
 mod Among

@@ -1,17 +1,20 @@
 -- Pages made one after another.
-use Rattle.std.proofs.Common.{ℕ, zero, suc, ◌≡◌, ◌≢◌, ◌<◌, ◌≤◌, ◌+◌, ◌*◌, ◌^◌, ◌⊎◌, inl, inr, List, [], ◌∷◌, ◌++◌, length, refl, sym, ap, ◌∙◌, subst, arith, Option, Result, Ok, Err, IsErr, IsErrOf, add-one}
-use Rattle.std.proofs.Math.Nat.{suc-mul, mul-le-mul_right}
+use Rattle.std.proofs.Common.{ℕ, zero, suc, ◌≡◌, ◌≢◌, ◌<◌, ◌≤◌, ◌+◌, ◌-◌, ◌*◌, ◌^◌, ◌⊎◌, inl, inr, List, [], ◌∷◌, ◌++◌, length, map, refl, sym, ap, ◌∙◌, subst, arith, Option, Some, None, IfSome, Result, Ok, IsErrOf}
+use Rattle.std.proofs.Math.Nat.{add-mul, mul-le-mul_right}
 use Rattle.std.proofs.lemmas.Bool.{cases_lt}
+use Rattle.std.proofs.lemmas.List.{map-append}
+use Rattle.image_source.proofs.Reading.{reads_up}
 use Rattle.image_source.specs.Seen.{Seen}
-use Rattle.raid_terms.specs.Page.{stop_of}
-use Rattle.search_plan.specs.Sets.{total_of}
+use Rattle.raid_terms.specs.Page.{page_next, stop_of}
+use Rattle.row_scan.specs.declared.many_sets.TheConstants.{MOST_SETS}
+use Rattle.search_plan.specs.Sets.{passes_at, total_of}
 use Rattle.search_plan.specs.declared.plan.Plan.{Plan}
-use Rattle.page_engine.specs.Pages.{all_tested_to, ArePagesFrom, EndsPage, IsPageFrom, last_next, rank_reads}
-use Rattle.page_engine.specs.Walk.{Spends}
+use Rattle.page_engine.specs.Pages.{ArePageEnds, ArePagesFrom, IsPageEnd, IsPageFrom, IsPageOf, most_scanned, ReadsPages, scans, scans_to, table_reads}
+use Rattle.page_engine.specs.Walk.{Scans, Spends}
 use Rattle.page_engine.specs.declared.page_parts.ListPage.{ListPage}
 use Rattle.page_engine.specs.declared.page_parts.PageFault.{PageFault}
-use Rattle.page_engine.specs.declared.page_parts.PageFault.TheVariants.{Many, Cursor, ReadFault, Memory}
-use Rattle.page_engine.proofs.Readings.{ranks_past, spends_join, spends_later, spends_on, spends_up}
+use Rattle.page_engine.proofs.Counting.{within_scans}
+use Rattle.page_engine.proofs.Scanned.{spends_join, spends_none, spends_up}
 
 -- pages from one rank to another, each where the last one goes on, of which none goes on at the total
 unfoldable pub Going : Option (List (List ℕ)) → Plan → ℕ → ℕ → ℕ → ℕ → List ListPage → Type 0
@@ -45,70 +48,9 @@ all_made told plan size span zero from to (page ∷ pages) going many = absurd (
 all_made told plan size span (suc count) from to [] going many = absurd (omega arith)
 all_made told plan size span (suc count) from to (page ∷ pages) going many = (going.0, inr (going.1, all_made told plan size span count page.next to pages going.2 (omega arith)))
 
--- where they go on
-pub goes_on_at : (told : Option (List (List ℕ))) (plan : Plan) (size span from to : ℕ) (pages : List ListPage) → Going told plan size span from to pages → last_next from pages ≡ to
-unfolding Going last_next
-goes_on_at told plan size span from to [] going = going
-goes_on_at told plan size span from to (page ∷ pages) going = goes_on_at told plan size span page.next to pages going.2
-
-pub last_is : (from : ℕ) (pages : List ListPage) (page : ListPage) → last_next from (pages ++ page ∷ []) ≡ page.next
-unfolding last_next
-last_is from [] page = refl
-last_is from (first ∷ pages) page = last_is first.next pages page
-
 -- nothing was done yet, or the pages made say that the total is small and not passed
 abbrev pub Begun : Plan → ℕ → ℕ → ℕ → Seen → Seen → Type 0
 Begun plan from made at old now = ((made ≡ 0) × (at ≡ from) × (now ≡ old)) ⊎ ((1 ≤ made) × (at ≤ total_of plan) × (total_of plan < 2 ^ 64))
-
--- why no page comes after some
-pub ends_after : (plan : Plan) (from made at : ℕ) (old mid new : Seen) (fault : PageFault) → Begun plan from made at old mid → old.faults ≤ mid.faults → EndsPage plan at mid new fault → EndsPage plan from old new fault
-ends_after plan from made at old mid new Many (inl begun) later ends = (ends.0, ends.1 ∙ begun.2)
-ends_after plan from made at old mid new (Cursor fault) (inl begun) later ends =
-    let at_from : at ≡ from = begun.1 in
-    let P : ℕ → Type 0 = λ n. (total_of plan < n) × (fault ≡ record { from = n; total = total_of plan }) × (new ≡ mid) in
-    let here = subst P at_from ends in
-    (here.0, here.1, here.2 ∙ begun.2)
-ends_after plan from made at old mid new ReadFault begun later ends = omega arith
-ends_after plan from made at old mid new Memory begun later ends = tt
-ends_after plan from made at old mid new Many (inr begun) later ends = absurd (let few = begun.2 in let many = ends.0 in omega arith)
-ends_after plan from made at old mid new (Cursor fault) (inr begun) later ends = absurd (let within = begun.1 in let past = ends.0 in omega arith)
-
--- a page ends within so many spans
-within_spans : (at from made count span next total : ℕ) → at ≤ from + made * span → made < count → next ≤ stop_of total at span → next ≤ stop_of total from (count * span)
-within_spans at from made count span next total near few within =
-    let more : (made + 1) * span ≤ count * span = mul-le-mul_right span (let e : made + 1 ≤ count = omega arith in e) in
-    let one : (made + 1) * span ≡ made * span + span = ap (λ (n : ℕ). n * span) (add-one made) ∙ suc-mul made span in
-    omega arith
-
--- what the pages made spend, with one more that was made
-pub reads_made : (b c a : ℕ) (old mid new : Seen) (plan : Plan) (from at made count span next : ℕ) → from ≤ at → at ≤ from + made * span → made < count → at ≤ next → next ≤ stop_of (total_of plan) at span →
-    Spends b c old mid (rank_reads plan from at) → Spends c a mid new (rank_reads plan at next) → Spends b a old new (rank_reads plan from (stop_of (total_of plan) from (count * span)))
-reads_made b c a old mid new plan from at made count span next low near few forward within first second =
-    spends_later b a old new plan from next (stop_of (total_of plan) from (count * span)) (omega arith) (within_spans at from made count span next (total_of plan) near few within)
-    (spends_on b c a old mid new plan from at next low forward first second)
-
--- and with one that was not
-pub reads_ended : (b c a : ℕ) (old mid new : Seen) (plan : Plan) (from at made count span : ℕ) → from ≤ at → at ≤ from + made * span → made < count → Begun plan from made at old mid →
-    Spends b c old mid (rank_reads plan from at) → Spends c a mid new (rank_reads plan at (stop_of (total_of plan) at span)) → Spends b a old new (rank_reads plan from (stop_of (total_of plan) from (count * span)))
-reads_ended b c a old mid new plan from at made count span low near few begun first second =
-    elim (cases_lt (total_of plan) at) [
-      | inl past ↦ at_first begun past
-      | inr up_to ↦ reads_made b c a old mid new plan from at made count span (stop_of (total_of plan) at span) low near few (omega arith) (omega arith) first second
-    ]
-  where
-    at_first : Begun plan from made at old mid → total_of plan < at → Spends b a old new (rank_reads plan from (stop_of (total_of plan) from (count * span)))
-    at_first (inl begun) past =
-        let at_from : at ≡ from = begun.1 in
-        let none = ranks_past plan from at (omega arith) in
-        let no_more = ranks_past plan at (stop_of (total_of plan) at span) (omega arith) in
-        spends_up b a (rank_reads plan from at + rank_reads plan at (stop_of (total_of plan) at span)) (rank_reads plan from (stop_of (total_of plan) from (count * span))) old new
-        (spends_join b c a (rank_reads plan from at) (rank_reads plan at (stop_of (total_of plan) at span)) old mid new first second) (omega arith)
-    at_first (inr begun) past = absurd (let within = begun.1 in omega arith)
-
--- without pages the range of all was looked for
-pub to_all : (stop from : ℕ) (r : Result (List ListPage) PageFault) → IsErr r → all_tested_to stop from r ≡ stop
-to_all stop from (Ok pages) e = absurd (cc)
-to_all stop from (Err fault) e = refl
 
 pub below_total : (next total all span at : ℕ) → next ≢ total → total ≡ all → next ≤ stop_of all at span → next < all
 below_total next total all span at other same within = elim (cases_lt next all) [
@@ -118,3 +60,81 @@ below_total next total all span at other same within = elim (cases_lt next all) 
 
 pub not_an_error : (page : ListPage) (fault : PageFault) → IsErrOf (let r : Result ListPage PageFault = Ok page in r) fault → ⊥
 not_an_error page fault e = cc
+
+-- where pages end
+abbrev pub ends_of : List ListPage → List ℕ
+ends_of pages = map (λ (page : ListPage). page.next) pages
+
+-- a page that was made
+made_end : (told : Option (List (List ℕ))) (plan : Plan) (size span from : ℕ) (page : ListPage) (later : List ℕ) → IsPageFrom told plan from size span page → IsPageEnd told plan size span from page.next later
+made_end told plan size span from page later is_page = inr (is_page.forward, is_page.within, at told is_page.page)
+  where
+    at : (known : Option (List (List ℕ))) → IfSome known (λ bytes. IsPageOf bytes plan from size span page) → IfSome known (λ bytes. page.next ≡ page_next (passes_at bytes plan) (total_of plan) from size span)
+    at None is = tt
+    at (Some bytes) is = is.goes_on
+
+-- pages, and one more end
+ends_more : (told : Option (List (List ℕ))) (plan : Plan) (size span count from mid end : ℕ) (pages : List ListPage) → Going told plan size span from mid pages → IsPageEnd told plan size span mid end [] → length pages < count →
+    ArePageEnds told plan size span count from (ends_of pages ++ end ∷ [])
+unfolding Going ArePageEnds
+ends_more told plan size span zero from mid end pages going is few = absurd (omega arith)
+ends_more told plan size span (suc count) from mid end [] going is few = ((let P : ℕ → Type 0 = λ n. IsPageEnd told plan size span n end [] in subst P (sym going) is), tt)
+ends_more told plan size span (suc count) from mid end (page ∷ pages) going is few =
+    (made_end told plan size span from page (ends_of pages ++ end ∷ []) going.0, ends_more told plan size span count page.next mid end pages going.2 is (omega arith))
+
+-- pages alone
+ends_all : (told : Option (List (List ℕ))) (plan : Plan) (size span count from to : ℕ) (pages : List ListPage) → Going told plan size span from to pages → length pages ≤ count → ArePageEnds told plan size span count from (ends_of pages)
+unfolding Going ArePageEnds
+ends_all told plan size span count from to [] going few = tt
+ends_all told plan size span zero from to (page ∷ pages) going few = absurd (omega arith)
+ends_all told plan size span (suc count) from to (page ∷ pages) going few = (made_end told plan size span from page (ends_of pages) going.0, ends_all told plan size span count page.next to pages going.2 (omega arith))
+
+-- the scans with one more end
+scans_more : (told : Option (List (List ℕ))) (plan : Plan) (size span from mid end : ℕ) (pages : List ListPage) → Going told plan size span from mid pages →
+    scans_to told plan from (ends_of pages ++ end ∷ []) ≡ scans_to told plan from (ends_of pages) + scans told plan mid end
+unfolding Going scans_to
+scans_more told plan size span from mid end [] going = (let e : scans told plan from end + 0 ≡ 0 + scans told plan from end = omega arith in e) ∙ ap (λ (n : ℕ). 0 + scans told plan n end) going
+scans_more told plan size span from mid end (page ∷ pages) going = let rest = scans_more told plan size span page.next mid end pages going.2 in omega arith
+
+-- no page
+pub spends_first : (told : Option (List (List ℕ))) (plan : Plan) (from b : ℕ) (s : Seen) → Spends b b s s (scans_to told plan from (ends_of []) * most_scanned plan)
+spends_first told plan from b s = spends_none b (scans_to told plan from (ends_of []) * most_scanned plan) s
+
+-- what the pages made spend, and one more, which was made or not
+pub spends_more : (told : Option (List (List ℕ))) (plan : Plan) (size span from mid end b c a : ℕ) (pages : List ListPage) (old now new : Seen) → Going told plan size span from mid pages →
+    Spends b c old now (scans_to told plan from (ends_of pages) * most_scanned plan) → Scans told plan mid end (MOST_SETS - 1) c a now new → Spends b a old new (scans_to told plan from (ends_of pages ++ end ∷ []) * most_scanned plan)
+spends_more told plan size span from mid end b c a pages old now new going first second =
+    let few : second.count * most_scanned plan ≤ scans told plan mid end * most_scanned plan = mul-le-mul_right (most_scanned plan) (within_scans told plan mid end second.count second.few) in
+    let all : scans_to told plan from (ends_of pages ++ end ∷ []) * most_scanned plan ≡ scans_to told plan from (ends_of pages) * most_scanned plan + scans told plan mid end * most_scanned plan
+    = ap (λ (n : ℕ). n * most_scanned plan) (scans_more told plan size span from mid end pages going) ∙ add-mul (scans_to told plan from (ends_of pages)) (scans told plan mid end) (most_scanned plan) in
+    spends_up b a (scans_to told plan from (ends_of pages) * most_scanned plan + second.count * most_scanned plan) (scans_to told plan from (ends_of pages ++ end ∷ []) * most_scanned plan) old new
+    (spends_join b c a (scans_to told plan from (ends_of pages) * most_scanned plan) (second.count * most_scanned plan) old now new first second.spends) (omega arith)
+
+pub ends_with : (pages : List ListPage) (page : ListPage) → ends_of (pages ++ page ∷ []) ≡ ends_of pages ++ page.next ∷ []
+ends_with pages page = map-append (λ (one : ListPage). one.next) pages (page ∷ [])
+
+-- what all of them read
+reads_of : (told : Option (List (List ℕ))) (plan : Plan) (size span count from b a : ℕ) (ends : List ℕ) (old new : Seen) → b ≤ table_reads plan → ArePageEnds told plan size span count from ends →
+    Spends b a old new (scans_to told plan from ends * most_scanned plan) → ReadsPages told plan size span count from old new
+reads_of told plan size span count from b a ends old new most are spends = record { ends = ends; are = are; reads = reads_up old new spends.reads (omega arith) }
+
+-- the pages made
+pub reads_made : (told : Option (List (List ℕ))) (plan : Plan) (size span count from to b a : ℕ) (pages : List ListPage) (old new : Seen) → b ≤ table_reads plan → Going told plan size span from to pages → length pages ≤ count →
+    Spends b a old new (scans_to told plan from (ends_of pages) * most_scanned plan) → ReadsPages told plan size span count from old new
+reads_made told plan size span count from to b a pages old new most going few spends =
+    reads_of told plan size span count from b a (ends_of pages) old new most (ends_all told plan size span count from to pages going few) spends
+
+-- those and one more
+pub reads_more : (told : Option (List (List ℕ))) (plan : Plan) (size span count from mid b c a : ℕ) (pages : List ListPage) (page : ListPage) (old now new : Seen) → b ≤ table_reads plan → Going told plan size span from mid pages → length pages < count →
+    IsPageFrom told plan mid size span page → Spends b c old now (scans_to told plan from (ends_of pages) * most_scanned plan) → Scans told plan mid page.next (MOST_SETS - 1) c a now new → ReadsPages told plan size span count from old new
+reads_more told plan size span count from mid b c a pages page old now new most going few is_page first second =
+    reads_of told plan size span count from b a (ends_of pages ++ page.next ∷ []) old new most (ends_more told plan size span count from mid page.next pages going (made_end told plan size span mid page [] is_page) few)
+    (spends_more told plan size span from mid page.next b c a pages old now new going first second)
+
+-- and one that could not be made
+pub reads_ended : (told : Option (List (List ℕ))) (plan : Plan) (size span count from mid b c a : ℕ) (pages : List ListPage) (old now new : Seen) → b ≤ table_reads plan → Going told plan size span from mid pages → length pages < count →
+    Spends b c old now (scans_to told plan from (ends_of pages) * most_scanned plan) → Scans told plan mid (stop_of (total_of plan) mid span) (MOST_SETS - 1) c a now new → ReadsPages told plan size span count from old new
+reads_ended told plan size span count from mid b c a pages old now new most going few first second =
+    reads_of told plan size span count from b a (ends_of pages ++ stop_of (total_of plan) mid span ∷ []) old new most
+    (ends_more told plan size span count from mid (stop_of (total_of plan) mid span) pages going (inl (refl, refl)) few)
+    (spends_more told plan size span from mid (stop_of (total_of plan) mid span) b c a pages old now new going first second)

@@ -1,6 +1,7 @@
 -- Sets appended range by range.
-use Rattle.std.proofs.Common.{◌≡◌, ℕ, zero, suc, ◌+◌, ◌-◌, ◌<◌, ◌≤◌, Bool, true, false, List, [], ◌∷◌, ◌++◌, map, refl, sym, ap, ◌∙◌, arith, append_assoc, append-nil, IfSome, Option, Some, None, inl, inr, slice_get}
+use Rattle.std.proofs.Common.{◌≡◌, ℕ, zero, suc, ◌+◌, ◌-◌, ◌<◌, ◌≤◌, Bool, true, false, List, [], ◌∷◌, ◌++◌, map, refl, sym, ap, ◌∙◌, arith, append_assoc, append-nil, IfSome, Option, Some, None, inl, inr, slice_get, All}
 use Rattle.std.proofs.lemmas.Bool.{cases_Bool}
+use Rattle.std.proofs.lemmas.List.Elements.{All-append, All-cons, All-nil}
 use Rattle.std.proofs.lemmas.List.{map-append}
 use Rattle.raid_terms.specs.Page.{passing}
 use Rattle.raid_terms.proofs.Pages.{passing-split}
@@ -8,11 +9,11 @@ use Rattle.search_plan.specs.Sets.{passes_at, sets_of}
 use Rattle.search_plan.specs.declared.plan.Plan.{Plan}
 use Rattle.set_product.specs.declared.heads.HeadSets.{HeadSets}
 use Rattle.candidate_enum.specs.Survivors.{all_admitted, question}
-use Rattle.page_engine.specs.Pages.{AddsIfPasses}
-use Rattle.page_engine.specs.Walk.{AddsRange, IsHeadOf, LeavesOutNone}
+use Rattle.page_engine.specs.Pages.{HoldsSet}
+use Rattle.page_engine.specs.Walk.{AddsRange, IsHeadOf, LeavesOutNone, NonePass}
 use Rattle.page_engine.specs.declared.page_parts.Line.{Line}
 use Rattle.page_engine.proofs.Leaves.{Refused}
-use Rattle.page_engine.proofs.RankByRank.{passes_more, passes_not, still_hold}
+use Rattle.page_engine.proofs.RankByRank.{passes_more, passes_not}
 
 abbrev ranks : List Line → List ℕ
 ranks lines = map (λ held. held.rank) lines
@@ -27,10 +28,6 @@ adds_none (Some bytes) plan from lines = record {
   lines = sym (append-nil (ranks lines)) ∙ ap (λ (xs : List ℕ). ranks lines ++ xs) (sym (no_ranks (passes_at bytes plan) from));
   sets = λ all. all;
 }
-
--- no set of these ranks passes
-abbrev pub NonePass : Option (List (List ℕ)) → Plan → ℕ → ℕ → Type 0
-NonePass told plan a b = IfSome told (λ bytes. (rank : ℕ) → a ≤ rank → rank < b → passes_at bytes plan rank ≡ false)
 
 none_pass : (p : ℕ → Bool) (from a n : ℕ) → from ≤ a → ((rank : ℕ) → a ≤ rank → rank < a + n → p rank ≡ false) → passing p from (a + n) ≡ passing p from a
 none_pass p from a zero low none = ap (passing p from) (let e : a + 0 ≡ a = omega arith in e)
@@ -49,23 +46,24 @@ adds_past (Some bytes) plan from a b old new adds low high none =
       sets = adds.sets;
     }
 
--- one rank more
-pub adds_one : (told : Option (List (List ℕ))) (plan : Plan) (from rank : ℕ) (old mid new : List Line) → AddsRange told plan from rank old mid → from ≤ rank → AddsIfPasses told plan rank mid new → AddsRange told plan from (rank + 1) old new
-adds_one None plan from rank old mid new adds low one = record { lines = tt; sets = λ all. still_hold None plan rank mid new (adds.sets all) one }
-adds_one (Some bytes) plan from rank old mid new adds low (inl past) = record {
-  lines = ap ranks past.0 ∙ adds.lines ∙ ap (λ (xs : List ℕ). ranks old ++ xs) (sym (passes_not (passes_at bytes plan) from rank low past.1));
-  sets = λ all. still_hold (Some bytes) plan rank mid new (adds.sets all) (inl past);
-}
-adds_one (Some bytes) plan from rank old mid new adds low (inr (held, at, holds, is, test)) = record {
-  lines =
-      ap ranks is
-      ∙ map-append (λ (line : Line). line.rank) mid (held ∷ [])
-      ∙ ap (λ (xs : List ℕ). xs ++ held.rank ∷ []) adds.lines
-      ∙ append_assoc (ranks old) (passing (passes_at bytes plan) from rank) (held.rank ∷ [])
-      ∙ ap (λ (r : ℕ). ranks old ++ (passing (passes_at bytes plan) from rank ++ r ∷ [])) at
-      ∙ ap (λ (xs : List ℕ). ranks old ++ xs) (sym (passes_more (passes_at bytes plan) from rank low test));
-  sets = λ all. still_hold (Some bytes) plan rank mid new (adds.sets all) (inr (held, at, holds, is, test));
-}
+-- a set that passes, after ranks of which none does
+pub adds_line : (told : Option (List (List ℕ))) (plan : Plan) (from a : ℕ) (line : Line) (old mid : List Line) → AddsRange told plan from a old mid → from ≤ a → a ≤ line.rank → NonePass told plan a line.rank → HoldsSet plan line →
+    IfSome told (λ bytes. passes_at bytes plan line.rank ≡ true) → AddsRange told plan from (line.rank + 1) old (mid ++ line ∷ [])
+adds_line told plan from a line old mid adds low high none set passes = with_it told passes (adds_past told plan from a line.rank old mid adds low high none)
+  where
+    still : (All (HoldsSet plan) old → All (HoldsSet plan) mid) → All (HoldsSet plan) old → All (HoldsSet plan) (mid ++ line ∷ [])
+    still keeps all = All-append (HoldsSet plan) mid (line ∷ []) (keeps all) (All-cons (HoldsSet plan) line [] set (All-nil (HoldsSet plan)))
+
+    with_it : (known : Option (List (List ℕ))) → IfSome known (λ bytes. passes_at bytes plan line.rank ≡ true) → AddsRange known plan from line.rank old mid → AddsRange known plan from (line.rank + 1) old (mid ++ line ∷ [])
+    with_it None passing_it all = record { lines = tt; sets = still all.sets }
+    with_it (Some bytes) passing_it all = record {
+      lines =
+          map-append (λ (held : Line). held.rank) mid (line ∷ [])
+          ∙ ap (λ (xs : List ℕ). xs ++ line.rank ∷ []) all.lines
+          ∙ append_assoc (ranks old) (passing (passes_at bytes plan) from line.rank) (line.rank ∷ [])
+          ∙ ap (λ (xs : List ℕ). ranks old ++ xs) (sym (passes_more (passes_at bytes plan) from line.rank (omega arith) passing_it));
+      sets = still all.sets;
+    }
 
 -- one range after the other
 pub adds_join : (told : Option (List (List ℕ))) (plan : Plan) (from mid to : ℕ) (a b c : List Line) → AddsRange told plan from mid a b → AddsRange told plan mid to b c → from ≤ mid → mid ≤ to → AddsRange told plan from to a c

@@ -1,16 +1,9 @@
 -- Ranks tested one by one.
 use Rattle.std.proofs.Common.{◌≡◌, ℕ, ◌+◌, ◌-◌, ◌<◌, ◌≤◌, Bool, true, false, cond, List, [], ◌∷◌, ◌++◌, length, take, map, refl, sym, ap, ◌∙◌, arith, append_assoc, append-nil, length-append, Option, All, subst, inl, inr}
 use Rattle.std.proofs.lemmas.List.{take_all, take_at, get_or_at}
-use Rattle.std.proofs.lemmas.List.Elements.{All-append, All-cons, All-nil}
 use Rattle.std.proofs.lemmas.Bool.{le-leb, lt-leb}
 use Rattle.raid_terms.specs.Page.{passing, stop_of, IsPage}
 use Rattle.raid_terms.proofs.Pages.{passing-split}
-use Rattle.search_plan.specs.declared.plan.Plan.{Plan}
-use Rattle.page_engine.specs.Pages.{AddsIfPasses, HoldsSet}
-use Rattle.page_engine.specs.declared.page_parts.Line.{Line}
-
-abbrev ranks : List Line → List ℕ
-ranks lines = map (λ held. held.rank) lines
 
 pub one_rank : (p : ℕ → Bool) (a : ℕ) → passing p a (a + 1) ≡ cond (p a) (a ∷ []) []
 one_rank p a = let e : a + 1 - a ≡ 1 = omega arith in rw e refl
@@ -20,17 +13,6 @@ passes_more p a b le h = passing-split p a b (b + 1) le (omega arith) ∙ ap (λ
 
 pub passes_not : (p : ℕ → Bool) (a b : ℕ) → a ≤ b → p b ≡ false → passing p a (b + 1) ≡ passing p a b
 passes_not p a b le h = passing-split p a b (b + 1) le (omega arith) ∙ (ap (λ xs. passing p a b ++ xs) (one_rank p b ∙ ap (λ t. cond t (b ∷ []) []) h) ∙ append-nil (passing p a b))
-
--- there is at most one line more, and it holds its set
-pub longer : (told : Option (List (List ℕ))) (plan : Plan) (rank : ℕ) (old new : List Line) → AddsIfPasses told plan rank old new → length new ≤ length old + 1
-longer told plan rank old new (inl past) = let e = ap length past.0 in omega arith
-longer told plan rank old new (inr (held, at, holds, is, test)) = let e = ap length is in omega (arith, length-append old (held ∷ []))
-
-pub still_hold : (told : Option (List (List ℕ))) (plan : Plan) (rank : ℕ) (old new : List Line) → All (HoldsSet plan) old → AddsIfPasses told plan rank old new → All (HoldsSet plan) new
-still_hold told plan rank old new all (inl past) = let P : List Line → Type 0 = λ lines. All (HoldsSet plan) lines in subst P (sym past.0) all
-still_hold told plan rank old new all (inr (held, at, holds, is, test)) =
-    let P : List Line → Type 0 = λ lines. All (HoldsSet plan) lines in
-    subst P (sym is) (All-append (HoldsSet plan) old (held ∷ []) all (All-cons (HoldsSet plan) held [] holds (All-nil (HoldsSet plan))))
 
 -- a page that is full
 pub full : (p : ℕ → Bool) (total from size span rank : ℕ) (lines : List ℕ) → from ≤ rank → rank < stop_of total from span → lines ≡ passing p from rank ++ rank ∷ [] → p rank ≡ true → length lines ≡ size → IsPage p total from size span lines (rank + 1)

@@ -1,26 +1,23 @@
 -- What is known of a set of a plan: its parity can be tested over images that agree with the plan.
-use Rattle.std.proofs.Common.{◌≡◌, ◌≢◌, ℕ, ◌*◌, ◌<◌, ◌≤◌, ◌^◌, Bool, true, false, nat_le, ◌&&◌, List, [], ◌∷◌, length, map, refl, sym, ap, ap₂, ◌∙◌, subst, arith, Option, Some, None, Result, Ok, Err, All, IfOk, IfSome, IsTrue, slice_get}
-use Rattle.std.specs.Option.{option_map_or}
-use Rattle.std.proofs.lemmas.Bool.{le-leb, leb-true, and_parts}
+use Rattle.std.proofs.Common.{◌≡◌, ℕ, ◌<◌, ◌≤◌, ◌^◌, Bool, true, false, nat_le, ◌&&◌, List, [], ◌∷◌, length, map, refl, sym, ap, ap₂, ◌∙◌, subst, arith, Option, Some, None, All, IfSome, IsTrue, slice_get}
+use Rattle.std.proofs.lemmas.Bool.{and_parts, le-leb, leb-true}
 use Rattle.std.proofs.lemmas.List.{length-map}
 use Rattle.std.proofs.lemmas.List.Elements.{All-head, All-tail, All-nil, All-cons}
-use Rattle.image_source.specs.Seen.{Image, OnlyReads, Seen}
+use Rattle.image_source.specs.Seen.{Image}
 use Rattle.raid_params.specs.declared.limits.TheConstants.{MOST}
 use Rattle.raid_params.specs.declared.types.Geometry.{Geometry}
 use Rattle.raid_params.specs.Size.{rows}
 use Rattle.raid_params.specs.Validity.{fewest, has_members, has_pattern, has_syndrome, is_chunk, is_shaped, is_valid_head}
 use Rattle.raid_terms.specs.Parity.{passes_parity}
 use Rattle.landmark_rules.specs.Groups.{groups_hold}
-use Rattle.row_scan.specs.Scan.{IsScannable, read_rows}
+use Rattle.row_scan.specs.Scan.{IsScannable}
 use Rattle.search_plan.specs.Plans.{IsPlan}
 use Rattle.search_plan.specs.declared.plan.Plan.{Plan}
 use Rattle.search_plan.specs.Sets.{passes, passes_at, sets_of}
-use Rattle.page_engine.specs.Pages.{AgreeWith, set_reads}
+use Rattle.page_engine.specs.Pages.{AgreeWith}
+use Rattle.page_engine.specs.Walk.{IsCandidate}
+use Rattle.page_engine.specs.declared.page_parts.Line.{Line}
 use Rattle.set_product.proofs.Shaped.{set_at, shaped_set}
-
-and_none : (b : Bool) → (b && false) ≡ false
-and_none true = refl
-and_none false = refl
 
 and_true : (b : Bool) → (b && true) ≡ b
 and_true true = refl
@@ -79,40 +76,9 @@ no_row (Some bytes) plan rank geo e none =
     sym (passes_as bytes plan rank geo e
     ∙ ap (λ (n : ℕ). nat_le 1 n && (passes_parity bytes geo plan.end plan.limits.window plan.limits.badrows && groups_hold geo plan.end plan.tests plan.groups)) none)
 
--- nor one of which a group does not hold
-pub no_group : (told : Option (List (List ℕ))) (plan : Plan) (rank : ℕ) (geo : Geometry) → slice_get (sets_of plan) rank ≡ Some geo → groups_hold geo plan.end plan.tests plan.groups ≡ false →
-    IfSome told (λ bytes. false ≡ passes_at bytes plan rank)
-no_group None plan rank geo e fails = tt
-no_group (Some bytes) plan rank geo e fails =
-    sym (passes_as bytes plan rank geo e
-    ∙ ap (λ (b : Bool). nat_le 1 (rows geo.head plan.end) && (passes_parity bytes geo plan.end plan.limits.window plan.limits.badrows && b)) fails
-    ∙ ap (λ (b : Bool). nat_le 1 (rows geo.head plan.end) && b) (and_none (passes_parity bytes geo plan.end plan.limits.window plan.limits.badrows))
-    ∙ and_none (nat_le 1 (rows geo.head plan.end)))
-
--- another passes where the parity test holds
-some_row : (told : Option (List (List ℕ))) (plan : Plan) (rank : ℕ) (geo : Geometry) (holds : Bool) → slice_get (sets_of plan) rank ≡ Some geo → rows geo.head plan.end ≢ 0 →
-    groups_hold geo plan.end plan.tests plan.groups ≡ true →
-    IfSome told (λ bytes. holds ≡ passes_parity bytes geo plan.end plan.limits.window plan.limits.badrows) → IfSome told (λ bytes. holds ≡ passes_at bytes plan rank)
-some_row None plan rank geo holds e some groups test = tt
-some_row (Some bytes) plan rank geo holds e some groups test =
-    test
-    ∙ sym (passes_as bytes plan rank geo e
-    ∙ ap₂ (λ (a b : Bool). a && (passes_parity bytes geo plan.end plan.limits.window plan.limits.badrows && b)) (le-leb 1 (rows geo.head plan.end) (omega arith)) groups
-    ∙ and_true (passes_parity bytes geo plan.end plan.limits.window plan.limits.badrows))
-
-pub some_row_ok : {E : Type 0} (told : Option (List (List ℕ))) (plan : Plan) (rank : ℕ) (geo : Geometry) (r : Result Bool E) → slice_get (sets_of plan) rank ≡ Some geo → rows geo.head plan.end ≢ 0 →
-    groups_hold geo plan.end plan.tests plan.groups ≡ true →
-    IfOk r (λ holds. IfSome told (λ bytes. holds ≡ passes_parity bytes geo plan.end plan.limits.window plan.limits.badrows)) → IfOk r (λ holds. IfSome told (λ bytes. holds ≡ passes_at bytes plan rank))
-some_row_ok told plan rank geo (Ok holds) e some groups test = some_row told plan rank geo holds e some groups test
-some_row_ok told plan rank geo (Err fault) e some groups test = tt
-
--- its test reads at most the rows of each image that are read for it
-pub reads_set : (old new : Seen) (plan : Plan) (rank : ℕ) (geo : Geometry) → slice_get (sets_of plan) rank ≡ Some geo → AgreeWith plan old.attached →
-    OnlyReads old new (length old.attached * read_rows geo plan.end plan.limits.window) → OnlyReads old new (set_reads plan rank)
-unfolding set_reads
-reads_set old new plan rank geo e agrees reads =
-    let count : length old.attached ≡ length plan.lengths.items = sym (length-map old.attached (λ (image : Image). image.sectors)) ∙ ap length agrees in
-    let same : length plan.lengths.items * read_rows geo plan.end plan.limits.window ≡ length plan.lengths.items * option_map_or (λ (g : Geometry). read_rows g plan.end plan.limits.window) (slice_get (sets_of plan) rank) 0
-    = ap (λ (o : Option Geometry). length plan.lengths.items * option_map_or (λ (g : Geometry). read_rows g plan.end plan.limits.window) o 0) (sym e) in
-    let P : ℕ → Type 0 = λ n. OnlyReads old new n in
-    subst P same (rw count at reads)
+-- a candidate passes where the parity test holds
+pub candidate_passes : (bytes : List (List ℕ)) (plan : Plan) (line : Line) (told : Option (List (List ℕ))) → IsCandidate told plan line → passes_at bytes plan line.rank ≡ passes_parity bytes line.geo plan.end plan.limits.window plan.limits.badrows
+candidate_passes bytes plan line told is =
+    passes_as bytes plan line.rank line.geo is.set
+    ∙ ap₂ (λ (a b : Bool). a && (passes_parity bytes line.geo plan.end plan.limits.window plan.limits.badrows && b)) (le-leb 1 (rows line.geo.head plan.end) is.row) is.groups
+    ∙ and_true (passes_parity bytes line.geo plan.end plan.limits.window plan.limits.badrows)

@@ -1,16 +1,19 @@
 -- Pages of the parameter sets that pass, and what is read for them.
-use Rattle.std.specs.Prelude.{ℕ, zero, suc, ◌≡◌, ◌+◌, ◌≤◌, ◌<◌, ◌^◌, ◌*◌, ◌-◌, ◌⊎◌, Result, Ok, Err, true, false, IfSome, List, [], ◌∷◌, ◌++◌, length, map, sum_by, slice_get, All}
+use Rattle.std.specs.Prelude.{ℕ, zero, suc, ◌≡◌, ◌+◌, ◌≤◌, ◌<◌, ◌^◌, ◌*◌, ◌-◌, ◌/◌, ◌⊎◌, min, Bool, true, false, not, ◌&&◌, ◌||◌, Result, Ok, Err, IfSome, List, [], ◌∷◌, length, map, sum_by, count_by, slice_get, All}
 use Rattle.std.specs.List.{range_with_len}
 use Rattle.std.specs.Option.{option_map_or}
 use Rattle.std.specs.declared.option.Option.{Option}
-use Rattle.std.specs.declared.option.Option.TheVariants.{Some}
+use Rattle.std.specs.declared.option.Option.TheVariants.{None, Some}
 use Rattle.image_source.specs.Causes.{Rose}
-use Rattle.image_source.specs.Seen.{Image, Seen}
-use Rattle.member_regions.specs.Regions.{IsRoomFor, Room}
-use Rattle.member_regions.specs.declared.regions.TheConstants.{BLOCK}
-use Rattle.raid_params.specs.declared.limits.TheConstants.{MOST}
-use Rattle.raid_terms.specs.Page.{stop_of, IsPage}
-use Rattle.row_scan.specs.Scan.{read_rows}
+use Rattle.image_source.specs.Seen.{Image, OnlyReads, Seen}
+use Rattle.raid_params.specs.declared.types.Geometry.{Geometry}
+use Rattle.raid_terms.specs.Page.{page_next, stop_of, IsPage}
+use Rattle.candidate_enum.specs.Survivors.{all_admitted}
+use Rattle.row_scan.specs.Scan.{is_unbreakable}
+use Rattle.row_scan.specs.Windows.{scan_reads}
+use Rattle.row_scan.specs.declared.many_sets.TheConstants.{MOST_SETS}
+use Rattle.prune_filters.specs.Hopeful.{is_hopeful}
+use Rattle.prune_filters.specs.Rows.{rows_decide}
 use Rattle.prune_filters.specs.Xors.{most_tested}
 use Rattle.search_plan.specs.Sets.{passes_at, sets_of, total_of}
 use Rattle.search_plan.specs.declared.plan.Plan.{Plan}
@@ -52,12 +55,6 @@ EndsPage plan from old new (Cursor fault) = (total_of plan < from) × (fault ≡
 EndsPage plan from old new ReadFault = Rose old.faults new.faults
 EndsPage plan from old new Memory = Unit {0}
 
--- the set of the rank was appended where it passes, over the bytes of the images where they are told
-abbrev pub AddsIfPasses : Option (List (List ℕ)) → Plan → ℕ → List Line → List Line → Type 0
-AddsIfPasses told plan rank old new =
-    ((new ≡ old) × IfSome told (λ bytes. passes_at bytes plan rank ≡ false))
-    ⊎ ((held : Line) × (held.rank ≡ rank) × HoldsSet plan held × (new ≡ old ++ held ∷ []) × IfSome told (λ bytes. passes_at bytes plan rank ≡ true))
-
 -- why a test of a set has no answer: the images failed, or memory ran out
 abbrev pub EndsTest : Seen → Seen → PageFault → Type 0
 EndsTest old new Many = ⊥
@@ -65,13 +62,34 @@ EndsTest old new (Cursor fault) = ⊥
 EndsTest old new ReadFault = Rose old.faults new.faults
 EndsTest old new Memory = Unit {0}
 
--- the most sectors that are read for the set of a rank: its tested rows, of each image, and none where nothing can break a row
-unfoldable pub set_reads : Plan → ℕ → ℕ
-set_reads plan rank = length plan.lengths.items * option_map_or (λ geo. read_rows geo plan.end plan.limits.window) (slice_get (sets_of plan) rank) 0
+-- a set of the plan is hopeful: each prefix of its slots is, over the bytes of the images. Where some are not told, any is
+unfoldable pub is_hopeful_at : Option (List (List ℕ)) → Plan → ℕ → Bool
+is_hopeful_at None plan rank = true
+is_hopeful_at (Some bytes) plan rank = option_map_or (λ geo. all_admitted (is_hopeful bytes plan geo.head) geo.slots.items) (slice_get (sets_of plan) rank) false
 
--- for the sets of the ranks from one up to another
-unfoldable pub rank_reads : Plan → ℕ → ℕ → ℕ
-rank_reads plan from to = sum_by (set_reads plan) (range_with_len from (to - from))
+-- the parity test of a set asks for none of its rows: nothing can break one, or the tables of rows decide
+abbrev pub is_decided : Plan → Geometry → Bool
+is_decided plan geo = is_unbreakable geo || rows_decide plan geo.head
+
+-- a hopeful set of which rows have to be tested
+unfoldable pub is_open_at : Option (List (List ℕ)) → Plan → ℕ → Bool
+is_open_at told plan rank = is_hopeful_at told plan rank && not (option_map_or (is_decided plan) (slice_get (sets_of plan) rank) true)
+
+-- how many sets of the ranks from one up to another are hopeful, and of how many rows have to be tested
+unfoldable pub hopeful_ranks : Option (List (List ℕ)) → Plan → ℕ → ℕ → ℕ
+hopeful_ranks told plan from to = count_by (is_hopeful_at told plan) (range_with_len from (to - from))
+
+unfoldable pub open_ranks : Option (List (List ℕ)) → Plan → ℕ → ℕ → ℕ
+open_ranks told plan from to = count_by (is_open_at told plan) (range_with_len from (to - from))
+
+-- how many scans they take: one for each `MOST_SETS` hopeful sets, and for what is left of them, but no more than there
+-- are sets of which rows have to be tested
+unfoldable pub scans : Option (List (List ℕ)) → Plan → ℕ → ℕ → ℕ
+scans told plan from to = min (open_ranks told plan from to) ((hopeful_ranks told plan from to + (MOST_SETS - 1)) / MOST_SETS)
+
+-- the most sectors that a scan of sets of the plan reads
+unfoldable pub most_scanned : Plan → ℕ
+most_scanned plan = scan_reads (length plan.lengths.items) plan.end plan.limits.window plan.bounds.offsets.items
 
 -- for the tables of an offset: the tested rows of the chunk that has most, of each image
 abbrev pub offset_reads : Plan → ℕ → ℕ
@@ -81,28 +99,38 @@ offset_reads plan offset = length plan.lengths.items * most_tested plan plan.bou
 unfoldable pub table_reads : Plan → ℕ
 table_reads plan = sum_by (offset_reads plan) plan.bounds.offsets.items
 
--- and for pages: that once, and for the sets of their ranks
-unfoldable pub page_reads : Plan → ℕ → ℕ → ℕ
-page_reads plan from to = table_reads plan + rank_reads plan from to
+-- the most sectors that are read for a page whose ranks are those from one up to another: for the tables, and for its scans
+unfoldable pub page_reads : Option (List (List ℕ)) → Plan → ℕ → ℕ → ℕ
+page_reads told plan from to = table_reads plan + scans told plan from to * most_scanned plan
 
 -- the rank up to which sets are tested: where the next page begins, or, where there is no page, the end of the range
 abbrev pub tested_to : ℕ → Result ListPage PageFault → ℕ
 tested_to stop (Ok page) = page.next
 tested_to stop (Err fault) = stop
 
--- where the last of some pages goes on
-unfoldable pub last_next : ℕ → List ListPage → ℕ
-last_next from [] = from
-last_next from (page ∷ pages) = last_next page.next pages
+-- where a page from a rank on ends: where the next one begins, over the bytes of the images where they are told; a page
+-- that could not be made ends with its range, and no page comes after it
+abbrev pub IsPageEnd : Option (List (List ℕ)) → Plan → ℕ → ℕ → ℕ → ℕ → List ℕ → Type 0
+IsPageEnd told plan size span from end later =
+    ((end ≡ stop_of (total_of plan) from span) × (later ≡ []))
+    ⊎ ((from ≤ end) × (end ≤ stop_of (total_of plan) from span) × IfSome told (λ bytes. end ≡ page_next (passes_at bytes plan) (total_of plan) from size span))
 
--- the same of pages
-abbrev pub all_tested_to : ℕ → ℕ → Result (List ListPage) PageFault → ℕ
-all_tested_to stop from (Ok pages) = last_next from pages
-all_tested_to stop from (Err fault) = stop
+-- where pages end, of which there are at most so many, each where the last one ended
+unfoldable pub ArePageEnds : Option (List (List ℕ)) → Plan → ℕ → ℕ → ℕ → ℕ → List ℕ → Type 0
+ArePageEnds told plan size span count from [] = Unit {0}
+ArePageEnds told plan size span zero from (end ∷ later) = ⊥
+ArePageEnds told plan size span (suc count) from (end ∷ later) = IsPageEnd told plan size span from end later × ArePageEnds told plan size span count end later
 
--- room in which the rows of any set can be tested
-unfoldable pub HasRoom : Room → Type 0
-HasRoom room = IsRoomFor MOST BLOCK room
+-- how many scans pages take that end at these ranks
+unfoldable pub scans_to : Option (List (List ℕ)) → Plan → ℕ → List ℕ → ℕ
+scans_to told plan from [] = 0
+scans_to told plan from (end ∷ later) = scans told plan from end + scans_to told plan end later
+
+-- what is read for pages: for the tables, once for all of them, and for the scans of each
+pub record ReadsPages (told : Option (List (List ℕ))) (plan : Plan) (size span count from : ℕ) (old new : Seen) : Type 0 where
+  pub ends : List ℕ
+  pub are : ArePageEnds told plan size span count from ends
+  pub reads : OnlyReads old new (table_reads plan + scans_to told plan from ends * most_scanned plan)
 
 -- the attached images have the planned lengths, and there are no others
 abbrev pub AgreeWith : Plan → List Image → Type 0

@@ -1,12 +1,14 @@
 -- A walk over the heads of a plan, and over the slot lists of each that are admitted.
-use Rattle.std.specs.Prelude.{ℕ, Result, Ok, Err, ◌≡◌, ◌+◌, ◌-◌, ◌<◌, ◌≤◌, ◌^◌, ◌==◌, Bool, true, if◌then◌else◌, IfSome, IsSomeAnd, List, ◌++◌, length, map, slice_get, sum_by, All, Contains}
+use Rattle.std.specs.Prelude.{ℕ, Result, Ok, Err, ◌≡◌, ◌+◌, ◌-◌, ◌*◌, ◌<◌, ◌≤◌, ◌^◌, ◌==◌, ◌⊎◌, Bool, true, false, if◌then◌else◌, IfSome, IsSomeAnd, MatchOption, List, [], ◌∷◌, ◌++◌, length, map, slice_get, sum_by, All, Contains}
 use Rattle.std.specs.List.{list_any}
 use Rattle.std.specs.declared.option.Option.{Option}
 use Rattle.std.specs.declared.option.Option.TheVariants.{None, Some}
+use Rattle.raid_params.specs.Size.{rows}
 use Rattle.raid_params.specs.Validity.{is_valid_head}
 use Rattle.raid_params.specs.declared.types.Bounds.{Bounds}
 use Rattle.raid_params.specs.declared.types.Head.{Head}
-use Rattle.raid_terms.specs.Page.{passing, stop_of, IsPage}
+use Rattle.raid_terms.specs.Page.{passing}
+use Rattle.landmark_rules.specs.Groups.{groups_hold}
 use Rattle.search_plan.specs.Sets.{passes_at, sets_of, total_of}
 use Rattle.search_plan.specs.declared.plan.Plan.{Plan}
 use Rattle.set_product.specs.declared.heads.HeadSets.{HeadSets}
@@ -15,8 +17,10 @@ use Rattle.slot_math.specs.declared.space.Space.{Space}
 use Rattle.slot_math.specs.Space.{lists_of}
 use Rattle.candidate_enum.specs.Survivors.{all_admitted}
 use Rattle.image_source.specs.Seen.{OnlyReads, Seen}
-use Rattle.page_engine.specs.Pages.{offset_reads, HoldsSet}
+use Rattle.row_scan.specs.declared.many_sets.TheConstants.{MOST_SETS}
+use Rattle.page_engine.specs.Pages.{hopeful_ranks, is_decided, is_hopeful_at, most_scanned, offset_reads, open_ranks, HoldsSet}
 use Rattle.prune_filters.specs.Xors.{AreXorTables, RowTable}
+use Rattle.page_engine.specs.declared.gathering.Gathered.{Gathered}
 use Rattle.page_engine.specs.declared.page_parts.Line.{Line}
 use Rattle.page_engine.specs.declared.row_tables.OffsetTables.{OffsetTables}
 use Rattle.page_engine.specs.declared.page_parts.PageFault.{PageFault}
@@ -77,15 +81,56 @@ pub record Spends (before after : ℕ) (old new : Seen) (sectors : ℕ) : Type 0
   pub fewer : after ≤ before
   pub reads : OnlyReads old new (before - after + sectors)
 
+-- a set that passes where it meets the parity test: there is a whole row, and the landmark test is met; and it is hopeful
+pub record IsCandidate (told : Option (List (List ℕ))) (plan : Plan) (line : Line) : Type 0 where
+  pub set : HoldsSet plan line
+  pub among : IsAmong plan.bounds line.geo.head
+  pub row : 1 ≤ rows line.geo.head plan.end
+  pub groups : groups_hold line.geo plan.end plan.tests plan.groups ≡ true
+  pub hopeful : is_hopeful_at told plan line.rank ≡ true
+
 -- of a head's sets that pass, each prefix of the slots is admitted, over the bytes of the images where they are told
 abbrev pub LeavesOutNone : Option (List (List ℕ)) → Plan → Head → (List (Option ℕ) → Bool) → Type 0
 LeavesOutNone told plan head admits = IfSome told (λ bytes. (rank : ℕ) (slots : List (Option ℕ)) →
     slice_get (sets_of plan) rank ≡ Some (record { head = head; slots = record { items = slots } }) → passes_at bytes plan rank ≡ true → all_admitted admits slots ≡ true)
 
+-- so it is, and each slot list that is admitted is that of a hopeful set that meets the landmark test
+pub record AdmitsHopeful (told : Option (List (List ℕ))) (plan : Plan) (head : Head) (admits : List (Option ℕ) → Bool) : Type 0 where
+  pub leaves_out_none : LeavesOutNone told plan head admits
+  pub hopeful : (rank : ℕ) (slots : List (Option ℕ)) → slice_get (sets_of plan) rank ≡ Some (record { head = head; slots = record { items = slots } }) →
+      all_admitted admits slots ≡ true → IsCandidate told plan (record { rank = rank; geo = record { head = head; slots = record { items = slots } } })
+
+-- no set of the ranks from one up to another passes
+abbrev pub NonePass : Option (List (List ℕ)) → Plan → ℕ → ℕ → Type 0
+NonePass told plan from to = IfSome told (λ bytes. (rank : ℕ) → from ≤ rank → rank < to → passes_at bytes plan rank ≡ false)
+
+-- of the ranks from one up to another these candidates wait, in their order, and no other set passes
+unfoldable pub Wait : Option (List (List ℕ)) → Plan → ℕ → ℕ → List Line → Type 0
+Wait told plan from to [] = (from ≤ to) × NonePass told plan from to
+Wait told plan from to (line ∷ lines) = (from ≤ line.rank) × NonePass told plan from line.rank × IsCandidate told plan line × Wait told plan (line.rank + 1) to lines
+
+-- the first of those that wait has rows to be tested
+abbrev pub BeginOpen : Plan → List Line → Type 0
+BeginOpen plan [] = Unit {0}
+BeginOpen plan (line ∷ lines) = is_decided plan line.geo ≡ false
+
+-- a page in the making, at a rank: it is not full, and of the ranks before this one each set that may pass is among its
+-- lines or waits
+pub record StandsAt (told : Option (List (List ℕ))) (plan : Plan) (size at : ℕ) (page : Gathered) : Type 0 where
+  pub few : length page.lines < size
+  pub wait : Wait told plan page.tested at page.waiting
+  pub first : BeginOpen plan page.waiting
+  pub room : length page.waiting < MOST_SETS
+
 -- the sets that pass of the ranks from one up to another were appended
 pub record AddsRange (told : Option (List (List ℕ))) (plan : Plan) (from to : ℕ) (old new : List Line) : Type 0 where
   pub lines : IfSome told (λ bytes. map (λ held. held.rank) new ≡ map (λ held. held.rank) old ++ passing (passes_at bytes plan) from to)
   pub sets : All (HoldsSet plan) old → All (HoldsSet plan) new
+
+-- they were appended up to the end of the range, and the page is not full
+pub record AddsAll (told : Option (List (List ℕ))) (plan : Plan) (from to size : ℕ) (old new : List Line) : Type 0 where
+  pub adds : AddsRange told plan from to old new
+  pub few : length new < size
 
 -- they were appended up to this rank, and with the last of them the page is full
 pub record FillsPage (told : Option (List (List ℕ))) (plan : Plan) (from to size next : ℕ) (old new : List Line) : Type 0 where
@@ -95,31 +140,63 @@ pub record FillsPage (told : Option (List (List ℕ))) (plan : Plan) (from to si
   pub last : IfSome told (λ bytes. passes_at bytes plan (next - 1) ≡ true)
   pub many : length new ≡ size
 
--- they were appended up to the end of the range, and the page is not full
-pub record AddsAll (told : Option (List (List ℕ))) (plan : Plan) (from to size : ℕ) (old new : List Line) : Type 0 where
-  pub adds : AddsRange told plan from to old new
-  pub few : length new < size
+-- a page has come to a rank: what was tested was appended, and it is not full
+pub record GoesOn (told : Option (List (List ℕ))) (plan : Plan) (size to : ℕ) (old new : Gathered) : Type 0 where
+  pub stands : StandsAt told plan size to new
+  pub forward : old.tested ≤ new.tested
+  pub adds : AddsRange told plan old.tested new.tested old.lines new.lines
+
+-- a page was gathered up to a rank, or it was full before
+abbrev pub Gathers : Option (List (List ℕ)) → Plan → ℕ → ℕ → Gathered → Gathered → Option ℕ → Type 0
+Gathers told plan size to old new full = MatchOption full (GoesOn told plan size to old new) (λ next. FillsPage told plan old.tested to size next old.lines new.lines)
+
+-- a page is whole: it was full before this rank, or each set before it is tested
+abbrev pub Finishes : Option (List (List ℕ)) → Plan → ℕ → ℕ → Gathered → Gathered → ℕ → Type 0
+Finishes told plan size stop old new next =
+    ((next ≡ stop) × AddsAll told plan old.tested stop size old.lines new.lines) ⊎ FillsPage told plan old.tested stop size next old.lines new.lines
+
+-- the first of those that wait stands before a rank
+abbrev pub BeginBefore : ℕ → List Line → Type 0
+BeginBefore next [] = Unit {0}
+BeginBefore next (line ∷ lines) = line.rank < next
+
+-- of those that wait, the sets that pass were appended: up to a rank, or to the last one of the page
+abbrev pub AddsWaiting : Option (List (List ℕ)) → Plan → ℕ → ℕ → ℕ → List Line → List Line → List Line → Option ℕ → Type 0
+AddsWaiting told plan from at size waiting old new full = MatchOption full
+    (AddsAll told plan from at size old new)
+    (λ next. FillsPage told plan from at size next old new × BeginBefore next waiting)
+
+-- so many scans are no more than there are sets of the ranks from one up to another of which rows have to be tested, nor
+-- than there are `MOST_SETS` hopeful ones, where `spare` more are counted
+pub record AreScans (told : Option (List (List ℕ))) (plan : Plan) (from to spare count : ℕ) : Type 0 where
+  pub needed : count ≤ open_ranks told plan from to
+  pub many : count * MOST_SETS ≤ hopeful_ranks told plan from to + spare
+
+-- the rank up to which sets were tested, and what may be spared there: only full scans are made before the end
+abbrev pub tested_by : ℕ → Gathered → Result (Option ℕ) PageFault → ℕ
+tested_by to new (Ok None) = new.tested
+tested_by to new (Ok (Some next)) = next
+tested_by to new (Err fault) = to
+
+abbrev pub spared_by : Result (Option ℕ) PageFault → ℕ
+spared_by (Ok None) = 0
+spared_by (Ok (Some next)) = MOST_SETS - 1
+spared_by (Err fault) = MOST_SETS - 1
+
+-- the same of a page that is whole
+abbrev pub ended_at : ℕ → Result ℕ PageFault → ℕ
+ended_at stop (Ok next) = next
+ended_at stop (Err fault) = stop
+
+-- nothing but the counts changed, and no more was read than for the tables that are made now, and for scans of the ranks
+-- from one up to another
+pub record Scans (told : Option (List (List ℕ))) (plan : Plan) (from to spare before after : ℕ) (old new : Seen) : Type 0 where
+  pub count : ℕ
+  pub few : AreScans told plan from to spare count
+  pub spends : Spends before after old new (count * most_scanned plan)
 
 -- a range of the ranks of a head
 pub record IsPart (sets : HeadSets) (from stop : ℕ) : Type 0 where
   pub begins : sets.first ≤ from
   pub ordered : from ≤ stop
   pub ends : stop ≤ sets.first + sets.count
-
--- the rank up to which sets were tested: where the page is full, or else the end of the range
-abbrev pub added_to : ℕ → Result (Option ℕ) PageFault → ℕ
-added_to stop (Ok (Some next)) = next
-added_to stop (Ok None) = stop
-added_to stop (Err fault) = stop
-
--- the lines are those of a page, and the next page goes on at this rank
-pub record IsFilled (told : Option (List (List ℕ))) (plan : Plan) (from size span : ℕ) (lines : List Line) (next : ℕ) : Type 0 where
-  pub page : IfSome told (λ bytes. IsPage (passes_at bytes plan) (total_of plan) from size span (map (λ held. held.rank) lines) next)
-  pub sets : All (HoldsSet plan) lines
-  pub forward : from ≤ next
-  pub within : next ≤ stop_of (total_of plan) from span
-
--- the rank up to which sets were tested for a page
-abbrev pub filled_to : ℕ → Result ℕ PageFault → ℕ
-filled_to stop (Ok next) = next
-filled_to stop (Err fault) = stop

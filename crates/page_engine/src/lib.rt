@@ -9,16 +9,21 @@
 //! is a law of `prune_filters`. A table of marks is held at a time, and the tables of rows, those of all chunks
 //! of an offset together, are made where the first head needs them and kept for all pages of a call.
 //!
+//! The sets that a walk admits are hopeful: they pass where they meet the parity test. Where nothing can break a row of
+//! a set, or the tables of rows decide, it does. The others are gathered, also of several heads, and as many as a scan
+//! may test are tested in one pass over the images (`row_scan`).
+//!
 //! `plan_jobs` prints pages for `list`. The sets of a plan stand in `Sets` of `search_plan`, a page by
 //! its ranks in `Page` of `raid_terms`, pages with what is read for them in `specs/Pages`, and what the
 //! walk keeps in `specs/Walk`.
 #![tactic(auto)]
 
+mod gathering;
 mod hopeful;
 mod page_parts;
 mod paging;
 mod row_tables;
-mod testing;
+mod scanning;
 mod walking;
 
 pub use page_parts::{CursorFault, Line, Lines, ListPage, PageFault, PageList};

@@ -1,7 +1,24 @@
 //! Pages and their parts.
 use image_source::ListOf;
 use raid_params::Geometry;
+use search_plan::Plan;
+use std::alloc::Global;
 use thiserror::Error;
+
+/// What a page is made of, and with.
+#[derive(Drop)]
+pub(crate) struct Paging<'a, R, G> {
+    /// That which starts threads.
+    pub rt: &'a R,
+    /// That which gives memory.
+    pub alloc: Global,
+    /// The plan.
+    pub plan: &'a Plan,
+    /// The most lines of a page.
+    pub size: u64,
+    /// What each piece of a scan passes.
+    pub gate: &'a G,
+}
 
 /// A parameter set that passes, with its rank.
 #[derive(Drop)]

@@ -9,10 +9,12 @@ use arrayvec::ArrayVec;
 use image_source::{Images, MemImages};
 use landmark_rules::{Groups, MarkTests};
 use raid_params::{Bounds, Level, Pattern, Syndrome};
+use row_scan::OpenGate;
 use search_plan::{Limits, Plan};
 use std::alloc::Global;
 use std::process::Abort;
 use std::test::Fail;
+use std::thread::Threads;
 
 // The elements, in order.
 fn filled<T: Copy + Default, const N: usize>(items: &[T]) -> ArrayVec<T, N>
@@ -81,7 +83,7 @@ fn agree(images: &MemImages, plan: &Plan) -> bool
 }
 
 // A page of the sets that pass, of at most so many.
-fn page_of<R: AllocGlobal + Abort>(
+fn page_of<R: Threads + Sync + AllocGlobal + Abort>(
     rt: &R,
     images: &mut MemImages,
     plan: &Plan,
@@ -91,7 +93,7 @@ fn page_of<R: AllocGlobal + Abort>(
     requires size { 1 ≤ size }
 {
     assert!(rt; agree(images, plan));
-    page(rt.alloc(), images, plan, 0, size, 100).ok()
+    page(rt, rt.alloc(), images, plan, 0, size, 100, &OpenGate).ok()
 }
 
 // 1, 3 and 2 cancel bit by bit, so that all sets pass; 1, 3 and 7 do not, and those of level 0 do.
@@ -117,11 +119,30 @@ fn three_pages(rt: HostRuntime) -> Result<(), Fail> {
     let plan = two_levels(rt.alloc());
     let mut images = three_images(&rt, [&[1; 1024], &[3; 1024], &[7; 1024]])?;
     assert!(rt; agree(&images, &plan));
-    let made = pages(rt.alloc(), &mut images, &plan, 3, 7, 7, 5).expect(&rt, "pages");
+    let made = pages(&rt, rt.alloc(), &mut images, &plan, 3, 7, 7, 5, &OpenGate).expect(
+        &rt, "pages",
+    );
     let made = made.as_slice();
     assert_eq!(rt; made.len(), 3);
     assert_eq!(rt; (made[0].lines.as_slice().len(), made[0].next), (7, 10));
     assert_eq!(rt; (made[1].lines.as_slice().len(), made[1].next), (2, 17));
     assert_eq!(rt; (made[2].lines.as_slice().len(), made[2].next), (0, 18));
+    Ok(())
+}
+
+// Nothing can break a set of level 0, and the tables of rows decide those of level 5: whatever the number of sets, each
+// of the three images, of two sectors, is read once. These are the calls after the three attachments.
+#[test]
+fn each_image_is_read_once(rt: HostRuntime) -> Result<(), Fail> {
+    let plan = two_levels(rt.alloc());
+    for call in 4..8 {
+        let mut images = three_images(&rt, [&[1; 1024], &[3; 1024], &[2; 1024]])?;
+        images.fail_call(call)?;
+        let all = page_of(&rt, &mut images, &plan, 100);
+        assert_eq!(rt;
+            all.map(|found| found.lines.as_slice().len()),
+            if call < 7 { None } else { Some(18) }
+        );
+    }
     Ok(())
 }

@@ -1,150 +1,119 @@
 //! A walk over the ranks of a plan, head by head.
-ghost use Rattle.std.specs.Prelude.{◌≡◌, ◌+◌, ◌<◌, ◌≤◌, ◌^◌, All, IfErr, IfOk, IfSome, IsSome, MatchOption, [], length, true};
+ghost use Rattle.std.specs.Prelude.{◌≡◌, ◌-◌, ◌<◌, ◌≤◌, ◌^◌, All, IfErr, IfOk, IfSome, IsSome, length, true};
 ghost use Rattle.std.specs.Option.{option_map};
 ghost use Rattle.image_source.specs.Attached.{told_all};
-ghost use Rattle.image_source.specs.Seen.{OnlyReads};
-ghost use Rattle.page_engine.specs.declared.page_parts.PageFault.TheVariants.{Memory};
 ghost use Rattle.raid_terms.specs.Page.{stop_of};
 ghost use Rattle.search_plan.specs.Plans.{IsPlan};
 ghost use Rattle.search_plan.specs.Sets.{total_of};
 ghost use Rattle.prune_filters.specs.Rows.{needs_table as head_needs_table};
 ghost use Rattle.prune_filters.specs.Xors.{AreXors};
-ghost use Rattle.page_engine.specs.Pages.{AgreeWith, EndsTest, HasRoom, HoldsSet, IsPageOf, rank_reads, tested_to};
-ghost use Rattle.page_engine.specs.Walk.{AddsAll, added_to, filled_to, FillsPage, IsFilled, IsHeadOf, IsKept, IsPart, left_after, left_reads, Spends};
+ghost use Rattle.row_scan.specs.declared.many_sets.TheConstants.{MOST_SETS};
+ghost use Rattle.page_engine.specs.Pages.{AgreeWith, EndsTest, HoldsSet, IsPageOf, tested_to};
+ghost use Rattle.page_engine.specs.Walk.{ended_at, Finishes, Gathers, IsHeadOf, IsKept, IsPart, left_after, left_reads, Scans, spared_by, StandsAt, tested_by};
 
+use crate::gathering::{Gathered, gather_admitted};
 use crate::hopeful::Hopeful;
-use crate::page_parts::{Lines, ListPage, PageFault};
+use crate::page_parts::{Lines, ListPage, PageFault, Paging};
 use crate::row_tables::{KeptTables, table_at, table_place};
-use crate::testing::add_admitted;
+use crate::scanning::finish;
 use address_map::rows;
 use image_source::Images;
-use member_regions::{BLOCK, Regions};
 use prune_filters::{XorTable, needs_table};
-use raid_params::MOST;
-use search_plan::Plan;
+use row_scan::{Gate, MOST_SETS};
 use set_product::{HeadSets, Heads};
-use std::alloc::Global;
+use std::thread::Threads;
 
 /// The page of a plan from a rank on, where the plan has so many sets.
-pub(crate) fn walk<I: Images>(
-    alloc: Global,
+pub(crate) fn walk<R: Threads + Sync, I: Images, G: Gate + Sync>(
+    paging: &Paging<R, G>,
     images: &mut I,
     kept: &mut KeptTables,
-    plan: &Plan,
     total: u64,
     from: u64,
-    size: u64,
     span: u64,
 ) -> Result<ListPage, PageFault>
-    requires plan { IsPlan plan.now }
-    requires lengths { AgreeWith plan.now (I.seen images.old).attached }
-    requires total { total ≡ total_of plan.now }
-    requires from { from ≤ total_of plan.now }
-    requires size { 1 ≤ size }
-    requires kept { All (IsKept (told_all (I.seen images.old).attached) plan.now) kept.old }
-    ensures page { IfOk result (λ p. IfSome (told_all (I.seen images.old).attached) (λ bytes. IsPageOf bytes plan.now from size span p)) }
-    ensures sets { IfOk result (λ p. All (HoldsSet plan.now) p.lines) }
-    ensures total { IfOk result (λ p. p.total ≡ total_of plan.now) }
+    requires plan { IsPlan paging.now.plan.now }
+    requires lengths { AgreeWith paging.now.plan.now (I.seen images.old).attached }
+    requires total { total ≡ total_of paging.now.plan.now }
+    requires from { from ≤ total_of paging.now.plan.now }
+    requires size { 1 ≤ paging.now.size }
+    requires kept { All (IsKept (told_all (I.seen images.old).attached) paging.now.plan.now) kept.old }
+    ensures page { IfOk result (λ p. IfSome (told_all (I.seen images.old).attached) (λ bytes. IsPageOf bytes paging.now.plan.now from paging.now.size span p)) }
+    ensures sets { IfOk result (λ p. All (HoldsSet paging.now.plan.now) p.lines) }
+    ensures total { IfOk result (λ p. p.total ≡ total_of paging.now.plan.now) }
     ensures ends { IfErr result (EndsTest (I.seen images.old) (I.seen images.new)) }
-    ensures reads { Spends (left_reads plan.now kept.old) (left_after plan.now kept.new result) (I.seen images.old) (I.seen images.new)
-        (rank_reads plan.now from (tested_to (stop_of (total_of plan.now) from span) result)) }
-    ensures kept { All (IsKept (told_all (I.seen images.old).attached) plan.now) kept.new }
+    ensures reads { Scans (told_all (I.seen images.old).attached) paging.now.plan.now from (tested_to (stop_of (total_of paging.now.plan.now) from span) result) (MOST_SETS - 1)
+        (left_reads paging.now.plan.now kept.old) (left_after paging.now.plan.now kept.new result) (I.seen images.old) (I.seen images.new) }
+    ensures kept { All (IsKept (told_all (I.seen images.old).attached) paging.now.plan.now) kept.new }
     ensures forward { IfOk result (λ p. from ≤ p.next) }
-    ensures within { IfOk result (λ p. p.next ≤ stop_of (total_of plan.now) from span) }
-{
-    let mut lines = Lines::new(alloc);
-    let mut blocks = scan_room(alloc)?;
-    let next = fill_page(
-        alloc,
-        images,
-        &mut blocks,
-        kept,
-        plan,
-        total,
-        from,
-        size,
-        span,
-        &mut lines,
-    )?;
-    Ok(ListPage { lines, next, total })
-}
-
-/// Room in which the rows of any set can be tested.
-fn scan_room(alloc: Global) -> Result<Regions, PageFault>
-    ensures room { IfOk result HasRoom }
-    ensures memory { IfErr result (λ fault. fault ≡ Memory) }
-{
-    match Regions::new(alloc, MOST, BLOCK) {
-        Ok(room) => Ok(room),
-        Err(_) => Err(PageFault::Memory),
-    }
-}
-
-/// Appends the lines of a page, of which there are none yet, and gives the rank from which the next page
-/// goes on.
-fn fill_page<I: Images>(
-    alloc: Global,
-    images: &mut I,
-    blocks: &mut Regions,
-    kept: &mut KeptTables,
-    plan: &Plan,
-    total: u64,
-    from: u64,
-    size: u64,
-    span: u64,
-    lines: &mut Lines,
-) -> Result<u64, PageFault>
-    requires plan { IsPlan plan.now }
-    requires lengths { AgreeWith plan.now (I.seen images.old).attached }
-    requires total { total ≡ total_of plan.now }
-    requires from { from ≤ total_of plan.now }
-    requires size { 1 ≤ size }
-    requires none { lines.old ≡ [] }
-    requires blocks { HasRoom blocks.old }
-    requires kept { All (IsKept (told_all (I.seen images.old).attached) plan.now) kept.old }
-    ensures page { IfOk result (IsFilled (told_all (I.seen images.old).attached) plan.now from size span lines.new) }
-    ensures ends { IfErr result (EndsTest (I.seen images.old) (I.seen images.new)) }
-    ensures reads { Spends (left_reads plan.now kept.old) (left_after plan.now kept.new result) (I.seen images.old) (I.seen images.new)
-        (rank_reads plan.now from (filled_to (stop_of (total_of plan.now) from span) result)) }
-    ensures kept { All (IsKept (told_all (I.seen images.old).attached) plan.now) kept.new }
+    ensures within { IfOk result (λ p. p.next ≤ stop_of (total_of paging.now.plan.now) from span) }
 {
     let stop = total.min(from.saturating_add(span));
-    match add_range(alloc, images, blocks, kept, plan, from, stop, size, lines)? {
+    let mut page = Gathered {
+        lines: Lines::new(paging.alloc),
+        tested: from,
+        waiting: Lines::new(paging.alloc),
+    };
+    let next = fill(paging, images, kept, from, stop, &mut page)?;
+    Ok(ListPage {
+        lines: page.lines,
+        next,
+        total,
+    })
+}
+
+/// Makes a page whole, of the sets of ranks from `from` up to `stop`, and gives the rank from which the next page goes on.
+fn fill<R: Threads + Sync, I: Images, G: Gate + Sync>(
+    paging: &Paging<R, G>,
+    images: &mut I,
+    kept: &mut KeptTables,
+    from: u64,
+    stop: u64,
+    page: &mut Gathered,
+) -> Result<u64, PageFault>
+    requires plan { IsPlan paging.now.plan.now }
+    requires lengths { AgreeWith paging.now.plan.now (I.seen images.old).attached }
+    requires few { total_of paging.now.plan.now < 2 ^ 64 }
+    requires range { from ≤ stop }
+    requires stop { stop ≤ total_of paging.now.plan.now }
+    requires stands { StandsAt (told_all (I.seen images.old).attached) paging.now.plan.now paging.now.size from page.old }
+    requires kept { All (IsKept (told_all (I.seen images.old).attached) paging.now.plan.now) kept.old }
+    ensures finishes { IfOk result (Finishes (told_all (I.seen images.old).attached) paging.now.plan.now paging.now.size stop page.old page.new) }
+    ensures ends { IfErr result (EndsTest (I.seen images.old) (I.seen images.new)) }
+    ensures reads { Scans (told_all (I.seen images.old).attached) paging.now.plan.now page.old.tested (ended_at stop result) (MOST_SETS - 1)
+        (left_reads paging.now.plan.now kept.old) (left_after paging.now.plan.now kept.new result) (I.seen images.old) (I.seen images.new) }
+    ensures kept { All (IsKept (told_all (I.seen images.old).attached) paging.now.plan.now) kept.new }
+{
+    match gather_range(paging, images, kept, from, stop, page)? {
         Some(next) => Ok(next),
-        None => Ok(stop),
+        None => finish(paging, images, stop, page),
     }
 }
 
-/// Appends the sets of ranks from `from` up to `stop` that pass, as long as the lines are fewer than
-/// `size`; gives the rank after the last of them where the lines are so many then.
-fn add_range<I: Images>(
-    alloc: Global,
+/// Gathers the sets of ranks from `from` up to `stop`, as long as the page is not full; gives the rank after its last line
+/// where it is.
+fn gather_range<R: Threads + Sync, I: Images, G: Gate + Sync>(
+    paging: &Paging<R, G>,
     images: &mut I,
-    blocks: &mut Regions,
     kept: &mut KeptTables,
-    plan: &Plan,
     from: u64,
     stop: u64,
-    size: u64,
-    lines: &mut Lines,
+    page: &mut Gathered,
 ) -> Result<Option<u64>, PageFault>
-    requires plan { IsPlan plan.now }
-    requires lengths { AgreeWith plan.now (I.seen images.old).attached }
-    requires few { total_of plan.now < 2 ^ 64 }
+    requires plan { IsPlan paging.now.plan.now }
+    requires lengths { AgreeWith paging.now.plan.now (I.seen images.old).attached }
+    requires few { total_of paging.now.plan.now < 2 ^ 64 }
     requires range { from ≤ stop }
-    requires stop { stop ≤ total_of plan.now }
-    requires size { length lines.old < size }
-    requires blocks { HasRoom blocks.old }
-    requires kept { All (IsKept (told_all (I.seen images.old).attached) plan.now) kept.old }
-    ensures added { IfOk result (λ full. MatchOption full
-        (AddsAll (told_all (I.seen images.old).attached) plan.now from stop size lines.old lines.new)
-        (λ next. FillsPage (told_all (I.seen images.old).attached) plan.now from stop size next lines.old lines.new)) }
+    requires stop { stop ≤ total_of paging.now.plan.now }
+    requires stands { StandsAt (told_all (I.seen images.old).attached) paging.now.plan.now paging.now.size from page.old }
+    requires kept { All (IsKept (told_all (I.seen images.old).attached) paging.now.plan.now) kept.old }
+    ensures gathers { IfOk result (Gathers (told_all (I.seen images.old).attached) paging.now.plan.now paging.now.size stop page.old page.new) }
     ensures ends { IfErr result (EndsTest (I.seen images.old) (I.seen images.new)) }
-    ensures reads { Spends (left_reads plan.now kept.old) (left_after plan.now kept.new result) (I.seen images.old) (I.seen images.new)
-        (rank_reads plan.now from (added_to stop result)) }
-    ensures kept { All (IsKept (told_all (I.seen images.old).attached) plan.now) kept.new }
+    ensures reads { Scans (told_all (I.seen images.old).attached) paging.now.plan.now page.old.tested (tested_by stop page.new result) (spared_by result)
+        (left_reads paging.now.plan.now kept.old) (left_after paging.now.plan.now kept.new result) (I.seen images.old) (I.seen images.new) }
+    ensures kept { All (IsKept (told_all (I.seen images.old).attached) paging.now.plan.now) kept.new }
 {
-    let mut heads = Heads::of(plan);
+    let mut heads = Heads::of(paging.plan);
     heads.skip_to(from);
     let mut at = from;
     while let Some(sets) = heads.next() {
@@ -152,9 +121,7 @@ fn add_range<I: Images>(
             return Ok(None);
         }
         let end = stop.min(sets.first + sets.count);
-        if let Some(next) = add_head(
-            alloc, images, blocks, kept, plan, &sets, at, end, size, lines,
-        )? {
+        if let Some(next) = gather_head(paging, images, kept, &sets, at, end, page)? {
             return Ok(Some(next));
         }
         at = end;
@@ -162,93 +129,64 @@ fn add_range<I: Images>(
     Ok(None)
 }
 
-/// Appends the sets of a head of ranks from `from` up to `stop` that pass, as long as the lines are
-/// fewer than `size`; gives the rank after the last of them where the lines are so many then.
-fn add_head<I: Images>(
-    alloc: Global,
+/// The same of the sets of a head.
+fn gather_head<R: Threads + Sync, I: Images, G: Gate + Sync>(
+    paging: &Paging<R, G>,
     images: &mut I,
-    blocks: &mut Regions,
     kept: &mut KeptTables,
-    plan: &Plan,
     sets: &HeadSets,
     from: u64,
     stop: u64,
-    size: u64,
-    lines: &mut Lines,
+    page: &mut Gathered,
 ) -> Result<Option<u64>, PageFault>
-    requires plan { IsPlan plan.now }
-    requires lengths { AgreeWith plan.now (I.seen images.old).attached }
-    requires few { total_of plan.now < 2 ^ 64 }
-    requires head { IsHeadOf plan.now sets.now }
+    requires plan { IsPlan paging.now.plan.now }
+    requires lengths { AgreeWith paging.now.plan.now (I.seen images.old).attached }
+    requires few { total_of paging.now.plan.now < 2 ^ 64 }
+    requires head { IsHeadOf paging.now.plan.now sets.now }
     requires part { IsPart sets.now from stop }
-    requires size { length lines.old < size }
-    requires blocks { HasRoom blocks.old }
-    requires kept { All (IsKept (told_all (I.seen images.old).attached) plan.now) kept.old }
-    ensures added { IfOk result (λ full. MatchOption full
-        (AddsAll (told_all (I.seen images.old).attached) plan.now from stop size lines.old lines.new)
-        (λ next. FillsPage (told_all (I.seen images.old).attached) plan.now from stop size next lines.old lines.new)) }
+    requires stands { StandsAt (told_all (I.seen images.old).attached) paging.now.plan.now paging.now.size from page.old }
+    requires kept { All (IsKept (told_all (I.seen images.old).attached) paging.now.plan.now) kept.old }
+    ensures gathers { IfOk result (Gathers (told_all (I.seen images.old).attached) paging.now.plan.now paging.now.size stop page.old page.new) }
     ensures ends { IfErr result (EndsTest (I.seen images.old) (I.seen images.new)) }
-    ensures reads { Spends (left_reads plan.now kept.old) (left_after plan.now kept.new result) (I.seen images.old) (I.seen images.new)
-        (rank_reads plan.now from (added_to stop result)) }
-    ensures blocks { HasRoom blocks.new }
-    ensures kept { All (IsKept (told_all (I.seen images.old).attached) plan.now) kept.new }
+    ensures reads { Scans (told_all (I.seen images.old).attached) paging.now.plan.now page.old.tested (tested_by stop page.new result) (spared_by result)
+        (left_reads paging.now.plan.now kept.old) (left_after paging.now.plan.now kept.new result) (I.seen images.old) (I.seen images.new) }
+    ensures kept { All (IsKept (told_all (I.seen images.old).attached) paging.now.plan.now) kept.new }
 {
-    if from == stop {
+    if from == stop || rows(&sets.head, paging.plan.end) == 0 {
         return Ok(None);
     }
-    if rows(&sets.head, plan.end) == 0 {
-        return Ok(None);
+    if !needs_table(paging.plan, &sets.head) {
+        return gather_hopeful(paging, images, sets, None, from, stop, page);
     }
-    if !needs_table(plan, &sets.head) {
-        return add_hopeful(
-            alloc, images, blocks, plan, sets, None, from, stop, size, lines,
-        );
-    }
-    let place = table_place(alloc, images, plan, sets, kept)?;
-    let table = table_at(kept, place, plan, sets);
-    add_hopeful(
-        alloc,
-        images,
-        blocks,
-        plan,
-        sets,
-        Some(table),
-        from,
-        stop,
-        size,
-        lines,
-    )
+    let place = table_place(paging.alloc, images, paging.plan, sets, kept)?;
+    let table = table_at(kept, place, paging.plan, sets);
+    gather_hopeful(paging, images, sets, Some(table), from, stop, page)
 }
 
 /// The same of a head with a whole row, with the table of its rows where it needs one.
-fn add_hopeful<I: Images>(
-    alloc: Global,
+fn gather_hopeful<R: Threads + Sync, I: Images, G: Gate + Sync>(
+    paging: &Paging<R, G>,
     images: &mut I,
-    blocks: &mut Regions,
-    plan: &Plan,
     sets: &HeadSets,
     xors: Option<&XorTable>,
     from: u64,
     stop: u64,
-    size: u64,
-    lines: &mut Lines,
+    page: &mut Gathered,
 ) -> Result<Option<u64>, PageFault>
-    requires plan { IsPlan plan.now }
-    requires lengths { AgreeWith plan.now (I.seen images.old).attached }
-    requires few { total_of plan.now < 2 ^ 64 }
-    requires head { IsHeadOf plan.now sets.now }
-    requires needs { head_needs_table plan.now sets.now.head ≡ true → IsSome xors }
-    requires xors { IfSome (told_all (I.seen images.old).attached) (λ bytes. AreXors bytes plan.now sets.now.head (option_map (λ table. table.now) xors)) }
+    requires plan { IsPlan paging.now.plan.now }
+    requires lengths { AgreeWith paging.now.plan.now (I.seen images.old).attached }
+    requires few { total_of paging.now.plan.now < 2 ^ 64 }
+    requires head { IsHeadOf paging.now.plan.now sets.now }
+    requires needs { head_needs_table paging.now.plan.now sets.now.head ≡ true → IsSome xors }
+    requires xors { IfSome (told_all (I.seen images.old).attached) (λ bytes. AreXors bytes paging.now.plan.now sets.now.head (option_map (λ table. table.now) xors)) }
     requires part { IsPart sets.now from stop }
-    requires size { length lines.old < size }
-    requires blocks { HasRoom blocks.old }
-    ensures added { IfOk result (λ full. MatchOption full
-        (AddsAll (told_all (I.seen images.old).attached) plan.now from stop size lines.old lines.new)
-        (λ next. FillsPage (told_all (I.seen images.old).attached) plan.now from stop size next lines.old lines.new)) }
+    requires stands { StandsAt (told_all (I.seen images.old).attached) paging.now.plan.now paging.now.size from page.old }
+    ensures gathers { IfOk result (Gathers (told_all (I.seen images.old).attached) paging.now.plan.now paging.now.size stop page.old page.new) }
     ensures ends { IfErr result (EndsTest (I.seen images.old) (I.seen images.new)) }
-    ensures reads { OnlyReads (I.seen images.old) (I.seen images.new) (rank_reads plan.now from (added_to stop result)) }
-    ensures blocks { HasRoom blocks.new }
+    ensures reads { Scans (told_all (I.seen images.old).attached) paging.now.plan.now page.old.tested (tested_by stop page.new result) (spared_by result) 0 0 (I.seen images.old) (I.seen images.new) }
 {
-    let family = Hopeful::new(alloc, plan, sets, xors).map_err(|_| PageFault::Memory)?;
-    add_admitted(images, blocks, plan, sets, &family, from, stop, size, lines)
+    let family = Hopeful::new(paging.alloc, paging.plan, sets, xors).map_err(
+        |_| PageFault::Memory,
+    )?;
+    gather_admitted(paging, images, sets, &family, from, stop, page)
 }

@@ -7,17 +7,17 @@ use Rattle.page_engine.specs.Pages.{table_reads, tested_to}
 use Rattle.page_engine.specs.Walk.{left_after, left_reads, IsKept}
 use Rattle.page_engine.specs.declared.row_tables.OffsetTables.{OffsetTables}
 use Rattle.page_engine.proofs.Kept.{left_all}
-use Rattle.page_engine.proofs.Readings.{page_spends}
+use Rattle.page_engine.proofs.Scanned.{page_scans}
 use Rattle.page_engine.proofs.paging.page.Goals as goal
 
 pub next_page-requires-clause-kept : goal.next_page-requires-clause-kept
-next_page-requires-clause-kept g c =
+next_page-requires-clause-kept g c κs within =
     let P : List OffsetTables → Type 0 = λ kept. All (IsKept (told_all (g.I.Images.seen c.args.images.now).attached) c.args.plan.now) kept in
     subst P (sym c.new-kept.ensures) (All-nil (IsKept (told_all (g.I.Images.seen c.args.images.now).attached) c.args.plan.now))
 
 pub returns-clause-reads : goal.returns-clause-reads
 returns-clause-reads g c =
-    page_spends (left_reads c.args.plan.now c.new-kept.result) (left_after c.args.plan.now c.next_page.new.kept c.next_page.result) _ _ c.args.plan.now c.args.from
-    (tested_to (stop_of (total_of c.args.plan.now) c.args.from c.args.span) c.next_page.result)
+    page_scans (told_all (g.I.Images.seen c.args.images.now).attached) c.args.plan.now c.args.from (tested_to (stop_of (total_of c.args.plan.now) c.args.from c.args.span) c.next_page.result)
+    (left_reads c.args.plan.now c.new-kept.result) (left_after c.args.plan.now c.next_page.new.kept c.next_page.result) (g.I.Images.seen c.args.images.now) (g.I.Images.seen c.next_page.new.images)
     (subst (λ (kept : List OffsetTables). left_reads c.args.plan.now kept ≤ table_reads c.args.plan.now) (sym c.new-kept.ensures) (left_all c.args.plan.now))
     c.next_page.ensures.reads

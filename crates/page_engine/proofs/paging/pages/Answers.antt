@@ -1,19 +1,19 @@
-use Rattle.std.proofs.Common.{rules, ◌≡◌, ◌<◌, ◌+◌, ◌*◌, ◌^◌, ◌++◌, ◌∷◌, [], inl, inr, ℕ, List, All, length, length-append, add-one, refl, sym, ap, ◌∙◌, subst, arith}
-use Rattle.std.proofs.Math.Nat.{suc-mul}
+use Rattle.std.proofs.Common.{rules, ◌≡◌, ◌<◌, ◌+◌, ◌-◌, ◌*◌, ◌^◌, ◌++◌, ◌∷◌, [], inl, inr, ℕ, List, All, length, length-append, refl, sym, ap, ◌∙◌, subst, arith}
 use Rattle.std.proofs.lemmas.Bool.{cases_lt}
 use Rattle.std.proofs.lemmas.List.Elements.{All-nil}
 use Rattle.image_source.specs.Attached.{told_all}
-use Rattle.image_source.specs.Seen.{Image, OnlyReads}
+use Rattle.image_source.specs.Seen.{Image}
 use Rattle.raid_terms.specs.Page.{stop_of}
+use Rattle.row_scan.specs.declared.many_sets.TheConstants.{MOST_SETS}
 use Rattle.search_plan.specs.Sets.{total_of}
-use Rattle.page_engine.specs.Pages.{ArePagesFrom, IsPageFrom, last_next, page_reads, rank_reads}
+use Rattle.page_engine.specs.Pages.{ArePagesFrom, IsPageFrom, most_scanned, scans_to}
 use Rattle.page_engine.specs.Walk.{left_reads, IsKept, Spends}
 use Rattle.page_engine.specs.declared.row_tables.OffsetTables.{OffsetTables}
 use Rattle.page_engine.specs.declared.page_parts.ListPage.{ListPage}
 use Rattle.page_engine.specs.declared.page_parts.PageFault.TheVariants.{Many}
-use Rattle.page_engine.proofs.PageByPage.{all_made, below_total, goes_on_at, Going, last_is, none_made, not_an_error, one_more, reads_ended, reads_made, the_last, to_all}
+use Rattle.page_engine.proofs.HeadByHead.{scans_told}
 use Rattle.page_engine.proofs.Kept.{left_all}
-use Rattle.page_engine.proofs.Readings.{page_spends, spends_none, spends_on}
+use Rattle.page_engine.proofs.PageByPage.{all_made, below_total, ends_of, ends_with, Going, none_made, not_an_error, one_more, reads_ended, reads_made, reads_more, spends_first, spends_more, the_last}
 use Rattle.page_engine.proofs.paging.pages.Goals as goal
 
 pub loop-init : goal.loop-init
@@ -22,10 +22,10 @@ loop-init g c = record {
       subst P (sym c.new-made.ensures) (none_made (told_all (g.I.Images.seen c.args.images.now).attached) c.args.plan.now c.args.size c.args.span c.args.from));
   made = ap length c.new-made.ensures;
   forward = omega arith;
-  near = omega arith;
   begun = inl (refl, refl, refl);
-  reads = (let P : List OffsetTables → Type 0 = λ kept. Spends (left_reads c.args.plan.now []) (left_reads c.args.plan.now kept) (g.I.Images.seen c.args.images.now) (g.I.Images.seen c.args.images.now) (rank_reads c.args.plan.now c.args.from c.args.from) in
-      subst P (sym c.new-kept.ensures) (spends_none (left_reads c.args.plan.now []) (rank_reads c.args.plan.now c.args.from c.args.from) (g.I.Images.seen c.args.images.now)));
+  reads = (let P : List OffsetTables → Type 0 = λ kept. Spends (left_reads c.args.plan.now []) (left_reads c.args.plan.now kept) (g.I.Images.seen c.args.images.now) (g.I.Images.seen c.args.images.now) (scans_to (told_all (g.I.Images.seen c.args.images.now).attached) c.args.plan.now c.args.from (ends_of []) * most_scanned c.args.plan.now) in
+      let Q : List ListPage → Type 0 = λ made. Spends (left_reads c.args.plan.now []) (left_reads c.args.plan.now c.new-kept.result) (g.I.Images.seen c.args.images.now) (g.I.Images.seen c.args.images.now) (scans_to (told_all (g.I.Images.seen c.args.images.now).attached) c.args.plan.now c.args.from (ends_of made) * most_scanned c.args.plan.now) in
+      subst Q (sym c.new-made.ensures) (subst P (sym c.new-kept.ensures) (spends_first (told_all (g.I.Images.seen c.args.images.now).attached) c.args.plan.now c.args.from (left_reads c.args.plan.now []) (g.I.Images.seen c.args.images.now))));
   kept = (let P : List OffsetTables → Type 0 = λ kept. All (IsKept (told_all (g.I.Images.seen c.args.images.now).attached) c.args.plan.now) kept in
       subst P (sym c.new-kept.ensures) (All-nil (IsKept (told_all (g.I.Images.seen c.args.images.now).attached) c.args.plan.now)));
 }
@@ -33,43 +33,38 @@ loop-init g c = record {
 pub returns-in_err-found-clause-reads : goal.returns-in_err-found-clause-reads
 returns-in_err-found-clause-reads g c =
     let far = c.loop.invariant in
-    rw (to_all (stop_of (total_of c.args.plan.now) c.args.from (c.args.count * c.args.span)) c.args.from c.from_residual.result c.from_residual.ensures.0)
-    (page_spends (left_reads c.args.plan.now []) 0 _ _ c.args.plan.now c.args.from (stop_of (total_of c.args.plan.now) c.args.from (c.args.count * c.args.span)) (left_all c.args.plan.now)
-    (reads_ended (left_reads c.args.plan.now []) (left_reads c.args.plan.now c.loop.kept) 0 _ _ _ c.args.plan.now c.args.from c.loop.at c.loop.counter c.args.count c.args.span far.forward far.near (omega arith) far.begun far.reads c.in_err-found.ensures.reads))
+    reads_ended (told_all (g.I.Images.seen c.args.images.now).attached) c.args.plan.now c.args.size c.args.span c.args.count c.args.from c.loop.at (left_reads c.args.plan.now []) (left_reads c.args.plan.now c.loop.kept) 0 c.loop.made (g.I.Images.seen c.args.images.now) (g.I.Images.seen c.loop.images) (g.I.Images.seen c.next_page.new.images) (left_all c.args.plan.now) far.going (let made = far.made in omega arith) far.reads
+    (scans_told (g.I.Images.seen c.args.images.now).attached (g.I.Images.seen c.loop.images).attached c.args.plan.now c.loop.at (stop_of (total_of c.args.plan.now) c.loop.at c.args.span) (MOST_SETS - 1) (left_reads c.args.plan.now c.loop.kept) 0 (g.I.Images.seen c.loop.images) (g.I.Images.seen c.next_page.new.images) far.reads.reads.attached c.in_err-found.ensures.reads)
 
 pub returns-in_err-map_err-clause-reads : goal.returns-in_err-map_err-clause-reads
 returns-in_err-map_err-clause-reads g c =
     let far = c.loop.invariant in
-    rw (to_all (stop_of (total_of c.args.plan.now) c.args.from (c.args.count * c.args.span)) c.args.from c.from_residual-in_err-map_err.result c.from_residual-in_err-map_err.ensures.0)
-    (page_spends (left_reads c.args.plan.now []) (left_reads c.args.plan.now c.next_page.new.kept) _ _ c.args.plan.now c.args.from (stop_of (total_of c.args.plan.now) c.args.from (c.args.count * c.args.span)) (left_all c.args.plan.now)
-    (reads_made (left_reads c.args.plan.now []) (left_reads c.args.plan.now c.loop.kept) (left_reads c.args.plan.now c.next_page.new.kept) _ _ _ c.args.plan.now c.args.from c.loop.at c.loop.counter c.args.count c.args.span c.in_ok-found.found.next
-    far.forward far.near (omega arith) c.in_ok-found.ensures.forward c.in_ok-found.ensures.within far.reads c.in_ok-found.ensures.reads))
+    let Q : List Image → Type 0 = λ attached. IsPageFrom (told_all attached) c.args.plan.now c.loop.at c.args.size c.args.span c.in_ok-found.found in
+    let is_page = subst Q far.reads.reads.attached (record { page = c.in_ok-found.ensures.page; sets = c.in_ok-found.ensures.sets; total = c.in_ok-found.ensures.total; forward = c.in_ok-found.ensures.forward; within = c.in_ok-found.ensures.within }) in
+    reads_more (told_all (g.I.Images.seen c.args.images.now).attached) c.args.plan.now c.args.size c.args.span c.args.count c.args.from c.loop.at (left_reads c.args.plan.now []) (left_reads c.args.plan.now c.loop.kept) (left_reads c.args.plan.now c.next_page.new.kept) c.loop.made c.in_ok-found.found (g.I.Images.seen c.args.images.now) (g.I.Images.seen c.loop.images) (g.I.Images.seen c.next_page.new.images) (left_all c.args.plan.now) far.going (let made = far.made in omega arith) is_page far.reads
+    (scans_told (g.I.Images.seen c.args.images.now).attached (g.I.Images.seen c.loop.images).attached c.args.plan.now c.loop.at c.in_ok-found.found.next (MOST_SETS - 1) (left_reads c.args.plan.now c.loop.kept) (left_reads c.args.plan.now c.next_page.new.kept) (g.I.Images.seen c.loop.images) (g.I.Images.seen c.next_page.new.images) far.reads.reads.attached c.in_ok-found.ensures.reads)
 
 pub returns-then-next-total-clause-pages : goal.returns-then-next-total-clause-pages
 returns-then-next-total-clause-pages g c =
     let far = c.loop.invariant in
-    let told = told_all (g.I.Images.seen c.args.images.now).attached in
     let pushed : c.push.new.self ≡ c.loop.made ++ c.in_ok-found.found ∷ [] = search rules in
     let P : List ListPage → Type 0 = λ made. ArePagesFrom (told_all (g.I.Images.seen c.args.images.now).attached) c.args.plan.now c.args.size c.args.span c.args.count c.args.from made in
     let Q : List Image → Type 0 = λ attached. IsPageFrom (told_all attached) c.args.plan.now c.loop.at c.args.size c.args.span c.in_ok-found.found in
     let is_page = subst Q far.reads.reads.attached (record { page = c.in_ok-found.ensures.page; sets = c.in_ok-found.ensures.sets; total = c.in_ok-found.ensures.total; forward = c.in_ok-found.ensures.forward; within = c.in_ok-found.ensures.within }) in
     subst P (sym pushed)
-    (the_last told c.args.plan.now c.args.size c.args.span c.args.count c.args.from c.loop.at c.loop.made c.in_ok-found.found far.going is_page (c.if-next-total.true ∙ c.in_ok-found.ensures.total) (let made = far.made in omega arith))
+    (the_last (told_all (g.I.Images.seen c.args.images.now).attached) c.args.plan.now c.args.size c.args.span c.args.count c.args.from c.loop.at c.loop.made c.in_ok-found.found far.going is_page (c.if-next-total.true ∙ c.in_ok-found.ensures.total) (let made = far.made in omega arith))
 
 pub returns-then-next-total-clause-reads : goal.returns-then-next-total-clause-reads
 returns-then-next-total-clause-reads g c =
     let far = c.loop.invariant in
-    let pushed : c.push.new.self ≡ c.loop.made ++ c.in_ok-found.found ∷ [] = search rules in
-    let last : last_next c.args.from c.push.new.self ≡ c.in_ok-found.found.next = ap (last_next c.args.from) pushed ∙ last_is c.args.from c.loop.made c.in_ok-found.found in
-    let P : ℕ → Type 0 = λ n. OnlyReads (g.I.Images.seen c.args.images.now) (g.I.Images.seen c.next_page.new.images) (page_reads c.args.plan.now c.args.from n) in
-    subst P (sym last)
-    (page_spends (left_reads c.args.plan.now []) (left_reads c.args.plan.now c.next_page.new.kept) _ _ c.args.plan.now c.args.from c.in_ok-found.found.next (left_all c.args.plan.now)
-    (spends_on (left_reads c.args.plan.now []) (left_reads c.args.plan.now c.loop.kept) (left_reads c.args.plan.now c.next_page.new.kept) _ _ _ c.args.plan.now c.args.from c.loop.at c.in_ok-found.found.next far.forward c.in_ok-found.ensures.forward far.reads c.in_ok-found.ensures.reads))
+    let Q : List Image → Type 0 = λ attached. IsPageFrom (told_all attached) c.args.plan.now c.loop.at c.args.size c.args.span c.in_ok-found.found in
+    let is_page = subst Q far.reads.reads.attached (record { page = c.in_ok-found.ensures.page; sets = c.in_ok-found.ensures.sets; total = c.in_ok-found.ensures.total; forward = c.in_ok-found.ensures.forward; within = c.in_ok-found.ensures.within }) in
+    reads_more (told_all (g.I.Images.seen c.args.images.now).attached) c.args.plan.now c.args.size c.args.span c.args.count c.args.from c.loop.at (left_reads c.args.plan.now []) (left_reads c.args.plan.now c.loop.kept) (left_reads c.args.plan.now c.next_page.new.kept) c.loop.made c.in_ok-found.found (g.I.Images.seen c.args.images.now) (g.I.Images.seen c.loop.images) (g.I.Images.seen c.next_page.new.images) (left_all c.args.plan.now) far.going (let made = far.made in omega arith) is_page far.reads
+    (scans_told (g.I.Images.seen c.args.images.now).attached (g.I.Images.seen c.loop.images).attached c.args.plan.now c.loop.at c.in_ok-found.found.next (MOST_SETS - 1) (left_reads c.args.plan.now c.loop.kept) (left_reads c.args.plan.now c.next_page.new.kept) (g.I.Images.seen c.loop.images) (g.I.Images.seen c.next_page.new.images) far.reads.reads.attached c.in_ok-found.ensures.reads)
 
 pub loop-preserved : goal.loop-preserved
 loop-preserved g c =
     let far = c.loop.invariant in
-    let told = told_all (g.I.Images.seen c.args.images.now).attached in
     let pushed : c.push.new.self ≡ c.loop.made ++ c.in_ok-found.found ∷ [] = search rules in
     let Q : List Image → Type 0 = λ attached. IsPageFrom (told_all attached) c.args.plan.now c.loop.at c.args.size c.args.span c.in_ok-found.found in
     let is_page = subst Q far.reads.reads.attached (record { page = c.in_ok-found.ensures.page; sets = c.in_ok-found.ensures.sets; total = c.in_ok-found.ensures.total; forward = c.in_ok-found.ensures.forward; within = c.in_ok-found.ensures.within }) in
@@ -82,14 +77,15 @@ loop-preserved g c =
     ]) in
     record {
       going = (let P : List ListPage → Type 0 = λ made. Going (told_all (g.I.Images.seen c.args.images.now).attached) c.args.plan.now c.args.size c.args.span c.args.from c.in_ok-found.found.next made in
-          subst P (sym pushed) (one_more told c.args.plan.now c.args.size c.args.span c.args.from c.loop.at c.loop.made c.in_ok-found.found far.going is_page
+          subst P (sym pushed) (one_more (told_all (g.I.Images.seen c.args.images.now).attached) c.args.plan.now c.args.size c.args.span c.args.from c.loop.at c.loop.made c.in_ok-found.found far.going is_page
           (below_total c.in_ok-found.found.next c.in_ok-found.found.total (total_of c.args.plan.now) c.args.span c.loop.at c.if-next-total.false total within)));
       made = ap length pushed ∙ length-append c.loop.made (c.in_ok-found.found ∷ []) ∙ ap (λ (n : ℕ). n + 1) far.made;
       forward = (let low = far.forward in let up = c.in_ok-found.ensures.forward in omega arith);
-      near = (let near = far.near in let one : (c.loop.counter + 1) * c.args.span ≡ c.loop.counter * c.args.span + c.args.span = ap (λ (n : ℕ). n * c.args.span) (add-one c.loop.counter) ∙ suc-mul c.loop.counter c.args.span in omega arith);
       begun = inr ((omega arith), (omega arith), small);
-      reads = spends_on (left_reads c.args.plan.now []) (left_reads c.args.plan.now c.loop.kept) (left_reads c.args.plan.now c.next_page.new.kept) _ _ _ c.args.plan.now c.args.from c.loop.at c.in_ok-found.found.next far.forward
-          c.in_ok-found.ensures.forward far.reads c.in_ok-found.ensures.reads;
+      reads = (let P : List ℕ → Type 0 = λ ends. Spends (left_reads c.args.plan.now []) (left_reads c.args.plan.now c.next_page.new.kept) (g.I.Images.seen c.args.images.now) (g.I.Images.seen c.next_page.new.images) (scans_to (told_all (g.I.Images.seen c.args.images.now).attached) c.args.plan.now c.args.from ends * most_scanned c.args.plan.now) in
+          subst P (sym (ap ends_of pushed ∙ ends_with c.loop.made c.in_ok-found.found))
+          (spends_more (told_all (g.I.Images.seen c.args.images.now).attached) c.args.plan.now c.args.size c.args.span c.args.from c.loop.at c.in_ok-found.found.next (left_reads c.args.plan.now []) (left_reads c.args.plan.now c.loop.kept) (left_reads c.args.plan.now c.next_page.new.kept) c.loop.made (g.I.Images.seen c.args.images.now) (g.I.Images.seen c.loop.images) (g.I.Images.seen c.next_page.new.images) far.going far.reads
+          (scans_told (g.I.Images.seen c.args.images.now).attached (g.I.Images.seen c.loop.images).attached c.args.plan.now c.loop.at c.in_ok-found.found.next (MOST_SETS - 1) (left_reads c.args.plan.now c.loop.kept) (left_reads c.args.plan.now c.next_page.new.kept) (g.I.Images.seen c.loop.images) (g.I.Images.seen c.next_page.new.images) far.reads.reads.attached c.in_ok-found.ensures.reads)));
       kept = (let P : List Image → Type 0 = λ attached. All (IsKept (told_all attached) c.args.plan.now) c.next_page.new.kept in subst P far.reads.reads.attached c.next_page.ensures.kept);
     }
 
@@ -102,6 +98,5 @@ returns-clause-pages g c =
 pub returns-clause-reads : goal.returns-clause-reads
 returns-clause-reads g c =
     let far = c.loop.invariant in
-    let P : ℕ → Type 0 = λ n. OnlyReads (g.I.Images.seen c.args.images.now) (g.I.Images.seen c.loop.images) (page_reads c.args.plan.now c.args.from n) in
-    subst P (sym (goes_on_at (told_all (g.I.Images.seen c.args.images.now).attached) c.args.plan.now c.args.size c.args.span c.args.from c.loop.at c.loop.made far.going))
-    (page_spends (left_reads c.args.plan.now []) (left_reads c.args.plan.now c.loop.kept) _ _ c.args.plan.now c.args.from c.loop.at (left_all c.args.plan.now) far.reads)
+    reads_made (told_all (g.I.Images.seen c.args.images.now).attached) c.args.plan.now c.args.size c.args.span c.args.count c.args.from c.loop.at (left_reads c.args.plan.now []) (left_reads c.args.plan.now c.loop.kept) c.loop.made (g.I.Images.seen c.args.images.now) (g.I.Images.seen c.loop.images) (left_all c.args.plan.now) far.going
+    (let made = far.made in let most = c.loop.auto.counter-end in omega arith) far.reads

@@ -1,0 +1,104 @@
+//! The sets of a page that a walk admits, until they are tested.
+ghost use Rattle.std.specs.Prelude.{◌≡◌, ◌+◌, ◌<◌, ◌≤◌, ◌^◌, IfErr, IfOk, length};
+ghost use Rattle.image_source.specs.Attached.{told_all};
+ghost use Rattle.search_plan.specs.Plans.{IsPlan};
+ghost use Rattle.search_plan.specs.Sets.{total_of};
+ghost use Rattle.page_engine.specs.Pages.{AgreeWith, EndsTest, is_decided as is_decided_set};
+ghost use Rattle.page_engine.specs.Walk.{AdmitsHopeful, Gathers, IsCandidate, IsHeadOf, IsPart, Scans, spared_by, StandsAt, tested_by};
+
+use crate::page_parts::{Line, Lines, PageFault, Paging};
+use crate::scanning::scan_waiting;
+use candidate_enum::{Family, Survivors};
+use image_source::Images;
+use prune_filters::rows_decide;
+use raid_params::Geometry;
+use row_scan::{Gate, MOST_SETS, nothing_can_break};
+use search_plan::Plan;
+use set_product::HeadSets;
+use std::thread::Threads;
+
+/// A page in the making.
+#[derive(Drop)]
+pub(crate) struct Gathered {
+    /// Its lines: the sets that pass, of the ranks before `tested`.
+    pub lines: Lines,
+    /// The rank before which each set is tested.
+    pub tested: u64,
+    /// The sets of the ranks from there on that wait for the parity test.
+    pub waiting: Lines,
+}
+
+/// Gathers the sets of a head of ranks from `from` up to `stop`: those whose slot lists the family admits, which leaves
+/// out none that passes. It gives the rank after the last line where the page is full.
+pub(crate) fn gather_admitted<R: Threads + Sync, I: Images, G: Gate + Sync, F: Family>(
+    paging: &Paging<R, G>,
+    images: &mut I,
+    sets: &HeadSets,
+    family: &F,
+    from: u64,
+    stop: u64,
+    page: &mut Gathered,
+) -> Result<Option<u64>, PageFault>
+    requires plan { IsPlan paging.now.plan.now }
+    requires lengths { AgreeWith paging.now.plan.now (I.seen images.old).attached }
+    requires few { total_of paging.now.plan.now < 2 ^ 64 }
+    requires head { IsHeadOf paging.now.plan.now sets.now }
+    requires space { F.space_of family.now ≡ sets.now.space }
+    requires admits { AdmitsHopeful (told_all (I.seen images.old).attached) paging.now.plan.now sets.now.head (F.admits family.now) }
+    requires part { IsPart sets.now from stop }
+    requires stands { StandsAt (told_all (I.seen images.old).attached) paging.now.plan.now paging.now.size from page.old }
+    ensures gathers { IfOk result (Gathers (told_all (I.seen images.old).attached) paging.now.plan.now paging.now.size stop page.old page.new) }
+    ensures ends { IfErr result (EndsTest (I.seen images.old) (I.seen images.new)) }
+    ensures reads { Scans (told_all (I.seen images.old).attached) paging.now.plan.now page.old.tested (tested_by stop page.new result) (spared_by result) 0 0 (I.seen images.old) (I.seen images.new) }
+{
+    let mut walk = Survivors::start(family, from - sets.first, stop - sets.first);
+    while let Some(leaf) = walk.next() {
+        let rank = sets.first + leaf.rank;
+        let geo = Geometry {
+            head: sets.head,
+            slots: leaf.slots,
+        };
+        if let Some(next) = gather_set(paging, images, Line { rank, geo }, page)? {
+            return Ok(Some(next));
+        }
+    }
+    Ok(None)
+}
+
+/// Gathers a set. Where none waits and its test asks for none of its rows, it is a line at once. Where as many wait as a
+/// scan may test, they are tested.
+fn gather_set<R: Threads + Sync, I: Images, G: Gate + Sync>(
+    paging: &Paging<R, G>,
+    images: &mut I,
+    line: Line,
+    page: &mut Gathered,
+) -> Result<Option<u64>, PageFault>
+    requires plan { IsPlan paging.now.plan.now }
+    requires lengths { AgreeWith paging.now.plan.now (I.seen images.old).attached }
+    requires few { total_of paging.now.plan.now < 2 ^ 64 }
+    requires set { IsCandidate (told_all (I.seen images.old).attached) paging.now.plan.now line }
+    requires stands { StandsAt (told_all (I.seen images.old).attached) paging.now.plan.now paging.now.size line.rank page.old }
+    ensures gathers { IfOk result (Gathers (told_all (I.seen images.old).attached) paging.now.plan.now paging.now.size (line.rank + 1) page.old page.new) }
+    ensures ends { IfErr result (EndsTest (I.seen images.old) (I.seen images.new)) }
+    ensures reads { Scans (told_all (I.seen images.old).attached) paging.now.plan.now page.old.tested (tested_by (line.rank + 1) page.new result) (spared_by result) 0 0 (I.seen images.old) (I.seen images.new) }
+{
+    let next = line.rank + 1;
+    if page.waiting.as_slice().is_empty() && is_decided(paging.plan, &line.geo) {
+        page.lines.push(line).map_err(|_| PageFault::Memory)?;
+        page.tested = next;
+        let full = page.lines.as_slice().len() as u64 == paging.size;
+        return Ok(if full { Some(next) } else { None });
+    }
+    page.waiting.push(line).map_err(|_| PageFault::Memory)?;
+    if page.waiting.as_slice().len() < MOST_SETS {
+        return Ok(None);
+    }
+    scan_waiting(paging, images, next, page)
+}
+
+/// Whether the parity test of a set asks for none of its rows: nothing can break one, or the tables of rows decide.
+fn is_decided(plan: &Plan, geo: &Geometry) -> bool
+    ensures { result ≡ is_decided_set plan.now geo.now }
+{
+    nothing_can_break(geo) || rows_decide(plan, &geo.head)
+}

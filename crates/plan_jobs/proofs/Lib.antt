@@ -3,4 +3,4 @@ pub mod Listed
 pub mod Plans
 pub mod Prepared
 pub mod Ordered
-pub mod PageReadings
+pub mod PagesRead

@@ -12,7 +12,7 @@ use Rattle.page_engine.specs.declared.page_parts.PageFault.TheVariants.{Many as 
 use Rattle.run_ends.specs.Jobs.{HasCauses, IsUnreached, Orders, Refuses}
 use Rattle.run_ends.specs.Stops.{first_of, stop_of_page, many_refusal}
 use Rattle.run_ends.specs.declared.stop.Stop.TheVariants.{Many, Cursor}
-use Rattle.raid_terms.specs.Page.{page_next, page_ranks}
+use Rattle.raid_terms.specs.Page.{page_ranks}
 use Rattle.search_plan.specs.declared.plan.Plan.{Plan}
 use Rattle.page_engine.specs.Pages.{ArePagesFrom, EndsPage, HoldsSet, IsPageOf}
 use Rattle.search_plan.specs.Sets.{passes_at, sets_of, total_of}

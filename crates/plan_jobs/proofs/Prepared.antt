@@ -179,18 +179,18 @@ prints_prepared left names attached plan output found prepared h =
     (λ text says read is. subst (λ (r : PlanReading). IfSome (output r) (λ printed. found ≡ printed)) (sym (says read is).0) h)
     prepared
 
--- no more is read than the plan that is read allows
-pub reads_prepared : (left : Option (List ℕ)) (names : ℕ) (attached : List Image) (plan : Plan) (few : Plan → ℕ) (before now : ℕ) → IsPrepared left names attached plan → now ≤ before + few plan →
-    IfSome left (λ text. (p : Plan) → IsTextOf text (Reads p) → now ≤ before + few p)
-reads_prepared left names attached plan few before now prepared within =
+-- what holds of the plan holds of the plan that the text says
+pub holds_prepared : (left : Option (List ℕ)) (names : ℕ) (attached : List Image) (plan : Plan) (Holds : Plan → Type 0) → IsPrepared left names attached plan → Holds plan →
+    IfSome left (λ text. (p : Plan) → IsTextOf text (Reads p) → Holds p)
+holds_prepared left names attached plan Holds prepared here =
     if_some left (SaysPlan names attached plan)
-    (λ text. (p : Plan) → IsTextOf text (Reads p) → now ≤ before + few p)
-    (λ text says p is. let e : Reads p ≡ Reads plan = (says (Reads p) is).0 in let same : plan ≡ p = cc in subst (λ (q : Plan). now ≤ before + few q) same within)
+    (λ text. (p : Plan) → IsTextOf text (Reads p) → Holds p)
+    (λ text says p is. let e : Reads p ≡ Reads plan = (says (Reads p) is).0 in let same : plan ≡ p = cc in subst Holds same here)
     prepared
 
--- nor where there is none
-pub reads_unprepared : (left : Option (List ℕ)) (few : Plan → ℕ) (before : ℕ) → IfSome left (λ text. (p : Plan) → IsTextOf text (Reads p) → before ≤ before + few p)
-reads_unprepared left few before = any_text left (λ text. (p : Plan) → IsTextOf text (Reads p) → before ≤ before + few p) (λ text p is. omega arith)
+-- and what holds of all plans
+pub holds_unprepared : (left : Option (List ℕ)) (Holds : Plan → Type 0) → ((plan : Plan) → Holds plan) → IfSome left (λ text. (p : Plan) → IsTextOf text (Reads p) → Holds p)
+holds_unprepared left Holds all = any_text left (λ text. (p : Plan) → IsTextOf text (Reads p) → Holds p) (λ text p is. all p)
 
 -- where the plan was not read, or the images do not agree with it, the job did nothing
 pub order_unprepared : (left : Option (List ℕ)) (names : ℕ) (attached : List Image) (before now : ℕ) (stop : Stop) (further : Plan → Option Stop) (read : ℕ) → EndsPreparing left names attached before now stop →

@@ -1,16 +1,15 @@
 -- What `list` refuses and prints.
-use Rattle.std.specs.Prelude.{ℕ, zero, suc, ◌+◌, ◌-◌, ◌*◌, nat_lt, ◌==◌, if◌then◌else◌, List, [], ◌∷◌, ◌++◌, codes, slice_get}
+use Rattle.std.specs.Prelude.{ℕ, zero, suc, ◌+◌, ◌*◌, ◌≤◌, nat_lt, ◌==◌, if◌then◌else◌, List, [], ◌++◌, codes, slice_get}
 use Rattle.std.specs.List.{flat_map}
 use Rattle.std.specs.Option.{option_map_or}
 use Rattle.std.specs.declared.option.Option.{Option}
 use Rattle.std.specs.declared.option.Option.TheVariants.{None, Some}
 use Rattle.image_source.specs.Seen.{Image}
 use Rattle.raid_params.specs.declared.types.Geometry.{Geometry}
-use Rattle.raid_terms.specs.Page.{page_next, page_ranks, stop_of}
-use Rattle.page_engine.specs.Pages.{page_reads}
+use Rattle.raid_terms.specs.Page.{page_next, page_ranks}
+use Rattle.page_engine.specs.Pages.{ArePageEnds, most_scanned, scans_to, table_reads}
 use Rattle.search_plan.specs.Sets.{passes_at, sets_of, total_of}
 use Rattle.search_plan.specs.declared.plan.Plan.{Plan}
-use Rattle.page_engine.specs.declared.page_parts.Line.{Line}
 use Rattle.page_engine.specs.declared.page_parts.ListPage.{ListPage}
 use Rattle.plan_text.specs.SetText.{set_line}
 use Rattle.json_lines.specs.Objects.{next_object, set_object}
@@ -70,10 +69,12 @@ listing images plan asked = pages_text asked.form images plan asked.size asked.s
 unfoldable pub found_text : Form → ListPage → List ℕ
 found_text form page = flat_map (λ held. line_in form held.rank held.geo) page.lines ++ next_in form page.next page.total
 
--- the most sectors that `list` reads over a plan: for each rank of its range the tested rows of its set, and
--- once for each offset those of the chunk that has most, on each image
-abbrev pub list_reads : Listing → Plan → ℕ
-list_reads asked plan = page_reads plan asked.from (stop_of (total_of plan) asked.from (asked.pages * asked.span))
+-- what `list` reads over a plan, by the counts of the sectors read before and after: the tables once for all pages, and
+-- the scans of each page, where pages end as the bytes of the images have it
+pub record ListReads (told : Option (List (List ℕ))) (asked : Listing) (plan : Plan) (before after : ℕ) : Type 0 where
+  pub ends : List ℕ
+  pub are : ArePageEnds told plan asked.size asked.span asked.pages asked.from ends
+  pub few : after ≤ before + (table_reads plan + scans_to told plan asked.from ends * most_scanned plan)
 
 -- what `list` prints over what the plan's text says, where the bytes of the images are told
 abbrev pub list_output : Listing → PlanReading → Option (List (List ℕ)) → Option (List ℕ)

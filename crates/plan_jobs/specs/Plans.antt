@@ -2,7 +2,7 @@
 use Rattle.std.specs.Prelude.{ℕ, ◌≡◌, nat_lt, if◌then◌else◌, List, [], ◌∷◌, length}
 use Rattle.std.specs.Option.{option_map}
 use Rattle.std.specs.declared.option.Option.{Option}
-use Rattle.std.specs.declared.option.Option.TheVariants.{None, Some}
+use Rattle.std.specs.declared.option.Option.TheVariants.{Some}
 use Rattle.image_source.specs.Seen.{Image}
 use Rattle.raid_params.specs.declared.limits.TheConstants.{PLAN_BYTES}
 use Rattle.plan_text.specs.PlanText.{plan_text, IsRefusedLine}
@@ -38,7 +38,7 @@ unfoldable pub plan_refusal : List ℕ → PlanReading → ℕ → List Image �
 plan_refusal text reading names attached further =
     if nat_lt PLAN_BYTES (length text) then Some PlanIsLong else read_refusal reading names attached further
 
--- what a plan allows to be read, where the text says one
-abbrev pub plan_reads : (Plan → ℕ) → PlanReading → Option ℕ
-plan_reads few (Reads plan) = Some (few plan)
-plan_reads few (Refused number) = None
+-- this holds of the plan, where the text says one
+abbrev pub IfPlan : PlanReading → (Plan → Type 0) → Type 0
+IfPlan (Reads plan) Holds = Holds plan
+IfPlan (Refused number) Holds = Unit {0}

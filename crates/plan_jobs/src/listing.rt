@@ -3,17 +3,15 @@ ghost use Rattle.std.specs.Prelude.{◌≡◌, ◌≤◌, ◌+◌, ◌*◌, ◌<
 ghost use Rattle.std.specs.Io.KnownBytes.{IsAtEnd};
 ghost use Rattle.std.specs.List.{flat_map};
 ghost use Rattle.image_source.specs.Attached.{told_all};
-ghost use Rattle.image_source.specs.Seen.{OnlyReads};
-ghost use Rattle.raid_terms.specs.Page.{stop_of};
 ghost use Rattle.search_plan.specs.Plans.{IsPlan};
 ghost use Rattle.search_plan.specs.Sets.{total_of};
 ghost use Rattle.search_plan.specs.declared.plan.Plan.{Plan as PlanOf};
-ghost use Rattle.page_engine.specs.Pages.{AgreeWith, ArePagesFrom, EndsPage};
+ghost use Rattle.page_engine.specs.Pages.{AgreeWith, ArePagesFrom, EndsPage, ReadsPages};
 ghost use Rattle.page_engine.specs.declared.page_parts.PageFault.TheVariants.{Cursor as PageCursor, Many as PageMany};
 ghost use Rattle.run_ends.specs.Jobs.{Ends, HasCauses, Leaves, Orders, Refuses};
 ghost use Rattle.run_ends.specs.Source.{TakesFew};
 ghost use Rattle.run_ends.specs.Stops.{first_of, many_refusal};
-ghost use Rattle.plan_jobs.specs.Listing.{cursor_refusal, found_text, line_in, list_output, list_reads, list_refusal, listing, next_in};
+ghost use Rattle.plan_jobs.specs.Listing.{ListReads, cursor_refusal, found_text, line_in, list_output, list_refusal, listing, next_in};
 ghost use Rattle.plan_jobs.specs.Plans.{IsTextOf, PlanReading, Reads};
 
 use crate::preparing::prepare;
@@ -22,9 +20,11 @@ use image_source::{Images, MOST_ATTACHED, Memory, Sink, Source};
 use json_lines::{json_line, json_next};
 use page_engine::{Line, ListPage, PageFault, PageList, pages};
 use plan_text::{Text, set_line};
+use row_scan::Gate;
 use run_ends::{Stop, add_share, print};
 use search_plan::Plan;
 use std::alloc::Global;
+use std::thread::Threads;
 
 /// What a listing is asked for.
 #[derive(Clone, Copy)]
@@ -42,14 +42,16 @@ pub struct Listing {
 }
 
 /// Prints pages of the sets of a plan that pass, whole or not at all. The source holds the plan's text;
-/// `names` is the number of images.
-pub fn list<S: Source, I: Images, K: Sink>(
+/// `names` is the number of images. Pieces of a scan may run side by side: each passes the gate.
+pub fn list<R: Threads + Sync, S: Source, I: Images, K: Sink, G: Gate + Sync>(
+    rt: &R,
     alloc: Global,
     source: &mut S,
     images: &mut I,
     names: usize,
     asked: &Listing,
     out: &mut K,
+    gate: &G,
 ) -> Result<(), Stop>
     requires attached { length (I.seen images.old).attached ≡ min names MOST_ATTACHED }
     requires size { 1 ≤ asked.now.size }
@@ -64,20 +66,23 @@ pub fn list<S: Source, I: Images, K: Sink>(
         (record { images = (I.seen images.old).faults; plan = S.faults source.old; out = K.faults out.old; sectors = (I.seen images.old).sectors_read })
         (record { images = (I.seen images.new).faults; plan = S.faults source.new; out = K.faults out.new; sectors = (I.seen images.new).sectors_read })
         (K.gained out.old) (K.gained out.new) result }
-    ensures reads { IfSome (S.left source.old) (λ text. (plan : PlanOf) → IsTextOf text (Reads plan) → (I.seen images.new).sectors_read ≤ (I.seen images.old).sectors_read + list_reads asked.now plan) }
+    ensures reads { IfSome (S.left source.old) (λ text. (plan : PlanOf) → IsTextOf text (Reads plan) →
+        ListReads (told_all (I.seen images.old).attached) asked.now plan (I.seen images.old).sectors_read (I.seen images.new).sectors_read) }
     ensures world { (I.seen images.new).world ≡ (I.seen images.old).world }
     ensures attached { (I.seen images.new).attached ≡ (I.seen images.old).attached }
 {
-    print(out, answer(alloc, source, images, names, asked))
+    print(out, answer(rt, alloc, source, images, names, asked, gate))
 }
 
 /// The text of `list`, or why there is none.
-fn answer<S: Source, I: Images>(
+fn answer<R: Threads + Sync, S: Source, I: Images, G: Gate + Sync>(
+    rt: &R,
     alloc: Global,
     source: &mut S,
     images: &mut I,
     names: usize,
     asked: &Listing,
+    gate: &G,
 ) -> Result<Text, Stop>
     requires attached { length (I.seen images.old).attached ≡ min names MOST_ATTACHED }
     requires size { 1 ≤ asked.now.size }
@@ -93,23 +98,26 @@ fn answer<S: Source, I: Images>(
     ensures causes { HasCauses
         (record { images = (I.seen images.old).faults; plan = S.faults source.old; out = 0; sectors = (I.seen images.old).sectors_read })
         (record { images = (I.seen images.new).faults; plan = S.faults source.new; out = 0; sectors = (I.seen images.new).sectors_read }) result }
-    ensures reads { IfSome (S.left source.old) (λ text. (plan : PlanOf) → IsTextOf text (Reads plan) → (I.seen images.new).sectors_read ≤ (I.seen images.old).sectors_read + list_reads asked.now plan) }
+    ensures reads { IfSome (S.left source.old) (λ text. (plan : PlanOf) → IsTextOf text (Reads plan) →
+        ListReads (told_all (I.seen images.old).attached) asked.now plan (I.seen images.old).sectors_read (I.seen images.new).sectors_read) }
     ensures world { (I.seen images.new).world ≡ (I.seen images.old).world }
     ensures attached { (I.seen images.new).attached ≡ (I.seen images.old).attached }
 {
     match prepare(alloc, source, images, names) {
-        Ok(plan) => listed(alloc, images, &plan, asked),
+        Ok(plan) => listed(rt, alloc, images, &plan, asked, gate),
         Err(stop) => Err(stop),
     }
 }
 
 /// The text of `list` over a plan with which the images agree, or why there is none.
 #[tactic(auto, using(crate::proofs::Listed::pages_printed))]
-fn listed<I: Images>(
+fn listed<R: Threads + Sync, I: Images, G: Gate + Sync>(
+    rt: &R,
     alloc: Global,
     images: &mut I,
     plan: &Plan,
     asked: &Listing,
+    gate: &G,
 ) -> Result<Text, Stop>
     requires plan { IsPlan plan.now }
     requires lengths { AgreeWith plan.now (I.seen images.old).attached }
@@ -121,20 +129,22 @@ fn listed<I: Images>(
     ensures causes { HasCauses
         (record { images = (I.seen images.old).faults; plan = 0; out = 0; sectors = (I.seen images.old).sectors_read })
         (record { images = (I.seen images.new).faults; plan = 0; out = 0; sectors = (I.seen images.new).sectors_read }) result }
-    ensures reads { OnlyReads (I.seen images.old) (I.seen images.new) (list_reads asked.now plan.now) }
+    ensures reads { ReadsPages (told_all (I.seen images.old).attached) plan.now asked.now.size asked.now.span asked.now.pages asked.now.from (I.seen images.old) (I.seen images.new) }
 {
-    match found_pages(alloc, images, plan, asked) {
+    match found_pages(rt, alloc, images, plan, asked, gate) {
         Ok(found) => Ok(pages_text(alloc, asked.form, found.as_slice())?),
         Err(fault) => Err(Stop::from(fault)),
     }
 }
 
 /// The pages that are asked for.
-fn found_pages<I: Images>(
+fn found_pages<R: Threads + Sync, I: Images, G: Gate + Sync>(
+    rt: &R,
     alloc: Global,
     images: &mut I,
     plan: &Plan,
     asked: &Listing,
+    gate: &G,
 ) -> Result<PageList, PageFault>
     requires plan { IsPlan plan.now }
     requires lengths { AgreeWith plan.now (I.seen images.old).attached }
@@ -144,9 +154,10 @@ fn found_pages<I: Images>(
     ensures many { 2 ^ 64 ≤ total_of plan.now → IsErrOf result PageMany }
     ensures cursor { total_of plan.now < 2 ^ 64 → total_of plan.now < asked.now.from → IsErrOf result (PageCursor (record { from = asked.now.from; total = total_of plan.now })) }
     ensures ends { IfErr result (EndsPage plan.now asked.now.from (I.seen images.old) (I.seen images.new)) }
-    ensures reads { OnlyReads (I.seen images.old) (I.seen images.new) (list_reads asked.now plan.now) }
+    ensures reads { ReadsPages (told_all (I.seen images.old).attached) plan.now asked.now.size asked.now.span asked.now.pages asked.now.from (I.seen images.old) (I.seen images.new) }
 {
     pages(
+        rt,
         alloc,
         images,
         plan,
@@ -154,6 +165,7 @@ fn found_pages<I: Images>(
         asked.size,
         asked.span,
         asked.pages,
+        gate,
     )
 }
 

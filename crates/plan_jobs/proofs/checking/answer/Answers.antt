@@ -1,8 +1,8 @@
-use Rattle.std.proofs.Common.{◌*◌, length}
+use Rattle.std.proofs.Common.{◌+◌, ◌≤◌, arith}
 use Rattle.image_source.specs.Attached.{told_all}
 use Rattle.plan_jobs.specs.Checking.{check_reads, rule_refusal}
 use Rattle.plan_jobs.proofs.Checks.{text_prepared}
-use Rattle.plan_jobs.proofs.Prepared.{cause_prepared, cause_unprepared, order_prepared, order_unprepared, reads_prepared, reads_unprepared, refuses_prepared, refuses_unprepared}
+use Rattle.plan_jobs.proofs.Prepared.{cause_prepared, cause_unprepared, holds_prepared, holds_unprepared, order_prepared, order_unprepared, refuses_prepared, refuses_unprepared}
 use Rattle.plan_jobs.proofs.checking.answer.Goals as goal
 
 pub returns-in-Ok-clause-refuses : goal.returns-in-Ok-clause-refuses
@@ -24,7 +24,8 @@ returns-in-Ok-clause-text g c =
 pub returns-in-Ok-clause-reads : goal.returns-in-Ok-clause-reads
 returns-in-Ok-clause-reads g c =
     let seen = g.I.Images.seen c.args.images.now in
-    reads_prepared (g.S.Source.left c.args.source.now) c.args.names seen.attached c.in-Ok.plan (check_reads c.args.set.now seen.attached) seen.sectors_read (g.I.Images.seen c.checked.new.images).sectors_read
+    holds_prepared (g.S.Source.left c.args.source.now) c.args.names seen.attached c.in-Ok.plan
+    (λ plan. (g.I.Images.seen c.checked.new.images).sectors_read ≤ seen.sectors_read + check_reads c.args.set.now seen.attached plan)
     c.in-Ok.ensures.prepared c.checked.ensures.reads.sectors_read
 
 pub returns-in-Err-clause-refuses : goal.returns-in-Err-clause-refuses
@@ -40,7 +41,7 @@ returns-in-Err-clause-causes g c =
 pub returns-in-Err-clause-reads : goal.returns-in-Err-clause-reads
 returns-in-Err-clause-reads g c =
     let seen = g.I.Images.seen c.args.images.now in
-    reads_unprepared (g.S.Source.left c.args.source.now) (check_reads c.args.set.now seen.attached) seen.sectors_read
+    holds_unprepared (g.S.Source.left c.args.source.now) (λ plan. seen.sectors_read ≤ seen.sectors_read + check_reads c.args.set.now seen.attached plan) (λ plan. omega arith)
 
 pub returns-in-Ok-clause-order : goal.returns-in-Ok-clause-order
 returns-in-Ok-clause-order g c =

@@ -29,11 +29,13 @@ use landmark_rules::Group;
 use page_engine::{Line, ListPage, PageFault, page};
 use plan_text::Text;
 use raid_params::{Bounds, Geometry};
+use row_scan::Gate;
 use run_ends::{Stop, add_number, add_share, print};
 use sample_arrays::{LEAST_MARKED, MOST_SAMPLED, count_held};
 use search_plan::Plan;
 use set_product::product_rank;
 use std::alloc::Global;
+use std::thread::Threads;
 use survey_engine::{Ask, SurveyFault};
 use survey_job::ask_of;
 
@@ -42,14 +44,16 @@ const FIRST_PAGE: u64 = 1000;
 
 /// Prints what a survey and the first page of a listing find of an array that is generated, whole or not at
 /// all. `number` is that from which its bytes are made, `rows` its rows of chunks; `xfs` says whether its volume gets
-/// the landmarks of an XFS file system.
-pub fn sample<K: Sink>(
+/// the landmarks of an XFS file system. Pieces of a scan of the listing may run side by side: each passes the gate.
+pub fn sample<R: Threads + Sync, K: Sink, G: Gate + Sync>(
+    rt: &R,
     alloc: Global,
     number: u64,
     set: &Geometry,
     rows: u64,
     xfs: bool,
     out: &mut K,
+    gate: &G,
 ) -> Result<(), Stop>
     requires set { HasWord set.now }
     requires some { 1 ≤ rows }
@@ -61,11 +65,19 @@ pub fn sample<K: Sink>(
         (record { images = images; plan = plan; out = K.faults out.new; sectors = read })
         (K.gained out.old) (K.gained out.new) result }
 {
-    print(out, answer(alloc, number, set, rows, xfs))
+    print(out, answer(rt, alloc, number, set, rows, xfs, gate))
 }
 
 /// The text of `sample`, or why there is none.
-fn answer(alloc: Global, number: u64, set: &Geometry, rows: u64, xfs: bool) -> Result<Text, Stop>
+fn answer<R: Threads + Sync, G: Gate + Sync>(
+    rt: &R,
+    alloc: Global,
+    number: u64,
+    set: &Geometry,
+    rows: u64,
+    xfs: bool,
+    gate: &G,
+) -> Result<Text, Stop>
     requires set { HasWord set.now }
     requires some { 1 ≤ rows }
     requires most { rows ≤ 65536 }
@@ -74,7 +86,7 @@ fn answer(alloc: Global, number: u64, set: &Geometry, rows: u64, xfs: bool) -> R
     ensures early { IfErr result IsEarly }
 {
     match checked_end(set, rows, xfs) {
-        Ok(end) => found(alloc, number, set, rows, xfs, end),
+        Ok(end) => found(rt, alloc, number, set, rows, xfs, end, gate),
         Err(stop) => Err(stop),
     }
 }
@@ -107,13 +119,15 @@ fn checked_end(set: &Geometry, rows: u64, xfs: bool) -> Result<u64, Stop>
 }
 
 /// The text of `sample` of an array that may be made, or why there is none.
-fn found(
+fn found<R: Threads + Sync, G: Gate + Sync>(
+    rt: &R,
     alloc: Global,
     number: u64,
     set: &Geometry,
     rows: u64,
     xfs: bool,
     end: u64,
+    gate: &G,
 ) -> Result<Text, Stop>
     requires end { end ≡ end_of set.now.head rows }
     requires ruled { first_fault set.now (held_in set.now.slots.items) (end_of set.now.head rows) ≡ None }
@@ -125,7 +139,7 @@ fn found(
 {
     let mut images = attached(alloc, number, set, rows, xfs)?;
     let plan = surveyed(alloc, &mut images, &ask_for(set, end))?;
-    match first_page(alloc, &mut images, &plan) {
+    match first_page(rt, alloc, &mut images, &plan, gate) {
         Ok(page) => Ok(lines(alloc, set, end, &plan, &page)?),
         Err(stop) => Err(stop),
     }
@@ -204,7 +218,13 @@ fn surveyed(alloc: Global, images: &mut OwnImages, ask: &Ask) -> Result<Plan, Me
 }
 
 /// The first page of the sets of a plan that pass, or why there is none.
-fn first_page(alloc: Global, images: &mut OwnImages, plan: &Plan) -> Result<ListPage, Stop>
+fn first_page<R: Threads + Sync, G: Gate + Sync>(
+    rt: &R,
+    alloc: Global,
+    images: &mut OwnImages,
+    plan: &Plan,
+    gate: &G,
+) -> Result<ListPage, Stop>
     requires plan { IsPlan plan.now }
     requires lengths { AgreeWith plan.now (seen_of_own images.old).attached }
     ensures page { IfOk result (λ page. IfSome (told_all (seen_of_own images.old).attached) (λ bytes. IsPageOf bytes plan.now 0 FIRST_PAGE (2 ^ 64 - 1) page)) }
@@ -212,7 +232,7 @@ fn first_page(alloc: Global, images: &mut OwnImages, plan: &Plan) -> Result<List
     ensures allowed { OnOk result (many_refusal plan.now ≡ None) }
     ensures refused { IfErr result (λ stop. (stop ≡ OutOfMemoryOf) ⊎ ((many_refusal plan.now ≡ Some stop) × IsRefusal stop)) }
 {
-    match page(alloc, images, plan, 0, FIRST_PAGE, u64::MAX) {
+    match page(rt, alloc, images, plan, 0, FIRST_PAGE, u64::MAX, gate) {
         Ok(found) => Ok(found),
         Err(PageFault::Many) => Err(Stop::Many),
         Err(PageFault::Memory) => Err(Stop::OutOfMemory),

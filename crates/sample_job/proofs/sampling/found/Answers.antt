@@ -12,12 +12,12 @@ use Rattle.sample_job.specs.Sampling.{sample_plan}
 use Rattle.sample_job.proofs.sampling.found.Goals as goal
 
 pub surveyed-requires : goal.surveyed-requires
-surveyed-requires c =
+surveyed-requires g c =
     rw c.ask_for.ensures
     (surveyable c.args.number c.args.set.now c.args.rows c.args.xfs c.args.end (seen_of_own c.in_ok-images.images).attached c.requires.ruled c.requires.size c.in_ok-images.ensures.long c.requires.end c.in_ok-images.ensures.images)
 
 pub returns-in-Ok-clause-text : goal.returns-in-Ok-clause-text
-returns-in-Ok-clause-text c =
+returns-in-Ok-clause-text g c =
     let made = subst (λ (ask : Ask). IfSome (told_all (seen_of_own c.in_ok-images.images).attached) (λ bytes. c.in_ok-plan.plan ≡ survey_plan ask (seen_of_own c.in_ok-images.images).attached bytes)) c.ask_for.ensures c.in_ok-plan.ensures.made in
     text_is c.args.number c.args.set.now c.args.rows c.args.xfs c.args.end (seen_of_own c.in_ok-images.images).attached c.in_ok-plan.plan c.in-Ok.page c.in_ok-lines-in-Ok.field-0
     c.in_ok-images.ensures.long c.in_ok-images.ensures.images c.requires.end
@@ -26,13 +26,13 @@ returns-in-Ok-clause-text c =
     c.in-Ok.ensures.total c.in_ok-lines-in-Ok.ensures
 
 pub returns-in-Ok-clause-allowed : goal.returns-in-Ok-clause-allowed
-returns-in-Ok-clause-allowed c =
+returns-in-Ok-clause-allowed g c =
     let made = subst (λ (ask : Ask). IfSome (told_all (seen_of_own c.in_ok-images.images).attached) (λ bytes. c.in_ok-plan.plan ≡ survey_plan ask (seen_of_own c.in_ok-images.images).attached bytes)) c.ask_for.ensures c.in_ok-plan.ensures.made in
     ap many_refusal (sym (plan_is c.args.number c.args.set.now c.args.rows c.args.xfs c.args.end (seen_of_own c.in_ok-images.images).attached c.in_ok-plan.plan c.in_ok-images.ensures.long c.in_ok-images.ensures.images c.requires.end made))
     ∙ c.in-Ok.ensures.allowed
 
 pub returns-clause-refused : goal.returns-clause-refused
-returns-clause-refused c =
+returns-clause-refused g c =
     let made = subst (λ (ask : Ask). IfSome (told_all (seen_of_own c.in_ok-images.images).attached) (λ bytes. c.in_ok-plan.plan ≡ survey_plan ask (seen_of_own c.in_ok-images.images).attached bytes)) c.ask_for.ensures c.in_ok-plan.ensures.made in
     refused_is c.in_ok-plan.plan (sample_plan c.args.number c.args.set.now c.args.rows c.args.xfs) c.in-Err.stop
     (plan_is c.args.number c.args.set.now c.args.rows c.args.xfs c.args.end (seen_of_own c.in_ok-images.images).attached c.in_ok-plan.plan c.in_ok-images.ensures.long c.in_ok-images.ensures.images c.requires.end made)

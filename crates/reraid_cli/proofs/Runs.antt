@@ -1,6 +1,6 @@
 -- A run, as the reading of its words says it.
-use Rattle.std.proofs.Common.{◌≡◌, ℕ, ◌≤◌, ◌+◌, ◌<◌, ◌^◌, List, [], ◌∷◌, None, Some, Option, Result, Ok, Err, All, IfSome, refl, sym, ap, ◌∙◌, subst, arith, inl, inr, Bool, length, IfErr}
-use Rattle.image_source.specs.Attached.{AreImagesOf}
+use Rattle.std.proofs.Common.{◌≡◌, ℕ, ◌≤◌, ◌+◌, ◌<◌, ◌^◌, List, [], ◌∷◌, None, Some, Option, Result, Ok, Err, All, IfSome, sym, ap, ◌∙◌, subst, arith, inl, inr, Bool, length, IfErr}
+use Rattle.image_source.specs.Attached.{AreImagesOf, told_all}
 use Rattle.image_source.specs.Causes.{Rose}
 use Rattle.image_source.specs.Seen.{Image, Seen, World}
 use Rattle.image_source.specs.Streams.{AppendsFront}
@@ -9,11 +9,17 @@ use Rattle.command_words.specs.declared.command.Command.{Command}
 use Rattle.command_words.specs.Commands.{EndsInNames, Reads, names_after}
 use Rattle.command_words.specs.declared.command.Command.TheVariants.{Survey as SurveyCommand, Sample as SampleCommand, List as ListCommand, Check as CheckCommand, Map as MapCommand, Write as WriteCommand, Rebuild as RebuildCommand}
 use Rattle.command_words.proofs.OneReading.{one_reading as readings_agree}
+use Rattle.plan_jobs.specs.Checking.{check_reads}
+use Rattle.plan_jobs.specs.Listing.{ListReads}
+use Rattle.plan_jobs.specs.Plans.{IfPlan, PlanReading, Reads as Plan, Refused}
+use Rattle.plan_jobs.specs.declared.listing.Listing.{Listing}
+use Rattle.plan_jobs.proofs.PagesRead.{none_read}
+use Rattle.raid_params.specs.declared.types.Geometry.{Geometry}
 use Rattle.run_ends.specs.Jobs.{Ends, Leaves, MayHaveRead}
 use Rattle.run_ends.specs.declared.stop.Stop.{Stop}
 use Rattle.run_ends.specs.declared.stop.Stop.TheVariants.{ImageFault, Word}
 use Rattle.run_ends.proofs.Printed.{front_of_nothing, keeps_itself}
-use Rattle.reraid_cli.specs.Answers.{Reading, Says, IsOwn, IsPlanned, command_output, command_reads, command_refusal, most_reads, output, refusal}
+use Rattle.reraid_cli.specs.Answers.{CommandReads, MayRead, Reading, Says, IsOwn, IsPlanned, asked_of as list_asked, command_output, command_refusal, output, refusal}
 use Rattle.reraid_cli.specs.Asked.{IsAsked, counts_of}
 
 -- words have one reading
@@ -35,10 +41,29 @@ words_end words number left attached old reading reads says = record {
   front = front_if (command_output reading.words reading attached) old;
 }
 
-pub words_read : (words : List (List ℕ)) (number : ℕ) (left : Option (List ℕ)) (before : ℕ) (reading : Reading) (attached : List Image) → Reads words (Err number) → Says words left reading → IfSome (most_reads reading attached) (λ n. before ≤ before + n)
-unfolding most_reads
-words_read words number left before reading attached reads says =
-    subst (λ (c : Result Command ℕ). IfSome (command_reads c reading attached) (λ n. before ≤ before + n)) (sym (one_reading words (Err number) reading.words reads says.command)) (let h : before ≤ before + 0 = omega arith in h)
+-- nothing is read for no pages
+none_listed : (told : Option (List (List ℕ))) (asked : Listing) (read : ℕ) (plan : PlanReading) → IfPlan plan (λ p. ListReads told asked p read read)
+none_listed told asked read (Plan p) = none_read told asked p read
+none_listed told asked read (Refused n) = tt
+
+none_checked : (set : Geometry) (attached : List Image) (read : ℕ) (plan : PlanReading) → IfPlan plan (λ p. read ≤ read + check_reads set attached p)
+none_checked set attached read (Plan p) = omega arith
+none_checked set attached read (Refused n) = tt
+
+-- a command may read nothing
+may_read_none : (words : Result Command ℕ) (reading : Reading) (attached : List Image) (read : ℕ) → CommandReads words reading attached read read
+may_read_none (Err number) reading attached read = omega arith
+may_read_none (Ok (SurveyCommand asked)) reading attached read = omega arith
+may_read_none (Ok (ListCommand from size span pages form names)) reading attached read = none_listed (told_all attached) (list_asked from size span pages form) read reading.plan
+may_read_none (Ok (CheckCommand set names)) reading attached read = none_checked set attached read reading.plan
+may_read_none (Ok (MapCommand set sector end names)) reading attached read = omega arith
+may_read_none (Ok (WriteCommand set end names)) reading attached read = omega arith
+may_read_none (Ok (RebuildCommand set slot end names)) reading attached read = omega arith
+may_read_none (Ok (SampleCommand number set rows xfs)) reading attached read = omega arith
+
+pub unread : (reading : Reading) (attached : List Image) (read : ℕ) → MayRead reading attached read read
+unfolding MayRead
+unread reading attached read = may_read_none reading.words reading attached read
 
 -- an image could not be attached
 pub attach_ends : (attached : List Image) (old : Option (List ℕ)) (reading : Reading) → Ends {T = Unit {0}} (refusal reading attached) (output reading attached) old old (Err ImageFault)
@@ -56,12 +81,8 @@ attach_leaves streams old new plan out gained rose later = record {
   unread = λ h. absurd (h tt);
 }
 
-any_reads : (few : Option ℕ) (before : ℕ) → IfSome few (λ n. before ≤ before + n)
-any_reads None before = tt
-any_reads (Some n) before = omega arith
-
-pub attach_reads : (reading : Reading) (old new : Seen) (attached : List Image) → new.sectors_read ≡ old.sectors_read → IfSome (most_reads reading attached) (λ n. new.sectors_read ≤ old.sectors_read + n)
-attach_reads reading old new attached same = subst (λ (k : ℕ). IfSome (most_reads reading attached) (λ n. k ≤ old.sectors_read + n)) (sym same) (any_reads (most_reads reading attached) old.sectors_read)
+pub attach_reads : (reading : Reading) (old new : Seen) (attached : List Image) → new.sectors_read ≡ old.sectors_read → MayRead reading attached old.sectors_read new.sectors_read
+attach_reads reading old new attached same = subst (λ (k : ℕ). MayRead reading attached old.sectors_read k) (sym same) (unread reading attached old.sectors_read)
 
 -- what the words say is what the command is asked
 pub asked_of : (words : List (List ℕ)) (left : Option (List ℕ)) (command : Command) (names : ℕ) (reading : Reading) → Reads words (Ok command) → names ≡ length (names_after words) → Says words left reading → IsAsked command names left reading

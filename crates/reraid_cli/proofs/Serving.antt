@@ -1,7 +1,6 @@
 -- A command's job, as the reading of the words says it.
-use Rattle.std.proofs.Common.{◌≡◌, ℕ, ◌≤◌, ◌+◌, ◌*◌, List, None, Some, Option, Result, Ok, Err, IfSome, refl, sym, subst, arith, Bool, length, inr}
+use Rattle.std.proofs.Common.{◌≡◌, ℕ, ◌≤◌, ◌+◌, List, Some, Option, Result, Ok, IfSome, sym, subst, Bool}
 use Rattle.image_source.specs.Attached.{told_all}
-use Rattle.image_source.specs.Causes.{Rose}
 use Rattle.image_source.specs.Seen.{Image}
 use Rattle.raid_params.specs.declared.types.Geometry.{Geometry}
 use Rattle.search_plan.specs.declared.plan.Plan.{Plan}
@@ -10,16 +9,15 @@ use Rattle.command_words.specs.declared.command.Form.{Form}
 use Rattle.command_words.specs.declared.command.SurveyWords.{SurveyWords}
 use Rattle.command_words.specs.declared.command.Command.TheVariants.{Survey as SurveyCommand, Sample as SampleCommand, List as ListCommand, Check as CheckCommand, Map as MapCommand, Write as WriteCommand, Rebuild as RebuildCommand}
 use Rattle.plan_jobs.specs.Checking.{check_output, check_reads, check_refusal}
-use Rattle.run_ends.specs.Jobs.{Counts, Ends, Leaves, Orders}
-use Rattle.plan_jobs.specs.Listing.{list_output, list_reads, list_refusal}
+use Rattle.run_ends.specs.Jobs.{Ends, Orders}
+use Rattle.plan_jobs.specs.Listing.{ListReads, list_output, list_refusal}
 use Rattle.set_jobs.specs.Mapping.{map_refusal, map_text, set_refusal}
 use Rattle.set_jobs.specs.Writing.{members_reads, rebuild_output, rebuild_refusal, write_output}
 use Rattle.survey_job.specs.Surveying.{survey_output, survey_reads, survey_refusal}
-use Rattle.plan_jobs.specs.Plans.{IsTextOf, PlanReading, Reads, Refused, plan_reads}
+use Rattle.plan_jobs.specs.Plans.{IfPlan, IsTextOf, PlanReading, Reads, Refused}
 use Rattle.run_ends.specs.declared.stop.Stop.{Stop}
 use Rattle.sample_job.specs.Sampling.{sample_output, sample_refusal}
-use Rattle.run_ends.proofs.Printed.{keeps_itself, order_refused}
-use Rattle.reraid_cli.specs.Answers.{Reading, asked_of, command_output, command_reads, command_refusal, most_reads, output, refusal}
+use Rattle.reraid_cli.specs.Answers.{CommandReads, MayRead, Reading, asked_of, command_output, command_refusal, output, refusal}
 use Rattle.reraid_cli.specs.Asked.{IsAsked}
 
 -- the refusal and the output of a command are those of the reading that says it
@@ -30,9 +28,9 @@ ends_as command reading attached old new r is ends =
     let P : Result Command ℕ → Type 0 = λ c. Ends (command_refusal c reading attached) (command_output c reading attached) old new r in
     subst P (sym is) ends
 
-reads_as : (command : Command) (reading : Reading) (attached : List Image) (before after : ℕ) → reading.words ≡ Ok command → IfSome (command_reads (Ok command) reading attached) (λ n. after ≤ before + n) → IfSome (most_reads reading attached) (λ n. after ≤ before + n)
-unfolding most_reads
-reads_as command reading attached before after is few = subst (λ (c : Result Command ℕ). IfSome (command_reads c reading attached) (λ n. after ≤ before + n)) (sym is) few
+reads_as : (command : Command) (reading : Reading) (attached : List Image) (before after : ℕ) → reading.words ≡ Ok command → CommandReads (Ok command) reading attached before after → MayRead reading attached before after
+unfolding MayRead
+reads_as command reading attached before after is reads = subst (λ (c : Result Command ℕ). CommandReads c reading attached before after) (sym is) reads
 
 -- what holds over the text that the source had left holds over the reading's
 told_as : (left : Option (List ℕ)) (reading : Reading) (P : List ℕ → PlanReading → Type 0) → left ≡ Some reading.text → IsTextOf reading.text reading.plan →
@@ -119,36 +117,33 @@ rebuild_order set slot end n names before after left reading attached old new r 
     (subst (λ (k : ℕ). IsFirst before after old new r (rebuild_refusal set slot end k attached)) (sym asked.names_are) order)
 
 -- what is read of the images, over a plan that the text is, or none
-plan_known : (few : Plan → ℕ) (before after : ℕ) (text : List ℕ) (read : PlanReading) → IsTextOf text read → ((plan : Plan) → IsTextOf text (Reads plan) → after ≤ before + few plan) →
-    IfSome (plan_reads few read) (λ k. after ≤ before + k)
-plan_known few before after text (Refused n) is within = tt
-plan_known few before after text (Reads plan) is within = within plan is
+plan_known : (Holds : Plan → Type 0) (text : List ℕ) (read : PlanReading) → IsTextOf text read → ((plan : Plan) → IsTextOf text (Reads plan) → Holds plan) → IfPlan read Holds
+plan_known Holds text (Refused n) is all = tt
+plan_known Holds text (Reads plan) is all = all plan is
 
-plan_read : (few : Plan → ℕ) (before after : ℕ) (left : Option (List ℕ)) (reading : Reading) → left ≡ Some reading.text → IsTextOf reading.text reading.plan →
-    IfSome left (λ text. (plan : Plan) → IsTextOf text (Reads plan) → after ≤ before + few plan) → IfSome (plan_reads few reading.plan) (λ k. after ≤ before + k)
-plan_read few before after left reading text is within =
-    let P : Option (List ℕ) → Type 0 = λ l. IfSome l (λ text. (plan : Plan) → IsTextOf text (Reads plan) → after ≤ before + few plan) in
-    plan_known few before after reading.text reading.plan is (subst P text within)
+plan_read : (Holds : Plan → Type 0) (left : Option (List ℕ)) (reading : Reading) → left ≡ Some reading.text → IsTextOf reading.text reading.plan →
+    IfSome left (λ text. (plan : Plan) → IsTextOf text (Reads plan) → Holds plan) → IfPlan reading.plan Holds
+plan_read Holds left reading text is all =
+    let P : Option (List ℕ) → Type 0 = λ l. IfSome l (λ text. (plan : Plan) → IsTextOf text (Reads plan) → Holds plan) in
+    plan_known Holds reading.text reading.plan is (subst P text all)
 
 pub list_read : (from size span pages : ℕ) (form : Form) (n names before after : ℕ) (left : Option (List ℕ)) (reading : Reading) (attached : List Image) → IsAsked (ListCommand from size span pages form n) names left reading →
-    IfSome left (λ text. (plan : Plan) → IsTextOf text (Reads plan) → after ≤ before + list_reads (asked_of from size span pages form) plan) → IfSome (most_reads reading attached) (λ k. after ≤ before + k)
+    IfSome left (λ text. (plan : Plan) → IsTextOf text (Reads plan) → ListReads (told_all attached) (asked_of from size span pages form) plan before after) → MayRead reading attached before after
 list_read from size span pages form n names before after left reading attached asked few =
-    reads_as (ListCommand from size span pages form n) reading attached before after asked.command_is (plan_read (list_reads (asked_of from size span pages form)) before after left reading (asked.text tt) (asked.plan tt) few)
+    reads_as (ListCommand from size span pages form n) reading attached before after asked.command_is
+    (plan_read (λ plan. ListReads (told_all attached) (asked_of from size span pages form) plan before after) left reading (asked.text tt) (asked.plan tt) few)
 
 pub check_read : (set : Geometry) (n names before after : ℕ) (left : Option (List ℕ)) (reading : Reading) (attached : List Image) → IsAsked (CheckCommand set n) names left reading →
-    IfSome left (λ text. (plan : Plan) → IsTextOf text (Reads plan) → after ≤ before + check_reads set attached plan) → IfSome (most_reads reading attached) (λ k. after ≤ before + k)
+    IfSome left (λ text. (plan : Plan) → IsTextOf text (Reads plan) → after ≤ before + check_reads set attached plan) → MayRead reading attached before after
 check_read set n names before after left reading attached asked few =
-    reads_as (CheckCommand set n) reading attached before after asked.command_is (plan_read (check_reads set attached) before after left reading (asked.text tt) (asked.plan tt) few)
-
-pub map_reads : (set : Geometry) (sector : ℕ) (end : Option ℕ) (n names before : ℕ) (left : Option (List ℕ)) (reading : Reading) (attached : List Image) → IsAsked (MapCommand set sector end n) names left reading → IfSome (most_reads reading attached) (λ k. before ≤ before + k)
-map_reads set sector end n names before left reading attached asked = reads_as (MapCommand set sector end n) reading attached before before asked.command_is (let h : before ≤ before + 0 = omega arith in h)
+    reads_as (CheckCommand set n) reading attached before after asked.command_is (plan_read (λ plan. after ≤ before + check_reads set attached plan) left reading (asked.text tt) (asked.plan tt) few)
 
 pub write_reads : (set : Geometry) (end : Option ℕ) (n names before after : ℕ) (left : Option (List ℕ)) (reading : Reading) (attached : List Image) → IsAsked (WriteCommand set end n) names left reading → after ≤ before + members_reads set end attached →
-    IfSome (most_reads reading attached) (λ k. after ≤ before + k)
+    MayRead reading attached before after
 write_reads set end n names before after left reading attached asked few = reads_as (WriteCommand set end n) reading attached before after asked.command_is few
 
 pub rebuild_reads : (set : Geometry) (slot : ℕ) (end : Option ℕ) (n names before after : ℕ) (left : Option (List ℕ)) (reading : Reading) (attached : List Image) → IsAsked (RebuildCommand set slot end n) names left reading → after ≤ before + members_reads set end attached →
-    IfSome (most_reads reading attached) (λ k. after ≤ before + k)
+    MayRead reading attached before after
 rebuild_reads set slot end n names before after left reading attached asked few = reads_as (RebuildCommand set slot end n) reading attached before after asked.command_is few
 
 pub survey_asked : (asked : SurveyWords) (names : ℕ) (left : Option (List ℕ)) (reading : Reading) (attached : List Image) (old new : Option (List ℕ)) (r : Result (Unit {0}) Stop) → IsAsked (SurveyCommand asked) names left reading →
@@ -164,7 +159,7 @@ survey_order asked names before after left reading attached old new r is order =
     (subst (λ (k : ℕ). IsFirst before after old new r (survey_refusal asked k attached)) (sym is.names_are) order)
 
 pub survey_read : (asked : SurveyWords) (names before after : ℕ) (left : Option (List ℕ)) (reading : Reading) (attached : List Image) → IsAsked (SurveyCommand asked) names left reading → after ≤ before + survey_reads asked attached →
-    IfSome (most_reads reading attached) (λ k. after ≤ before + k)
+    MayRead reading attached before after
 survey_read asked names before after left reading attached is few = reads_as (SurveyCommand asked) reading attached before after is.command_is few
 
 -- `sample` looks at no image that is given
@@ -176,8 +171,3 @@ pub sample_order : (number : ℕ) (set : Geometry) (rows : ℕ) (xfs : Bool) (na
     IsAsked (SampleCommand number set rows xfs) names left reading → Orders (sample_refusal number set rows xfs) read read old new r → Orders (refusal reading attached) read read old new r
 sample_order number set rows xfs names read left reading attached old new r is order =
     order_as (SampleCommand number set rows xfs) reading attached read read old new r is.command_is order
-
-pub sample_read : (number : ℕ) (set : Geometry) (rows : ℕ) (xfs : Bool) (names before : ℕ) (left : Option (List ℕ)) (reading : Reading) (attached : List Image) → IsAsked (SampleCommand number set rows xfs) names left reading →
-    IfSome (most_reads reading attached) (λ k. before ≤ before + k)
-sample_read number set rows xfs names before left reading attached is =
-    reads_as (SampleCommand number set rows xfs) reading attached before before is.command_is (let h : before ≤ before + 0 = omega arith in h)

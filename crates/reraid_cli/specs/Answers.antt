@@ -1,22 +1,21 @@
 -- What a run answers.
-use Rattle.std.specs.Prelude.{ℕ, ◌≡◌, ◌≢◌, ◌*◌, ◌==◌, Bool, true, false, if◌then◌else◌, List, [], ◌∷◌, length, Result, Ok, Err}
+use Rattle.std.specs.Prelude.{ℕ, ◌≡◌, ◌≢◌, ◌+◌, ◌≤◌, ◌==◌, Bool, true, false, if◌then◌else◌, List, [], ◌∷◌, length, Result, Ok, Err}
 use Rattle.std.specs.declared.option.Option.{Option}
 use Rattle.std.specs.declared.option.Option.TheVariants.{None, Some}
 use Rattle.std.specs.Io.KnownBytes.{Appends, Keeps}
 use Rattle.image_source.specs.Attached.{told_all}
 use Rattle.image_source.specs.Seen.{Image}
 use Rattle.image_source.specs.Streams.{AppendsFront}
-use Rattle.raid_params.specs.declared.types.Geometry.{Geometry}
 use Rattle.command_words.specs.Commands.{Reads, names_after}
 use Rattle.command_words.specs.declared.command.Command.{Command}
 use Rattle.command_words.specs.declared.command.Command.TheVariants.{Survey as SurveyCommand, List as ListCommand, Check as CheckCommand, Map as MapCommand, Write as WriteCommand, Rebuild as RebuildCommand, Sample as SampleCommand}
 use Rattle.plan_jobs.specs.Checking.{check_output, check_reads, check_refusal}
-use Rattle.plan_jobs.specs.Listing.{list_output, list_reads, list_refusal}
+use Rattle.plan_jobs.specs.Listing.{ListReads, list_output, list_refusal}
 use Rattle.plan_jobs.specs.declared.listing.Listing.{Listing}
 use Rattle.command_words.specs.declared.command.Form.{Form}
 use Rattle.survey_job.specs.Surveying.{survey_output, survey_reads, survey_refusal}
 use Rattle.set_jobs.specs.Mapping.{map_refusal, map_text, set_refusal}
-use Rattle.plan_jobs.specs.Plans.{IsTextOf, PlanReading, plan_reads}
+use Rattle.plan_jobs.specs.Plans.{IfPlan, IsTextOf, PlanReading}
 use Rattle.set_jobs.specs.Writing.{members_reads, rebuild_output, rebuild_refusal, write_output}
 use Rattle.run_ends.specs.Stops.{note_of, status_of}
 use Rattle.sample_job.specs.Sampling.{sample_output, sample_refusal}
@@ -83,22 +82,23 @@ command_output (Ok (SampleCommand number set rows xfs)) reading attached = Some 
 unfoldable pub output : Reading → List Image → Option (List ℕ)
 output reading attached = command_output reading.words reading attached
 
--- the most sectors that a command reads, where its plan is one: `survey` reads each sector of each image from the
--- smallest offset to the end, and one of entries for each partition table that counts; `list` reads at most
--- the tested rows of each image for each set of its range, and once for each offset those of the chunk that has most;
--- `check` at most the tested rows of its set, both none of a set of which nothing can break a row; `write` and
--- `rebuild` at most each sector of each member that is there, `map` none, and `sample`
--- none of those given
-abbrev pub command_reads : Result Command ℕ → Reading → List Image → Option ℕ
-command_reads (Ok (SurveyCommand asked)) reading attached = Some (survey_reads asked attached)
-command_reads (Ok (ListCommand from size span pages form names)) reading attached = plan_reads (list_reads (asked_of from size span pages form)) reading.plan
-command_reads (Ok (CheckCommand set names)) reading attached = plan_reads (check_reads set attached) reading.plan
-command_reads (Ok (WriteCommand set end names)) reading attached = Some (members_reads set end attached)
-command_reads (Ok (RebuildCommand set slot end names)) reading attached = Some (members_reads set end attached)
-command_reads _ reading attached = Some 0
+-- what a command may read, by the counts of the sectors read before and after: `survey` each sector of each image from
+-- the smallest offset to the end, and one of entries for each partition table that counts; `list` for each offset the
+-- tested rows of the chunk that has most, once, and for each `MOST_SETS` hopeful sets of a page, begun ones counted, one
+-- scan; `check` the tested rows of its set, and none where nothing can break one; `write` and `rebuild` each sector of
+-- each member that is there, `map` none, and `sample` none of those given. A text that is no plan bounds nothing
+abbrev pub CommandReads : Result Command ℕ → Reading → List Image → ℕ → ℕ → Type 0
+CommandReads (Ok (SurveyCommand asked)) reading attached before after = after ≤ before + survey_reads asked attached
+CommandReads (Ok (ListCommand from size span pages form names)) reading attached before after =
+    IfPlan reading.plan (λ plan. ListReads (told_all attached) (asked_of from size span pages form) plan before after)
+CommandReads (Ok (CheckCommand set names)) reading attached before after = IfPlan reading.plan (λ plan. after ≤ before + check_reads set attached plan)
+CommandReads (Ok (WriteCommand set end names)) reading attached before after = after ≤ before + members_reads set end attached
+CommandReads (Ok (RebuildCommand set slot end names)) reading attached before after = after ≤ before + members_reads set end attached
+CommandReads _ reading attached before after = after ≤ before
 
-unfoldable pub most_reads : Reading → List Image → Option ℕ
-most_reads reading attached = command_reads reading.words reading attached
+-- what a run may read
+unfoldable pub MayRead : Reading → List Image → ℕ → ℕ → Type 0
+MayRead reading attached before after = CommandReads reading.words reading attached before after
 
 -- the command puts as it reads
 abbrev pub streams : Result Command ℕ → Bool

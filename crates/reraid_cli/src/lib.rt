@@ -14,6 +14,7 @@ mod top;
 
 pub use command_words::{Command, Word, read_words};
 pub use page_engine::{CursorFault, Line, Lines, ListPage, PageFault, page};
+pub use row_scan::{Gate, OpenGate};
 pub use run_ends::Stop;
 pub use set_product::{product_rank, product_set, product_total};
 pub use top::reraid;

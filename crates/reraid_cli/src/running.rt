@@ -6,25 +6,29 @@ ghost use Rattle.run_ends.specs.Jobs.{Ends, Leaves, Orders};
 ghost use Rattle.run_ends.specs.Source.{TakesFew};
 ghost use Rattle.command_words.specs.Commands.{EndsInNames, IsCommandLine, IsWithin, Reads, names_after};
 ghost use Rattle.command_words.specs.declared.command.Command.{Command as CommandOf};
-ghost use Rattle.reraid_cli.specs.Answers.{IsOwn, IsPlanned, Reading, Says, most_reads, output, refusal, streams};
+ghost use Rattle.reraid_cli.specs.Answers.{IsOwn, IsPlanned, MayRead, Reading, Says, output, refusal, streams};
 ghost use Rattle.reraid_cli.specs.Asked.{IsAsked, counts_of};
 
 use command_words::{Command, Word, read_words};
 use image_source::{Images, MOST_ATTACHED, Sink, Source};
 use plan_jobs::{Listing, check, list};
+use row_scan::Gate;
 use run_ends::{Stop, attach_front};
 use sample_job::sample;
 use set_jobs::{map, rebuild, write};
 use std::alloc::Global;
+use std::thread::Threads;
 use survey_job::survey;
 
 /// Does the work in its order: words, images, and the command's job.
-pub fn run<S: Source, I: Images, K: Sink>(
+pub fn run<R: Threads + Sync, S: Source, I: Images, K: Sink, G: Gate + Sync>(
+    rt: &R,
     alloc: Global,
     words: &[Word],
     plan: &mut S,
     images: &mut I,
     out: &mut K,
+    gate: &G,
 ) -> Result<(), Stop>
     requires fresh { (I.seen images.old).attached ≡ [] }
     requires named { All (λ name. IsTrue ((I.seen images.old).world.may_attach name)) (names_after words.now) }
@@ -37,7 +41,7 @@ pub fn run<S: Source, I: Images, K: Sink>(
     ensures leaves { (read : Result CommandOf ℕ) × Reads words.now read ×
         Leaves (streams read) (counts_of (I.seen images.old) (S.faults plan.old) (K.faults out.old)) (counts_of (I.seen images.new) (S.faults plan.new) (K.faults out.new)) (K.gained out.old) (K.gained out.new) result }
     ensures reads { (reading : Reading) → Says words.now (S.left plan.old) reading →
-        IfSome (most_reads reading (I.seen images.new).attached) (λ n. (I.seen images.new).sectors_read ≤ (I.seen images.old).sectors_read + n) }
+        MayRead reading (I.seen images.new).attached (I.seen images.old).sectors_read (I.seen images.new).sectors_read }
     ensures words { (number : ℕ) → Reads words.now (Err number) → IsErrOf result (Stop.Word number) × (I.seen images.new ≡ I.seen images.old) }
     ensures unasked { (read : Result CommandOf ℕ) → Reads words.now read → (IsPlanned read → ⊥) →
         (S.left plan.new ≡ S.left plan.old) × (S.faults plan.new ≡ S.faults plan.old) }
@@ -54,7 +58,7 @@ pub fn run<S: Source, I: Images, K: Sink>(
         Ok(command) => {
             let names = names_of(&command, words);
             match attach_front(images, names) {
-                Ok(()) => serve(alloc, command, plan, images, names.len(), out),
+                Ok(()) => serve(rt, alloc, command, plan, images, names.len(), out, gate),
                 Err(_) => Err(Stop::ImageFault),
             }
         }
@@ -78,13 +82,15 @@ fn names_of<'a>(command: &Command, words: &'a [Word]) -> &'a [Word]
 }
 
 /// Does the command's job over the attached images, of which `names` are named.
-fn serve<S: Source, I: Images, K: Sink>(
+fn serve<R: Threads + Sync, S: Source, I: Images, K: Sink, G: Gate + Sync>(
+    rt: &R,
     alloc: Global,
     command: Command,
     plan: &mut S,
     images: &mut I,
     names: usize,
     out: &mut K,
+    gate: &G,
 ) -> Result<(), Stop>
     requires attached { length (I.seen images.old).attached ≡ min names MOST_ATTACHED }
     requires small { All (λ image. image.sectors < 2 ^ 55) (I.seen images.old).attached }
@@ -97,7 +103,7 @@ fn serve<S: Source, I: Images, K: Sink>(
     ensures end { IsPlanned (Ok command) → OnOk result (IsAtEnd (S.left plan.new)) }
     ensures leaves { Leaves (streams (Ok command)) (counts_of (I.seen images.old) (S.faults plan.old) (K.faults out.old)) (counts_of (I.seen images.new) (S.faults plan.new) (K.faults out.new)) (K.gained out.old) (K.gained out.new) result }
     ensures reads { (reading : Reading) → IsAsked command names (S.left plan.old) reading →
-        IfSome (most_reads reading (I.seen images.old).attached) (λ n. (I.seen images.new).sectors_read ≤ (I.seen images.old).sectors_read + n) }
+        MayRead reading (I.seen images.old).attached (I.seen images.old).sectors_read (I.seen images.new).sectors_read }
     ensures unasked { (IsPlanned (Ok command) → ⊥) → (S.left plan.new ≡ S.left plan.old) × (S.faults plan.new ≡ S.faults plan.old) }
     ensures own { IsOwn command → I.seen images.new ≡ I.seen images.old }
     ensures world { (I.seen images.new).world ≡ (I.seen images.old).world }
@@ -120,7 +126,7 @@ fn serve<S: Source, I: Images, K: Sink>(
                 pages,
                 form,
             };
-            list(alloc, plan, images, names, &asked, out)
+            list(rt, alloc, plan, images, names, &asked, out, gate)
         }
         Command::Check { set, .. } => check(alloc, plan, images, names, &set, out),
         Command::Map {
@@ -138,6 +144,6 @@ fn serve<S: Source, I: Images, K: Sink>(
             set,
             rows,
             xfs,
-        } => sample(alloc, number, &set, rows, xfs, out),
+        } => sample(rt, alloc, number, &set, rows, xfs, out, gate),
     }
 }

@@ -8,11 +8,12 @@ ghost use Rattle.image_source.specs.Attached.{AreImagesOf};
 ghost use Rattle.image_source.specs.Streams.{AppendsFront};
 ghost use Rattle.command_words.specs.Commands.{IsCommandLine, Reads, names_after};
 ghost use Rattle.command_words.specs.declared.command.Command.{Command};
-ghost use Rattle.reraid_cli.specs.Answers.{IsNoted, IsOrdered, IsOwn, IsPlanned, Reading, Says, has_numbers, most_reads, note_by, note_for, output, refusal, status_by, statuses, streams};
+ghost use Rattle.reraid_cli.specs.Answers.{IsNoted, IsOrdered, IsOwn, IsPlanned, MayRead, Reading, Says, has_numbers, note_by, note_for, output, refusal, status_by, statuses, streams};
 
 use crate::running::run;
 use command_words::Word;
 use image_source::{Images, MOST_ATTACHED, Sink, Source};
+use row_scan::Gate;
 use std::alloc::Global;
 use std::thread::Threads;
 
@@ -23,14 +24,18 @@ use std::thread::Threads;
 /// than ranks. 6: the first rank asked for is past the total. 7: the set breaks a rule. 8: the
 /// sector asked for is past the end of the volume. 10, 11 and 12: the images, the plan or the output
 /// failed. 20: out of memory.
-pub fn reraid<R: Threads + Sync, S: Source, I: Images, K: Sink, N: Sink>(
-    _rt: &R,
+///
+/// Where many sets are tested in one scan, pieces of them may run side by side: each passes the gate, of which no clause
+/// speaks.
+pub fn reraid<R: Threads + Sync, S: Source, I: Images, K: Sink, N: Sink, G: Gate + Sync>(
+    rt: &R,
     alloc: Global,
     words: &[Word],
     plan: &mut S,
     images: &mut I,
     out: &mut K,
     notes: &mut N,
+    gate: &G,
 ) -> u8
     requires fresh { (I.seen images.old).attached ≡ [] }
     requires named { All (λ name. IsTrue ((I.seen images.old).world.may_attach name)) (names_after words.now) }
@@ -107,9 +112,9 @@ pub fn reraid<R: Threads + Sync, S: Source, I: Images, K: Sink, N: Sink>(
     ensures unread { result ≢ 0 → result ≢ 10 → result ≢ 12 → result ≢ 20 → (I.seen images.new).sectors_read ≡ (I.seen images.old).sectors_read }
     ensures early { result ≡ 20 → (command : Command) → IsCommandLine words.now command → streams (Ok command) ≡ true → (I.seen images.new).sectors_read ≡ (I.seen images.old).sectors_read }
     ensures reads { (reading : Reading) → Says words.now (S.left plan.old) reading →
-        IfSome (most_reads reading (I.seen images.new).attached) (λ n. (I.seen images.new).sectors_read ≤ (I.seen images.old).sectors_read + n) }
+        MayRead reading (I.seen images.new).attached (I.seen images.old).sectors_read (I.seen images.new).sectors_read }
 {
-    match run(alloc, words, plan, images, out) {
+    match run(rt, alloc, words, plan, images, out, gate) {
         Ok(()) => 0,
         Err(stop) => {
             let _ = notes.put(stop.line().as_bytes());

@@ -1,17 +1,15 @@
-use Rattle.std.proofs.Common.{◌≡◌, ℕ, ◌<◌, ◌≤◌, ◌+◌, ◌-◌, IfSome, ◌^◌, ◌++◌, List, All, length, length-drop, drop, take, arith, sym, ap, ◌∙◌, subst, refl, Result, Ok, Err, IsErrOf}
-use Rattle.std.proofs.lemmas.List.{take_all}
+use Rattle.std.proofs.Common.{◌≡◌, ℕ, ◌<◌, ◌^◌, ◌++◌, List, All, length, sym, ap, ◌∙◌, subst, refl, Ok, Err}
 use Rattle.command_words.specs.Commands.{names_after}
-use Rattle.command_words.specs.declared.command.Command.{Command}
 use Rattle.image_source.specs.Seen.{Image}
 use Rattle.run_ends.proofs.Printed.{order_refused}
 use Rattle.run_ends.specs.Jobs.{Ends, Orders}
 use Rattle.run_ends.specs.declared.stop.Stop.TheVariants.{Word}
-use Rattle.reraid_cli.specs.Answers.{IsOwn, IsPlanned, most_reads, output, refusal, streams}
-use Rattle.reraid_cli.proofs.Runs.{asked_of, images_small, leaves_after, none_named, one_reading, words_end}
+use Rattle.reraid_cli.specs.Answers.{IsOwn, IsPlanned, MayRead, output, refusal, streams}
+use Rattle.reraid_cli.proofs.Runs.{asked_of, attach_reads, images_small, leaves_after, none_named, one_reading, unread, words_end}
 use Rattle.reraid_cli.proofs.running.run.Goals as goal
 
 pub serve-requires-clause-small : goal.serve-requires-clause-small
-serve-requires-clause-small g c =
+serve-requires-clause-small g c lifetimes outlive =
     let some = c.attach_front.ensures.some in
     let P : List Image → Type 0 = λ images. All (λ image. image.sectors < 2 ^ 55) images in
     subst P (sym (some.attached.2 ∙ ap (λ (images : List Image). images ++ some.attached.0) c.requires.fresh))
@@ -37,8 +35,8 @@ returns-in-Ok-attach_front-clause-reads g c reading says =
     let words = c.args.words.now in
     let count : length c.names_of-names.result.now ≡ length (names_after words) = ap length c.names_of-names.ensures in
     let read = (g.I.Images.seen c.serve.new.images).sectors_read in
-    let P : List Image → Type 0 = λ attached. IfSome (most_reads reading attached) (λ n. read ≤ (g.I.Images.seen c.args.images.now).sectors_read + n) in
-    let Q : ℕ → Type 0 = λ before. IfSome (most_reads reading (g.I.Images.seen c.attach_front.new.images).attached) (λ n. read ≤ before + n) in
+    let P : List Image → Type 0 = λ attached. MayRead reading attached (g.I.Images.seen c.args.images.now).sectors_read read in
+    let Q : ℕ → Type 0 = λ before. MayRead reading (g.I.Images.seen c.attach_front.new.images).attached before read in
     subst P (sym c.serve.ensures.kept)
     (subst Q c.attach_front.ensures.some.unread (c.serve.ensures.reads reading (asked_of words (g.S.Source.left c.args.plan.now) c.in-Ok.command _ reading c.in-Ok.ensures.reads count says)))
 
@@ -82,3 +80,13 @@ returns-in-Ok-attach_front-clause-own g c command line own =
     let same : command ≡ c.in-Ok.command = cc in
     c.serve.ensures.own (subst IsOwn same own)
     ∙ c.attach_front.ensures.none (none_named c.args.words.now c.names_of-names.result.now c.in-Ok.command command c.in-Ok.ensures.names c.in-Ok.ensures.reads line own c.names_of-names.ensures)
+
+pub returns-in-Err-clause-reads : goal.returns-in-Err-clause-reads
+returns-in-Err-clause-reads g c reading says =
+    let seen = g.I.Images.seen c.args.images.now in
+    unread reading seen.attached seen.sectors_read
+
+pub returns-in-Err-attach_front-clause-reads : goal.returns-in-Err-attach_front-clause-reads
+returns-in-Err-attach_front-clause-reads g c reading says =
+    let new = g.I.Images.seen c.attach_front.new.images in
+    attach_reads reading (g.I.Images.seen c.args.images.now) new new.attached c.attach_front.ensures.some.unread

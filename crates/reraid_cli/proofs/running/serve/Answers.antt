@@ -3,7 +3,8 @@ use Rattle.run_ends.specs.Jobs.{Leaves}
 use Rattle.reraid_cli.specs.Answers.{streams}
 use Rattle.command_words.specs.declared.command.Command.{Command}
 use Rattle.reraid_cli.specs.Asked.{IsAsked, counts_of}
-use Rattle.reraid_cli.proofs.Serving.{survey_asked, survey_order, survey_read, sample_asked, sample_order, sample_read, check_asked, check_order, check_read, list_asked, list_order, list_read, map_asked, map_order, rebuild_asked, rebuild_order, rebuild_reads, write_asked, write_order, write_reads}
+use Rattle.reraid_cli.proofs.Runs.{unread}
+use Rattle.reraid_cli.proofs.Serving.{survey_asked, survey_order, survey_read, sample_asked, sample_order, check_asked, check_order, check_read, list_asked, list_order, list_read, map_asked, map_order, rebuild_asked, rebuild_order, rebuild_reads, write_asked, write_order, write_reads}
 use Rattle.reraid_cli.proofs.running.serve.Goals as goal
 
 pub returns-in-List-clause-ends : goal.returns-in-List-clause-ends
@@ -149,8 +150,10 @@ returns-in-Sample-clause-leaves g c =
 
 pub returns-in-Sample-clause-reads : goal.returns-in-Sample-clause-reads
 returns-in-Sample-clause-reads g c reading asked =
-    let left = g.S.Source.left c.args.plan.now in
-    let P : Command → Type 0 = λ k. IsAsked k c.args.names left reading in
     let seen = g.I.Images.seen c.args.images.now in
-    sample_read c.in-Sample.number c.in-Sample.set c.in-Sample.rows c.in-Sample.xfs c.args.names seen.sectors_read left reading seen.attached
-    (subst P c.in-Sample.is asked)
+    unread reading seen.attached seen.sectors_read
+
+pub returns-in-Map-clause-reads : goal.returns-in-Map-clause-reads
+returns-in-Map-clause-reads g c reading asked =
+    let seen = g.I.Images.seen c.args.images.now in
+    unread reading seen.attached seen.sectors_read

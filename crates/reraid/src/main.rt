@@ -8,7 +8,7 @@
 #![tactic(auto)]
 
 use image_source::{FileImages, Sink, StdSink, StdSource};
-use reraid_cli::{Stop, Word, reraid};
+use reraid_cli::{OpenGate, Stop, Word, reraid};
 use std::alloc::Global;
 use std::fs::File;
 use std::io::ErrorKind;
@@ -45,6 +45,7 @@ fn main(rt: HostRuntime) -> ExitCode {
         &mut images,
         &mut out,
         &mut notes,
+        &OpenGate,
     ))
 }
 

@@ -214,9 +214,10 @@ const OWN_TABLES: &[Placed] = &[
     },
 ];
 
-/// The runs. A listing reads each image for each of its six sets; a test, a volume and a member read each image that is there; a
-/// survey reads each image. All answers are one put, but for the volume's, which may be more; and so is the line of the cursor.
-const RUNS: [Run; 6] = [
+/// The runs. A listing reads each image for the tables of rows, which decide at level 5, and at level 6 again in its scan; a
+/// test, a volume and a member read each image that is there; a survey reads each image. All answers are one put, but for the
+/// volume's, which may be more; and so is the line of the cursor.
+const RUNS: [Run; 7] = [
     Run {
         line: "list size=10 -- a b c",
         images: STRIPES,
@@ -225,7 +226,17 @@ const RUNS: [Run; 6] = [
         status: 0,
         answer: Answer::Text(LISTING),
         notes: "",
-        calls: (21, 2, 1, 0),
+        calls: (6, 2, 1, 0),
+    },
+    Run {
+        line: "list size=1 -- a b c d",
+        images: &[&[0], &[0], &[0], &[0]],
+        placed: &[],
+        plan: LEVEL_SIX,
+        status: 0,
+        answer: Answer::Text("0 6:ls:after-q:1:0:0,1,2,3\nnext 1 of 72\n"),
+        notes: "",
+        calls: (12, 2, 1, 0),
     },
     Run {
         line: "list from=7 -- a b c",

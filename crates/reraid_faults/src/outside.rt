@@ -5,7 +5,7 @@ ghost use Rattle.reraid_faults.specs.Ready.{AreReady};
 
 use crate::pieces::Pieces;
 use image_source::{MemImages, MemSink, MemSource, Memory, SECTOR};
-use reraid_cli::{Word, reraid};
+use reraid_cli::{OpenGate, Word, reraid};
 use std::alloc::Global;
 use std::mem::replace;
 use std::thread::Threads;
@@ -132,6 +132,7 @@ pub fn run_words<R: Threads + Sync>(
         &mut outside.images,
         &mut outside.out,
         &mut outside.notes,
+        &OpenGate,
     )
 }
 
@@ -155,5 +156,6 @@ pub fn run_in_pieces<R: Threads + Sync>(
         &mut outside.images,
         &mut outside.out,
         &mut outside.notes,
+        &OpenGate,
     ))
 }

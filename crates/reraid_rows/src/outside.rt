@@ -6,9 +6,12 @@ ghost use Rattle.reraid_rows.specs.Named.{AreReady, Name};
 
 use crate::words::{Command, command_words};
 use image_source::{MemImages, MemSink, MemSource, Memory, SECTOR};
-use reraid_cli::reraid;
+use reraid_cli::{Gate, OpenGate, reraid};
 use std::alloc::Global;
 use std::thread::Threads;
+
+/// The bytes that the output has room for.
+const ROOM: usize = 32_768;
 
 /// The names of images, in their order.
 static NAMES: [&str; 16] = [
@@ -46,7 +49,7 @@ pub fn images_of(
     Ok(Outside {
         images,
         plan: MemSource::new(alloc, plan)?,
-        out: MemSink::new(alloc, 4096)?,
+        out: MemSink::new(alloc, ROOM)?,
         notes: MemSink::new(alloc, 1000)?,
     })
 }
@@ -68,7 +71,7 @@ pub fn images_with(
     Ok(Outside {
         images,
         plan: MemSource::new(alloc, plan)?,
-        out: MemSink::new(alloc, 4096)?,
+        out: MemSink::new(alloc, ROOM)?,
         notes: MemSink::new(alloc, 1000)?,
     })
 }
@@ -144,6 +147,20 @@ pub(crate) fn run_command<R: Threads + Sync>(
 ) -> Result<u8, Memory>
     requires { AreReady (map (λ name. name.now) names.now) outside.old.images outside.old.plan outside.old.out outside.old.notes }
 {
+    run_gated(rt, alloc, command, names, outside, &OpenGate)
+}
+
+/// The same, where each piece of a scan passes the gate.
+pub(crate) fn run_gated<R: Threads + Sync, G: Gate + Sync>(
+    rt: &R,
+    alloc: Global,
+    command: &Command,
+    names: &[&str],
+    outside: &mut Outside,
+    gate: &G,
+) -> Result<u8, Memory>
+    requires { AreReady (map (λ name. name.now) names.now) outside.old.images outside.old.plan outside.old.out outside.old.notes }
+{
     let words = command_words(alloc, command, names)?;
     Ok(reraid(
         rt,
@@ -153,5 +170,6 @@ pub(crate) fn run_command<R: Threads + Sync>(
         &mut outside.images,
         &mut outside.out,
         &mut outside.notes,
+        gate,
     ))
 }

@@ -33,6 +33,10 @@ pub const LEVEL_SIX: &str =
 pub const LEVEL_SIX_LOST: &str =
     "reraid-plan 1\nimages 3\nlength 1\nlength 1\nlength 1\nend 1\nlevels 6\nmembers 4\npatterns ls\nsyndromes after-q\nchunks 1\noffsets 0\norigins 0\nmissing 1\nforeign 0\nbadrows 0\nwindow 1\nmisfits 0\nleast 1\ndone\n";
 
+/// Level 6 over six members of one sector, with one order of Q.
+pub const SIX_IMAGES: &str =
+    "reraid-plan 1\nimages 6\nlength 1\nlength 1\nlength 1\nlength 1\nlength 1\nlength 1\nend 1\nlevels 6\nmembers 6\npatterns ls\nsyndromes after-q\nchunks 1\noffsets 0\norigins 0\nmissing 0\nforeign 0\nbadrows 0\nwindow 1\nmisfits 0\nleast 1\ndone\n";
+
 /// Levels 5 and 6 over six members, two patterns, and each order of Q.
 pub const SIX_MEMBERS: &str =
     "reraid-plan 1\nimages 6\nlength 6\nlength 6\nlength 6\nlength 6\nlength 6\nlength 6\nend 6\nlevels 5,6\nmembers 6\npatterns la,ra\nsyndromes none,after-q,by-data,by-slot\nchunks 1\noffsets 0\norigins 0\nmissing 0\nforeign 0\nbadrows 0\nwindow 6\nmisfits 0\nleast 1\ndone\n";

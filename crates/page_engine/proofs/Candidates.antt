@@ -1,5 +1,5 @@
 -- Candidates that pass without a scan, and pages in which one waits or is a line.
-use Rattle.std.proofs.Common.{rules, ℕ, zero, suc, ◌≡◌, ◌≢◌, ◌⊎◌, ◌<◌, ◌≤◌, ◌+◌, ◌-◌, ◌^◌, Bool, true, false, ◌||◌, ◌&&◌, nat_le, List, [], ◌∷◌, ◌++◌, length, length-append, take, refl, sym, ap, ◌∙◌, subst, arith, Option, Some, None, Result, Ok, Err, IfOk, IfSome, IsErr, All, slice_get, inl, inr}
+use Rattle.std.proofs.Common.{ℕ, zero, suc, ◌≡◌, ◌≢◌, ◌⊎◌, ◌<◌, ◌≤◌, ◌+◌, ◌-◌, Bool, true, false, ◌||◌, ◌&&◌, nat_le, List, [], ◌∷◌, ◌++◌, length, length-append, take, refl, sym, ap, ◌∙◌, subst, arith, Option, Some, None, Result, Ok, Err, IfOk, IfSome, IsErr, All, slice_get, inl, inr}
 use Rattle.std.specs.Option.{option_map_or}
 use Rattle.std.specs.List.{list_all, range_with_len}
 use Rattle.std.proofs.lemmas.Bool.{and_parts, cases_Bool}
@@ -27,9 +27,9 @@ use Rattle.page_engine.specs.declared.page_parts.Line.{Line}
 use Rattle.page_engine.specs.declared.page_parts.PageFault.{PageFault}
 use Rattle.page_engine.proofs.Counting.{begin_before, full_scan, some_scan}
 use Rattle.page_engine.proofs.Ranges.{adds_line, adds_none, adds_past}
-use Rattle.page_engine.proofs.Scanned.{scans_none, scans_one}
+use Rattle.page_engine.proofs.Scanned.{scans_one}
 use Rattle.page_engine.proofs.SetTests.{candidate_passes, scannable}
-use Rattle.page_engine.proofs.Waiting.{none_wait, stands_anew, wait_add, wait_ends, wait_nothing}
+use Rattle.page_engine.proofs.Waiting.{stands_anew, wait_add, wait_nothing}
 
 -- the first places of a list, all of them
 take_whole : (l : List (Option ℕ)) → take (length l) l ≡ l

@@ -1,6 +1,6 @@
 -- A scan of sets of a plan.
-use Rattle.std.proofs.Common.{rules, ℕ, zero, suc, ◌≡◌, ◌<◌, ◌≤◌, ◌+◌, ◌*◌, Bool, true, false, ◌||◌, cond, List, [], ◌∷◌, length, map, get_or, sym, ap, ◌∙◌, subst, arith, refl, Option, Some, All, Contains, slice_get, inl, inr}
-use Rattle.std.specs.List.{count_by, list_any, range_with_len, slice_index_or}
+use Rattle.std.proofs.Common.{ℕ, ◌≡◌, ◌≤◌, ◌+◌, Bool, true, false, ◌||◌, cond, List, [], ◌∷◌, length, map, sym, ap, ◌∙◌, subst, arith, refl, All, Contains, inl, inr}
+use Rattle.std.specs.List.{list_any, range_with_len, slice_index_or}
 use Rattle.std.proofs.lemmas.Bool.{cases_Bool}
 use Rattle.std.proofs.lemmas.List.{length-map}
 use Rattle.std.proofs.lemmas.List.Elements.{All-head, All-map, All-tail}

@@ -1,5 +1,5 @@
 -- Pages made one after another.
-use Rattle.std.proofs.Common.{ℕ, zero, suc, ◌≡◌, ◌≢◌, ◌<◌, ◌≤◌, ◌+◌, ◌-◌, ◌*◌, ◌^◌, ◌⊎◌, inl, inr, List, [], ◌∷◌, ◌++◌, length, map, refl, sym, ap, ◌∙◌, subst, arith, Option, Some, None, IfSome, Result, Ok, IsErrOf}
+use Rattle.std.proofs.Common.{ℕ, zero, suc, ◌≡◌, ◌≢◌, ◌<◌, ◌≤◌, ◌+◌, ◌-◌, ◌*◌, ◌^◌, ◌⊎◌, inl, inr, List, [], ◌∷◌, ◌++◌, length, map, refl, sym, ap, ◌∙◌, subst, arith, Option, Some, None, IfSome, Result, IsErrOf, Bool, true, Ok}
 use Rattle.std.proofs.Math.Nat.{add-mul, mul-le-mul_right}
 use Rattle.std.proofs.lemmas.Bool.{cases_lt}
 use Rattle.std.proofs.lemmas.List.{map-append}
@@ -66,28 +66,28 @@ abbrev pub ends_of : List ListPage → List ℕ
 ends_of pages = map (λ (page : ListPage). page.next) pages
 
 -- a page that was made
-made_end : (told : Option (List (List ℕ))) (plan : Plan) (size span from : ℕ) (page : ListPage) (later : List ℕ) → IsPageFrom told plan from size span page → IsPageEnd told plan size span from page.next later
-made_end told plan size span from page later is_page = inr (is_page.forward, is_page.within, at told is_page.page)
+made_end : (told : Option (List (List ℕ))) (plan : Plan) (size span : ℕ) (failed : Bool) (from : ℕ) (page : ListPage) (later : List ℕ) → IsPageFrom told plan from size span page → IsPageEnd told plan size span failed from page.next later
+made_end told plan size span failed from page later is_page = inr (is_page.forward, is_page.within, at told is_page.page)
   where
     at : (known : Option (List (List ℕ))) → IfSome known (λ bytes. IsPageOf bytes plan from size span page) → IfSome known (λ bytes. page.next ≡ page_next (passes_at bytes plan) (total_of plan) from size span)
     at None is = tt
     at (Some bytes) is = is.goes_on
 
 -- pages, and one more end
-ends_more : (told : Option (List (List ℕ))) (plan : Plan) (size span count from mid end : ℕ) (pages : List ListPage) → Going told plan size span from mid pages → IsPageEnd told plan size span mid end [] → length pages < count →
-    ArePageEnds told plan size span count from (ends_of pages ++ end ∷ [])
+ends_more : (told : Option (List (List ℕ))) (plan : Plan) (size span : ℕ) (failed : Bool) (count from mid end : ℕ) (pages : List ListPage) → Going told plan size span from mid pages → IsPageEnd told plan size span failed mid end [] → length pages < count →
+    ArePageEnds told plan size span failed count from (ends_of pages ++ end ∷ [])
 unfolding Going ArePageEnds
-ends_more told plan size span zero from mid end pages going is few = absurd (omega arith)
-ends_more told plan size span (suc count) from mid end [] going is few = ((let P : ℕ → Type 0 = λ n. IsPageEnd told plan size span n end [] in subst P (sym going) is), tt)
-ends_more told plan size span (suc count) from mid end (page ∷ pages) going is few =
-    (made_end told plan size span from page (ends_of pages ++ end ∷ []) going.0, ends_more told plan size span count page.next mid end pages going.2 is (omega arith))
+ends_more told plan size span failed zero from mid end pages going is few = absurd (omega arith)
+ends_more told plan size span failed (suc count) from mid end [] going is few = ((let P : ℕ → Type 0 = λ n. IsPageEnd told plan size span failed n end [] in subst P (sym going) is), tt)
+ends_more told plan size span failed (suc count) from mid end (page ∷ pages) going is few =
+    (made_end told plan size span failed from page (ends_of pages ++ end ∷ []) going.0, ends_more told plan size span failed count page.next mid end pages going.2 is (omega arith))
 
 -- pages alone
-ends_all : (told : Option (List (List ℕ))) (plan : Plan) (size span count from to : ℕ) (pages : List ListPage) → Going told plan size span from to pages → length pages ≤ count → ArePageEnds told plan size span count from (ends_of pages)
+ends_all : (told : Option (List (List ℕ))) (plan : Plan) (size span : ℕ) (failed : Bool) (count from to : ℕ) (pages : List ListPage) → Going told plan size span from to pages → length pages ≤ count → ArePageEnds told plan size span failed count from (ends_of pages)
 unfolding Going ArePageEnds
-ends_all told plan size span count from to [] going few = tt
-ends_all told plan size span zero from to (page ∷ pages) going few = absurd (omega arith)
-ends_all told plan size span (suc count) from to (page ∷ pages) going few = (made_end told plan size span from page (ends_of pages) going.0, ends_all told plan size span count page.next to pages going.2 (omega arith))
+ends_all told plan size span failed count from to [] going few = tt
+ends_all told plan size span failed zero from to (page ∷ pages) going few = absurd (omega arith)
+ends_all told plan size span failed (suc count) from to (page ∷ pages) going few = (made_end told plan size span failed from page (ends_of pages) going.0, ends_all told plan size span failed count page.next to pages going.2 (omega arith))
 
 -- the scans with one more end
 scans_more : (told : Option (List (List ℕ))) (plan : Plan) (size span from mid end : ℕ) (pages : List ListPage) → Going told plan size span from mid pages →
@@ -114,27 +114,27 @@ pub ends_with : (pages : List ListPage) (page : ListPage) → ends_of (pages ++ 
 ends_with pages page = map-append (λ (one : ListPage). one.next) pages (page ∷ [])
 
 -- what all of them read
-reads_of : (told : Option (List (List ℕ))) (plan : Plan) (size span count from b a : ℕ) (ends : List ℕ) (old new : Seen) → b ≤ table_reads plan → ArePageEnds told plan size span count from ends →
-    Spends b a old new (scans_to told plan from ends * most_scanned plan) → ReadsPages told plan size span count from old new
-reads_of told plan size span count from b a ends old new most are spends = record { ends = ends; are = are; reads = reads_up old new spends.reads (omega arith) }
+reads_of : (told : Option (List (List ℕ))) (plan : Plan) (size span : ℕ) (failed : Bool) (count from b a : ℕ) (ends : List ℕ) (old new : Seen) → b ≤ table_reads plan → ArePageEnds told plan size span failed count from ends →
+    Spends b a old new (scans_to told plan from ends * most_scanned plan) → ReadsPages told plan size span failed count from old new
+reads_of told plan size span failed count from b a ends old new most are spends = record { ends = ends; are = are; reads = reads_up old new spends.reads (omega arith) }
 
 -- the pages made
-pub reads_made : (told : Option (List (List ℕ))) (plan : Plan) (size span count from to b a : ℕ) (pages : List ListPage) (old new : Seen) → b ≤ table_reads plan → Going told plan size span from to pages → length pages ≤ count →
-    Spends b a old new (scans_to told plan from (ends_of pages) * most_scanned plan) → ReadsPages told plan size span count from old new
-reads_made told plan size span count from to b a pages old new most going few spends =
-    reads_of told plan size span count from b a (ends_of pages) old new most (ends_all told plan size span count from to pages going few) spends
+pub reads_made : (told : Option (List (List ℕ))) (plan : Plan) (size span : ℕ) (failed : Bool) (count from to b a : ℕ) (pages : List ListPage) (old new : Seen) → b ≤ table_reads plan → Going told plan size span from to pages → length pages ≤ count →
+    Spends b a old new (scans_to told plan from (ends_of pages) * most_scanned plan) → ReadsPages told plan size span failed count from old new
+reads_made told plan size span failed count from to b a pages old new most going few spends =
+    reads_of told plan size span failed count from b a (ends_of pages) old new most (ends_all told plan size span failed count from to pages going few) spends
 
 -- those and one more
-pub reads_more : (told : Option (List (List ℕ))) (plan : Plan) (size span count from mid b c a : ℕ) (pages : List ListPage) (page : ListPage) (old now new : Seen) → b ≤ table_reads plan → Going told plan size span from mid pages → length pages < count →
-    IsPageFrom told plan mid size span page → Spends b c old now (scans_to told plan from (ends_of pages) * most_scanned plan) → Scans told plan mid page.next (MOST_SETS - 1) c a now new → ReadsPages told plan size span count from old new
-reads_more told plan size span count from mid b c a pages page old now new most going few is_page first second =
-    reads_of told plan size span count from b a (ends_of pages ++ page.next ∷ []) old new most (ends_more told plan size span count from mid page.next pages going (made_end told plan size span mid page [] is_page) few)
+pub reads_more : (told : Option (List (List ℕ))) (plan : Plan) (size span : ℕ) (failed : Bool) (count from mid b c a : ℕ) (pages : List ListPage) (page : ListPage) (old now new : Seen) → b ≤ table_reads plan → Going told plan size span from mid pages → length pages < count →
+    IsPageFrom told plan mid size span page → Spends b c old now (scans_to told plan from (ends_of pages) * most_scanned plan) → Scans told plan mid page.next (MOST_SETS - 1) c a now new → ReadsPages told plan size span failed count from old new
+reads_more told plan size span failed count from mid b c a pages page old now new most going few is_page first second =
+    reads_of told plan size span failed count from b a (ends_of pages ++ page.next ∷ []) old new most (ends_more told plan size span failed count from mid page.next pages going (made_end told plan size span failed mid page [] is_page) few)
     (spends_more told plan size span from mid page.next b c a pages old now new going first second)
 
 -- and one that could not be made
-pub reads_ended : (told : Option (List (List ℕ))) (plan : Plan) (size span count from mid b c a : ℕ) (pages : List ListPage) (old now new : Seen) → b ≤ table_reads plan → Going told plan size span from mid pages → length pages < count →
-    Spends b c old now (scans_to told plan from (ends_of pages) * most_scanned plan) → Scans told plan mid (stop_of (total_of plan) mid span) (MOST_SETS - 1) c a now new → ReadsPages told plan size span count from old new
-reads_ended told plan size span count from mid b c a pages old now new most going few first second =
-    reads_of told plan size span count from b a (ends_of pages ++ stop_of (total_of plan) mid span ∷ []) old new most
-    (ends_more told plan size span count from mid (stop_of (total_of plan) mid span) pages going (inl (refl, refl)) few)
+pub reads_ended : (told : Option (List (List ℕ))) (plan : Plan) (size span : ℕ) (failed : Bool) (count from mid b c a : ℕ) (pages : List ListPage) (old now new : Seen) → b ≤ table_reads plan → Going told plan size span from mid pages → length pages < count → failed ≡ true →
+    Spends b c old now (scans_to told plan from (ends_of pages) * most_scanned plan) → Scans told plan mid (stop_of (total_of plan) mid span) (MOST_SETS - 1) c a now new → ReadsPages told plan size span failed count from old new
+reads_ended told plan size span failed count from mid b c a pages old now new most going few fails first second =
+    reads_of told plan size span failed count from b a (ends_of pages ++ stop_of (total_of plan) mid span ∷ []) old new most
+    (ends_more told plan size span failed count from mid (stop_of (total_of plan) mid span) pages going (inl (fails, refl, refl)) few)
     (spends_more told plan size span from mid (stop_of (total_of plan) mid span) b c a pages old now new going first second)

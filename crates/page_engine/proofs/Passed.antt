@@ -1,7 +1,6 @@
 -- Sets that are tested after they waited.
-use Rattle.std.proofs.Common.{ℕ, zero, suc, ◌≡◌, ◌<◌, ◌≤◌, ◌+◌, ◌-◌, ◌^◌, ◌⊎◌, Bool, true, false, List, [], ◌∷◌, ◌++◌, length, map, get_or, drop, take, refl, sym, ap, ◌∙◌, subst, arith, Option, Some, None, IfSome, IfOk, Result, Ok, All, inl, inr, rules}
+use Rattle.std.proofs.Common.{ℕ, zero, suc, ◌≡◌, ◌<◌, ◌≤◌, ◌+◌, ◌-◌, ◌⊎◌, Bool, true, false, List, [], ◌∷◌, ◌++◌, length, map, get_or, drop, refl, sym, ap, ◌∙◌, subst, arith, Option, Some, None, IfSome, IfOk, Result, Ok, inl, inr, rules}
 use Rattle.std.specs.Option.{is_some}
-use Rattle.std.proofs.lemmas.Bool.{cases_Bool}
 use Rattle.std.proofs.lemmas.List.{drop_more}
 use Rattle.raid_terms.specs.Parity.{passes_parity}
 use Rattle.row_scan.specs.Verdicts.{verdicts_of}
@@ -72,9 +71,10 @@ next_of told plan from at waiting verdicts k old lines d e below long passed =
     judged_first : (known : Option (List (List ℕ))) (line : Line) (ls : List Line) (v : Bool) (vs : List Bool) → IsCandidate told plan line → Judged known plan (line ∷ ls) (v ∷ vs) →
         IfSome known (λ bytes. passes_at bytes plan line.rank ≡ v) × Judged known plan ls vs
     judged_first None line ls v vs is judged = (tt, tt)
-    judged_first (Some bytes) line ls v vs is judged =
-        (candidate_passes bytes plan line told is ∙ sym (heads_are v (passes_parity bytes line.geo plan.end plan.limits.window plan.limits.badrows) vs (verdicts_of bytes plan (map (λ (l : Line). l.geo) ls)) judged),
-        tails_are v (passes_parity bytes line.geo plan.end plan.limits.window plan.limits.badrows) vs (verdicts_of bytes plan (map (λ (l : Line). l.geo) ls)) judged)
+    judged_first (Some bytes) line ls v vs is judged = (
+      candidate_passes bytes plan line told is ∙ sym (heads_are v (passes_parity bytes line.geo plan.end plan.limits.window plan.limits.badrows) vs (verdicts_of bytes plan (map (λ (l : Line). l.geo) ls)) judged),
+      tails_are v (passes_parity bytes line.geo plan.end plan.limits.window plan.limits.badrows) vs (verdicts_of bytes plan (map (λ (l : Line). l.geo) ls)) judged,
+    )
 
 -- one rank of which the set does not pass
 fails_alone : (told : Option (List (List ℕ))) (plan : Plan) (rank : ℕ) → IfSome told (λ bytes. passes_at bytes plan rank ≡ false) → NonePass told plan rank (rank + 1)

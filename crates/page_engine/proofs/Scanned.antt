@@ -1,5 +1,5 @@
 -- What is read for tables and for scans.
-use Rattle.std.proofs.Common.{ℕ, ◌≡◌, ◌+◌, ◌-◌, ◌*◌, ◌≤◌, List, sym, ap, ◌∙◌, subst, arith, Option}
+use Rattle.std.proofs.Common.{ℕ, ◌+◌, ◌-◌, ◌*◌, ◌≤◌, List, sym, subst, arith, Option}
 use Rattle.std.proofs.Math.Nat.{mul-le-mul_right, add-mul}
 use Rattle.image_source.proofs.Reading.{reads_join, reads_none, reads_up}
 use Rattle.image_source.specs.Seen.{OnlyReads, Seen}

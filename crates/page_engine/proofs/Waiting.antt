@@ -1,9 +1,7 @@
 -- Candidates that wait.
-use Rattle.std.proofs.Common.{ℕ, zero, suc, ◌≡◌, ◌<◌, ◌≤◌, ◌+◌, ◌^◌, List, [], ◌∷◌, ◌++◌, length, get_or, Option, Some, None, IfSome, All, Contains, inl, inr, sym, ap, subst, arith}
+use Rattle.std.proofs.Common.{ℕ, zero, suc, ◌≡◌, ◌<◌, ◌≤◌, ◌+◌, ◌^◌, List, [], ◌∷◌, ◌++◌, length, get_or, Option, Some, None, All, Contains, inl, inr, sym, ap, subst, arith}
 use Rattle.std.proofs.lemmas.Bool.{cases_lt}
-use Rattle.search_plan.specs.Sets.{passes_at}
 use Rattle.search_plan.specs.declared.plan.Plan.{Plan}
-use Rattle.row_scan.specs.declared.many_sets.TheConstants.{MOST_SETS}
 use Rattle.page_engine.specs.Pages.{HoldsSet}
 use Rattle.page_engine.specs.Walk.{BeginOpen, IsCandidate, NonePass, StandsAt, Wait}
 use Rattle.page_engine.specs.declared.gathering.Gathered.{Gathered}

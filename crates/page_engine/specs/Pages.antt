@@ -108,18 +108,18 @@ abbrev pub tested_to : ℕ → Result ListPage PageFault → ℕ
 tested_to stop (Ok page) = page.next
 tested_to stop (Err fault) = stop
 
--- where a page from a rank on ends: where the next one begins, over the bytes of the images where they are told; a page
--- that could not be made ends with its range, and no page comes after it
-abbrev pub IsPageEnd : Option (List (List ℕ)) → Plan → ℕ → ℕ → ℕ → ℕ → List ℕ → Type 0
-IsPageEnd told plan size span from end later =
-    ((end ≡ stop_of (total_of plan) from span) × (later ≡ []))
+-- where a page from a rank on ends: where the next one begins, over the bytes of the images where they are told. Where
+-- pages failed, the last is the one that could not be made, and ends with its range
+abbrev pub IsPageEnd : Option (List (List ℕ)) → Plan → ℕ → ℕ → Bool → ℕ → ℕ → List ℕ → Type 0
+IsPageEnd told plan size span failed from end later =
+    ((failed ≡ true) × (end ≡ stop_of (total_of plan) from span) × (later ≡ []))
     ⊎ ((from ≤ end) × (end ≤ stop_of (total_of plan) from span) × IfSome told (λ bytes. end ≡ page_next (passes_at bytes plan) (total_of plan) from size span))
 
 -- where pages end, of which there are at most so many, each where the last one ended
-unfoldable pub ArePageEnds : Option (List (List ℕ)) → Plan → ℕ → ℕ → ℕ → ℕ → List ℕ → Type 0
-ArePageEnds told plan size span count from [] = Unit {0}
-ArePageEnds told plan size span zero from (end ∷ later) = ⊥
-ArePageEnds told plan size span (suc count) from (end ∷ later) = IsPageEnd told plan size span from end later × ArePageEnds told plan size span count end later
+unfoldable pub ArePageEnds : Option (List (List ℕ)) → Plan → ℕ → ℕ → Bool → ℕ → ℕ → List ℕ → Type 0
+ArePageEnds told plan size span failed count from [] = Unit {0}
+ArePageEnds told plan size span failed zero from (end ∷ later) = ⊥
+ArePageEnds told plan size span failed (suc count) from (end ∷ later) = IsPageEnd told plan size span failed from end later × ArePageEnds told plan size span failed count end later
 
 -- how many scans pages take that end at these ranks
 unfoldable pub scans_to : Option (List (List ℕ)) → Plan → ℕ → List ℕ → ℕ
@@ -127,9 +127,9 @@ scans_to told plan from [] = 0
 scans_to told plan from (end ∷ later) = scans told plan from end + scans_to told plan end later
 
 -- what is read for pages: for the tables, once for all of them, and for the scans of each
-pub record ReadsPages (told : Option (List (List ℕ))) (plan : Plan) (size span count from : ℕ) (old new : Seen) : Type 0 where
+pub record ReadsPages (told : Option (List (List ℕ))) (plan : Plan) (size span : ℕ) (failed : Bool) (count from : ℕ) (old new : Seen) : Type 0 where
   pub ends : List ℕ
-  pub are : ArePageEnds told plan size span count from ends
+  pub are : ArePageEnds told plan size span failed count from ends
   pub reads : OnlyReads old new (table_reads plan + scans_to told plan from ends * most_scanned plan)
 
 -- the attached images have the planned lengths, and there are no others

@@ -1,5 +1,6 @@
 //! Pages of the sets that pass.
 ghost use Rattle.std.specs.Prelude.{◌≡◌, ◌-◌, ◌<◌, ◌≤◌, ◌^◌, All, IfErr, IfOk, IfSome, IsErrOf};
+ghost use Rattle.std.specs.Result.{is_err};
 ghost use Rattle.image_source.specs.Attached.{told_all};
 ghost use Rattle.image_source.specs.Seen.{OnlyReads};
 ghost use Rattle.raid_terms.specs.Page.{stop_of};
@@ -112,7 +113,7 @@ pub fn pages<R: Threads + Sync, I: Images, G: Gate + Sync>(
     ensures many { 2 ^ 64 ≤ total_of plan.now → IsErrOf result Many }
     ensures cursor { total_of plan.now < 2 ^ 64 → total_of plan.now < from → IsErrOf result (Cursor (record { from = from; total = total_of plan.now })) }
     ensures ends { IfErr result (EndsPage plan.now from (I.seen images.old) (I.seen images.new)) }
-    ensures reads { ReadsPages (told_all (I.seen images.old).attached) plan.now size span count from (I.seen images.old) (I.seen images.new) }
+    ensures reads { ReadsPages (told_all (I.seen images.old).attached) plan.now size span (is_err result) count from (I.seen images.old) (I.seen images.new) }
 {
     let mut kept = KeptTables::new(alloc);
     let mut made = PageList::new(alloc);

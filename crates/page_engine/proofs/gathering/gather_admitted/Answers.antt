@@ -1,4 +1,4 @@
-use Rattle.std.proofs.Common.{ℕ, ◌+◌, ◌-◌, List, sym, ap, ◌∙◌, subst, arith}
+use Rattle.std.proofs.Common.{◌+◌, ◌-◌, List, sym, ap, ◌∙◌, subst, arith}
 use Rattle.image_source.specs.Attached.{told_all}
 use Rattle.image_source.specs.Seen.{Image}
 use Rattle.row_scan.specs.declared.many_sets.TheConstants.{MOST_SETS}
@@ -7,7 +7,6 @@ use Rattle.candidate_enum.specs.Survivors.{question, survivors}
 use Rattle.page_engine.specs.Walk.{IsCandidate, StandsAt}
 use Rattle.page_engine.proofs.HeadByHead.{fills_on, gathers_all, gathers_full, reads_all, reads_full, scans_ended, scans_full, scans_told, to_spare, to_stop}
 use Rattle.page_engine.proofs.Leafwise.{begins, ended, gathered, next_leaf}
-use Rattle.page_engine.proofs.Scanned.{scans_to_later}
 use Rattle.page_engine.proofs.gathering.gather_admitted.Goals as goal
 
 pub loop-leaf-init : goal.loop-leaf-init

@@ -1,9 +1,6 @@
-use Rattle.std.proofs.Common.{rules, ℕ, ◌≡◌, ◌+◌, ◌<◌, ◌≤◌, ◌^◌, ◌++◌, ◌∷◌, [], List, Bool, true, false, length, length-append, inl, inr, refl, sym, ap, ◌∙◌, arith}
+use Rattle.std.proofs.Common.{rules, ◌≡◌, ◌+◌, ◌++◌, ◌∷◌, [], false, length, length-append, inl, inr, refl, ap, ◌∙◌, arith}
 use Rattle.image_source.specs.Attached.{told_all}
-use Rattle.row_scan.specs.declared.many_sets.TheConstants.{MOST_SETS}
 use Rattle.page_engine.specs.Pages.{is_decided}
-use Rattle.page_engine.specs.declared.gathering.Gathered.{Gathered}
-use Rattle.page_engine.specs.declared.page_parts.Line.{Line}
 use Rattle.page_engine.proofs.Candidates.{begin_waiting, full_scan_by, line_gathers, rank_below, waiting_more, waits_on}
 use Rattle.page_engine.proofs.gathering.gather_set.Goals as goal
 use Rattle.page_engine.proofs.gathering.gather_set.Goals.{then-full, else-full, else-is_empty-via-then-is_empty+else-is_decided, else-is_empty-via-else-is_empty}

@@ -1,4 +1,5 @@
-use Rattle.std.proofs.Common.{rules, ◌≡◌, ◌<◌, ◌+◌, ◌-◌, ◌*◌, ◌^◌, ◌++◌, ◌∷◌, [], inl, inr, ℕ, List, All, length, length-append, refl, sym, ap, ◌∙◌, subst, arith}
+use Rattle.std.proofs.Common.{rules, ◌≡◌, ◌<◌, ◌+◌, ◌-◌, ◌*◌, ◌^◌, false, ◌++◌, ◌∷◌, [], inl, inr, ℕ, List, All, length, length-append, refl, sym, ap, ◌∙◌, subst, arith}
+use Rattle.std.specs.Result.{is_err}
 use Rattle.std.proofs.lemmas.Bool.{cases_lt}
 use Rattle.std.proofs.lemmas.List.Elements.{All-nil}
 use Rattle.image_source.specs.Attached.{told_all}
@@ -33,7 +34,7 @@ loop-init g c = record {
 pub returns-in_err-found-clause-reads : goal.returns-in_err-found-clause-reads
 returns-in_err-found-clause-reads g c =
     let far = c.loop.invariant in
-    reads_ended (told_all (g.I.Images.seen c.args.images.now).attached) c.args.plan.now c.args.size c.args.span c.args.count c.args.from c.loop.at (left_reads c.args.plan.now []) (left_reads c.args.plan.now c.loop.kept) 0 c.loop.made (g.I.Images.seen c.args.images.now) (g.I.Images.seen c.loop.images) (g.I.Images.seen c.next_page.new.images) (left_all c.args.plan.now) far.going (let made = far.made in omega arith) far.reads
+    reads_ended (told_all (g.I.Images.seen c.args.images.now).attached) c.args.plan.now c.args.size c.args.span (is_err c.from_residual.result) c.args.count c.args.from c.loop.at (left_reads c.args.plan.now []) (left_reads c.args.plan.now c.loop.kept) 0 c.loop.made (g.I.Images.seen c.args.images.now) (g.I.Images.seen c.loop.images) (g.I.Images.seen c.next_page.new.images) (left_all c.args.plan.now) far.going (let made = far.made in omega arith) c.from_residual.ensures.0 far.reads
     (scans_told (g.I.Images.seen c.args.images.now).attached (g.I.Images.seen c.loop.images).attached c.args.plan.now c.loop.at (stop_of (total_of c.args.plan.now) c.loop.at c.args.span) (MOST_SETS - 1) (left_reads c.args.plan.now c.loop.kept) 0 (g.I.Images.seen c.loop.images) (g.I.Images.seen c.next_page.new.images) far.reads.reads.attached c.in_err-found.ensures.reads)
 
 pub returns-in_err-map_err-clause-reads : goal.returns-in_err-map_err-clause-reads
@@ -41,7 +42,7 @@ returns-in_err-map_err-clause-reads g c =
     let far = c.loop.invariant in
     let Q : List Image → Type 0 = λ attached. IsPageFrom (told_all attached) c.args.plan.now c.loop.at c.args.size c.args.span c.in_ok-found.found in
     let is_page = subst Q far.reads.reads.attached (record { page = c.in_ok-found.ensures.page; sets = c.in_ok-found.ensures.sets; total = c.in_ok-found.ensures.total; forward = c.in_ok-found.ensures.forward; within = c.in_ok-found.ensures.within }) in
-    reads_more (told_all (g.I.Images.seen c.args.images.now).attached) c.args.plan.now c.args.size c.args.span c.args.count c.args.from c.loop.at (left_reads c.args.plan.now []) (left_reads c.args.plan.now c.loop.kept) (left_reads c.args.plan.now c.next_page.new.kept) c.loop.made c.in_ok-found.found (g.I.Images.seen c.args.images.now) (g.I.Images.seen c.loop.images) (g.I.Images.seen c.next_page.new.images) (left_all c.args.plan.now) far.going (let made = far.made in omega arith) is_page far.reads
+    reads_more (told_all (g.I.Images.seen c.args.images.now).attached) c.args.plan.now c.args.size c.args.span (is_err c.from_residual-in_err-map_err.result) c.args.count c.args.from c.loop.at (left_reads c.args.plan.now []) (left_reads c.args.plan.now c.loop.kept) (left_reads c.args.plan.now c.next_page.new.kept) c.loop.made c.in_ok-found.found (g.I.Images.seen c.args.images.now) (g.I.Images.seen c.loop.images) (g.I.Images.seen c.next_page.new.images) (left_all c.args.plan.now) far.going (let made = far.made in omega arith) is_page far.reads
     (scans_told (g.I.Images.seen c.args.images.now).attached (g.I.Images.seen c.loop.images).attached c.args.plan.now c.loop.at c.in_ok-found.found.next (MOST_SETS - 1) (left_reads c.args.plan.now c.loop.kept) (left_reads c.args.plan.now c.next_page.new.kept) (g.I.Images.seen c.loop.images) (g.I.Images.seen c.next_page.new.images) far.reads.reads.attached c.in_ok-found.ensures.reads)
 
 pub returns-then-next-total-clause-pages : goal.returns-then-next-total-clause-pages
@@ -59,7 +60,7 @@ returns-then-next-total-clause-reads g c =
     let far = c.loop.invariant in
     let Q : List Image → Type 0 = λ attached. IsPageFrom (told_all attached) c.args.plan.now c.loop.at c.args.size c.args.span c.in_ok-found.found in
     let is_page = subst Q far.reads.reads.attached (record { page = c.in_ok-found.ensures.page; sets = c.in_ok-found.ensures.sets; total = c.in_ok-found.ensures.total; forward = c.in_ok-found.ensures.forward; within = c.in_ok-found.ensures.within }) in
-    reads_more (told_all (g.I.Images.seen c.args.images.now).attached) c.args.plan.now c.args.size c.args.span c.args.count c.args.from c.loop.at (left_reads c.args.plan.now []) (left_reads c.args.plan.now c.loop.kept) (left_reads c.args.plan.now c.next_page.new.kept) c.loop.made c.in_ok-found.found (g.I.Images.seen c.args.images.now) (g.I.Images.seen c.loop.images) (g.I.Images.seen c.next_page.new.images) (left_all c.args.plan.now) far.going (let made = far.made in omega arith) is_page far.reads
+    reads_more (told_all (g.I.Images.seen c.args.images.now).attached) c.args.plan.now c.args.size c.args.span false c.args.count c.args.from c.loop.at (left_reads c.args.plan.now []) (left_reads c.args.plan.now c.loop.kept) (left_reads c.args.plan.now c.next_page.new.kept) c.loop.made c.in_ok-found.found (g.I.Images.seen c.args.images.now) (g.I.Images.seen c.loop.images) (g.I.Images.seen c.next_page.new.images) (left_all c.args.plan.now) far.going (let made = far.made in omega arith) is_page far.reads
     (scans_told (g.I.Images.seen c.args.images.now).attached (g.I.Images.seen c.loop.images).attached c.args.plan.now c.loop.at c.in_ok-found.found.next (MOST_SETS - 1) (left_reads c.args.plan.now c.loop.kept) (left_reads c.args.plan.now c.next_page.new.kept) (g.I.Images.seen c.loop.images) (g.I.Images.seen c.next_page.new.images) far.reads.reads.attached c.in_ok-found.ensures.reads)
 
 pub loop-preserved : goal.loop-preserved
@@ -98,5 +99,5 @@ returns-clause-pages g c =
 pub returns-clause-reads : goal.returns-clause-reads
 returns-clause-reads g c =
     let far = c.loop.invariant in
-    reads_made (told_all (g.I.Images.seen c.args.images.now).attached) c.args.plan.now c.args.size c.args.span c.args.count c.args.from c.loop.at (left_reads c.args.plan.now []) (left_reads c.args.plan.now c.loop.kept) c.loop.made (g.I.Images.seen c.args.images.now) (g.I.Images.seen c.loop.images) (left_all c.args.plan.now) far.going
+    reads_made (told_all (g.I.Images.seen c.args.images.now).attached) c.args.plan.now c.args.size c.args.span false c.args.count c.args.from c.loop.at (left_reads c.args.plan.now []) (left_reads c.args.plan.now c.loop.kept) c.loop.made (g.I.Images.seen c.args.images.now) (g.I.Images.seen c.loop.images) (left_all c.args.plan.now) far.going
     (let made = far.made in let most = c.loop.auto.counter-end in omega arith) far.reads

@@ -1,4 +1,4 @@
-use Rattle.std.proofs.Common.{rules, ℕ, List, ◌≡◌, ◌+◌, ◌<◌, ◌≤◌, ◌++◌, ◌∷◌, [], Bool, true, false, length, length-append, Option, Some, sym, ap, ◌∙◌, subst, arith, slice_index_or, get_or}
+use Rattle.std.proofs.Common.{rules, ℕ, List, ◌≡◌, ◌+◌, ◌++◌, ◌∷◌, [], false, length, length-append, Option, Some, sym, ap, ◌∙◌, subst, arith, slice_index_or}
 use Rattle.search_plan.specs.declared.plan.Plan.{Plan}
 use Rattle.page_engine.specs.Walk.{AddsWaiting, Wait}
 use Rattle.page_engine.specs.declared.page_parts.Line.{Line}
@@ -18,9 +18,9 @@ returns-then-as_slice-size c =
     let same : c.loop-k.lines ++ slice_index_or c.args.waiting.now c.loop-k.k c.index-waiting-k.result ∷ [] ≡ c.push.new.self
     = ap (λ (l : Line). c.loop-k.lines ++ l ∷ []) here ∙ sym pushed in
     let P : List Line → Type 0 = λ l. (told : Option (List (List ℕ))) (plan : Plan) (from at : ℕ) → Wait told plan from at c.args.waiting.now → Judged told plan c.args.waiting.now c.args.verdicts.now →
-        AddsWaiting told plan from at c.args.size c.args.waiting.now c.args.lines.now l (Some ((slice_index_or c.args.waiting.now c.loop-k.k c.index-waiting-k.result).rank + 1)) in
+    AddsWaiting told plan from at c.args.size c.args.waiting.now c.args.lines.now l (Some ((slice_index_or c.args.waiting.now c.loop-k.k c.index-waiting-k.result).rank + 1)) in
     let Q : Line → Type 0 = λ line. (told : Option (List (List ℕ))) (plan : Plan) (from at : ℕ) → Wait told plan from at c.args.waiting.now → Judged told plan c.args.waiting.now c.args.verdicts.now →
-        AddsWaiting told plan from at c.args.size c.args.waiting.now c.args.lines.now c.push.new.self (Some (line.rank + 1)) in
+    AddsWaiting told plan from at c.args.size c.args.waiting.now c.args.lines.now c.push.new.self (Some (line.rank + 1)) in
     record {
       added = subst Q here (subst P same (λ told plan from at wait judged. fills_waiting told plan from at c.args.size c.args.waiting.now c.args.verdicts.now c.loop-k.k c.args.lines.now c.loop-k.lines c.index-waiting-k.result false
           c.loop-k-test.true c.requires.long c.if-verdicts-k.true (let long = c.if-as_slice-size.true in let now = ap length c.as_slice.ensures in let all = ap length same in omega arith) (c.loop-k.invariant.passed told plan from at wait judged)));
@@ -35,7 +35,7 @@ loop-k-preserved c = elim c.if-verdicts-k.branch [
       let lines : c.if-verdicts-k.lines ≡ c.loop-k.lines ++ slice_index_or c.args.waiting.now c.loop-k.k w.index-waiting-k.result ∷ []
       = w.lines-is ∙ pushed ∙ ap (λ (l : Line). c.loop-k.lines ++ l ∷ []) (sym here) in
       let P : List Line → Type 0 = λ l. (told : Option (List (List ℕ))) (plan : Plan) (from at : ℕ) → Wait told plan from at c.args.waiting.now → Judged told plan c.args.waiting.now c.args.verdicts.now →
-          Passed told plan from at c.args.waiting.now c.args.verdicts.now (c.loop-k.k + 1) c.args.lines.now l in
+      Passed told plan from at c.args.waiting.now c.args.verdicts.now (c.loop-k.k + 1) c.args.lines.now l in
       record {
         few = (let other = w.if-as_slice-size.false in let now = ap length w.as_slice.ensures in let all = ap length pushed in let long = length-append c.loop-k.lines (w.index-waiting-k.result ∷ []) in
             let is = ap length w.lines-is in let few = c.loop-k.invariant.few in omega arith);
@@ -44,7 +44,7 @@ loop-k-preserved c = elim c.if-verdicts-k.branch [
       })
   | else-verdicts-k w ↦ (
       let P : List Line → Type 0 = λ l. (told : Option (List (List ℕ))) (plan : Plan) (from at : ℕ) → Wait told plan from at c.args.waiting.now → Judged told plan c.args.waiting.now c.args.verdicts.now →
-          Passed told plan from at c.args.waiting.now c.args.verdicts.now (c.loop-k.k + 1) c.args.lines.now l in
+      Passed told plan from at c.args.waiting.now c.args.verdicts.now (c.loop-k.k + 1) c.args.lines.now l in
       record {
         few = (let few = c.loop-k.invariant.few in let is = ap length w.lines-is in omega arith);
         passed = subst P (sym w.lines-is) (λ told plan from at wait judged. any_fails told plan from at c.args.waiting.now c.args.verdicts.now c.loop-k.k c.args.lines.now c.loop-k.lines false

@@ -1,6 +1,5 @@
 use Rattle.std.proofs.Common.{rules, ℕ, ◌≡◌, ◌≤◌, [], length, refl, sym, subst}
 use Rattle.image_source.specs.Attached.{told_all}
-use Rattle.row_scan.specs.declared.many_sets.TheConstants.{MOST_SETS}
 use Rattle.page_engine.specs.Walk.{Scans}
 use Rattle.page_engine.proofs.Candidates.{ended_err, finishes_empty, last_scan, last_scan_ended}
 use Rattle.page_engine.proofs.scanning.finish.Goals as goal

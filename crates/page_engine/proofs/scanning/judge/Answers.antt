@@ -1,4 +1,4 @@
-use Rattle.std.proofs.Common.{rules, ◌≡◌, ◌∙◌}
+use Rattle.std.proofs.Common.{rules, ◌≡◌}
 use Rattle.page_engine.proofs.Judging.{all_few, all_scannable, geos, scanned}
 use Rattle.page_engine.proofs.scanning.judge.Goals as goal
 

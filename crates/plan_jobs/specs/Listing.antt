@@ -1,5 +1,5 @@
 -- What `list` refuses and prints.
-use Rattle.std.specs.Prelude.{ℕ, zero, suc, ◌+◌, ◌*◌, ◌≤◌, nat_lt, ◌==◌, if◌then◌else◌, List, [], ◌++◌, codes, slice_get}
+use Rattle.std.specs.Prelude.{ℕ, Bool, zero, suc, ◌+◌, ◌*◌, ◌≤◌, nat_lt, ◌==◌, if◌then◌else◌, List, [], ◌++◌, codes, slice_get}
 use Rattle.std.specs.List.{flat_map}
 use Rattle.std.specs.Option.{option_map_or}
 use Rattle.std.specs.declared.option.Option.{Option}
@@ -70,10 +70,11 @@ unfoldable pub found_text : Form → ListPage → List ℕ
 found_text form page = flat_map (λ held. line_in form held.rank held.geo) page.lines ++ next_in form page.next page.total
 
 -- what `list` reads over a plan, by the counts of the sectors read before and after: the tables once for all pages, and
--- the scans of each page, where pages end as the bytes of the images have it
-pub record ListReads (told : Option (List (List ℕ))) (asked : Listing) (plan : Plan) (before after : ℕ) : Type 0 where
+-- the scans of each page, where pages end as the bytes of the images have it; only where it failed may the last be a page
+-- that could not be made
+pub record ListReads (told : Option (List (List ℕ))) (asked : Listing) (plan : Plan) (failed : Bool) (before after : ℕ) : Type 0 where
   pub ends : List ℕ
-  pub are : ArePageEnds told plan asked.size asked.span asked.pages asked.from ends
+  pub are : ArePageEnds told plan asked.size asked.span failed asked.pages asked.from ends
   pub few : after ≤ before + (table_reads plan + scans_to told plan asked.from ends * most_scanned plan)
 
 -- what `list` prints over what the plan's text says, where the bytes of the images are told

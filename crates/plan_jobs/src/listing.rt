@@ -2,6 +2,7 @@
 ghost use Rattle.std.specs.Prelude.{◌≡◌, ◌≤◌, ◌+◌, ◌*◌, ◌<◌, ◌^◌, ◌++◌, IfErr, IfOk, IfSome, IsErrOf, None, OnOk, Some, [], ◌∷◌, false, length, min};
 ghost use Rattle.std.specs.Io.KnownBytes.{IsAtEnd};
 ghost use Rattle.std.specs.List.{flat_map};
+ghost use Rattle.std.specs.Result.{is_err};
 ghost use Rattle.image_source.specs.Attached.{told_all};
 ghost use Rattle.search_plan.specs.Plans.{IsPlan};
 ghost use Rattle.search_plan.specs.Sets.{total_of};
@@ -67,7 +68,7 @@ pub fn list<R: Threads + Sync, S: Source, I: Images, K: Sink, G: Gate + Sync>(
         (record { images = (I.seen images.new).faults; plan = S.faults source.new; out = K.faults out.new; sectors = (I.seen images.new).sectors_read })
         (K.gained out.old) (K.gained out.new) result }
     ensures reads { IfSome (S.left source.old) (λ text. (plan : PlanOf) → IsTextOf text (Reads plan) →
-        ListReads (told_all (I.seen images.old).attached) asked.now plan (I.seen images.old).sectors_read (I.seen images.new).sectors_read) }
+        ListReads (told_all (I.seen images.old).attached) asked.now plan (is_err result) (I.seen images.old).sectors_read (I.seen images.new).sectors_read) }
     ensures world { (I.seen images.new).world ≡ (I.seen images.old).world }
     ensures attached { (I.seen images.new).attached ≡ (I.seen images.old).attached }
 {
@@ -99,7 +100,7 @@ fn answer<R: Threads + Sync, S: Source, I: Images, G: Gate + Sync>(
         (record { images = (I.seen images.old).faults; plan = S.faults source.old; out = 0; sectors = (I.seen images.old).sectors_read })
         (record { images = (I.seen images.new).faults; plan = S.faults source.new; out = 0; sectors = (I.seen images.new).sectors_read }) result }
     ensures reads { IfSome (S.left source.old) (λ text. (plan : PlanOf) → IsTextOf text (Reads plan) →
-        ListReads (told_all (I.seen images.old).attached) asked.now plan (I.seen images.old).sectors_read (I.seen images.new).sectors_read) }
+        ListReads (told_all (I.seen images.old).attached) asked.now plan (is_err result) (I.seen images.old).sectors_read (I.seen images.new).sectors_read) }
     ensures world { (I.seen images.new).world ≡ (I.seen images.old).world }
     ensures attached { (I.seen images.new).attached ≡ (I.seen images.old).attached }
 {
@@ -129,7 +130,7 @@ fn listed<R: Threads + Sync, I: Images, G: Gate + Sync>(
     ensures causes { HasCauses
         (record { images = (I.seen images.old).faults; plan = 0; out = 0; sectors = (I.seen images.old).sectors_read })
         (record { images = (I.seen images.new).faults; plan = 0; out = 0; sectors = (I.seen images.new).sectors_read }) result }
-    ensures reads { ReadsPages (told_all (I.seen images.old).attached) plan.now asked.now.size asked.now.span asked.now.pages asked.now.from (I.seen images.old) (I.seen images.new) }
+    ensures reads { ReadsPages (told_all (I.seen images.old).attached) plan.now asked.now.size asked.now.span (is_err result) asked.now.pages asked.now.from (I.seen images.old) (I.seen images.new) }
 {
     match found_pages(rt, alloc, images, plan, asked, gate) {
         Ok(found) => Ok(pages_text(alloc, asked.form, found.as_slice())?),
@@ -154,7 +155,7 @@ fn found_pages<R: Threads + Sync, I: Images, G: Gate + Sync>(
     ensures many { 2 ^ 64 ≤ total_of plan.now → IsErrOf result PageMany }
     ensures cursor { total_of plan.now < 2 ^ 64 → total_of plan.now < asked.now.from → IsErrOf result (PageCursor (record { from = asked.now.from; total = total_of plan.now })) }
     ensures ends { IfErr result (EndsPage plan.now asked.now.from (I.seen images.old) (I.seen images.new)) }
-    ensures reads { ReadsPages (told_all (I.seen images.old).attached) plan.now asked.now.size asked.now.span asked.now.pages asked.now.from (I.seen images.old) (I.seen images.new) }
+    ensures reads { ReadsPages (told_all (I.seen images.old).attached) plan.now asked.now.size asked.now.span (is_err result) asked.now.pages asked.now.from (I.seen images.old) (I.seen images.new) }
 {
     pages(
         rt,

@@ -1,3 +1,5 @@
+use Rattle.std.proofs.Common.{true}
+use Rattle.std.specs.Result.{is_err}
 use Rattle.image_source.specs.Attached.{told_all}
 use Rattle.plan_jobs.specs.Listing.{ListReads, cursor_refusal}
 use Rattle.plan_jobs.proofs.PagesRead.{none_read, pages_read}
@@ -23,14 +25,14 @@ returns-in-Ok-clause-reads g c =
     let seen = g.I.Images.seen c.args.images.now in
     let new = g.I.Images.seen c.listed.new.images in
     let told = told_all seen.attached in
-    holds_prepared (g.S.Source.left c.args.source.now) c.args.names seen.attached c.in-Ok.plan (λ plan. ListReads told c.args.asked.now plan seen.sectors_read new.sectors_read)
-    c.in-Ok.ensures.prepared (pages_read told c.args.asked.now c.in-Ok.plan seen new c.listed.ensures.reads)
+    holds_prepared (g.S.Source.left c.args.source.now) c.args.names seen.attached c.in-Ok.plan (λ plan. ListReads told c.args.asked.now plan (is_err c.listed.result) seen.sectors_read new.sectors_read)
+    c.in-Ok.ensures.prepared (pages_read told c.args.asked.now c.in-Ok.plan (is_err c.listed.result) seen new c.listed.ensures.reads)
 
 pub returns-in-Err-clause-reads : goal.returns-in-Err-clause-reads
 returns-in-Err-clause-reads g c =
     let seen = g.I.Images.seen c.args.images.now in
     let told = told_all seen.attached in
-    holds_unprepared (g.S.Source.left c.args.source.now) (λ plan. ListReads told c.args.asked.now plan seen.sectors_read seen.sectors_read) (λ plan. none_read told c.args.asked.now plan seen.sectors_read)
+    holds_unprepared (g.S.Source.left c.args.source.now) (λ plan. ListReads told c.args.asked.now plan true seen.sectors_read seen.sectors_read) (λ plan. none_read told c.args.asked.now plan true seen.sectors_read)
 
 pub returns-in-Ok-clause-order : goal.returns-in-Ok-clause-order
 returns-in-Ok-clause-order g c =

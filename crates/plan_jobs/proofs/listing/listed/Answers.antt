@@ -1,7 +1,9 @@
 use Rattle.std.proofs.Common.{ap, ◌∙◌}
 use Rattle.std.specs.List.{flat_map}
+use Rattle.std.specs.Result.{is_err}
 use Rattle.image_source.specs.Attached.{told_all}
 use Rattle.plan_jobs.proofs.Listed.{page_order, pages_printed}
+use Rattle.plan_jobs.proofs.PagesRead.{read_and_failed}
 use Rattle.plan_jobs.specs.Listing.{found_text}
 use Rattle.plan_jobs.proofs.listing.listed.Goals as goal
 
@@ -13,3 +15,9 @@ returns-in_ok-pages_text-in-Ok-clause-text g c =
 pub returns-in-Err-clause-order : goal.returns-in-Err-clause-order
 returns-in-Err-clause-order g c =
     rw c.from.ensures (page_order c.args.plan.now c.args.asked.now.from (g.I.Images.seen c.args.images.now) (g.I.Images.seen c.found_pages.new.images) c.in-Err.fault c.in-Err.ensures.many c.in-Err.ensures.cursor c.in-Err.ensures.ends)
+
+pub returns-in_err-pages_text-in-Ok-clause-reads : goal.returns-in_err-pages_text-in-Ok-clause-reads
+returns-in_err-pages_text-in-Ok-clause-reads g c =
+    let asked = c.args.asked.now in
+    read_and_failed (told_all (g.I.Images.seen c.args.images.now).attached) c.args.plan.now asked.size asked.span (is_err c.from_residual.result) asked.pages asked.from (g.I.Images.seen c.args.images.now) (g.I.Images.seen c.found_pages.new.images)
+    c.in-Ok.ensures.reads

@@ -42,28 +42,28 @@ words_end words number left attached old reading reads says = record {
 }
 
 -- nothing is read for no pages
-none_listed : (told : Option (List (List ℕ))) (asked : Listing) (read : ℕ) (plan : PlanReading) → IfPlan plan (λ p. ListReads told asked p read read)
-none_listed told asked read (Plan p) = none_read told asked p read
-none_listed told asked read (Refused n) = tt
+none_listed : (told : Option (List (List ℕ))) (asked : Listing) (failed : Bool) (read : ℕ) (plan : PlanReading) → IfPlan plan (λ p. ListReads told asked p failed read read)
+none_listed told asked failed read (Plan p) = none_read told asked p failed read
+none_listed told asked failed read (Refused n) = tt
 
 none_checked : (set : Geometry) (attached : List Image) (read : ℕ) (plan : PlanReading) → IfPlan plan (λ p. read ≤ read + check_reads set attached p)
 none_checked set attached read (Plan p) = omega arith
 none_checked set attached read (Refused n) = tt
 
 -- a command may read nothing
-may_read_none : (words : Result Command ℕ) (reading : Reading) (attached : List Image) (read : ℕ) → CommandReads words reading attached read read
-may_read_none (Err number) reading attached read = omega arith
-may_read_none (Ok (SurveyCommand asked)) reading attached read = omega arith
-may_read_none (Ok (ListCommand from size span pages form names)) reading attached read = none_listed (told_all attached) (list_asked from size span pages form) read reading.plan
-may_read_none (Ok (CheckCommand set names)) reading attached read = none_checked set attached read reading.plan
-may_read_none (Ok (MapCommand set sector end names)) reading attached read = omega arith
-may_read_none (Ok (WriteCommand set end names)) reading attached read = omega arith
-may_read_none (Ok (RebuildCommand set slot end names)) reading attached read = omega arith
-may_read_none (Ok (SampleCommand number set rows xfs)) reading attached read = omega arith
+may_read_none : (words : Result Command ℕ) (reading : Reading) (attached : List Image) (failed : Bool) (read : ℕ) → CommandReads words reading attached failed read read
+may_read_none (Err number) reading attached failed read = omega arith
+may_read_none (Ok (SurveyCommand asked)) reading attached failed read = omega arith
+may_read_none (Ok (ListCommand from size span pages form names)) reading attached failed read = none_listed (told_all attached) (list_asked from size span pages form) failed read reading.plan
+may_read_none (Ok (CheckCommand set names)) reading attached failed read = none_checked set attached read reading.plan
+may_read_none (Ok (MapCommand set sector end names)) reading attached failed read = omega arith
+may_read_none (Ok (WriteCommand set end names)) reading attached failed read = omega arith
+may_read_none (Ok (RebuildCommand set slot end names)) reading attached failed read = omega arith
+may_read_none (Ok (SampleCommand number set rows xfs)) reading attached failed read = omega arith
 
-pub unread : (reading : Reading) (attached : List Image) (read : ℕ) → MayRead reading attached read read
+pub unread : (reading : Reading) (attached : List Image) (failed : Bool) (read : ℕ) → MayRead reading attached failed read read
 unfolding MayRead
-unread reading attached read = may_read_none reading.words reading attached read
+unread reading attached failed read = may_read_none reading.words reading attached failed read
 
 -- an image could not be attached
 pub attach_ends : (attached : List Image) (old : Option (List ℕ)) (reading : Reading) → Ends {T = Unit {0}} (refusal reading attached) (output reading attached) old old (Err ImageFault)
@@ -81,8 +81,8 @@ attach_leaves streams old new plan out gained rose later = record {
   unread = λ h. absurd (h tt);
 }
 
-pub attach_reads : (reading : Reading) (old new : Seen) (attached : List Image) → new.sectors_read ≡ old.sectors_read → MayRead reading attached old.sectors_read new.sectors_read
-attach_reads reading old new attached same = subst (λ (k : ℕ). MayRead reading attached old.sectors_read k) (sym same) (unread reading attached old.sectors_read)
+pub attach_reads : (reading : Reading) (old new : Seen) (attached : List Image) (failed : Bool) → new.sectors_read ≡ old.sectors_read → MayRead reading attached failed old.sectors_read new.sectors_read
+attach_reads reading old new attached failed same = subst (λ (k : ℕ). MayRead reading attached failed old.sectors_read k) (sym same) (unread reading attached failed old.sectors_read)
 
 -- what the words say is what the command is asked
 pub asked_of : (words : List (List ℕ)) (left : Option (List ℕ)) (command : Command) (names : ℕ) (reading : Reading) → Reads words (Ok command) → names ≡ length (names_after words) → Says words left reading → IsAsked command names left reading

@@ -28,9 +28,9 @@ ends_as command reading attached old new r is ends =
     let P : Result Command ℕ → Type 0 = λ c. Ends (command_refusal c reading attached) (command_output c reading attached) old new r in
     subst P (sym is) ends
 
-reads_as : (command : Command) (reading : Reading) (attached : List Image) (before after : ℕ) → reading.words ≡ Ok command → CommandReads (Ok command) reading attached before after → MayRead reading attached before after
+reads_as : (command : Command) (reading : Reading) (attached : List Image) (failed : Bool) (before after : ℕ) → reading.words ≡ Ok command → CommandReads (Ok command) reading attached failed before after → MayRead reading attached failed before after
 unfolding MayRead
-reads_as command reading attached before after is reads = subst (λ (c : Result Command ℕ). CommandReads c reading attached before after) (sym is) reads
+reads_as command reading attached failed before after is reads = subst (λ (c : Result Command ℕ). CommandReads c reading attached failed before after) (sym is) reads
 
 -- what holds over the text that the source had left holds over the reading's
 told_as : (left : Option (List ℕ)) (reading : Reading) (P : List ℕ → PlanReading → Type 0) → left ≡ Some reading.text → IsTextOf reading.text reading.plan →
@@ -127,24 +127,24 @@ plan_read Holds left reading text is all =
     let P : Option (List ℕ) → Type 0 = λ l. IfSome l (λ text. (plan : Plan) → IsTextOf text (Reads plan) → Holds plan) in
     plan_known Holds reading.text reading.plan is (subst P text all)
 
-pub list_read : (from size span pages : ℕ) (form : Form) (n names before after : ℕ) (left : Option (List ℕ)) (reading : Reading) (attached : List Image) → IsAsked (ListCommand from size span pages form n) names left reading →
-    IfSome left (λ text. (plan : Plan) → IsTextOf text (Reads plan) → ListReads (told_all attached) (asked_of from size span pages form) plan before after) → MayRead reading attached before after
-list_read from size span pages form n names before after left reading attached asked few =
-    reads_as (ListCommand from size span pages form n) reading attached before after asked.command_is
-    (plan_read (λ plan. ListReads (told_all attached) (asked_of from size span pages form) plan before after) left reading (asked.text tt) (asked.plan tt) few)
+pub list_read : (from size span pages : ℕ) (form : Form) (n names : ℕ) (failed : Bool) (before after : ℕ) (left : Option (List ℕ)) (reading : Reading) (attached : List Image) → IsAsked (ListCommand from size span pages form n) names left reading →
+    IfSome left (λ text. (plan : Plan) → IsTextOf text (Reads plan) → ListReads (told_all attached) (asked_of from size span pages form) plan failed before after) → MayRead reading attached failed before after
+list_read from size span pages form n names failed before after left reading attached asked few =
+    reads_as (ListCommand from size span pages form n) reading attached failed before after asked.command_is
+    (plan_read (λ plan. ListReads (told_all attached) (asked_of from size span pages form) plan failed before after) left reading (asked.text tt) (asked.plan tt) few)
 
-pub check_read : (set : Geometry) (n names before after : ℕ) (left : Option (List ℕ)) (reading : Reading) (attached : List Image) → IsAsked (CheckCommand set n) names left reading →
-    IfSome left (λ text. (plan : Plan) → IsTextOf text (Reads plan) → after ≤ before + check_reads set attached plan) → MayRead reading attached before after
-check_read set n names before after left reading attached asked few =
-    reads_as (CheckCommand set n) reading attached before after asked.command_is (plan_read (λ plan. after ≤ before + check_reads set attached plan) left reading (asked.text tt) (asked.plan tt) few)
+pub check_read : (set : Geometry) (n names : ℕ) (failed : Bool) (before after : ℕ) (left : Option (List ℕ)) (reading : Reading) (attached : List Image) → IsAsked (CheckCommand set n) names left reading →
+    IfSome left (λ text. (plan : Plan) → IsTextOf text (Reads plan) → after ≤ before + check_reads set attached plan) → MayRead reading attached failed before after
+check_read set n names failed before after left reading attached asked few =
+    reads_as (CheckCommand set n) reading attached failed before after asked.command_is (plan_read (λ plan. after ≤ before + check_reads set attached plan) left reading (asked.text tt) (asked.plan tt) few)
 
-pub write_reads : (set : Geometry) (end : Option ℕ) (n names before after : ℕ) (left : Option (List ℕ)) (reading : Reading) (attached : List Image) → IsAsked (WriteCommand set end n) names left reading → after ≤ before + members_reads set end attached →
-    MayRead reading attached before after
-write_reads set end n names before after left reading attached asked few = reads_as (WriteCommand set end n) reading attached before after asked.command_is few
+pub write_reads : (set : Geometry) (end : Option ℕ) (n names : ℕ) (failed : Bool) (before after : ℕ) (left : Option (List ℕ)) (reading : Reading) (attached : List Image) → IsAsked (WriteCommand set end n) names left reading → after ≤ before + members_reads set end attached →
+    MayRead reading attached failed before after
+write_reads set end n names failed before after left reading attached asked few = reads_as (WriteCommand set end n) reading attached failed before after asked.command_is few
 
-pub rebuild_reads : (set : Geometry) (slot : ℕ) (end : Option ℕ) (n names before after : ℕ) (left : Option (List ℕ)) (reading : Reading) (attached : List Image) → IsAsked (RebuildCommand set slot end n) names left reading → after ≤ before + members_reads set end attached →
-    MayRead reading attached before after
-rebuild_reads set slot end n names before after left reading attached asked few = reads_as (RebuildCommand set slot end n) reading attached before after asked.command_is few
+pub rebuild_reads : (set : Geometry) (slot : ℕ) (end : Option ℕ) (n names : ℕ) (failed : Bool) (before after : ℕ) (left : Option (List ℕ)) (reading : Reading) (attached : List Image) → IsAsked (RebuildCommand set slot end n) names left reading → after ≤ before + members_reads set end attached →
+    MayRead reading attached failed before after
+rebuild_reads set slot end n names failed before after left reading attached asked few = reads_as (RebuildCommand set slot end n) reading attached failed before after asked.command_is few
 
 pub survey_asked : (asked : SurveyWords) (names : ℕ) (left : Option (List ℕ)) (reading : Reading) (attached : List Image) (old new : Option (List ℕ)) (r : Result (Unit {0}) Stop) → IsAsked (SurveyCommand asked) names left reading →
     Ends (survey_refusal asked names attached) (survey_output asked names attached (told_all attached)) old new r → Ends (refusal reading attached) (output reading attached) old new r
@@ -158,9 +158,9 @@ survey_order asked names before after left reading attached old new r is order =
     order_as (SurveyCommand asked) reading attached before after old new r is.command_is
     (subst (λ (k : ℕ). IsFirst before after old new r (survey_refusal asked k attached)) (sym is.names_are) order)
 
-pub survey_read : (asked : SurveyWords) (names before after : ℕ) (left : Option (List ℕ)) (reading : Reading) (attached : List Image) → IsAsked (SurveyCommand asked) names left reading → after ≤ before + survey_reads asked attached →
-    MayRead reading attached before after
-survey_read asked names before after left reading attached is few = reads_as (SurveyCommand asked) reading attached before after is.command_is few
+pub survey_read : (asked : SurveyWords) (names : ℕ) (failed : Bool) (before after : ℕ) (left : Option (List ℕ)) (reading : Reading) (attached : List Image) → IsAsked (SurveyCommand asked) names left reading → after ≤ before + survey_reads asked attached →
+    MayRead reading attached failed before after
+survey_read asked names failed before after left reading attached is few = reads_as (SurveyCommand asked) reading attached failed before after is.command_is few
 
 -- `sample` looks at no image that is given
 pub sample_asked : (number : ℕ) (set : Geometry) (rows : ℕ) (xfs : Bool) (names : ℕ) (left : Option (List ℕ)) (reading : Reading) (attached : List Image) (old new : Option (List ℕ)) (r : Result (Unit {0}) Stop) →

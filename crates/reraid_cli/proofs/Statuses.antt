@@ -1,5 +1,6 @@
 -- Statuses, their lines and their causes.
-use Rattle.std.proofs.Common.{IsErrOf, ◌≡◌, ◌≢◌, ℕ, List, length, Some, Option, Result, Ok, Err, refl, sym, ap, ◌∙◌, subst, arith, Contains, inl, inr, true, false, Bool}
+use Rattle.std.proofs.Common.{IsErrOf, ◌≡◌, ◌≢◌, ◌==◌, not, ℕ, zero, suc, List, length, Some, Option, Result, Ok, Err, refl, sym, ap, ◌∙◌, subst, arith, Contains, inl, inr, true, false, Bool}
+use Rattle.std.proofs.Math.Dec.{eqb-suc-zero}
 use Rattle.std.proofs.lemmas.List.{take_all}
 use Rattle.image_source.specs.Causes.{HasCause}
 use Rattle.image_source.specs.Streams.{Puts}
@@ -44,6 +45,14 @@ status_some ImageFault e = absurd (omega arith)
 status_some PlanFault e = absurd (omega arith)
 status_some OutFault e = absurd (omega arith)
 status_some OutOfMemory e = absurd (omega arith)
+
+some_failed : (status : ℕ) → status ≢ 0 → not (status == 0) ≡ true
+some_failed zero some = absurd (some refl)
+some_failed (suc n) some = ap not (eqb-suc-zero n)
+
+-- so a run that ends by a stop failed
+pub stop_failed : (stop : Stop) (status : ℕ) → status ≡ status_of stop → not (status == 0) ≡ true
+stop_failed stop status is = some_failed status (λ none. status_some stop (sym is ∙ none))
 
 -- the line of a stop is that of its status, unless it holds numbers
 pub note_same : (stop : Stop) → has_numbers (status_of stop) ≡ false → note_of stop ≡ note_for (status_of stop)

@@ -85,20 +85,21 @@ output reading attached = command_output reading.words reading attached
 -- what a command may read, by the counts of the sectors read before and after: `survey` each sector of each image from
 -- the smallest offset to the end, and one of entries for each partition table that counts; `list` for each offset the
 -- tested rows of the chunk that has most, once, and for each `MOST_SETS` hopeful sets of a page, begun ones counted, one
--- scan; `check` the tested rows of its set, and none where nothing can break one; `write` and `rebuild` each sector of
--- each member that is there, `map` none, and `sample` none of those given. A text that is no plan bounds nothing
-abbrev pub CommandReads : Result Command ℕ → Reading → List Image → ℕ → ℕ → Type 0
-CommandReads (Ok (SurveyCommand asked)) reading attached before after = after ≤ before + survey_reads asked attached
-CommandReads (Ok (ListCommand from size span pages form names)) reading attached before after =
-    IfPlan reading.plan (λ plan. ListReads (told_all attached) (asked_of from size span pages form) plan before after)
-CommandReads (Ok (CheckCommand set names)) reading attached before after = IfPlan reading.plan (λ plan. after ≤ before + check_reads set attached plan)
-CommandReads (Ok (WriteCommand set end names)) reading attached before after = after ≤ before + members_reads set end attached
-CommandReads (Ok (RebuildCommand set slot end names)) reading attached before after = after ≤ before + members_reads set end attached
-CommandReads _ reading attached before after = after ≤ before
+-- scan, where only a run that failed may have a page that could not be made; `check` the tested rows of its set, and none
+-- where nothing can break one; `write` and `rebuild` each sector of each member that is there, `map` none, and `sample`
+-- none of those given. A text that is no plan bounds nothing
+abbrev pub CommandReads : Result Command ℕ → Reading → List Image → Bool → ℕ → ℕ → Type 0
+CommandReads (Ok (SurveyCommand asked)) reading attached failed before after = after ≤ before + survey_reads asked attached
+CommandReads (Ok (ListCommand from size span pages form names)) reading attached failed before after =
+    IfPlan reading.plan (λ plan. ListReads (told_all attached) (asked_of from size span pages form) plan failed before after)
+CommandReads (Ok (CheckCommand set names)) reading attached failed before after = IfPlan reading.plan (λ plan. after ≤ before + check_reads set attached plan)
+CommandReads (Ok (WriteCommand set end names)) reading attached failed before after = after ≤ before + members_reads set end attached
+CommandReads (Ok (RebuildCommand set slot end names)) reading attached failed before after = after ≤ before + members_reads set end attached
+CommandReads _ reading attached failed before after = after ≤ before
 
 -- what a run may read
-unfoldable pub MayRead : Reading → List Image → ℕ → ℕ → Type 0
-MayRead reading attached before after = CommandReads reading.words reading attached before after
+unfoldable pub MayRead : Reading → List Image → Bool → ℕ → ℕ → Type 0
+MayRead reading attached failed before after = CommandReads reading.words reading attached failed before after
 
 -- the command puts as it reads
 abbrev pub streams : Result Command ℕ → Bool

@@ -1,6 +1,7 @@
 //! A run, up to why it ends.
 ghost use Rattle.std.specs.Prelude.{◌≡◌, ◌≤◌, ◌+◌, ◌^◌, ◌<◌, [], All, IfErr, IfSome, IsErrOf, IsTrue, OnOk, Ok, Err, Option, Result, ℕ, Some, length, min};
 ghost use Rattle.std.specs.Io.KnownBytes.{IsAtEnd, Keeps};
+ghost use Rattle.std.specs.Result.{is_err};
 ghost use Rattle.image_source.specs.Attached.{AreImagesOf};
 ghost use Rattle.run_ends.specs.Jobs.{Ends, Leaves, Orders};
 ghost use Rattle.run_ends.specs.Source.{TakesFew};
@@ -41,7 +42,7 @@ pub fn run<R: Threads + Sync, S: Source, I: Images, K: Sink, G: Gate + Sync>(
     ensures leaves { (read : Result CommandOf ℕ) × Reads words.now read ×
         Leaves (streams read) (counts_of (I.seen images.old) (S.faults plan.old) (K.faults out.old)) (counts_of (I.seen images.new) (S.faults plan.new) (K.faults out.new)) (K.gained out.old) (K.gained out.new) result }
     ensures reads { (reading : Reading) → Says words.now (S.left plan.old) reading →
-        MayRead reading (I.seen images.new).attached (I.seen images.old).sectors_read (I.seen images.new).sectors_read }
+        MayRead reading (I.seen images.new).attached (is_err result) (I.seen images.old).sectors_read (I.seen images.new).sectors_read }
     ensures words { (number : ℕ) → Reads words.now (Err number) → IsErrOf result (Stop.Word number) × (I.seen images.new ≡ I.seen images.old) }
     ensures unasked { (read : Result CommandOf ℕ) → Reads words.now read → (IsPlanned read → ⊥) →
         (S.left plan.new ≡ S.left plan.old) × (S.faults plan.new ≡ S.faults plan.old) }
@@ -103,7 +104,7 @@ fn serve<R: Threads + Sync, S: Source, I: Images, K: Sink, G: Gate + Sync>(
     ensures end { IsPlanned (Ok command) → OnOk result (IsAtEnd (S.left plan.new)) }
     ensures leaves { Leaves (streams (Ok command)) (counts_of (I.seen images.old) (S.faults plan.old) (K.faults out.old)) (counts_of (I.seen images.new) (S.faults plan.new) (K.faults out.new)) (K.gained out.old) (K.gained out.new) result }
     ensures reads { (reading : Reading) → IsAsked command names (S.left plan.old) reading →
-        MayRead reading (I.seen images.old).attached (I.seen images.old).sectors_read (I.seen images.new).sectors_read }
+        MayRead reading (I.seen images.old).attached (is_err result) (I.seen images.old).sectors_read (I.seen images.new).sectors_read }
     ensures unasked { (IsPlanned (Ok command) → ⊥) → (S.left plan.new ≡ S.left plan.old) × (S.faults plan.new ≡ S.faults plan.old) }
     ensures own { IsOwn command → I.seen images.new ≡ I.seen images.old }
     ensures world { (I.seen images.new).world ≡ (I.seen images.old).world }

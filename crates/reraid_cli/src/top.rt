@@ -1,5 +1,5 @@
 //! The top call.
-ghost use Rattle.std.specs.Prelude.{◌≡◌, ◌≢◌, ◌<◌, ◌≤◌, ◌+◌, [], All, Contains, IsTrue, IfSome, Err, Ok, Option, Result, Some, ℕ, false, length, min, true};
+ghost use Rattle.std.specs.Prelude.{◌≡◌, ◌≢◌, ◌<◌, ◌≤◌, ◌+◌, ◌==◌, [], All, Contains, IsTrue, IfSome, Err, Ok, Option, Result, Some, ℕ, false, length, min, not, true};
 ghost use Rattle.std.specs.Io.KnownBytes.{Appends, IsAtEnd, Keeps};
 ghost use Rattle.run_ends.specs.Source.{TakesFew};
 ghost use Rattle.run_ends.specs.Stops.{note_of, status_of};
@@ -107,12 +107,13 @@ pub fn reraid<R: Threads + Sync, S: Source, I: Images, K: Sink, N: Sink, G: Gate
     ensures all { (command : Command) → IsCommandLine words.now command → result ≢ 10 → length (I.seen images.new).attached ≡ min (length (names_after words.now)) MOST_ATTACHED }
 
     // Images are only attached and read; a refusal reads none, and want of memory neither where the
-    // command puts as it reads. What a command reads is bounded.
+    // command puts as it reads. What a command reads is bounded; only at another status than 0 may a
+    // listing have a page that could not be made.
     ensures world { (I.seen images.new).world ≡ (I.seen images.old).world }
     ensures unread { result ≢ 0 → result ≢ 10 → result ≢ 12 → result ≢ 20 → (I.seen images.new).sectors_read ≡ (I.seen images.old).sectors_read }
     ensures early { result ≡ 20 → (command : Command) → IsCommandLine words.now command → streams (Ok command) ≡ true → (I.seen images.new).sectors_read ≡ (I.seen images.old).sectors_read }
     ensures reads { (reading : Reading) → Says words.now (S.left plan.old) reading →
-        MayRead reading (I.seen images.new).attached (I.seen images.old).sectors_read (I.seen images.new).sectors_read }
+        MayRead reading (I.seen images.new).attached (not (result == 0)) (I.seen images.old).sectors_read (I.seen images.new).sectors_read }
 {
     match run(rt, alloc, words, plan, images, out, gate) {
         Ok(()) => 0,

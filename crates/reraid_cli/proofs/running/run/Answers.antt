@@ -1,4 +1,5 @@
-use Rattle.std.proofs.Common.{◌≡◌, ℕ, ◌<◌, ◌^◌, ◌++◌, List, All, length, sym, ap, ◌∙◌, subst, refl, Ok, Err}
+use Rattle.std.proofs.Common.{◌≡◌, ℕ, ◌<◌, ◌^◌, ◌++◌, List, All, length, sym, ap, ◌∙◌, subst, refl, true, Ok, Err}
+use Rattle.std.specs.Result.{is_err}
 use Rattle.command_words.specs.Commands.{names_after}
 use Rattle.image_source.specs.Seen.{Image}
 use Rattle.run_ends.proofs.Printed.{order_refused}
@@ -35,8 +36,8 @@ returns-in-Ok-attach_front-clause-reads g c reading says =
     let words = c.args.words.now in
     let count : length c.names_of-names.result.now ≡ length (names_after words) = ap length c.names_of-names.ensures in
     let read = (g.I.Images.seen c.serve.new.images).sectors_read in
-    let P : List Image → Type 0 = λ attached. MayRead reading attached (g.I.Images.seen c.args.images.now).sectors_read read in
-    let Q : ℕ → Type 0 = λ before. MayRead reading (g.I.Images.seen c.attach_front.new.images).attached before read in
+    let P : List Image → Type 0 = λ attached. MayRead reading attached (is_err c.serve.result) (g.I.Images.seen c.args.images.now).sectors_read read in
+    let Q : ℕ → Type 0 = λ before. MayRead reading (g.I.Images.seen c.attach_front.new.images).attached (is_err c.serve.result) before read in
     subst P (sym c.serve.ensures.kept)
     (subst Q c.attach_front.ensures.some.unread (c.serve.ensures.reads reading (asked_of words (g.S.Source.left c.args.plan.now) c.in-Ok.command _ reading c.in-Ok.ensures.reads count says)))
 
@@ -84,9 +85,9 @@ returns-in-Ok-attach_front-clause-own g c command line own =
 pub returns-in-Err-clause-reads : goal.returns-in-Err-clause-reads
 returns-in-Err-clause-reads g c reading says =
     let seen = g.I.Images.seen c.args.images.now in
-    unread reading seen.attached seen.sectors_read
+    unread reading seen.attached true seen.sectors_read
 
 pub returns-in-Err-attach_front-clause-reads : goal.returns-in-Err-attach_front-clause-reads
 returns-in-Err-attach_front-clause-reads g c reading says =
     let new = g.I.Images.seen c.attach_front.new.images in
-    attach_reads reading (g.I.Images.seen c.args.images.now) new new.attached c.attach_front.ensures.some.unread
+    attach_reads reading (g.I.Images.seen c.args.images.now) new new.attached true c.attach_front.ensures.some.unread

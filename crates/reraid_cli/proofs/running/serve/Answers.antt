@@ -1,4 +1,5 @@
 use Rattle.std.proofs.Common.{Ok, subst, sym}
+use Rattle.std.specs.Result.{is_err}
 use Rattle.run_ends.specs.Jobs.{Leaves}
 use Rattle.reraid_cli.specs.Answers.{streams}
 use Rattle.command_words.specs.declared.command.Command.{Command}
@@ -18,7 +19,7 @@ pub returns-in-List-clause-reads : goal.returns-in-List-clause-reads
 returns-in-List-clause-reads g c reading asked =
     let left = g.S.Source.left c.args.plan.now in
     let P : Command → Type 0 = λ k. IsAsked k c.args.names left reading in
-    list_read c.in-List.from c.in-List.size c.in-List.span c.in-List.pages c.in-List.form c.in-List.names c.args.names (g.I.Images.seen c.args.images.now).sectors_read (g.I.Images.seen c.list.new.images).sectors_read left reading (g.I.Images.seen c.args.images.now).attached (subst P c.in-List.is asked) c.list.ensures.reads
+    list_read c.in-List.from c.in-List.size c.in-List.span c.in-List.pages c.in-List.form c.in-List.names c.args.names (is_err c.list.result) (g.I.Images.seen c.args.images.now).sectors_read (g.I.Images.seen c.list.new.images).sectors_read left reading (g.I.Images.seen c.args.images.now).attached (subst P c.in-List.is asked) c.list.ensures.reads
 
 pub returns-in-Check-clause-ends : goal.returns-in-Check-clause-ends
 returns-in-Check-clause-ends g c reading asked =
@@ -31,7 +32,7 @@ pub returns-in-Check-clause-reads : goal.returns-in-Check-clause-reads
 returns-in-Check-clause-reads g c reading asked =
     let left = g.S.Source.left c.args.plan.now in
     let P : Command → Type 0 = λ k. IsAsked k c.args.names left reading in
-    check_read c.in-Check.set c.in-Check.names c.args.names (g.I.Images.seen c.args.images.now).sectors_read (g.I.Images.seen c.check.new.images).sectors_read left reading (g.I.Images.seen c.args.images.now).attached (subst P c.in-Check.is asked) c.check.ensures.reads
+    check_read c.in-Check.set c.in-Check.names c.args.names (is_err c.check.result) (g.I.Images.seen c.args.images.now).sectors_read (g.I.Images.seen c.check.new.images).sectors_read left reading (g.I.Images.seen c.args.images.now).attached (subst P c.in-Check.is asked) c.check.ensures.reads
 
 pub returns-in-Map-clause-ends : goal.returns-in-Map-clause-ends
 returns-in-Map-clause-ends g c reading asked =
@@ -51,7 +52,7 @@ pub returns-in-Write-clause-reads : goal.returns-in-Write-clause-reads
 returns-in-Write-clause-reads g c reading asked =
     let left = g.S.Source.left c.args.plan.now in
     let P : Command → Type 0 = λ k. IsAsked k c.args.names left reading in
-    write_reads c.in-Write.set c.in-Write.end c.in-Write.names c.args.names (g.I.Images.seen c.args.images.now).sectors_read (g.I.Images.seen c.write.new.images).sectors_read left reading (g.I.Images.seen c.args.images.now).attached
+    write_reads c.in-Write.set c.in-Write.end c.in-Write.names c.args.names (is_err c.write.result) (g.I.Images.seen c.args.images.now).sectors_read (g.I.Images.seen c.write.new.images).sectors_read left reading (g.I.Images.seen c.args.images.now).attached
     (subst P c.in-Write.is asked) c.write.ensures.reads
 
 pub returns-in-Rebuild-clause-ends : goal.returns-in-Rebuild-clause-ends
@@ -65,7 +66,7 @@ pub returns-in-Rebuild-clause-reads : goal.returns-in-Rebuild-clause-reads
 returns-in-Rebuild-clause-reads g c reading asked =
     let left = g.S.Source.left c.args.plan.now in
     let P : Command → Type 0 = λ k. IsAsked k c.args.names left reading in
-    rebuild_reads c.in-Rebuild.set c.in-Rebuild.slot c.in-Rebuild.end c.in-Rebuild.names c.args.names (g.I.Images.seen c.args.images.now).sectors_read (g.I.Images.seen c.rebuild.new.images).sectors_read left reading (g.I.Images.seen c.args.images.now).attached
+    rebuild_reads c.in-Rebuild.set c.in-Rebuild.slot c.in-Rebuild.end c.in-Rebuild.names c.args.names (is_err c.rebuild.result) (g.I.Images.seen c.args.images.now).sectors_read (g.I.Images.seen c.rebuild.new.images).sectors_read left reading (g.I.Images.seen c.args.images.now).attached
     (subst P c.in-Rebuild.is asked) c.rebuild.ensures.reads
 
 pub returns-in-List-clause-order : goal.returns-in-List-clause-order
@@ -121,7 +122,7 @@ pub returns-in-Survey-clause-reads : goal.returns-in-Survey-clause-reads
 returns-in-Survey-clause-reads g c reading asked =
     let left = g.S.Source.left c.args.plan.now in
     let P : Command → Type 0 = λ k. IsAsked k c.args.names left reading in
-    survey_read c.in-Survey.asked c.args.names (g.I.Images.seen c.args.images.now).sectors_read (g.I.Images.seen c.survey.new.images).sectors_read left reading (g.I.Images.seen c.args.images.now).attached
+    survey_read c.in-Survey.asked c.args.names (is_err c.survey.result) (g.I.Images.seen c.args.images.now).sectors_read (g.I.Images.seen c.survey.new.images).sectors_read left reading (g.I.Images.seen c.args.images.now).attached
     (subst P c.in-Survey.is asked) c.survey.ensures.reads
 
 pub returns-in-Sample-clause-ends : goal.returns-in-Sample-clause-ends
@@ -151,9 +152,9 @@ returns-in-Sample-clause-leaves g c =
 pub returns-in-Sample-clause-reads : goal.returns-in-Sample-clause-reads
 returns-in-Sample-clause-reads g c reading asked =
     let seen = g.I.Images.seen c.args.images.now in
-    unread reading seen.attached seen.sectors_read
+    unread reading seen.attached (is_err c.sample.result) seen.sectors_read
 
 pub returns-in-Map-clause-reads : goal.returns-in-Map-clause-reads
 returns-in-Map-clause-reads g c reading asked =
     let seen = g.I.Images.seen c.args.images.now in
-    unread reading seen.attached seen.sectors_read
+    unread reading seen.attached (is_err c.map.result) seen.sectors_read

@@ -2,9 +2,9 @@ use Rattle.std.proofs.Common.{◌≡◌, sym, ap, ◌∙◌, subst, ℕ, List, B
 use Rattle.run_ends.specs.Jobs.{MayHavePut, MayHaveRead}
 use Rattle.run_ends.specs.Stops.{note_of, status_of}
 use Rattle.run_ends.specs.declared.stop.Stop.TheVariants.{ImageFault, Word}
-use Rattle.reraid_cli.specs.Answers.{IsNoted, refusal, streams}
+use Rattle.reraid_cli.specs.Answers.{IsNoted, MayRead, refusal, streams}
 use Rattle.reraid_cli.proofs.Runs.{one_reading}
-use Rattle.reraid_cli.proofs.Statuses.{status_known, by_refusal, noted, noted_for, noted_numbers, not_ten, not_twelve, put_before, put_nothing, read_no_memory, read_nothing}
+use Rattle.reraid_cli.proofs.Statuses.{status_known, by_refusal, noted, noted_for, noted_numbers, not_ten, not_twelve, put_before, put_nothing, read_no_memory, read_nothing, stop_failed}
 use Rattle.reraid_cli.proofs.top.reraid.Goals as goal
 
 pub returns-in-Ok-clause-words : goal.returns-in-Ok-clause-words
@@ -80,3 +80,9 @@ returns-in-Err-clause-line g c some =
     let line : c.as_bytes.result.now ≡ note_of c.in-Err.stop = c.as_bytes.ensures.value ∙ (c.deref.ensures.0 ∙ c.line.ensures) in
     let P : List ℕ → Type 0 = λ xs. IsNoted (g.N.Sink.faults c.put.new.self) (g.N.Sink.gained c.args.notes.now) (g.N.Sink.gained c.put.new.self) xs in
     (c.in-Err.stop, sym c.status.ensures, subst P line (noted (g.N.Sink.gained c.args.notes.now) (g.N.Sink.gained c.put.new.self) (g.N.Sink.faults c.args.notes.now) (g.N.Sink.faults c.put.new.self) c.put.result c.as_bytes.result.now c.put.ensures.bytes c.put.ensures.cause c.requires.notes))
+
+pub returns-in-Err-clause-reads : goal.returns-in-Err-clause-reads
+returns-in-Err-clause-reads g c reading says =
+    let new = g.I.Images.seen c.run.new.images in
+    let P : Bool → Type 0 = λ failed. MayRead reading new.attached failed (g.I.Images.seen c.args.images.now).sectors_read new.sectors_read in
+    subst P (sym (stop_failed c.in-Err.stop c.status.result c.status.ensures)) (c.in-Err.ensures.reads reading says)

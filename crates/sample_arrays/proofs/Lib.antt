@@ -7,3 +7,8 @@ pub mod Images
 pub mod Sampled
 pub mod Lies
 pub mod GroupSizes
+pub mod Bytes
+pub mod Totals
+pub mod RowSums
+pub mod Found
+pub mod SoundRows

@@ -5,7 +5,9 @@
 //! any sector of it is made alone, since the state of the generator rises by one constant a word.
 //!
 //! `sample_job` surveys the images and lists what passes. The words stand in `specs/Words`, the sectors of the
-//! XFS in `specs/Marks`, the members in `specs/Arrays`, and what follows of them in `laws`.
+//! XFS in `specs/Marks`, the members in `specs/Arrays`, and what follows of them in `laws`: the data lie where
+//! the address map says, and the equations of P and Q hold in every sector row
+//! ([`laws::rows_of_generated_arrays_are_sound`]).
 #![tactic(auto)]
 
 mod arrays;

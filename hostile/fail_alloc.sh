@@ -1,8 +1,8 @@
 #!/bin/bash
-# Refuses each request for memory in turn, over the proved program: a library that is loaded before the C library counts the requests
-# and refuses one of them. The runs are a listing, a test of a set with Q, a survey of images with tables of their own, a volume, a
-# member and a generated array. Each ends with its own status and answer, or with status 20, its line, and nothing put; the images
-# hold what they held.
+# Refuses each request for memory in turn, over the proved program: a library that is loaded before the C library counts the
+# requests and refuses one of them. The runs are listings, of which one scans few sets and one scans pieces of 720 side by side, a
+# test of a set with Q, a survey of images with tables of their own, a volume, a member and a generated array. Each ends with its
+# own status and answer, or with status 20, its line, and nothing put; the images hold what they held.
 #
 # Usage: hostile/fail_alloc.sh PROGRAM [FOLDER]
 # Needs bash, cc and python3.
@@ -46,15 +46,18 @@ def plan(images, length, lines):
 
 tables = bytes(512) + header(1, 99, 2) + bytes(97 * 512) + header(99, 1, 98)
 files = {"a": sectors(1, 2), "b": sectors(3, 4), "c": sectors(2, 6), "q": sectors(0x1C), "x": sectors(1), "y": sectors(0x80),
-         "p": sectors(0x81), "t": tables}
+         "p": sectors(0x81), "t": tables, "z": sectors(0)}
 for name, data in files.items():
     with open(name, "wb") as file:
         file.write(data)
 listing = plan(3, 2, {})
 double = plan(4, 1, {"levels": "6", "syndromes": "after-q,by-data,by-slot"})
+pieces = plan(6, 1, {"levels": "6", "syndromes": "after-q"})
 runs = [
     (["list", "size=10", "--", "a", "b", "c"], listing),
     (["list", "size=10", "form=json", "--", "a", "b", "c"], listing),
+    (["list", "size=10", "--", "q", "x", "y", "p"], double),
+    (["list", "size=10", "--", "z", "z", "z", "z", "z", "z"], pieces),
     (["check", "set=6:ls:after-q:1:0:0,1,2,3", "--", "q", "x", "y", "p"], double),
     (["survey", "--", "t", "t", "t"], b""),
     (["write", "set=5:ls:none:1:0:0,1,2", "--", "a", "b", "c"], b""),

@@ -1,5 +1,5 @@
-/* Loaded before the C library of a program: counts its requests for memory, and refuses the one of the number in REFUSE. Where REFUSE
-   is 0 it writes their number into the file of the descriptor in COUNT when the program ends. */
+/* Loaded before the C library of a program: counts its requests for memory, and refuses the one of the number in REFUSE. It writes
+   their number into the file of the descriptor in COUNT. */
 #define _GNU_SOURCE
 #include <dlfcn.h>
 #include <errno.h>
@@ -32,18 +32,19 @@ __attribute__((constructor)) static void start(void)
     ready = 1;
 }
 
-__attribute__((destructor)) static void end(void)
-{
-    char line[32];
-    int length = snprintf(line, sizeof line, "%lu\n", calls);
-
-    if (counter >= 0 && write(counter, line, length) < 0)
-        _exit(99);
-}
-
+/* Counts a request, and tells whether it is refused. The count is written at each, since a program may end without a word to its
+   libraries; threads may ask side by side. */
 static int refuses(void)
 {
-    return ready && ++calls == refused && (errno = ENOMEM);
+    char line[32];
+    unsigned long call;
+
+    if (!ready)
+        return 0;
+    call = __atomic_add_fetch(&calls, 1, __ATOMIC_SEQ_CST);
+    if (counter >= 0 && pwrite(counter, line, snprintf(line, sizeof line, "%020lu\n", call), 0) < 0)
+        _exit(99);
+    return call == refused && (errno = ENOMEM);
 }
 
 /* What the loader asks for before the library is ready. */

@@ -323,6 +323,31 @@ def large_product(rng):
                 plan.text().encode(), files_of(images), True)
 
 
+def scan_case(rng):
+    """A listing of which hundreds or thousands of sets are left for the parity test, so that they are tested together: sectors
+    that are mostly alike, and rows that may be unsound."""
+    sectors = rng.choice([1, 2, 3, 4])
+    count = rng.choice([5, 6, 6, 7])
+    foreign, missing = rng.choice([(0, 0), (0, 0), (1, 0), (0, 1)])
+    members = count - foreign + missing
+    level = rng.choice([5, 6, 6, 6])
+    sector = bytes([rng.choice([0, 0, 1])]) * SECTOR
+    images = [b"".join(rng.choice([sector, sector, sector, sector, bytes([rng.choice([0, 1, 2, 255])]) * SECTOR]) for _ in range(sectors))
+              for _ in range(count)]
+    patterns = SIX if level == 6 else FIVE
+    given = {"levels": [level], "members": [members], "patterns": sorted(rng.sample(patterns, rng.choice([1, 2, 3])), key=PATTERNS.index),
+             "syndromes": sorted(rng.sample(SYNDROMES[1:], rng.choice([1, 2])), key=SYNDROMES.index) if level == 6 else SYNDROMES[:1],
+             "chunks": rng.choice([[1], [1], [1, 2]]), "offsets": rng.choice([[0], [0], [0, 1]]), "origins": [0],
+             "missing": missing, "foreign": foreign, "badrows": rng.choice([0, 1, 1, 2, sectors]), "window": rng.choice([1, sectors, FAR - 1]),
+             "misfits": 0, "least": 1}
+    plan = Plan([sectors] * count, sectors, given, [])
+    total = Product(plan).total
+    operands = [f"size={rng.choice([1, 7, 100, 1000, 1000000])}", f"span={min(total, 5000)}", f"from={rng.choice([0, 0, rng.randint(0, total)])}"]
+    if rng.random() < 0.5:
+        operands.append(f"pages={rng.choice([2, 3])}")
+    return Case(["list", *shuffled(rng, operands), "--", *NAMES[:count]], plan.text().encode(), files_of(images), True)
+
+
 def changed_set(rng, found, images):
     """The set, or one like it."""
     way = rng.random()
@@ -605,7 +630,7 @@ def crowded_survey(rng):
 
 
 MAKERS = {"survey": survey_case, "list": list_case, "check": check_case, "map": map_case, "write": write_case, "rebuild": rebuild_case,
-          "sample": sample_case}
+          "sample": sample_case, "scan": scan_case}
 
 
 def make(command, rng):

@@ -4,3 +4,4 @@ pub mod LostBytes
 pub mod Unbreakable
 pub mod Known
 pub mod Passes
+pub mod Needs

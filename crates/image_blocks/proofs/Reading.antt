@@ -41,7 +41,7 @@ one_more i k count xs to fits within long =
     ∙ ap (λ (l : List (List ℕ)). l ++ slice_range (put_mid (BLOCK_BYTES * i) k xs to) (BLOCK_BYTES * i) (BLOCK_BYTES * i + 512 * count) ∷ []) (same_before (BLOCK_BYTES * i) k count xs to i fits (omega arith) within)
     ∙ ap (λ (x : List ℕ). blocks_in i count xs ++ x ∷ []) (between-put_mid (BLOCK_BYTES * i) k xs to (BLOCK_BYTES * i + 512 * count) within (omega arith))
 
--- the bytes of an image that is told
+-- the known bytes of an image
 pub told_bytes : (attached : List Image) (all : List (List ℕ)) (i sector : ℕ) (to : List ℕ) → told_all attached ≡ Some all → i < length attached →
     AreTold attached i sector to → to ≡ slice_range (get_or all i []) (512 * sector) (512 * sector + length to)
 told_bytes attached all i sector to e below told =

@@ -23,13 +23,14 @@ next_of s = s.first + s.count
 abbrev pub next_count : Swept → ℕ
 next_count s = min BLOCK (s.end - next_of s)
 
--- the sweep went on: its blocks now have so many sectors
+-- the sweep went on: its blocks begin where the old ones ended, and have `sectors` sectors each
 pub record GoesOn (old new : Swept) (sectors : ℕ) : Type 0 where
   pub first : new.first ≡ next_of old
   pub count : new.count ≡ sectors
   pub end : new.end ≡ old.end
   pub images : length new.blocks ≡ length old.blocks
 
--- the blocks of so many images in memory, of `count` sectors each, in regions of fixed size
+-- the blocks of `images` images in memory, of `count` sectors each: that of image i begins at byte
+-- BLOCK_BYTES * i
 unfoldable pub blocks_in : ℕ → ℕ → List ℕ → List (List ℕ)
 blocks_in images count bytes = map (λ i. slice_range bytes (BLOCK_BYTES * i) (BLOCK_BYTES * i + 512 * count)) (range_with_len 0 images)

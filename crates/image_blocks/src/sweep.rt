@@ -47,8 +47,8 @@ impl Model for Sweep {
 }
 
 impl Sweep {
-    /// A sweep over so many images from sector `first` on, up to but without sector `end`. It takes the
-    /// room for its blocks, and they are empty.
+    /// A sweep over `images` images from sector `first` up to and not including sector `end`. It takes the
+    /// memory for its blocks, which are empty at first.
     #[tactic(auto, using(crate::proofs::Blocks::no_blocks))]
     pub fn new(alloc: Global, images: usize, first: u64, end: u64) -> Result<Sweep, Memory>
         requires { images ≤ MOST_ATTACHED }
@@ -64,7 +64,7 @@ impl Sweep {
         })
     }
 
-    /// Reads the next block of each image, the attached ones in their order. Ok tells whether there was one.
+    /// Reads the next block of each image, the attached ones in their order. Ok says whether there was one.
     ///
     /// At an error the blocks are empty, and the next call tries the same sectors again.
     #[tactic(auto, using(crate::proofs::Blocks::blocks_length, crate::proofs::Advancing::none_told, crate::proofs::Advancing::not_read))]

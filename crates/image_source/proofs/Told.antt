@@ -1,4 +1,4 @@
--- What is told of attached images, for the crates above.
+-- The known bytes of attached images, for the crates above.
 use Rattle.std.proofs.Common.{◌≡◌, ℕ, zero, suc, ◌<◌, All, IfSome, get_or, inl, inr, List, [], ◌∷◌, length, None, Some, refl, sym, ap, ◌∙◌, arith, slice_get}
 use Rattle.std.proofs.lemmas.List.Elements.{All-nil, All-cons, All-head, All-tail}
 use Rattle.std.proofs.lemmas.Bool.{cases_lt}
@@ -9,20 +9,20 @@ use Rattle.std.specs.declared.option.Option.{Option}
 use Rattle.image_source.specs.Seen.{Image, TellsBytes, World}
 use Rattle.image_source.specs.Attached.{told_all, IsWhole, AreWhole, AreImagesOf}
 
--- where all bytes are told, those of the first image are told, and those of the others
+-- where all bytes are known, those of the first image are known, and those of the others
 told_first : (first : Option (List ℕ)) (others : Option (List (List ℕ))) (all : List (List ℕ)) → option_and_then (λ bytes. option_map (λ rest. bytes ∷ rest) others) first ≡ Some all → (bytes : List ℕ) × (rest : List (List ℕ)) × (first ≡ Some bytes) × (others ≡ Some rest) × (all ≡ bytes ∷ rest)
 told_first None others all e = absurd cc
 told_first (Some bytes) None all e = absurd cc
 told_first (Some bytes) (Some rest) all e = (bytes, rest, refl, refl, cc)
 
--- where all bytes are told, there is a list of bytes for each image
+-- where all bytes are known, there is a list of bytes for each image
 pub told_all_length : (images : List Image) (all : List (List ℕ)) → told_all images ≡ Some all → length all ≡ length images
 told_all_length [] all e = let none : all ≡ [] = cc in ap length none
 told_all_length (image ∷ images) all e =
     let t = told_first image.bytes (told_all images) all e in
     omega (arith, ap length t.4, told_all_length images t.1 t.3)
 
--- where all bytes are told, those of an image are the ones of its number
+-- where all bytes are known, those of an image are the ones of its number
 pub told_all_at : (images : List Image) (all : List (List ℕ)) (i : ℕ) → told_all images ≡ Some all → option_and_then (λ image. image.bytes) (slice_get images i) ≡ slice_get all i
 told_all_at [] all i e = let none : all ≡ [] = cc in rw none refl
 told_all_at (image ∷ images) all zero e = let t = told_first image.bytes (told_all images) all e in t.2 ∙ sym (ap (λ xs. slice_get xs 0) t.4)
@@ -36,7 +36,7 @@ byte_below bytes k all = elim (cases_lt k (length bytes)) [
   | inr past ↦ rw (get_or-eq_default bytes 0 past) (omega arith)
 ]
 
--- where all bytes are told, each is below 256, and 0 stands where there is none
+-- where all bytes are known, each is below 256, and 0 stands past the last one
 pub told_below : (images : List Image) (all : List (List ℕ)) (i k : ℕ) → All TellsBytes images → told_all images ≡ Some all → get_or (get_or all i []) k 0 < 256
 told_below [] all i k tells e = let none : all ≡ [] = cc in rw none (omega arith)
 told_below (image ∷ images) all i k tells e =

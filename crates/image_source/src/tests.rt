@@ -1,4 +1,4 @@
-//! That the calls which may want memory succeed, and what the adapters do over real files.
+//! That the calls which take memory succeed, and what the adapters do over real files.
 ghost use Rattle.std.specs.Prelude.{◌<◌, ◌^◌};
 
 use crate::{

@@ -1,7 +1,7 @@
 //! The program: it makes the real files, streams and words, and calls the top call.
 //!
 //! What it answers is promised by `reraid_cli::reraid`. Before that call only two things end a run: a word
-//! that is not text, and want of memory. `docs/USING.md` shows how to use it.
+//! that is not text, and running out of memory. `docs/USING.md` shows how to use it.
 //!
 //! A run may be started with a standard descriptor closed. A file that is opened takes the lowest free
 //! one, so an image would then be read as the plan. `hold_descriptors` takes these places before.
@@ -20,7 +20,7 @@ use std::{env, io};
 enum Start {
     /// A word of the command line is not text.
     NotText,
-    /// Want of memory.
+    /// Out of memory.
     OutOfMemory,
 }
 

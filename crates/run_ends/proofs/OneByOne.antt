@@ -55,7 +55,7 @@ so_far_more old mid new names i n name d far lt at step later = record {
   later = let before = far.later in omega arith;
 }
 
--- images of the first names are images of a front of them
+-- images of the first names are images of a prefix of them
 front_of : (world : World) (names : List (List ℕ)) (n : ℕ) (images : List Image) → AreImagesOf world (take n names) images → AreImagesOf world names images
 front_of world names n [] are = tt
 front_of world [] zero (image ∷ images) are = are

@@ -8,7 +8,7 @@ use Rattle.run_ends.specs.Stops.{EndsBy, IsEarly, IsExcused, IsRefusal}
 use Rattle.run_ends.specs.declared.stop.Stop.{Stop}
 use Rattle.run_ends.specs.declared.stop.Stop.TheVariants.{ImageFault, PlanFault, OutFault}
 
--- what is kept has gained a front of anything
+-- bytes that stay as they are have gained a prefix of any text
 pub front_of_nothing : (old : Option (List ℕ)) (text : List ℕ) → AppendsFront old old text
 front_of_nothing None text = (0, (omega arith), tt)
 front_of_nothing (Some xs) text = (0, (omega arith), sym (append-nil xs))
@@ -95,7 +95,7 @@ leaves_printed counts now old new before after (Ok text) (Err stop) answered is 
       unread = λ h. absurd (h (subst (MayHaveRead false) (sym is.0) tt));
     }
 
--- what is refused is told before anything is put
+-- a refusal is answered before anything is put
 pub order_printed : {T : Type 0} (refused : Option Stop) (read now : ℕ) (old new : Option (List ℕ)) (before after : ℕ) (answer : Result (List ℕ) Stop) (result : Result T Stop) →
     Refuses refused answer → Orders refused read now None None answer → IsPrinted old new before after answer result → Orders refused read now old new result
 order_printed refused read now old new before after (Ok text) result answered order is stop e = absurd (let none : refused ≡ None = answered.passes in cc)

@@ -17,7 +17,7 @@ ruled_shape set images end e = of_rows (shape_fault set images) e
     of_rows None h = refl
     of_rows (Some fault) h = absurd (cc)
 
--- an answer that is refused, or for which memory is wanting, before anything is touched
+-- an early stop is a refusal or out of memory, and no other fault
 early_fault : (stop : Stop) → IsEarly stop → (fault : Stop) → (IsRefusal fault → ⊥) → (fault ≡ OutOfMemory → ⊥) → stop ≡ fault → ⊥
 unfolding IsEarly
 early_fault stop (inl short) fault none other e = other (sym e ∙ short)

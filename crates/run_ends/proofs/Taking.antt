@@ -56,7 +56,7 @@ takes_more old mid new text more (Ok m) n buffer consumed is gave e =
     rw e (consumes_more old mid new text (take n buffer) consumed (subst (λ (k : ℕ). Consumes mid new (take k buffer)) same gave.0))
 takes_more old mid new text more (Err f) n buffer consumed is gave e = absurd (cc)
 
--- the same of a buffer whose front was filled
+-- the same of a buffer whose first bytes were filled
 pub takes_front : {E : Type 0} (old mid new : Option (List ℕ)) (text front rest : List ℕ) (r : Result ℕ E) (n : ℕ) → Consumes old mid text → r ≡ Ok n → n ≤ length front → ReadConsumes mid new r front →
     Consumes old new (text ++ take n (front ++ rest))
 takes_front old mid new text front rest r n consumed is le gave = takes_more old mid new text (text ++ take n (front ++ rest)) r n front consumed is gave (ap (λ (xs : List ℕ). text ++ xs) (take-append-le n front rest le))

@@ -25,7 +25,8 @@ other_length given planned = find (λ i. not (nat_eq (slice_index given i) (slic
 abbrev pub length_fault : List ℕ → List ℕ → ℕ → Disagreement
 length_fault given planned i = record { kind = Length i; given = slice_index given i; planned = slice_index planned i }
 
--- how so many images disagree with a plan: by their number, or by the first length that differs
+-- how the images of `names` names disagree with a plan: by their number, or by the first length that
+-- differs
 abbrev pub plan_fault : Plan → ℕ → List Image → Option Disagreement
 plan_fault plan names attached =
     if not (nat_eq names (length plan.lengths.items)) then Some (count_fault names (length plan.lengths.items))
@@ -36,12 +37,12 @@ abbrev pub shortest : List ℕ → ℕ
 shortest [] = 0
 shortest (n ∷ ns) = fold min n ns
 
--- the members end where it is asked, or with the shortest image
+-- the end that is asked for, or else the length of the shortest image
 abbrev pub end_of : Option ℕ → List Image → ℕ
 end_of end attached = unwrap_or end (shortest (lengths_of attached))
 
--- how so many images disagree with what a command over one set takes: there are none, or more than
--- 16, or the end that is asked for is past the shortest
+-- how the images of `names` names disagree with what a command over one set takes: there are none, or
+-- more than 16, or the end that is asked for is past the shortest
 abbrev pub limits_fault : Option ℕ → ℕ → List Image → Option Disagreement
 limits_fault end names attached =
     if nat_eq names 0 then Some (count_fault 0 1)

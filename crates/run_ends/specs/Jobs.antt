@@ -16,28 +16,29 @@ pub record Counts : Type 0 where
   pub out : ℕ
   pub sectors : ℕ
 
--- how a job ends that has this first refusal and this output, where the outside tells what it holds
+-- how a job ends that has this first refusal, and this output where it is known
 pub record Ends {T : Type 0} (refused : Option Stop) (printed : Option (List ℕ)) (old new : Option (List ℕ)) (result : Result T Stop) : Type 0 where
   pub ends : IfErr result (EndsBy refused)
   pub passes : OnOk result (refused ≡ None)
   pub puts : OnOk result (IfSome printed (λ text. Appends old new text))
   pub front : IfErr result (λ stop. IfSome printed (λ text. AppendsFront old new text))
 
--- at this stop a job may have put a front of its output: where the output failed, and, for a job that
+-- at this stop a job may have put a prefix of its output: where the output failed, and, for a job that
 -- puts as it reads, where the images failed
 abbrev pub MayHavePut : Bool → Stop → Type 0
 MayHavePut streams OutFault = Unit {0}
 MayHavePut streams ImageFault = streams ≡ true
 MayHavePut streams _ = ⊥
 
--- at this stop a job may have read; one that puts as it reads takes its memory before
+-- at this stop a job may have read sectors; a job that puts as it reads takes its memory before it
+-- reads
 abbrev pub MayHaveRead : Bool → Stop → Type 0
 MayHaveRead streams ImageFault = Unit {0}
 MayHaveRead streams OutFault = Unit {0}
 MayHaveRead streams OutOfMemory = streams ≡ false
 MayHaveRead streams _ = ⊥
 
--- nothing was read or put, and no fault of the images or of the output is told
+-- nothing was read or put, and the answer is no fault of the images or of the output
 pub record IsUnreached {T : Type 0} (before after : ℕ) (old new : Option (List ℕ)) (result : Result T Stop) : Type 0 where
   pub unread : after ≡ before
   pub unput : Keeps old new
@@ -49,7 +50,7 @@ abbrev pub Orders : {T : Type 0} → Option Stop → ℕ → ℕ → Option (Lis
 Orders refused before after old new result = (stop : Stop) → refused ≡ Some stop → IsUnreached before after old new result
 
 -- what a job leaves: faults have their causes, nothing is put but at Ok and where it may be, and
--- nothing is read before the job itself
+-- nothing is read but at Ok and where it may be
 pub record Leaves {T : Type 0} (streams : Bool) (before after : Counts) (old new : Option (List ℕ)) (result : Result T Stop) : Type 0 where
   pub image_fault : IsErrOf result ImageFault → Rose before.images after.images
   pub plan_fault : IsErrOf result PlanFault → Rose before.plan after.plan
@@ -65,7 +66,7 @@ pub record Refuses {T : Type 0} (refused : Option Stop) (result : Result T Stop)
   pub ends : IfErr result (EndsBy refused)
   pub passes : OnOk result (refused ≡ None)
 
--- and the causes of faults; nothing is read before the job itself
+-- the causes of faults of such an answer; nothing is read but at Ok and where it may be
 pub record HasCauses {T : Type 0} (before after : Counts) (result : Result T Stop) : Type 0 where
   pub image_fault : IsErrOf result ImageFault → Rose before.images after.images
   pub plan_fault : IsErrOf result PlanFault → Rose before.plan after.plan
@@ -74,7 +75,7 @@ pub record HasCauses {T : Type 0} (before after : Counts) (result : Result T Sto
   pub plan_later : before.plan ≤ after.plan
   pub unread : IfErr result (λ stop. (MayHaveRead false stop → ⊥) → after.sectors ≡ before.sectors)
 
--- an answer is put whole, or a front of it where the output fails; without an answer nothing is put
+-- an answer is put whole, or a prefix of it where the output fails; without an answer nothing is put
 abbrev pub IsPrinted : {T : Type 0} → Option (List ℕ) → Option (List ℕ) → ℕ → ℕ → Result (List ℕ) Stop → Result T Stop → Type 0
 IsPrinted old new before after (Err stop) result = (result ≡ Err stop) × (new ≡ old)
 IsPrinted old new before after (Ok text) result =

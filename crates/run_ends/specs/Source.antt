@@ -7,11 +7,11 @@ use Rattle.raid_params.specs.declared.limits.TheConstants.{PLAN_BYTES}
 use Rattle.run_ends.specs.declared.stop.Stop.{Stop}
 use Rattle.run_ends.specs.declared.stop.Stop.TheVariants.{PlanIsLong, PlanFault, OutOfMemory}
 
--- of what the source had left at most one byte more was taken than a plan may have
+-- at most one byte more than a plan may have was taken of what the source had left
 abbrev pub TakesFew : Option (List ℕ) → Option (List ℕ) → Type 0
 TakesFew old new = (taken : List ℕ) × (length taken ≤ PLAN_BYTES + 1) × Consumes old new taken
 
--- it is too long, the source failed, or memory is wanting
+-- why reading ends: the text is longer than a plan may be, the source failed, or memory ran out
 abbrev pub EndsReading : Option (List ℕ) → ℕ → ℕ → Stop → Type 0
 EndsReading left before now PlanIsLong = IfSome left (λ text. PLAN_BYTES < length text)
 EndsReading left before now PlanFault = Rose before now

@@ -104,7 +104,7 @@ note_of PlanFault = codes "reraid: plan read fault\n"
 note_of OutFault = codes "reraid: output fault\n"
 note_of OutOfMemory = codes "reraid: out of memory\n"
 
--- a stop for which the outside, or memory, is the cause
+-- a stop whose cause is the outside or memory
 abbrev pub IsExcused : Stop → Type 0
 IsExcused ImageFault = Unit {0}
 IsExcused PlanFault = Unit {0}
@@ -112,7 +112,7 @@ IsExcused OutFault = Unit {0}
 IsExcused OutOfMemory = Unit {0}
 IsExcused _ = ⊥
 
--- a stop of which neither the outside nor memory is the cause
+-- a stop whose cause is neither the outside nor memory
 abbrev pub IsRefusal : Stop → Type 0
 IsRefusal ImageFault = ⊥
 IsRefusal PlanFault = ⊥
@@ -124,7 +124,7 @@ IsRefusal _ = Unit {0}
 unfoldable pub IsEarly : Stop → Type 0
 IsEarly stop = (stop ≡ OutOfMemory) ⊎ IsRefusal stop
 
--- it ends by the refusal, unless it is excused
+-- the stop is this refusal, or one whose cause is the outside or memory
 abbrev pub EndsBy : Option Stop → Stop → Type 0
 EndsBy refused stop = IsExcused stop ⊎ (refused ≡ Some stop)
 

@@ -26,8 +26,8 @@ pub struct Disagreement {
     pub planned: u64,
 }
 
-/// How so many images disagree with the plan: by their number, or by the first length that is not
-/// the planned one.
+/// How the images of `names` names disagree with the plan: by their number, or by the first length that
+/// is not the planned one.
 pub fn plan_fault<I: Images>(images: &I, names: usize, plan: &Plan) -> Option<Disagreement>
     requires few { length plan.now.lengths.items ≤ MOST }
     ensures { result ≡ plan_fault_of plan.now names (I.seen images.now).attached }
@@ -63,8 +63,8 @@ fn first_other<I: Images>(images: &I, planned: &[u64]) -> Option<usize>
     (0..planned.len()).find(|image: &usize| has_other_length(images, *image, planned))
 }
 
-/// How so many images disagree with what a command over one set takes: there are none, or more than
-/// `MOST`, or the end that is asked for is past the shortest.
+/// How the images of `names` names disagree with what a command over one set takes: there are none, or
+/// more than `MOST`, or the end that is asked for is past the shortest.
 pub fn limits_fault<I: Images>(images: &I, names: usize, end: Option<u64>) -> Option<Disagreement>
     requires attached { length (I.seen images.now).attached ≡ min names MOST_ATTACHED }
     ensures { result ≡ limits_fault_of end names (I.seen images.now).attached }
@@ -99,7 +99,7 @@ fn count_fault(given: usize, planned: usize) -> Disagreement
     }
 }
 
-/// The end that is asked for, or that of the shortest image, of so many.
+/// The end that is asked for, or else the length of the shortest of the `count` attached images.
 pub fn end_of<I: Images>(images: &I, count: usize, end: Option<u64>) -> u64
     requires attached { length (I.seen images.now).attached ≡ count }
     requires few { count ≤ MOST_ATTACHED }
@@ -111,7 +111,7 @@ pub fn end_of<I: Images>(images: &I, count: usize, end: Option<u64>) -> u64
     }
 }
 
-/// The length of the shortest of so many images, 0 where there are none.
+/// The length of the shortest of the `count` attached images, 0 where there are none.
 #[tactic(auto, using(crate::proofs::Lengths::shortest_first, crate::proofs::Lengths::shortest_more))]
 fn shortest<I: Images>(images: &I, count: usize) -> u64
     requires attached { length (I.seen images.now).attached ≡ count }

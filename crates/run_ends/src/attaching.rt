@@ -22,8 +22,8 @@ fn attach_all<I: Images>(images: &mut I, names: &[Word]) -> Result<(), Failed>
     Ok(())
 }
 
-/// Attaches the images of the first of these names, of as many as may be attached. Without names nothing
-/// is touched.
+/// Attaches the images of the names in their order, of the first `MOST_ATTACHED` names at most. Without
+/// names nothing is touched.
 #[tactic(auto, using(crate::proofs::OneByOne::attached_front, crate::proofs::OneByOne::none_attached))]
 pub fn attach_front<I: Images>(images: &mut I, names: &[Word]) -> Result<(), Failed>
     requires fresh { (I.seen images.old).attached ≡ [] }

@@ -24,9 +24,10 @@ pub struct SectorFault {
 /// Why a run ends without its answer.
 #[derive(Clone, Copy)]
 pub enum Stop {
-    /// The words from this one on are no command line.
+    /// The refused word, counted from 1: the first with which no command line goes on, or the one after
+    /// the last.
     Word(u64),
-    /// The text of the plan is none from this line on.
+    /// The refused line of the plan, counted from 1: the first with which no plan goes on.
     PlanLine(u64),
     /// The source of the plan had more bytes left than a plan may have.
     PlanIsLong,
@@ -40,9 +41,9 @@ pub enum Stop {
     Set(GeoFault),
     /// The slot is none of the set's, or it holds an image.
     Slot(u8),
-    /// The members of an array that is generated have more sectors than they may, so many.
+    /// The members of a generated array have this many sectors together, which are too many.
     ArraySectors(u64),
-    /// The volume of an array that is generated has fewer sectors than an XFS takes, so many.
+    /// The volume of a generated array has this many sectors, which are too few for an XFS.
     VolumeSectors(u64),
     /// The sector asked for is past the end of the volume.
     Sector(SectorFault),
@@ -182,7 +183,7 @@ fn images_line(fault: &Disagreement) -> ArrayString<LINE>
     line
 }
 
-/// The line's begin, up to what disagrees.
+/// The beginning of the line, up to what disagrees.
 fn kind_text(kind: Kind) -> ArrayString<LINE>
     ensures text { result.bytes ≡ codes "reraid: images: " ++ kind_text_of kind }
     ensures short { length result.bytes ≤ 43 }
@@ -194,7 +195,7 @@ fn kind_text(kind: Kind) -> ArrayString<LINE>
     }
 }
 
-/// The line's begin for the length of an image.
+/// The beginning of the line for the length of an image.
 fn length_text(image: u8) -> ArrayString<LINE>
     ensures text { result.bytes ≡ codes "reraid: images: length " ++ decimal image }
     ensures short { length result.bytes ≤ 43 }

@@ -107,7 +107,7 @@ pub told_read : (attached : List Image) (lengths old new to : List ℕ) (firsts 
     s.landmark ≡ Gpt h → has_entries h s.sector (slice_index lengths s.image) ≡ true → IfSome (told_all attached) (λ images. new ≡ with_numbers old (hints_at lengths images s))
 told_read attached lengths old new to firsts s h below are long read added is entries = read_of attached (told_all attached) lengths old new to firsts s h refl below are long read added is entries
 
--- that sector is there
+-- that sector lies in the image
 entries_inside : (h : GptHeader) (sector long : ℕ) → has_entries h sector long ≡ true → sector + 1 < long
 entries_inside h sector long entries = grind (arith, nat_tests)
 

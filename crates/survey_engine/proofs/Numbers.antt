@@ -41,14 +41,14 @@ at_place (m ∷ xs) n zero within before here = with_before m n xs (here (omega 
 at_place (m ∷ xs) n (suc p) within before here =
     with_after m n xs (before 0 (omega arith)) ∙ ap (λ (l : List ℕ). m ∷ l) (at_place xs n p (omega arith) (λ k below. before (suc k) (omega arith)) (λ below. here (omega arith)))
 
--- and stays away where it is there
+-- a number that the list has already changes nothing
 pub found_at_place : (xs : List ℕ) (n p : ℕ) → p < length xs → ((k : ℕ) → k < p → get_or xs k 0 < n) → get_or xs p 0 ≡ n → with_number xs n ≡ xs
 found_at_place [] n p within before here = absurd (omega arith)
 found_at_place (m ∷ xs) n zero within before here = with_same m n xs (sym here)
 found_at_place (m ∷ xs) n (suc p) within before here =
     with_after m n xs (before 0 (omega arith)) ∙ ap (λ (l : List ℕ). m ∷ l) (found_at_place xs n p (omega arith) (λ k below. before (suc k) (omega arith)) here)
 
--- ---- of which the first are kept
+-- ---- the first of them are kept
 
 -- the first elements after an insert
 take_insert : (xs : List ℕ) (n p k : ℕ) → p ≤ length xs → p ≤ k → take (suc k) (insert xs p n) ≡ insert (take k xs) p n

@@ -1,4 +1,4 @@
--- The numbers of rules are those of sectors.
+-- The numbers of rules are below 2^55.
 use Rattle.std.proofs.Common.{◌≡◌, ℕ, ◌+◌, ◌*◌, ◌/◌, ◌^◌, ◌<◌, ◌≤◌, true, arith}
 use Rattle.std.proofs.Math.Nat.{mul-le-mul_right}
 use Rattle.ntfs_marks.specs.Boot.{is_within_limit, record_sector}

@@ -184,7 +184,7 @@ pub few_is : (found : List Sighting) → Few found → (kind : Kind) → count_b
 unfolding Few
 few_is found few = few
 
--- ---- where all bytes are told
+-- ---- where all bytes are known
 
 -- the list has the sightings below a sector that count
 pub Told : List Image → Ask → List ℕ → ℕ → List Sighting → Type 0
@@ -255,7 +255,7 @@ reads_to a b c n m next count end ab bc same le =
 pub reads_of : (a b : Seen) (n m some all : ℕ) → n ≡ m → some ≡ all → OnlyReads a b (n * some) → OnlyReads a b (m * all)
 reads_of a b n m some all same as_many reads = subst (λ (k : ℕ). OnlyReads a b (k * all)) same (subst (λ (k : ℕ). OnlyReads a b (n * k)) as_many reads)
 
--- the end is the number of a sector
+-- the end is below 2^55
 pub end_near : (attached : List Image) (end : ℕ) → 1 ≤ length attached → All (λ image. image.sectors < 2 ^ 55) attached → All (λ image. end ≤ image.sectors) attached → end < 2 ^ 55
 end_near [] end some short long = absurd (omega arith)
 end_near (image ∷ attached) end some short long = omega (arith, All-head (λ i. i.sectors < 2 ^ 55) image attached short, All-head (λ i. end ≤ i.sectors) image attached long)

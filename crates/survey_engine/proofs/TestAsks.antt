@@ -67,7 +67,7 @@ absent : (image : Option Image) (sectors : Option ℕ) (none : Bool) → sectors
 absent None sectors none is some e = refl
 absent (Some image) sectors none is some e = absurd (cc (ap (λ (b : Bool). not b) e))
 
--- so many images, which all reach to the end
+-- the attached images are n, and all of them reach to the end
 pub are_long : (attached : List Image) (n m end : ℕ) (sectors : Option ℕ) (none : Bool) → n ≤ m → m ≤ n → ((i : ℕ) → i < m → IsLong attached end i) → sectors ≡ option_map (λ a. a.sectors) (slice_get attached n) → is_some sectors ≡ not none → none ≡ true →
     (length attached ≡ n) × All (λ image. image.sectors < 2 ^ 55) attached × All (λ image. end ≤ image.sectors) attached
 unfolding IsLong

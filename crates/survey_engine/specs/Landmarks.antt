@@ -41,7 +41,7 @@ is_own (Super x) sector length = false
 is_own (Agf g) sector length = false
 is_own (Agi g) sector length = false
 
--- the numbers that a landmark tells are those of sectors
+-- the numbers of a landmark are within the limits that its test sets
 abbrev pub IsSound : Landmark → Type 0
 IsSound (Gpt h) = h.my_lba < DISTANCE_LIMIT
 IsSound (Boot b) = IsTrue (is_within_limit b)

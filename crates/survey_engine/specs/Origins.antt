@@ -15,7 +15,7 @@ use Rattle.survey_engine.specs.declared.sighting.Sighting.{Sighting}
 abbrev pub has_entries : GptHeader → ℕ → ℕ → Bool
 has_entries h sector length = h.entry_size == 128 && h.table == h.my_lba + 1 && nat_lt (sector + 1) length
 
--- the first blocks of the partitions in the sector after a header
+-- the first blocks of the partitions that the sector after a header lists
 abbrev pub hints_by : Landmark → ℕ → ℕ → List ℕ → List ℕ
 hints_by (Gpt h) sector length bytes =
     if has_entries h sector length then filter_map (λ first. first) (first_lbas (sector_of bytes (sector + 1)) h.alternate) else []
@@ -24,11 +24,12 @@ hints_by landmark sector length bytes = []
 unfoldable pub hints_at : List ℕ → List (List ℕ) → Sighting → List ℕ
 hints_at lengths images s = hints_by s.landmark s.sector (slice_index lengths s.image) (slice_index_or images s.image [])
 
--- a rising list with more numbers in their places, and of all the first
+-- a rising list with more numbers put in their places, cut to the first MOST_ORIGINS
 abbrev pub with_numbers : List ℕ → List ℕ → List ℕ
 with_numbers old numbers = take MOST_ORIGINS (fold with_number old numbers)
 
--- the origins asked for and those hinted, in rising order, the first of them
+-- the origins asked for and those that partition tables give, in rising order, of all these the first
+-- MOST_ORIGINS
 unfoldable pub origins_of : List ℕ → List ℕ → List (List ℕ) → List Sighting → List ℕ
 origins_of asked lengths images found = with_numbers asked (flat_map (hints_at lengths images) found)
 

@@ -48,7 +48,7 @@ group_kind Table = GptGroup
 group_kind (Ntfs b) = NtfsGroup
 group_kind (Xfs x) = XfsGroup
 
--- the owner that a landmark tells of
+-- the owner that a landmark names: a partition table or a file system, or None where it does not say
 abbrev pub owner_in : Landmark → Option Owner
 owner_in (Gpt h) = Some Table
 owner_in (Boot b) = Some (Ntfs b)
@@ -66,18 +66,20 @@ is_new kind before owner = nat_lt (length before) (most_groups kind) && not (lis
 unfoldable pub owners_of : GroupKind → List Sighting → List Owner
 owners_of kind found = kept (is_new kind) (filter_map (owner_among kind) found)
 
--- where file record r may lie: in the r-th place of the table of its volume or of the table's copy
+-- where file record r may lie, if it has the size of the volume's records: at its place in the table or
+-- in the table's copy
 unfoldable pub record_rule : NtfsBoot → NtfsRecord → Option Rule
 record_rule b r =
     if r.bytes == b.record_bytes then Some (Either (record_sector b b.mft r.number) (record_sector b b.mirror r.number)) else None
 
--- where a head of allocation group g may lie, so many sectors of the file system from the group's start
+-- where a head of allocation group g may lie, if there is such a group: `sectors` sectors of the file
+-- system after its start
 unfoldable pub group_rule : XfsSuper → ℕ → ℕ → Option Rule
 group_rule x g sectors = if nat_lt g x.ag_count then Some (At (g * group_sectors x + sectors * (x.sector / 512))) else None
 
 -- where a landmark may lie as a mark of an owner: a header of a table at its MyLBA, a boot sector at the
 -- start of the volume or, its copy, after the end, a superblock at the start of each group, an AGF one
--- sector and an AGI two sectors after that. File records, AGF and AGI do not tell whose they are, and are
+-- sector and an AGI two sectors after that. File records, AGF and AGI do not say whose they are, and are
 -- marks only of an owner that is `alone` of its kind
 unfoldable pub rule_in : Owner → Bool → Landmark → Option Rule
 rule_in Table alone (Gpt h) = Some (At h.my_lba)
@@ -88,7 +90,7 @@ rule_in (Xfs x) alone (Agf g) = if alone then group_rule x g 1 else None
 rule_in (Xfs x) alone (Agi g) = if alone then group_rule x g 2 else None
 rule_in owner alone landmark = None
 
--- the numbers that an owner tells are those of sectors
+-- the numbers of an owner are within the limits that the test of its landmark sets
 abbrev pub IsSoundOwner : Owner → Type 0
 IsSoundOwner Table = Unit {0}
 IsSoundOwner (Ntfs b) = IsTrue (is_within_limit b)

@@ -22,7 +22,7 @@ pub record Place : Type 0 where
   pub sector : ℕ
   pub image : ℕ
 
--- all sectors below `end` of so many images, in order of sector, then image
+-- all sectors below `end` of `images` images, in order of sector, then image
 abbrev pub places : ℕ → ℕ → List Place
 places images end = flat_map (λ sector. map (λ image. record { sector = sector; image = image }) (range_with_len 0 images)) (range_with_len 0 end)
 
@@ -59,15 +59,15 @@ sighting_at ask lengths images at = sighting_in ask (slice_index lengths at.imag
 unfoldable pub sightings : Ask → List ℕ → List (List ℕ) → ℕ → List Sighting
 sightings ask lengths images number = filter_map (sighting_at ask lengths images) (places number ask.end)
 
--- two are of one kind
+-- the sighting is of this kind
 abbrev pub is_same_kind : Kind → Sighting → Bool
 is_same_kind kind s = kind_place (kind_of s.landmark) == kind_place kind
 
--- fewer of its kind count before it than may
+-- fewer than MOST_MARKS sightings of its kind stand before it
 abbrev pub is_early : List Sighting → Sighting → Bool
 is_early before s = nat_lt (count_by (is_same_kind (kind_of s.landmark)) before) MOST_MARKS
 
--- those that count: of each kind the first
+-- the sightings that count: of each kind the first MOST_MARKS
 unfoldable pub counted : List Sighting → List Sighting
 counted found = kept is_early found
 
@@ -75,24 +75,24 @@ counted found = kept is_early found
 abbrev pub sighting_place : Sighting → ℕ
 sighting_place s = s.sector * MOST + s.image
 
--- a sighting lies in an image, and tells what a plan may hold
+-- a sighting lies in an image, and its numbers are within limits
 pub record IsSighting (lengths : List ℕ) (s : Sighting) : Type 0 where
   pub image : s.image < MOST
   pub sector : IsSomeAnd (slice_get lengths s.image) (λ n. s.sector < n)
   pub sound : IsSound s.landmark
 
--- sightings in that order
+-- the sightings rise strictly in that order
 abbrev pub AreRising : List Sighting → Type 0
 AreRising [] = Unit {0}
 AreRising (s ∷ found) = All (λ later. sighting_place s < sighting_place later) found × AreRising found
 
--- sightings before a place of that order, each and in order
+-- sightings of these images that rise, all of them before this place in the order
 pub record AreBefore (lengths : List ℕ) (place : ℕ) (found : List Sighting) : Type 0 where
   pub each : All (IsSighting lengths) found
   pub rising : AreRising found
   pub below : All (λ s. sighting_place s < place) found
 
--- sightings that count
+-- sightings of these images that rise, at most MOST_MARKS of each kind
 pub record AreSightings (lengths : List ℕ) (found : List Sighting) : Type 0 where
   pub each : All (IsSighting lengths) found
   pub rising : AreRising found

@@ -58,7 +58,7 @@ impl Counted {
         Ok(())
     }
 
-    /// The list of them.
+    /// The sightings as a list.
     pub fn into_list(self) -> ListOf<Sighting>
         ensures { result ≡ self }
     {

@@ -23,8 +23,8 @@ const ENTRY: u32 = 128;
 /// Origins in rising order.
 type Origins = ArrayVec<u64, MOST_ORIGINS>;
 
-/// The origins asked for and those hinted by the headers that count, in rising order, the first of them.
-/// It reads at most one sector a header.
+/// The origins asked for and those that the headers which count give, in rising order, of all these the
+/// first `MOST_ORIGINS`. It reads at most one sector for each header.
 pub fn origins<I: Images>(
     images: &mut I,
     asked: &[u64],
@@ -105,7 +105,8 @@ fn has_entries(header: &GptHeader, sector: u64, length: u64) -> bool
     header.entry_size == ENTRY && header.table == header.my_lba + 1 && sector + 1 < length
 }
 
-/// Puts a number into its place, unless it is there, and drops the last where there is no room for it.
+/// Puts a number into its place, where the list does not have it yet, and drops the last where there is
+/// no room for it.
 #[tactic(auto, using(crate::proofs::Numbers::all_taken))]
 fn add_origin(origins: &mut Origins, number: u64)
     ensures { origins.new.items ≡ take MOST_ORIGINS (with_number origins.old.items number) }
@@ -129,7 +130,7 @@ fn insert_at(origins: &mut Origins, place: usize, number: u64)
     }
 }
 
-/// The place of a number in a rising list, and None where it is there.
+/// The place that a number takes in a rising list, and None where the list has it already.
 fn place_for(numbers: &[u64], number: u64) -> Option<usize>
     ensures { MatchOption result (with_number numbers.now number ≡ numbers.now)
         (λ place. (place ≤ length numbers.now) × (with_number numbers.now number ≡ insert numbers.now place number)) }

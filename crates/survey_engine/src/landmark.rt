@@ -25,7 +25,8 @@ pub enum Landmark {
     Agi(u32),
 }
 
-/// The landmark in a sector. Byte 3 tells the kinds apart, so most sectors are left after a look at it.
+/// The landmark in a sector. Byte 3 differs from kind to kind, so most sectors need no more than a look
+/// at it.
 #[tactic(auto, using(crate::proofs::Landmarks::gpt_is, crate::proofs::Landmarks::boot_is, crate::proofs::Landmarks::record_is, crate::proofs::Landmarks::super_is, crate::proofs::Landmarks::agf_is, crate::proofs::Landmarks::agi_is, crate::proofs::Landmarks::none_is))]
 pub fn read_landmark(sector: &[u8; SECTOR]) -> Option<Landmark>
     ensures landmark { result ≡ landmark_in sector.now }
@@ -69,8 +70,8 @@ impl Landmark {
         }
     }
 
-    /// Whether it is a header of the own partition table of an image of so many sectors, which has it at
-    /// `sector`.
+    /// Whether it is, in sector `sector` of an image of `length` sectors, a header of the image's own
+    /// partition table.
     pub fn is_own(&self, sector: u64, length: u64) -> bool
         requires { sector < length }
         ensures { result ≡ is_own self.now sector length }

@@ -1,9 +1,9 @@
 //! The survey of images: it finds landmark sectors, and makes the plan of a search from them.
 //!
 //! [`survey`] sweeps the attached images side by side in sector order. A sector that is a GPT header, an
-//! NTFS boot sector or file record, an XFS superblock, AGF or AGI is a sighting, of each kind the first
+//! NTFS boot sector or file record, an XFS superblock, AGF or AGI is a sighting. Of each kind the first
 //! 4,096 count. They make the groups of the plan, one for the partition table and one for each file system,
-//! and the entries after a GPT header tell at which volume sectors a file system may begin.
+//! and the entries after a GPT header say at which volume sectors a file system may begin.
 //!
 //! What a sector may be stands in `specs/Landmarks`, which are sightings and count in `specs/Sightings`,
 //! groups and the rules of their marks in `specs/Owners`, the origins in `specs/Origins`, and the plan in

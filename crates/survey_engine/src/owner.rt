@@ -16,14 +16,14 @@ use xfs_marks::XfsSuper;
 pub enum Owner {
     /// The GUID partition table.
     Table,
-    /// The NTFS that a boot sector tells of.
+    /// The NTFS that a boot sector describes.
     Ntfs(NtfsBoot),
-    /// The XFS that a superblock tells of.
+    /// The XFS that a superblock describes.
     Xfs(XfsSuper),
 }
 
 impl Owner {
-    /// The owner that a landmark tells of. File records, AGF and AGI do not tell theirs.
+    /// The owner that a landmark names. File records, AGF and AGI do not say whose they are.
     pub fn of(landmark: &Landmark) -> Option<Owner>
         ensures { result ≡ owner_in landmark.now }
     {
@@ -133,7 +133,8 @@ fn group_sectors(found: &XfsSuper) -> u64
     found.ag_blocks as u64 * found.block as u64 / SECTOR as u64
 }
 
-/// Where a head of an allocation group may lie, so many sectors of the file system from its start.
+/// Where a head of an allocation group may lie, if there is such a group: `sectors` sectors of the file
+/// system after its start.
 #[tactic(auto, unfolding(crate::specs::Owners::group_rule), using(crate::proofs::Rules::group_near, crate::proofs::Rules::head_near))]
 fn group_rule(found: &XfsSuper, group: u32, sectors: u64) -> Option<Rule>
     requires found { IsTrue (is_sound found.now) }

@@ -69,7 +69,7 @@ fn is_mark(mark: &Mark, line: &Line) -> bool {
         && is_rule(&mark.rule, &line.3)
 }
 
-// Whether a plan has one group, of so many marks, which begin with these.
+// Whether a plan has one group, of `count` marks, which begin with these.
 fn has_marks(plan: &Plan, count: usize, lines: &[Line]) -> bool {
     match plan.groups.as_slice() {
         [group] => {
@@ -143,7 +143,7 @@ fn is_long(images: &MemImages, image: u32, end: u64) -> bool
     }
 }
 
-// Whether so many images are attached, and each reaches to the end.
+// Whether `count` images are attached, and each reaches to the end.
 fn are_long(images: &MemImages, count: u32, end: u64) -> bool
     ensures { IsTrue result → (length (seen_of images.now).attached ≡ count)
         × All (λ image. image.sectors < 2 ^ 55) (seen_of images.now).attached
@@ -228,7 +228,8 @@ fn a_table_hints_at_its_partitions(rt: HostRuntime) -> Result<(), Fail> {
     Ok(())
 }
 
-// Headers of the own table are none; the same header two sectors on is one, and its entries are not there.
+// Headers of the image's own table are passed over. The same header two sectors on is a mark, and no
+// entries follow it.
 #[test]
 fn own_tables_are_passed_over(rt: HostRuntime) -> Result<(), Fail> {
     let mut own = vec![in rt.alloc(); 0u8; 32_768]?;

@@ -34,7 +34,7 @@ pub images_allowed : (asked : SurveyWords) (names : ℕ) (attached : List Image)
 unfolding survey_refusal
 images_allowed asked names attached e = ap (option_map (λ (f : Disagreement). Images f)) e
 
--- the numbers of members are good ones
+-- the numbers of members to try are allowed
 one_number : (names : ℕ) → 1 ≤ names → names ≤ MOST → AreMembers (max names 2 ∷ [])
 one_number names some most = record {
   list = record { rising = record { some = omega arith; rising = λ k lt. absurd (omega arith) }; few = omega arith };
@@ -72,7 +72,7 @@ surveyable asked names attached none good small count =
       long = all_reach attached (end_of asked.end attached) allowed.reaches;
     }
 
--- the text of the plan, where the bytes are told
+-- the text of the plan, where the bytes are known
 told_text : (asked : SurveyWords) (names : ℕ) (attached : List Image) (told : Option (List (List ℕ))) (answer : Result (List ℕ) Stop) →
     IfOk answer (λ text. IfSome told (λ bytes. text ≡ plan_text (survey_plan (ask_of asked names (end_of asked.end attached)) attached bytes))) →
     IfOk answer (λ text. IfSome (survey_output asked names attached told) (λ printed. text ≡ printed))
@@ -88,7 +88,7 @@ text_told asked names end attached told answer ask same is h =
     told_text asked names attached told answer
     (subst (λ (a : Ask). IfOk answer (λ text. IfSome told (λ bytes. text ≡ plan_text (survey_plan a attached bytes)))) (is ∙ ap (ask_of asked names) same) h)
 
--- a survey that is not refused ends by want of memory or a fault of the images
+-- a survey that is not refused ends without a plan only out of memory or at a fault of the images
 pub surveyed_refuses : (refused : Option Stop) (old new : Seen) (answer : Result (List ℕ) Stop) → refused ≡ None → IfErr answer (λ stop. ((stop ≡ ImageFault) × Rose old.faults new.faults) ⊎ (stop ≡ OutOfMemory)) → Refuses refused answer
 surveyed_refuses refused old new (Ok text) none h = record { ends = tt; passes = none }
 surveyed_refuses refused old new (Err stop) none (inl h) = record { ends = inl (subst IsExcused (sym h.0) tt); passes = tt }

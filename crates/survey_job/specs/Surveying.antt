@@ -24,7 +24,7 @@ members_for asked names = if nat_eq (length asked) 0 then max names 2 ∷ [] els
 abbrev pub window_for : Option ℕ → ℕ → ℕ
 window_for window end = unwrap_or window (max end 1)
 
--- what the words ask of a survey of so many images, whose members end before the image sector `end`
+-- what the words ask of a survey of `names` images, whose members end before the image sector `end`
 abbrev pub ask_of : SurveyWords → ℕ → ℕ → Ask
 ask_of asked names end = record {
   bounds = record asked.bounds { members = record { items = members_for asked.bounds.members.items names } };
@@ -36,7 +36,7 @@ ask_of asked names end = record {
 }
 
 -- the plan of a survey: it repeats what was asked, and adds the images' lengths, the groups of the landmarks
--- that were seen, and the origins that partition tables tell of
+-- that were seen, and the origins that partition tables give
 abbrev pub survey_plan : Ask → List Image → List (List ℕ) → Plan
 survey_plan ask attached images = record {
   lengths = record { items = lengths_of attached };
@@ -55,7 +55,7 @@ survey_plan ask attached images = record {
 unfoldable pub survey_refusal : SurveyWords → ℕ → List Image → Option Stop
 survey_refusal asked names attached = option_map (λ fault. Images fault) (limits_fault asked.end names attached)
 
--- what `survey` prints, where the bytes of the images are told
+-- what `survey` prints, where the bytes of the images are known
 unfoldable pub survey_output : SurveyWords → ℕ → List Image → Option (List (List ℕ)) → Option (List ℕ)
 survey_output asked names attached told =
     option_map (λ images. plan_text (survey_plan (ask_of asked names (end_of asked.end attached)) attached images)) told

@@ -86,7 +86,7 @@ fn surveyed<I: Images>(alloc: Global, images: &mut I, ask: &Ask) -> Result<Text,
     }
 }
 
-/// What the words ask of a survey of so many images.
+/// What the words ask of a survey of `names` images, whose members end before the image sector `end`.
 pub fn ask_of(asked: SurveyWords, names: usize, end: u64) -> Ask
     requires names { names ≤ MOST }
     ensures { result ≡ ask_of_words asked names end }
@@ -122,7 +122,7 @@ fn members_of(asked: &[u8], names: usize) -> ArrayVec<u8, MOST_LESS_ONE>
     copied(asked)
 }
 
-/// The numbers once more.
+/// A copy of the numbers.
 fn copied(numbers: &[u8]) -> ArrayVec<u8, MOST_LESS_ONE>
     requires few { length numbers.now ≤ MOST_LESS_ONE }
     ensures { result.items ≡ numbers.now }

@@ -4,7 +4,7 @@ use Rattle.std.specs.List.{list_any, range_with_len}
 use Rattle.landmark_rules.specs.declared.marks.Rule.{Rule}
 use Rattle.landmark_rules.specs.declared.marks.Rule.TheVariants.{At, Either, Every}
 
--- the distances of a rule
+-- the distances that a rule allows
 abbrev pub distances : Rule → List ℕ
 distances (At d) = d ∷ []
 distances (Either d e) = d ∷ e ∷ []
@@ -14,7 +14,8 @@ distances (Every step count plus) = map (λ k. k * step + plus) (range_with_len 
 unfoldable pub is_fit : Rule → ℕ → ℕ → Bool
 is_fit rule origin v = nat_le origin v && list_any (λ d. d == v - origin) (distances rule)
 
--- the numbers of a rule of a plan are those of sectors, and so is its greatest distance
+-- each number of the rule is below 2^55, and so is step * count + plus, which is one step past the last
+-- distance of `Every`
 abbrev pub IsRule : Rule → Type 0
 IsRule (At d) = d < 2 ^ 55
 IsRule (Either d e) = (d < 2 ^ 55) × (e < 2 ^ 55)

@@ -1,5 +1,6 @@
--- The names of layouts, as mdadm's --layout takes them. That md's own names go with the order of Q
--- after Q, and the DDF names with the order by slots, is a choice of this project.
+-- The names of layouts. mdadm's --layout takes them at levels 5 and 6. At level 0 it does not: "raid0"
+-- is the name of the level. That md's own names go with the order of Q after Q, and the DDF names with
+-- the order by slots, is a choice of this project.
 use Rattle.std.specs.Prelude.{ℕ, List, codes}
 use Rattle.std.specs.declared.option.Option.{Option}
 use Rattle.std.specs.declared.option.Option.TheVariants.{None, Some}

@@ -5,8 +5,9 @@ ghost use Rattle.raid_layouts.specs.Names.{ddf_name as ddf_name_of, last_q_name 
 
 use raid_params::{Level, Pattern, Syndrome};
 
-/// The name that mdadm has for a layout, or None where it has none. Its own names go with the
-/// order of Q after Q, the DDF names with the order by slots.
+/// The name of a layout, or None where it has none. At levels 5 and 6 mdadm's `--layout` takes it; at
+/// level 0 it is `raid0`, the name of the level. The names of md itself go with the order of Q after Q,
+/// the DDF names with the order by slots.
 pub fn md_name(level: Level, pattern: Pattern, syndrome: Syndrome) -> Option<&'static str>
     ensures { option_map (λ s. s.now) result ≡ name_of level pattern syndrome }
 {

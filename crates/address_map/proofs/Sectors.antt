@@ -3,7 +3,7 @@ use Rattle.std.proofs.Common.{◌≡◌, ℕ, ◌+◌, ◌*◌, ◌%◌, ◌/◌
 use Rattle.std.proofs.lemmas.Nat.{mul-le, div-add-mod', mul-add-lt, div_below, div-mul-add, mod-mul-add, mod_below, same_from_place}
 use Rattle.std.proofs.lemmas.Bool.{cases_lt}
 
--- the row of a sector of so many rows of chunks
+-- the row of a sector of a volume of `rows` rows of chunks
 pub row_below : (v c d rows : ℕ) → 0 < c → 0 < d → v < rows * c * d → v / c / d < rows
 row_below v c d rows hc hd h =
     let turned : rows * c * d ≡ rows * d * c = grind arith in

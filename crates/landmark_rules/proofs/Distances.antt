@@ -56,7 +56,7 @@ every_still d step count plus beyond still e le =
           lhs ∙ sym none_here
     ]
 
--- a multiple of the step is one of them where there are so many
+-- a multiple of the step is one of them where its number is below the count
 pub every_step : (d step count plus beyond : ℕ) → 0 < step → beyond ≡ d - plus → plus ≤ d →
     (nat_eq (beyond % step) 0 && nat_lt (beyond / step) count) ≡ list_any (λ x. x == d) (distances (Every step count plus))
 every_step d step count plus beyond some e le =

@@ -24,14 +24,14 @@ mark_fits geo end origin mark = option_map_or (λ v. is_fit mark.rule origin v) 
 abbrev pub mark_misfits : Geometry → ℕ → ℕ → Mark → Bool
 mark_misfits geo end origin mark = option_map_or (λ v. not (is_fit mark.rule origin v)) (sector_of geo end mark) false
 
--- how many marks do
+-- how many marks fit, and how many misfit
 abbrev pub fits_of : Geometry → ℕ → List Mark → ℕ → ℕ
 fits_of geo end marks origin = count_by (mark_fits geo end origin) marks
 
 abbrev pub misfits_of : Geometry → ℕ → List Mark → ℕ → ℕ
 misfits_of geo end marks origin = count_by (mark_misfits geo end origin) marks
 
--- as many fits as a group of so many marks has to have
+-- how many fits are asked of a group with these marks: `least`, and all of them where it has fewer
 abbrev pub fits_asked : MarkTests → List Mark → ℕ
 fits_asked tests marks = min tests.least (length marks)
 
@@ -63,7 +63,7 @@ group_of Super = Xfs
 group_of Agf = Xfs
 group_of Agi = Xfs
 
--- the place of a kind among its own: in this order groups stand in a plan
+-- the place of a kind among the kinds of groups: groups stand in a plan in this order
 abbrev pub group_place : GroupKind → ℕ
 group_place GptGroup = 0
 group_place Ntfs = 1

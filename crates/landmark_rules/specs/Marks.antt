@@ -9,8 +9,8 @@ use Rattle.raid_params.specs.declared.types.Head.{Head}
 use Rattle.raid_terms.specs.Address.{home_sector, home_slot}
 use Rattle.landmark_rules.specs.declared.marks.Mark.{Mark}
 
--- the volume sector whose home is this slot at this sector of its image, if there is one: parity, and what
--- lies before the offset or past the whole rows, is no volume sector's home
+-- the volume sector whose home is this slot at this sector of its image, if there is one. No volume sector
+-- has its home on parity, before the offset or past the whole rows
 unfoldable pub sector_in : Head → ℕ → ℕ → ℕ → Option ℕ
 sector_in head end slot sector =
     find (λ v. home_slot head v == slot && head.offset + home_sector head v == sector) (range_with_len 0 (volume_sectors head end))

@@ -33,11 +33,11 @@ pub enum Rule {
     Either(u64, u64),
     /// At `k * step + plus`, for each `k` below `count`.
     Every {
-        /// The sectors from one to the next.
+        /// The sectors from one distance to the next.
         step: u64,
-        /// How many there are.
+        /// How many distances there are.
         count: u64,
-        /// The first of them.
+        /// The first distance.
         plus: u64,
     },
 }
@@ -88,7 +88,8 @@ pub struct MarkTests {
     pub origins: ArrayVec<u64, MOST_ORIGINS>,
     /// The most marks of a group that may lie where their rules do not let them.
     pub misfits: u64,
-    /// The fewest marks of a group that have to lie where their rules let them, of a group that has so many.
+    /// The fewest marks of a group that have to lie where their rules let them; all of them, in a group with
+    /// fewer.
     pub least: u64,
 }
 

@@ -1,6 +1,6 @@
 //! Sectors of NTFS: the boot sector and the file records of the master file table (NTFS 3.1).
 //!
-//! [`read_boot`] tells where the table and its mirror begin and how large a record is, [`read_record`] the
+//! [`read_boot`] says where the table and its mirror begin and how large a record is, [`read_record`] the
 //! number of a record and its size. The definitions stand in `specs/Boot`, `RecordSize` and `FileRecord`.
 //! The law that such a sector is of no other kind is in `mark_kinds`. `survey_engine` looks for them.
 #![tactic(auto)]

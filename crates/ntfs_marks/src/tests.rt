@@ -53,7 +53,7 @@ fn is_boot(at: usize, bytes: &[u8]) -> bool
     read_boot(&with(boot_sector(&BOOT), at, bytes)).is_some()
 }
 
-// The record size of the first boot sector with this code and clusters of so many sectors.
+// The record size of the first boot sector with this code and clusters of `cluster` sectors.
 fn size_by(code: i8, cluster: u8) -> Option<u32> {
     let clusters = with(boot_sector(&BOOT), 13, &[cluster]);
     match read_boot(&with(clusters, 64, &[code.cast_unsigned()])) {

@@ -7,7 +7,7 @@ use Rattle.raid_params.specs.declared.types.Cell.{Cell}
 use Rattle.raid_params.specs.declared.types.Head.{Head}
 use Rattle.raid_terms.specs.Cells.{cells_from, part_of}
 
--- the cells of the first slots are there, and the others are to come
+-- the cells of the first `slot` slots are made, and the others are to come
 pub record FilledTo (head : Head) (row : ℕ) (slots : List (Option ℕ)) (slot : ℕ) (cells : List Cell) : Type 0 where
   pub count : length cells ≡ slot
   pub front : cells ++ cells_from head row slot (drop slot slots) ≡ cells_from head row 0 slots

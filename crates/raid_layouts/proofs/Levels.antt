@@ -107,7 +107,7 @@ layout_at Raid6 pattern n row h =
 pub enough : (head : Head) → IsTrue (is_valid_head head) → fewest head.level ≤ head.members
 enough head h = grind (arith, leb-true)
 
--- nor more than there may be
+-- nor more than 16
 pub at_most : (head : Head) → IsTrue (is_valid_head head) → head.members ≤ 16
 at_most head h = grind (arith, leb-true)
 

@@ -129,7 +129,7 @@ absent_below images slots h = λ k d lt. at_place k d lt (find (is_absent images
         absurd (absent_some images (slice_index_or slots at None) (found_passes (is_absent images slots) 0 (length slots) at e)
         (sym (ap (option_and_then (λ at. slice_index_or slots at None)) e) ∙ h))
 
--- the slots hold images that are there
+-- the slots hold images below `images`
 pub shaped_images : (geo : Geometry) (images : ℕ) → is_shaped geo images ≡ true → All (λ slot. IfSome slot (λ i. i < images)) geo.slots.items
 shaped_images geo images h =
     absent_below images geo.slots.items

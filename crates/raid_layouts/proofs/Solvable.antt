@@ -24,7 +24,7 @@ use Rattle.raid_layouts.proofs.Shapes.{shaped_head, shaped_missing, shaped_slots
 abbrev Weighs : Head → ℕ → ℕ → ℕ → Type 0
 Weighs head row slot k = exponent_in (part_of head row slot) ≡ Some k
 
--- what holds of an exponent that may be there and of the others
+-- what holds of an exponent, if there is one, and of the others
 all_option : (P : ℕ → Type 0) (o : Option ℕ) (xs : List ℕ) → ((k : ℕ) → o ≡ Some k → P k) → AllByRecursion P xs → AllByRecursion P (cons_option o xs)
 all_option P None xs one all = all
 all_option P (Some k) xs one all = (one k refl, all)

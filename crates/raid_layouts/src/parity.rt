@@ -1,4 +1,4 @@
-//! The slots of P, of Q and of a data item, by pattern, in a row of so many slots.
+//! The slots of P, of Q and of a data item, by pattern, in a row of `slots` slots.
 ghost use Rattle.std.specs.Prelude.{◌≡◌, ◌≢◌, ◌<◌, ◌≤◌, ◌-◌, ◌+◌};
 ghost use Rattle.raid_terms.specs.Role.{after as after_of, double_item as double_item_of, double_p as double_p_of, double_q as double_q_of, leftward as leftward_of, over_p as over_p_of, over_p_and_q as over_p_and_q_of, rightward as rightward_of, single_item as single_item_of, single_p as single_p_of};
 

@@ -9,7 +9,8 @@ use crate::roles::{SlotRole, role};
 use arrayvec::ArrayVec;
 use raid_params::{Cell, Geometry, Head, Level, MOST, Part};
 
-/// The power by which Q weighs a data block: 0 below level 6, where there is no Q.
+/// The exponent of the power of 2 by which Q weighs a data block, and 0 below level 6, where there is
+/// no Q.
 fn weight(head: &Head, row: u64, slot: u8) -> u8
     requires head { IsTrue (is_valid_head head.now) }
     requires slot { slot < head.now.members }

@@ -29,7 +29,7 @@ fn four_members(level: Level, pattern: Pattern, syndrome: Syndrome) -> Head
     }
 }
 
-// Whether the first four rows are drawn so.
+// Whether the first four rows are those of the drawing.
 fn is_drawn(head: &Head, drawing: [[SlotRole; 4]; 4]) -> bool
     requires head { IsTrue (is_valid_head head.now) }
     requires members { head.now.members ≡ 4 }

@@ -14,7 +14,7 @@ redundancy Raid6 = 2
 abbrev pub rows : Head → ℕ → ℕ
 rows head end = (end - head.offset) / head.chunk
 
--- member sectors in whole rows
+-- the sectors of a member in whole rows
 abbrev pub area : Head → ℕ → ℕ
 area head end = rows head end * head.chunk
 

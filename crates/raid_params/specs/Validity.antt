@@ -36,7 +36,7 @@ has_pattern Raid5 _ = false
 has_pattern Raid6 Plain = false
 has_pattern Raid6 _ = true
 
--- level 6 has an order of its Q, the others have none
+-- the level has this order of Q: level 6 has each but NoQ, and the other levels have NoQ alone
 abbrev pub has_syndrome : Level → Syndrome → Bool
 has_syndrome Raid6 NoQ = false
 has_syndrome Raid6 _ = true
@@ -47,7 +47,7 @@ has_syndrome _ _ = false
 unfoldable pub is_chunk : ℕ → Bool
 is_chunk chunk = list_any (λ k. nat_eq chunk (2 ^ k)) (range_with_len 0 MOST_CHUNKS)
 
--- the level has arrays of so many members
+-- the level has arrays of `members` members
 abbrev pub has_members : Level → ℕ → Bool
 has_members level members = nat_le (fewest level) members && nat_le members MOST
 
@@ -57,15 +57,15 @@ is_valid_head head =
     has_members head.level head.members
     && (has_pattern head.level head.pattern && (has_syndrome head.level head.syndrome && is_chunk head.chunk))
 
--- the slot at this place names an image that is not among so many
+-- the slot at this place holds an image that is not below `images`
 abbrev pub is_absent : ℕ → List (Option ℕ) → ℕ → Bool
 is_absent images slots at = option_map_or (λ i. nat_le images i) (slice_index_or slots at None) false
 
--- the first such image
+-- the first image in a slot that is not below `images`
 abbrev pub first_absent : ℕ → List (Option ℕ) → Option ℕ
 first_absent images slots = option_and_then (λ at. slice_index_or slots at None) (find (is_absent images slots) (range_with_len 0 (length slots)))
 
--- the slot at this place holds an image that stands before it too
+-- the slot at this place holds an image that a slot before it holds too
 abbrev pub is_met_again : List (Option ℕ) → ℕ → Bool
 is_met_again slots at = option_map_or (λ i. stands i (take at slots)) (slice_index_or slots at None) false
 
@@ -73,14 +73,14 @@ is_met_again slots at = option_map_or (λ i. stands i (take at slots)) (slice_in
 abbrev pub first_repeat : List (Option ℕ) → Option ℕ
 first_repeat slots = option_and_then (λ at. slice_index_or slots at None) (find (is_met_again slots) (range_with_len 0 (length slots)))
 
--- the first rule on the slots that is broken: each names an image that is there, none stands
--- twice, and no more are empty than the level survives
+-- the first rule on the slots that is broken: each holds an image below `images` or none, no image
+-- stands twice, and no more slots are empty than the level survives
 abbrev pub slots_fault : Level → ℕ → List (Option ℕ) → Option ℕ → Option ℕ → Option GeoFault
 slots_fault level images slots (Some i) repeated = Some (Image i)
 slots_fault level images slots None (Some i) = Some (Repeat i)
 slots_fault level images slots None None = if nat_le (empties slots) (redundancy level) then None else Some (Missing (empties slots))
 
--- the first rule on the shape that is broken, over so many images
+-- the first rule on the shape that is broken, over `images` images
 abbrev pub shape_fault : Geometry → ℕ → Option GeoFault
 shape_fault geo images =
     if not (has_members geo.head.level (length geo.slots.items) && nat_eq geo.head.members (length geo.slots.items)) then Some (Members geo.head.members)
@@ -89,7 +89,7 @@ shape_fault geo images =
     else if not (is_chunk geo.head.chunk) then Some (Chunk geo.head.chunk)
     else slots_fault geo.head.level images geo.slots.items (first_absent images geo.slots.items) (first_repeat geo.slots.items)
 
--- the set has a sensible shape over so many images
+-- the set has a sensible shape over `images` images
 abbrev pub is_shaped : Geometry → ℕ → Bool
 is_shaped geo images = is_none (shape_fault geo images)
 

@@ -6,16 +6,16 @@ pub const MOST: usize = 16;
 /// The most numbers of members in a plan: those from 2 to `MOST`.
 pub const MOST_LESS_ONE: usize = MOST - 1;
 
-/// The levels: there are three.
+/// The number of levels, which are 0, 5 and 6.
 pub const MOST_LEVELS: usize = 3;
 
-/// The patterns: there are fourteen.
+/// The number of patterns.
 pub const MOST_PATTERNS: usize = 14;
 
-/// The orders of Q: there are four, with that of no Q.
+/// The number of orders of Q, with that of no Q.
 pub const MOST_SYNDROMES: usize = 4;
 
-/// The most chunk sizes in a plan: there are so many.
+/// The most chunk sizes in a plan: all powers of two from 1 to `LARGEST_CHUNK`.
 pub const MOST_CHUNKS: usize = 16;
 
 /// The most data offsets in a plan.
@@ -42,5 +42,5 @@ pub const MOST_MARKS: usize = 4096;
 /// The most bytes of the text of a plan.
 pub const PLAN_BYTES: usize = 4_194_304;
 
-/// The most sectors that a survey is told to pass over.
+/// The most sectors that a survey may be asked to pass over.
 pub const MOST_DROPS: usize = 64;

@@ -149,7 +149,7 @@ pub enum GeoFault {
     Syndrome(Syndrome),
     /// The chunk is no power of two from 1 to `LARGEST_CHUNK`.
     Chunk(u64),
-    /// A slot names an image that is not there.
+    /// A slot names an image that does not exist.
     Image(u8),
     /// An image stands in two slots.
     Repeat(u8),

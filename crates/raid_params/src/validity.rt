@@ -20,7 +20,8 @@ impl Level {
         }
     }
 
-    /// Whether arrays of the level have so many members: from 2, 3 or 4 on, and up to `MOST`.
+    /// Whether the level has arrays of `members` members: at least 2, 3 or 4 by the level, and at most
+    /// `MOST`.
     pub fn has_members(&self, members: usize) -> bool
         ensures { result ≡ has_members_of self.now members }
     {
@@ -57,7 +58,7 @@ impl Level {
     }
 }
 
-/// Whether it is a power of two from 1 to `LARGEST_CHUNK`.
+/// Whether the chunk is a power of two from 1 to `LARGEST_CHUNK`.
 pub fn is_chunk(chunk: u64) -> bool
     ensures { result ≡ is_chunk_size chunk }
 {
@@ -77,18 +78,18 @@ impl Head {
 }
 
 impl Geometry {
-    /// Whether the set has a sensible shape over so many images: `validate` without the rule on
-    /// whole rows.
+    /// Whether the set has a sensible shape over `images` images: `validate` without the rule on whole
+    /// rows.
     pub fn is_shaped(&self, images: u8) -> bool
         ensures { result ≡ is_shaped_over self.now images }
     {
         self.broken_shape(images).is_none()
     }
 
-    /// The first broken rule of the set over so many images, whose members end before the image
-    /// sector `end`. The rules, in their order: the number of members, the pattern, the order of
-    /// Q, the chunk, the images that the slots name, that no image stands twice, the number of
-    /// empty slots, and that there is a whole row.
+    /// The first broken rule of the set over `images` images, whose members end before the image sector
+    /// `end`. The rules, in their order: the number of members, the pattern, the order of Q, the chunk,
+    /// the images that the slots name, that no image stands twice, the number of empty slots, and that
+    /// there is a whole row.
     #[tactic(auto, using(crate::proofs::Chunks::some_chunk))]
     pub fn validate(&self, images: u8, end: u64) -> Result<(), GeoFault>
         ensures { MatchResult result (λ _. first_fault self.now images end ≡ None) (λ fault. first_fault self.now images end ≡ Some fault) }
@@ -147,7 +148,7 @@ fn broken_slots(level: Level, images: u8, slots: &[Option<u8>]) -> Option<GeoFau
     }
 }
 
-/// The first image that is not among so many.
+/// The first image in a slot that is not below `images`.
 fn first_absent(slots: &[Option<u8>], images: u8) -> Option<u8>
     ensures { result ≡ first_absent_of images slots.now }
 {
@@ -157,7 +158,7 @@ fn first_absent(slots: &[Option<u8>], images: u8) -> Option<u8>
     }
 }
 
-/// The first slot that names an image that is not among so many.
+/// The first slot that holds an image that is not below `images`.
 fn absent_place(slots: &[Option<u8>], images: u8) -> Option<usize>
     ensures place { result ≡ find (is_absent_at images slots.now) (range_with_len 0 (length slots.now)) }
     ensures within { IfSome result (λ at. at < length slots.now) }
@@ -165,7 +166,7 @@ fn absent_place(slots: &[Option<u8>], images: u8) -> Option<usize>
     (0..slots.len()).find(|at: &usize| is_absent(slots, *at, images))
 }
 
-/// Whether this slot names an image that is not among so many.
+/// Whether this slot holds an image that is not below `images`.
 fn is_absent(slots: &[Option<u8>], at: usize, images: u8) -> bool
     requires { at < length slots.now }
     ensures { result ≡ is_absent_at images slots.now at }

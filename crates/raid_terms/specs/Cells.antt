@@ -13,11 +13,11 @@ use Rattle.raid_terms.specs.Exponent.{exponent_of}
 use Rattle.raid_terms.specs.Role.{p_of, q_of}
 use Rattle.std.specs.Prelude.{false}
 
--- the block stands in this slot, where there is one
+-- there is a place, and it is this slot
 abbrev pub stands_in : ℕ → Option ℕ → Bool
 stands_in slot place = option_map_or (λ p. p == slot) place false
 
--- the power of 2 by which Q weighs a data block: its exponent at level 6, and 0 below, where there is no Q
+-- the exponent of the power of 2 by which Q weighs a data block at level 6; 0 below, where there is no Q
 abbrev pub weight_at : Level → Head → ℕ → ℕ → ℕ
 weight_at Raid0 head row slot = 0
 weight_at Raid5 head row slot = 0

@@ -72,7 +72,8 @@ q_holds cells bytes = not (has_q cells) || nat_eq (sum_of in_q cells bytes) 0
 abbrev pub equations_hold : List Cell → List ℕ → Bool
 equations_hold cells bytes = p_holds cells bytes && q_holds cells bytes
 
--- a column with each byte of a missing cell replaced, in every way
+-- the columns that agree with this one but at the missing cells, one for each way to fill these with
+-- bytes
 unfoldable pub filled : List Cell → List ℕ → List (List ℕ)
 filled [] bytes = [] ∷ []
 filled (cell ∷ cells) [] = []
@@ -87,12 +88,12 @@ is_sound_column cells bytes = list_any (equations_hold cells) (filled cells byte
 unfoldable pub is_sound : List Cell → (ℕ → List ℕ) → Bool
 is_sound cells column = list_all (λ x. is_sound_column cells (column x)) (range_with_len 0 512)
 
--- column x of so many sectors that stand one after the other
+-- column x of `sectors` sectors that stand one after the other
 abbrev pub column_of : ℕ → List ℕ → ℕ → List ℕ
 column_of sectors row x = map (λ i. slice_index row (512 * i + x)) (range_with_len 0 sectors)
 
--- byte x of member sector t of a slot: its image's, from the offset on. Where the slot is empty
--- nothing is known, and the 0 counts for nothing
+-- byte x of member sector t of a slot: its image's, from the offset on. Where the slot is empty the
+-- byte is not known, and the 0 counts for nothing
 abbrev pub member_byte : List (List ℕ) → ℕ → ℕ → ℕ → Option ℕ → ℕ
 member_byte images offset t x None = 0
 member_byte images offset t x (Some i) = slice_index (slice_index_or images i []) (512 * (offset + t) + x)
@@ -113,7 +114,7 @@ unsound_rows images geo n = count_by (λ t. not (is_sound_row images geo t)) (ra
 abbrev pub tested_rows : Geometry → ℕ → ℕ → ℕ
 tested_rows geo end window = min (area geo.head end) window
 
--- the parity test: at most so many of the tested rows are unsound
+-- the parity test: at most `bad_rows` of the tested rows are unsound
 abbrev pub passes_parity : List (List ℕ) → Geometry → ℕ → ℕ → ℕ → Bool
 passes_parity images geo end window bad_rows = nat_le (unsound_rows images geo (tested_rows geo end window)) bad_rows
 
@@ -121,8 +122,9 @@ passes_parity images geo end window bad_rows = nat_le (unsound_rows images geo (
 abbrev pub exponents : List Cell → List ℕ
 exponents cells = filter_map (λ c. exponent_in c.part) cells
 
--- cells that a row may have: of 2 to 16, at most one is P and at most one Q, Q only beside P, no two
--- data cells have the same exponent where there is a Q, and no more are missing than hold parity
+-- cells that a row may have: 2 to 16 of them; at most one is P and at most one Q, and Q only beside P;
+-- where there is a Q, the exponents of the data cells differ and are below 255; and no more cells are
+-- missing than hold parity
 pub record IsRow (cells : List Cell) : Type 0 where
   pub few : 2 ≤ length cells
   pub most : length cells ≤ MOST

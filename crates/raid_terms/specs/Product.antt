@@ -10,22 +10,22 @@ use Rattle.raid_params.specs.Validity.{is_valid_head}
 use Rattle.raid_terms.specs.SlotLists.{all_lists}
 use Rattle.raid_params.specs.Slots.{is_distinct, empties}
 
--- all combinations of the values, in nested order, that make sense
+-- the heads that make sense among all combinations of the values, in nested order
 abbrev pub heads : Bounds → List Head
 heads bounds = filter is_valid_head
     (flat_map (λ level. flat_map (λ members. flat_map (λ pattern. flat_map (λ syndrome. flat_map (λ chunk. map (λ offset.
     record { level = level; members = members; pattern = pattern; syndrome = syndrome; chunk = chunk; offset = offset })
     bounds.offsets.items) bounds.chunks.items) bounds.syndromes.items) bounds.patterns.items) bounds.members.items) bounds.levels.items)
 
--- no image stands twice, no more places are empty than may be missing and than the level survives,
--- and no more images stand in no place than may be foreign
+-- no image stands twice; at most as many places are empty as may be missing and as the level survives;
+-- and at most as many images stand in no place as may be foreign
 abbrev pub fits : ℕ → Bounds → Head → List (Option ℕ) → Bool
 fits images bounds head slots =
     is_distinct slots
     && (nat_le (empties slots) (min bounds.missing (redundancy head.level))
     && nat_le (images - (head.members - empties slots)) bounds.foreign)
 
--- the parameter sets of a head over so many images
+-- the parameter sets of a head over `images` images
 abbrev pub sets_of : ℕ → Bounds → Head → List Geometry
 sets_of images bounds head =
     map (λ slots. record { head = head; slots = record { items = slots } })

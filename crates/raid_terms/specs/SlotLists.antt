@@ -9,7 +9,7 @@ use Rattle.raid_params.specs.Slots.{is_distinct, empties}
 abbrev pub fillings : ℕ → List (Option ℕ)
 fillings images = map (λ i. Some i) (range_with_len 0 images) ++ None ∷ []
 
--- all lists of so many places over the images and the empty place, in lexicographic order
+-- all lists of `members` places over the images and the empty place, in lexicographic order
 unfoldable pub all_lists : ℕ → ℕ → List (List (Option ℕ))
 all_lists images zero = [] ∷ []
 all_lists images (suc members) = flat_map (λ p. map (λ l. p ∷ l) (all_lists images members)) (fillings images)
@@ -18,6 +18,6 @@ all_lists images (suc members) = flat_map (λ p. map (λ l. p ∷ l) (all_lists 
 abbrev pub is_kept : ℕ → ℕ → List (Option ℕ) → Bool
 is_kept low high slots = is_distinct slots && (nat_le low (empties slots) && nat_le (empties slots) high)
 
--- the lists of so many places over the images, with distinct images and from low to high places empty
+-- the lists of `members` places over the images, with distinct images and from low to high places empty
 abbrev pub slot_lists : ℕ → ℕ → ℕ → ℕ → List (List (Option ℕ))
 slot_lists images members low high = filter (is_kept low high) (all_lists images members)

@@ -12,14 +12,14 @@ is_one_lost cells = nat_eq (count_by (λ c. c.missing) cells) 1
 abbrev pub is_q_lost : List Cell → Bool
 is_q_lost cells = list_any (λ c. c.missing && is_q c.part) cells
 
--- the equations by which lost bytes are found hold: both, but where one byte alone is lost one decides and
--- the other is not asked, Q's where the byte is Q and P's elsewhere
+-- the equations by which lost bytes are found hold. Where one cell alone is missing that is one equation,
+-- Q's if the cell is Q and P's if not; elsewhere it is both
 abbrev pub solves : List Cell → List ℕ → Bool
 solves cells column =
     if is_one_lost cells then (if is_q_lost cells then q_holds cells column else p_holds cells column)
     else equations_hold cells column
 
--- the column with the bytes of its missing cells found
+-- the column with its missing bytes found: the first filling that solves the equations
 unfoldable pub solved : List Cell → List ℕ → List ℕ
 solved cells bytes = unwrap_or (find (solves cells) (filled cells bytes)) []
 

@@ -10,7 +10,8 @@ use Rattle.raid_terms.specs.Cells.{row_cells}
 use Rattle.raid_terms.specs.Parity.{member_byte, member_column}
 use Rattle.raid_terms.specs.Solving.{lost_byte}
 
--- byte x of member sector t of a slot that holds this: its image's, or the lost one where it is empty
+-- byte x of member sector t of a slot: that of the image which it holds, or the lost byte where it is
+-- empty
 abbrev pub byte_in : List (List ℕ) → Geometry → ℕ → ℕ → ℕ → Option ℕ → ℕ
 byte_in images geo t slot x (Some i) = member_byte images geo.head.offset t x (Some i)
 byte_in images geo t slot x None = lost_byte (row_cells geo (t / geo.head.chunk)) (member_column images geo t x) slot
@@ -23,10 +24,10 @@ member_sector images geo slot t = map (λ x. byte_in images geo t slot x (slice_
 abbrev pub volume_sector : List (List ℕ) → Geometry → ℕ → List ℕ
 volume_sector images geo v = member_sector images geo (home_slot geo.head v) (home_sector geo.head v)
 
--- the volume
+-- the bytes of the volume: all its sectors, in order
 abbrev pub volume : List (List ℕ) → Geometry → ℕ → List ℕ
 volume images geo end = flat_map (volume_sector images geo) (range_with_len 0 (volume_sectors geo.head end))
 
--- the member of a slot
+-- the bytes of the member of a slot: all its sectors in whole rows, in order
 abbrev pub member : List (List ℕ) → Geometry → ℕ → ℕ → List ℕ
 member images geo end slot = flat_map (member_sector images geo slot) (range_with_len 0 (area geo.head end))

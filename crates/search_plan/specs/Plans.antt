@@ -15,13 +15,14 @@ pub record AreRising (numbers : List ℕ) : Type 0 where
   pub some : 1 ≤ length numbers
   pub rising : IsStrictlyIncreasing numbers
 
--- the lengths of images
+-- lengths of images: from 1 to MOST of them, each below 2^55
 pub record AreLengths (lengths : List ℕ) : Type 0 where
   pub some : 1 ≤ length lengths
   pub most : length lengths ≤ MOST
   pub short : All (λ n. n < 2 ^ 55) lengths
 
--- the bounds of a search
+-- the bounds of a search: each list has an element and rises strictly, and each number is within its
+-- limit
 pub record AreBounds (bounds : Bounds) : Type 0 where
   pub levels : AreRising (map level_place bounds.levels.items)
   pub members : AreRising bounds.members.items
@@ -36,13 +37,13 @@ pub record AreBounds (bounds : Bounds) : Type 0 where
   pub missing : bounds.missing ≤ MOST_MISSING
   pub foreign : bounds.foreign ≤ MOST
 
--- how rows are tested
+-- how rows are tested: numbers below 2^55, and a window of at least one sector row
 pub record AreLimits (limits : Limits) : Type 0 where
   pub badrows : limits.badrows < 2 ^ 55
   pub some_window : 1 ≤ limits.window
   pub window : limits.window < 2 ^ 55
 
--- how marks are tested
+-- how marks are tested: origins that rise strictly, at most MOST_ORIGINS, and numbers below 2^55
 pub record AreTests (tests : MarkTests) : Type 0 where
   pub origins : AreRising tests.origins.items
   pub few_origins : length tests.origins.items ≤ MOST_ORIGINS
@@ -50,7 +51,7 @@ pub record AreTests (tests : MarkTests) : Type 0 where
   pub misfits : tests.misfits < 2 ^ 55
   pub least : tests.least < 2 ^ 55
 
--- a plan, part by part
+-- a plan, part by part; its end is past no image
 pub record IsPlan (plan : Plan) : Type 0 where
   pub lengths : AreLengths plan.lengths.items
   pub ends : All (λ n. plan.end ≤ n) plan.lengths.items

@@ -16,7 +16,7 @@ use Rattle.search_plan.specs.declared.plan.Plan.{Plan}
 unfoldable pub sets_of : Plan → List Geometry
 sets_of plan = product (length plan.lengths.items) plan.bounds
 
--- their number
+-- how many parameter sets a plan has
 unfoldable pub total_of : Plan → ℕ
 total_of plan = length (sets_of plan)
 

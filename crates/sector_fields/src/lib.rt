@@ -2,7 +2,7 @@
 //!
 //! `gpt_marks`, `ntfs_marks` and `xfs_marks` read their sectors with these calls. What a field is stands
 //! in `specs/Fields`, and each call gives just that. [`DISTANCE_LIMIT`] bounds the distances that a
-//! landmark may tell.
+//! landmark may give.
 #![tactic(auto)]
 
 ghost use Rattle.std.specs.Prelude.{◌≡◌, ◌+◌, ◌≤◌, length};
@@ -14,8 +14,8 @@ use uuid::Uuid;
 /// The bytes of a sector. A file system may speak of other sectors: these are the disk's.
 pub const SECTOR: usize = 512;
 
-/// Sector distances that a landmark tells stay below this, so that sums of a few of them fit a
-/// `u64`. A landmark that tells a longer one is none.
+/// The sector distances that a landmark gives are below this, so that sums of a few of them fit a `u64`.
+/// A sector that would give a longer one is no landmark.
 pub const DISTANCE_LIMIT: u64 = 1 << 55;
 
 /// The number in the two bytes from `at` on, the lowest first.

@@ -1,6 +1,6 @@
 //! Sectors of XFS: the superblock, and the two heads of an allocation group (AGF and AGI).
 //!
-//! [`read_super`] tells how large blocks and groups are, [`read_group`] which head of which group it is.
+//! [`read_super`] says how large blocks and groups are, [`read_group`] which head of which group it is.
 //! The definitions stand in `specs/Superblock` and `Group`. The law that such a sector is of no other kind
 //! is in `mark_kinds`. `survey_engine` looks for them.
 #![tactic(auto)]

@@ -22,7 +22,7 @@ numbered_at n (suc r) (l ∷ ls) = numbered_at (n + 1) r ls ∙ ap (λ (k : ℕ)
 leaf_at : (s : Space) (r : ℕ) (l : List (Option ℕ)) → slice_get (lists_of s) r ≡ Some l → slice_get (numbered 0 (lists_of s)) r ≡ Some (leaf_of r l)
 leaf_at s r l e = numbered_at 0 r (lists_of s) ∙ ap₂ (λ (k : ℕ) (o : Option (List (Option ℕ))). option_map (leaf_of k) o) (let q : 0 + r ≡ r = omega arith in q) e
 
--- one leaf from the front of a range
+-- the first leaf of a range
 range_first : (xs : List Leaf) (a b : ℕ) (x : Leaf) → a < b → slice_get xs a ≡ Some x → slice_range xs a b ≡ x ∷ slice_range xs (a + 1) b
 range_first xs a b x h e =
     let lt : a < length xs = slice_get_within xs a x e in

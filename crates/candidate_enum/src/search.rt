@@ -28,7 +28,7 @@ fn meets_range(from: u64, stop: u64, rank: u128, count: u128) -> bool
     rank.max(from as u128) < (rank + count).min(stop as u128)
 }
 
-// The list once more.
+// A copy of the list.
 fn copied(slots: &Slots) -> Slots
     ensures { result.items ≡ slots.now.items }
 {

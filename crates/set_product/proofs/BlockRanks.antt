@@ -120,12 +120,12 @@ few_heads p s c o hp hs hc ho =
     let d : p * s * (c * o) ≤ MOST_PATTERNS * MOST_SYNDROMES * (MOST_CHUNKS * MOST_OFFSETS) = mul-le (p * s) (c * o) (MOST_PATTERNS * MOST_SYNDROMES) (MOST_CHUNKS * MOST_OFFSETS) a b in
     omega arith
 
--- a place among at most so many
+-- a place in a list of at most n elements is below n
 pub place_few : {A : Type 0} (p : A → Bool) (xs : List A) (n : ℕ) (o : Option ℕ) → o ≡ position p xs → length xs ≤ n → IfSome o (λ k. k < n)
 place_few p xs n None e few = tt
 place_few p xs n (Some k) e few = let below = place_within p xs k (sym e) in omega arith
 
--- a place among fewer than so many
+-- a place in a list of fewer than n elements is below n
 pub place_below : {A : Type 0} (p : A → Bool) (xs : List A) (n : ℕ) (o : Option ℕ) → o ≡ position p xs → length xs < n → IfSome o (λ k. k < n)
 place_below p xs n o e few = place_few p xs n o e (omega arith)
 

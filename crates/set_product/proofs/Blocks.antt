@@ -163,7 +163,7 @@ product_is plan =
     ∙ ap (flat_map (sets_of_head n plan.bounds)) (filter_flat is_valid_head all shapes)
     ∙ flat_flat (sets_of_head n plan.bounds) (λ shape. filter is_valid_head (all shape)) shapes
 
--- there are few slot lists
+-- a space has at most (MOST + 1) ^ MOST slot lists
 pub few_lists : (space : Space) → space.images ≤ MOST → space.members ≤ MOST → length (lists_of space) ≤ (MOST + 1) ^ MOST
 few_lists space images members =
     let fit : ways space.low space.high space.images space.members 0 ≤ (MOST + 1) ^ MOST = ways_fit space.low space.high space.images space.members 0 images members in

@@ -158,7 +158,7 @@ heads_hold plan place k sets geo e f =
     let at : sets.first ≡ 0 + found.0 = found.1 in
     ap₂ (λ (all : List Geometry) (n : ℕ). slice_get all n) (heads_make plan) (let d : sets.first + k ≡ found.0 + k = omega arith in d) ∙ found.2
 
--- each head has so many slot lists
+-- each of the heads has `lists` slot lists
 abbrev pub Alike : Plan → ℕ → List Head → Type 0
 Alike plan lists hs = AllByRecursion (λ head. length (lists_of (space_of plan head.level head.members)) ≡ lists) hs
 
@@ -172,7 +172,7 @@ each_dropped P [] (suc n) a = a
 each_dropped P (x ∷ xs) zero a = a
 each_dropped P (x ∷ xs) (suc n) a = each_dropped P xs n a.1
 
--- those of a block have as many as it
+-- those of a block have as many as the block says
 pub block_alike : (plan : Plan) (opened : Opened) (next : ℕ) → IsPlan plan → IsOpened plan opened → Alike plan opened.lists (drop next (heads_with plan.bounds opened.block.level opened.block.members))
 block_alike plan opened next is_plan is_opened =
     let make = head_of opened.block.level opened.block.members in
@@ -183,7 +183,7 @@ block_alike plan opened next is_plan is_opened =
     (subst Q (sym (block_heads plan opened.block is_plan is_opened.block))
     (each_map P make (choices plan opened.block) (each_any (λ (c : Choice). P (make c)) (λ c. same) (choices plan opened.block))))
 
--- the heads left count the sets of so many of them, and those of the rest
+-- the sets of the heads left: those of the first k of them, and those of the rest
 pub count_some : (plan : Plan) (lists k : ℕ) (own rest : List Head) → Alike plan lists own → k ≤ length own → count_in plan (own ++ rest) ≡ k * lists + count_in plan (drop k own ++ rest)
 unfolding count_in
 count_some plan lists zero own rest alike few = let none : zero * lists ≡ 0 = zero-mul lists in omega arith
@@ -198,7 +198,7 @@ count_some plan lists (suc k) (head ∷ own) rest alike few =
 abbrev pub ending_after : ℕ → List HeadSets → List HeadSets
 ending_after rank all = filter (λ sets. nat_lt rank (end_of sets)) all
 
--- so many heads that end at the rank or before
+-- the first k heads, which end at the rank or before, are passed over
 pub skip_some : (plan : Plan) (first lists rank k : ℕ) (own rest : List Head) → Alike plan lists own → k ≤ length own → first + k * lists ≤ rank →
     ending_after rank (numbered plan first (own ++ rest)) ≡ ending_after rank (numbered plan (first + k * lists) (drop k own ++ rest))
 unfolding numbered
@@ -240,7 +240,7 @@ keep_alike plan first lists rank (head ∷ own) rest alike some low =
     let one : length (lists_of (space_of plan head.level head.members)) ≡ lists = alike.0 in
     keep_from plan first rank head (own ++ rest) (omega arith)
 
--- how many sets are left after so many heads of a block
+-- how many sets are left after k heads of a block
 pub left_counts : (plan : Plan) (opened : Opened) (k : ℕ) → IsPlan plan → IsOpened plan opened → opened.next + k ≤ opened.heads →
     count_in plan (heads_from plan opened opened.next) ≡ k * opened.lists + count_in plan (heads_from plan opened (opened.next + k))
 unfolding heads_from
@@ -264,7 +264,7 @@ next_is plan first opened head is_opened e at_level at_members =
     ∙ ap (λ (s : Space). (let sets : HeadSets = record { head = head; space = s; first = first; count = length (lists_of s) } in sets) ∷ numbered plan (first + length (lists_of s)) later) same
     ∙ ap (λ (n : ℕ). (let sets : HeadSets = record { head = head; space = opened.block.space; first = first; count = n } in sets) ∷ numbered plan (first + n) later) (sym is_opened.lists)
 
--- so many heads of a block end at the rank or before, and the next one after it
+-- k heads of a block end at the rank or before, and the next one after it
 pub skip_within : (plan : Plan) (opened : Opened) (first rank k : ℕ) → IsPlan plan → IsOpened plan opened → opened.next + k < opened.heads → (k ≡ 0) ⊎ (first + k * opened.lists ≤ rank) → rank < first + (k + 1) * opened.lists →
     numbered plan (first + k * opened.lists) (heads_from plan opened (opened.next + k)) ≡ ending_after rank (numbered plan first (heads_from plan opened opened.next))
 unfolding heads_from

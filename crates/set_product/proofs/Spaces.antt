@@ -22,7 +22,7 @@ filter_same_at : {A : Type 0} (f g : A → Bool) (xs : List A) → AllByRecursio
 filter_same_at f g [] e = refl
 filter_same_at {A} f g (x ∷ xs) e = ap₂ (λ (b : Bool) (l : List A). cond b (x ∷ l) l) e.0 (filter_same_at f g xs e.1)
 
--- no more places are empty than there are
+-- no more places are empty than the list has
 few_empty : (l : List (Option ℕ)) → empties l ≤ length l
 unfolding empties
 few_empty [] = omega arith
@@ -33,7 +33,7 @@ and_none : (d : Bool) → (d && false) ≡ false
 and_none true = refl
 and_none false = refl
 
--- more images stand nowhere than may be, whatever is empty
+-- in any case more images are in no slot than may be
 never : (d : Bool) (e most n count foreign : ℕ) → foreign + count < n → (d && (nat_le 1 e && nat_le e 0)) ≡ (d && (nat_le e most && nat_le (n - (count - e)) foreign))
 never d e most n count foreign less =
     let left : nat_le (n - (count - e)) foreign ≡ false = lt-leb (n - (count - e)) foreign (omega arith) in
@@ -45,7 +45,7 @@ never d e most n count foreign less =
       | inr no_more ↦ ap (λ (b : Bool). b && nat_le e 0) (lt-leb 1 e (omega arith))
     ]
 
--- so many places may be empty
+-- how many places may be empty
 within : (e most n count foreign : ℕ) → e ≤ count → n ≤ foreign + count → (nat_le 0 e && nat_le e (min most (foreign + count - n))) ≡ (nat_le e most && nat_le (n - (count - e)) foreign)
 within e most n count foreign few enough =
     ap (λ (b : Bool). b && nat_le e (min most (foreign + count - n))) (le-leb 0 e (omega arith)) ∙
@@ -63,7 +63,7 @@ within e most n count foreign few enough =
               ∙ sym (ap₂ (λ (a b : Bool). a && b) (le-leb e most up_to) (le-leb (n - (count - e)) foreign (omega arith)))
         ]
 
--- what is kept of the lists of so many places, of a head's level and members
+-- what is kept of the lists of `count` places, of a head's level and members
 fits_as : (plan : Plan) (level : Level) (count : ℕ) (head : Head) (slots : List (Option ℕ)) → head.level ≡ level → head.members ≡ count →
     (is_distinct slots && (nat_le (empties slots) (min plan.bounds.missing (redundancy level)) && nat_le (length plan.lengths.items - (count - empties slots)) plan.bounds.foreign))
     ≡ fits (length plan.lengths.items) plan.bounds head slots

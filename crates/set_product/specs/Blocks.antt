@@ -17,7 +17,7 @@ use Rattle.set_product.specs.Heads.{space_of}
 use Rattle.set_product.specs.Pairs.{pairs}
 use Rattle.set_product.specs.declared.block.Block.{Block}
 
--- the level has arrays of so many members, and the pattern
+-- the level has arrays of `members` members, and the pattern
 abbrev pub suits : Level → ℕ → Pattern → Bool
 suits level members pattern = has_members level members && has_pattern level pattern
 

@@ -13,9 +13,9 @@ use Rattle.slot_math.specs.Space.{lists_of}
 use Rattle.slot_math.specs.declared.space.Space.{Space}
 use Rattle.set_product.specs.declared.heads.HeadSets.{HeadSets}
 
--- the slot lists of one level and one number of members: none where more images would stand nowhere than may,
--- and else those with as many empty places as may be missing, as the level survives, and as leave a place to
--- each image that has to stand
+-- the slot lists of one level and one number of members. There are none where, with no place empty, more
+-- images are in no slot than may be foreign. Else they have at most as many empty places as may be missing,
+-- as the level survives, and as leave a place to each image that has to be in a slot
 unfoldable pub space_of : Plan → Level → ℕ → Space
 space_of plan level members =
     if nat_lt (plan.bounds.foreign + members) (length plan.lengths.items)

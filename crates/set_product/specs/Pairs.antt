@@ -8,7 +8,8 @@ use Rattle.std.specs.declared.option.Option.TheVariants.{None, Some}
 unfoldable pub pairs : {A B : Type 0} → List A → List B → List (A × B)
 pairs xs ys = flat_map (λ x. map (λ y. (x, y)) ys) xs
 
--- the place among pairs of two places, where the second list has so many elements, if there are both
+-- the place of a pair among all pairs, by the places of its parts if they have any; the second list has
+-- `count` elements
 abbrev pub joined : ℕ → Option ℕ → Option ℕ → Option ℕ
 joined count None second = None
 joined count (Some first) None = None

@@ -32,7 +32,7 @@ pub(crate) struct Block {
     pub space: Space,
 }
 
-// Whether the level has arrays of so many members, and the pattern.
+// Whether the level has arrays of `members` members, and the pattern.
 fn suits(level: Level, members: u8, pattern: Pattern) -> bool
     ensures { result ≡ suits_level level members pattern }
 {

@@ -50,8 +50,8 @@ impl<'a> Model for Heads<'a> {
     ghost invariant = { λ s. IsPlan s.plan.now × (total_of s.plan.now < 2 ^ 64) × MayBeOpened s.plan.now s.opened × (s.first + count_in s.plan.now (left_heads s.plan.now s.opened) ≡ total_of s.plan.now) };
 }
 
-// How many of so many heads, with so many slot lists each and the first set at `first`, end at the
-// rank or before. The rank is below those of what comes after them.
+// How many of `heads` heads, with `lists` slot lists each and the first set at rank `first`, end at the
+// rank or before. The last of them ends after the rank.
 fn heads_before(first: u64, rank: u64, lists: u64, heads: usize) -> usize
     requires some { 0 < heads }
     requires rank { rank < first + heads * lists }
@@ -110,8 +110,8 @@ impl<'a> Heads<'a> {
     }
 
     /// Passes over the heads whose sets all have ranks below this one, and those without sets that
-    /// stand before or among them. It takes as long as the pairs of a level and a number of members
-    /// are many.
+    /// stand before or among them. The time it takes grows with the number of pairs of a level and a
+    /// number of members.
     pub fn skip_to(&mut self, rank: u64)
         ensures { self.new ≡ filter (λ sets. nat_lt rank (end_of sets)) self.old }
     {

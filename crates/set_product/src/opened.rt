@@ -9,8 +9,8 @@ use crate::block::Block;
 use crate::product::{block_at, shape_count};
 use search_plan::Plan;
 
-// A block, the place of the pair of a level and a number of members after its own, how many heads it
-// has and how many slot lists each of them, and the place of the next head.
+// A block; the place of the pair of a level and a number of members after its own; how many heads it
+// has, and how many slot lists each head; and the place of the next head.
 #[derive(Drop)]
 pub(crate) struct Opened {
     pub after: usize,
@@ -46,7 +46,7 @@ pub(crate) fn opened_from(plan: &Plan, from: usize) -> Option<Opened>
     None
 }
 
-// What comes after so many of the block's next heads.
+// What comes after the next `count` heads of the block.
 pub(crate) fn passed(plan: &Plan, mut opened: Opened, count: usize) -> Option<Opened>
     requires plan { IsPlan plan.now }
     requires few { total_of plan.now < 2 ^ 64 }

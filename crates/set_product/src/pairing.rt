@@ -15,7 +15,7 @@ pub(crate) fn pair_at<A: Copy, B: Copy>(firsts: &[A], seconds: &[B], rank: u128)
     )
 }
 
-// The rank of a pair, from the ranks of its parts, where the second list has so many elements.
+// The rank of a pair, from the ranks of its parts, where the second list has `count` elements.
 #[tactic(auto)]
 pub(crate) fn pair_rank(first: Option<usize>, second: Option<usize>, count: usize) -> Option<usize>
     requires first { IfSome first (λ place. place < 2 ^ 16) }
@@ -26,7 +26,7 @@ pub(crate) fn pair_rank(first: Option<usize>, second: Option<usize>, count: usiz
     Some(first? * count + second?)
 }
 
-// The rank of a set, from those of its head and its slot list, where there are so many lists.
+// The rank of a set, from those of its head and its slot list, where each head has `lists` slot lists.
 #[tactic(auto)]
 pub(crate) fn set_rank(head: Option<usize>, slots: Option<u128>, lists: u128) -> Option<u128>
     requires { IfSome (joined lists head slots) (λ rank. rank < 2 ^ 64) }

@@ -55,7 +55,7 @@ listed_from s l h =
       kept = ap₂ (λ (x y : Bool). x && y) c.1 (ap₂ (λ (x y : Bool). x && y) d.1 e.1);
     }
 
--- the front of a list has different images of the space
+-- a prefix of a list of the space has different images of the space
 stands_front : (l : List (Option ℕ)) (n i : ℕ) → stands i l ≡ false → stands i (take n l) ≡ false
 unfolding stands
 stands_front l zero i h = refl

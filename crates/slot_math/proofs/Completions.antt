@@ -89,7 +89,7 @@ are_all_images n [] a = refl
 are_all_images n (None ∷ p) a = are_all_images n p a
 are_all_images n (Some i ∷ p) a = ap₂ (λ (x y : Bool). x && y) (lt-ltb i n a.0) (are_all_images n p a.1)
 
--- nor with an image that is not there
+-- nor with an image that the space does not have
 pub none_unknown : (s : Space) (p : List (Option ℕ)) → are_images s.images p ≡ false → 0 ≡ length (filter (begins p) (lists_of s))
 none_unknown s p f = sym (none_begin s p (λ l a. elim (cases_Bool (begins p l)) [
   | inl t ↦ (let e : are_images s.images p ≡ true = are_all_images s.images p (begins_images s.images p l t a.1) in absurd (search rules))

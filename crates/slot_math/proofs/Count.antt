@@ -49,7 +49,7 @@ unseen_count n (j ∷ js) all =
 one_more : (w k : ℕ) → (1 + k) * w ≡ w + k * w
 one_more w k = ap (λ (j : ℕ). j * w) (one-add k) ∙ suc-mul k w ∙ add_comm (k * w) w
 
--- a sum of one number w is so many times w
+-- a sum of w over the elements that fail the test is w times their number
 times_w : {A : Type 0} (w : ℕ) (b : A → Bool) (xs : List A) → total_of (λ x. cond (b x) 0 w) xs ≡ total_of (λ x. cond (b x) 0 1) xs * w
 unfolding total_of
 times_w w b [] = sym (zero-mul w)

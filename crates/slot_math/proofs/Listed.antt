@@ -34,7 +34,7 @@ images_first : (n : ℕ) (q : Option ℕ) (l : List (Option ℕ)) → IsPlace n 
 images_first n None l h a = a
 images_first n (Some i) l h a = (h, a)
 
--- as many places as asked for, and images that are there
+-- m places, and images below n
 abbrev IsShaped : ℕ → ℕ → List (Option ℕ) → Type 0
 IsShaped n m l = (length l ≡ m) × AllImages n l
 
@@ -62,7 +62,7 @@ each_kept {A} P f (x ∷ xs) a = elim (cases_Bool (f x)) [
       subst Q (sym (ap (λ (b : Bool). cond b (x ∷ filter f xs) (filter f xs)) g)) (each_kept P f xs a.1))
 ]
 
--- each list of a space has its number of places, images that are there, and is kept
+-- each list of a space has its number of places and images below the number of images, and is kept
 pub listed : (images members low high r : ℕ) (l : List (Option ℕ)) → slice_get (slot_lists images members low high) r ≡ Some l →
     (length l ≡ members) × AllImages images l × (is_kept low high l ≡ true)
 listed images members low high r l e =

@@ -17,7 +17,8 @@ abbrev pub RanksAndListsUndo : Type 0
 RanksAndListsUndo = (space : Space) (rank : ℕ) (slots : List (Option ℕ)) →
     (slice_get (lists_of space) rank ≡ Some slots) ↔ (rank_in space slots ≡ Some rank)
 
--- each list has as many places as members, images that are there, each once, and as many empty places as may be
+-- each list has `members` places, its images are below `images` and none stands twice, and from low to high
+-- places are empty
 abbrev pub EachListIsShaped : Type 0
 EachListIsShaped = (images members low high rank : ℕ) (slots : List (Option ℕ)) →
     slice_get (slot_lists images members low high) rank ≡ Some slots →

@@ -29,6 +29,6 @@ same_slots [] (q ∷ others) = false
 same_slots (p ∷ slots) [] = false
 same_slots (p ∷ slots) (q ∷ others) = same_place p q && same_slots slots others
 
--- the rank of a list: its position in the space, or None where it is not there
+-- the rank of a list: its position in the space, or None where the space does not have it
 abbrev pub rank_in : Space → List (Option ℕ) → Option ℕ
 rank_in space slots = position (same_slots slots) (lists_of space)

@@ -36,11 +36,11 @@ abbrev pub IsPlace : ℕ → Option ℕ → Type 0
 IsPlace n None = Unit {0}
 IsPlace n (Some i) = i < n
 
--- different images of the space
+-- the prefix has images of the space, and none of them twice
 abbrev pub IsStart : Space → List (Option ℕ) → Type 0
 IsStart s p = AllImages s.images p × (is_distinct p ≡ true)
 
--- so many lists go on from a prefix with each image that is not in it
+-- n lists go on from a prefix with each image that is not in it
 abbrev pub IsImageWays : Space → List (Option ℕ) → ℕ → Type 0
 IsImageWays s p n = (i : ℕ) → i < s.images → stands i p ≡ false → n ≡ length (ends s (p ++ Some i ∷ []))
 

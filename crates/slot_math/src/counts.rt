@@ -7,7 +7,7 @@ use crate::places::{all_different, all_images};
 use crate::space::Space;
 use raid_params::{MOST, Slots, count_empty};
 
-// One way, where no place is left and as many are empty as may be.
+// One way where no place is left and from `low` to `high` places are empty, and none elsewhere.
 #[tactic(auto, using(crate::proofs::Bound::ways_zero))]
 fn last_way(low: u8, high: u8, empty: usize) -> u128
     ensures { (u : ℕ) → result ≡ ways low high u 0 empty }
@@ -60,7 +60,7 @@ impl Space {
     }
 
     /// How many lists of the space begin with the prefix. None do where it has more places than
-    /// `members`, an image twice, or an image that is not there.
+    /// `members`, an image twice, or an image that the space does not have.
     #[tactic(auto, using(crate::proofs::Completions::none_longer, crate::proofs::Completions::none_unknown, crate::proofs::Completions::none_twice, crate::proofs::Completions::completed))]
     pub fn completions(&self, prefix: &Slots) -> u128
         requires images { self.now.images ≤ MOST }

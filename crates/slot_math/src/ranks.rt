@@ -27,7 +27,7 @@ impl Space {
         ways_of(self.low, self.high, free as u8, left as u8, empty as u8)
     }
 
-    // How many lists go on from these places with this image, where so many do with an unused one.
+    // How many lists go on from these places with this image, where `ways` do with an unused one.
     #[tactic(auto, using(crate::proofs::Fronts::used_image))]
     fn ways_of_image(&self, prefix: &[Option<u8>], image: u8, ways: u128) -> u128
         requires start { IsStart self.now prefix.now }

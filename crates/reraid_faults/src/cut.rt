@@ -1,10 +1,10 @@
-//! Plans of which an end is missing.
+//! Plans whose end is missing.
 use crate::outside::images_of;
 use crate::plans::PLAN;
 use crate::rows::{STRIPES, run};
 use std::test::Fail;
 
-// Each front of the plan is refused at the line that follows its last line feed.
+// Each proper prefix of the plan is refused at the line that follows its last line feed.
 #[test]
 fn each_front_of_a_plan_is_refused(rt: HostRuntime) -> Result<(), Fail> {
     let alloc = rt.alloc();

@@ -35,8 +35,8 @@ fn a_listing_without_operands(rt: HostRuntime) -> Result<(), Fail> {
     Ok(())
 }
 
-// A page goes through all ranks there are. No set has a whole row: 13 * 3 * 15 * 64 heads have 16! lists with no slot empty, and
-// 16 * 16! with one.
+// A page goes through all ranks up to the total. No set has a whole row: 13 * 3 * 15 * 64 heads have 16! lists with
+// no slot empty, and 16 * 16! with one.
 #[test]
 fn a_page_goes_to_the_total(rt: HostRuntime) -> Result<(), Fail> {
     let rows = [Row {

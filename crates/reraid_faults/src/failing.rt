@@ -33,8 +33,8 @@ enum Answer<'a> {
     Sectors(&'a [u8]),
 }
 
-/// A run that ends, with how many calls it makes: of the images and the plan at least so many, of the output and the notes just
-/// so many.
+/// A run that ends, with how many calls it makes of each object: of the images and the plan at least these numbers,
+/// of the output and the notes exactly these.
 #[derive(Clone, Copy)]
 struct Run<'a> {
     line: &'a str,
@@ -47,7 +47,7 @@ struct Run<'a> {
     calls: (u64, u64, u64, u64),
 }
 
-/// A call that fails: that of this number of an object. A put takes so many bytes before.
+/// A call that fails: the one of this number of an object. A put takes `taken` bytes before it fails.
 #[derive(Clone, Copy)]
 struct Fault {
     object: Object,
@@ -214,9 +214,9 @@ const OWN_TABLES: &[Placed] = &[
     },
 ];
 
-/// The runs. A listing reads each image for the tables of rows, which decide at level 5, and at level 6 again in its scan; a
-/// test, a volume and a member read each image that is there; a survey reads each image. All answers are one put, but for the
-/// volume's, which may be more; and so is the line of the cursor.
+/// The runs. A listing reads each image for the tables of rows, which decide at level 5, and at level 6 again in its
+/// scan; a test, a volume and a member read each image that a slot holds; a survey reads each image. All answers are
+/// one put, but for the volume's, which may be more; and so is the line of the cursor.
 const RUNS: [Run; 7] = [
     Run {
         line: "list size=10 -- a b c",
@@ -352,8 +352,8 @@ fn each_piece_of_a_plan_may_fail(rt: HostRuntime) -> Result<(), Fail> {
 /// The most bytes of a plan.
 const LONGEST: usize = 4_194_304;
 
-// Of a source that gives one byte at a time so many are taken, and then one more, or its end is seen.
-// No further call is made: it would fail.
+// Of a source that gives one byte at a time as many bytes are taken as a plan may have, and then one more, or its end
+// is seen. No further call is made: it would fail.
 #[test]
 fn a_source_is_asked_once_more_than_a_plan_is_long(rt: HostRuntime) -> Result<(), Fail> {
     let alloc = rt.alloc();

@@ -101,7 +101,7 @@ const fn refused(
     }
 }
 
-// From none to sixteen images; of a plan, just so many as it has.
+// From none to sixteen images; for a plan, exactly as many as it has.
 #[test]
 fn images_are_too_many_or_too_few(rt: HostRuntime) -> Result<(), Fail> {
     let rows = [

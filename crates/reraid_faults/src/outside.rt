@@ -50,7 +50,7 @@ pub fn ready(
     let mut images = MemImages::new(alloc)?;
     add_contents(&mut images, contents)?;
 
-    // Of two images of one name the first is meant: those that have no bytes above are empty.
+    // Where two images have one name, the name means the first. So those without bytes above are empty.
     name_words(&mut images, words)?;
     Ok(Outside {
         images,
@@ -83,7 +83,7 @@ fn name_words(images: &mut MemImages, words: &[Word]) -> Result<(), Memory>
     Ok(())
 }
 
-/// Adds an image, so that its name may be attached beside those that might be before.
+/// Adds an image, so that its name may be attached too.
 #[tactic(auto, using(crate::proofs::Ready::added, crate::proofs::Ready::kept))]
 fn add(images: &mut MemImages, name: &str, bytes: &[u8]) -> Result<(), Memory>
     ensures named { OnOk result (IsTrue ((seen_of images.new).world.may_attach name.now)) }
@@ -136,7 +136,7 @@ pub fn run_words<R: Threads + Sync>(
     )
 }
 
-/// The same, with the plan in pieces of at most so many bytes.
+/// The same, with the plan in pieces of at most `most` bytes.
 pub fn run_in_pieces<R: Threads + Sync>(
     rt: &R,
     alloc: Global,

@@ -5,7 +5,7 @@ ghost use Rattle.image_source.specs.Memory.{Tape};
 use image_source::{Failed, MemSource, Source};
 use std::marker::Model;
 
-/// A source in memory that gives at most so many bytes at once, and at least one.
+/// A source in memory that gives at most a fixed number of bytes at once, and at least one.
 #[derive(Drop)]
 pub struct Pieces {
     source: MemSource,

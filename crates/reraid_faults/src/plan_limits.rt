@@ -252,7 +252,7 @@ fn begun(alloc: Global) -> Result<Vec<u8>, Memory> {
     BEFORE.as_bytes().to_vec(alloc).map_err(|_| Memory)
 }
 
-/// Appends so many marks of a kind, sector by sector from one on.
+/// Appends `count` marks of a kind, one in each sector from `first` on.
 fn push_marks(
     alloc: Global,
     plan: &mut Vec<u8>,
@@ -273,7 +273,7 @@ fn push_text(plan: &mut Vec<u8>, text: &str) -> Result<(), Memory> {
     plan.extend_from_slice(text.as_bytes()).map_err(|_| Memory)
 }
 
-/// A plan with 4,096 marks of each kind, and so many more of the last kind.
+/// A plan with 4,096 marks of each kind, and `more` further marks of the last kind.
 fn marked(alloc: Global, more: u64) -> Result<Vec<u8>, Memory> {
     let mut plan = begun(alloc)?;
     push_text(&mut plan, "group gpt\n")?;
@@ -289,7 +289,7 @@ fn marked(alloc: Global, more: u64) -> Result<Vec<u8>, Memory> {
     Ok(plan)
 }
 
-/// A plan with so many groups of NTFS and of XFS, without marks.
+/// A plan with `ntfs` groups of NTFS and `xfs` groups of XFS, without marks.
 fn grouped(alloc: Global, ntfs: u64, xfs: u64) -> Result<Vec<u8>, Memory> {
     let mut plan = begun(alloc)?;
     for _ in 0..ntfs {

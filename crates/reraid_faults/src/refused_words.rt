@@ -192,7 +192,7 @@ fn lines_are_refused_at_their_words(rt: HostRuntime) -> Result<(), Fail> {
     Ok(())
 }
 
-/// A survey with an operand that lists so many numbers, each after this text.
+/// A survey with an operand that lists `count` numbers, each after the text `before`.
 fn listed(alloc: Global, operand: &str, before: &str, count: u64) -> Result<String, Memory> {
     let mut line = String::new(alloc);
     line.push_str("survey ").map_err(|_| Memory)?;

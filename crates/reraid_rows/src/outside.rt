@@ -18,7 +18,7 @@ static NAMES: [&str; 16] = [
     "a", "b", "c", "d", "e", "f", "g", "h", "i", "j", "k", "l", "m", "n", "o", "p",
 ];
 
-/// The names of so many images, or of sixteen.
+/// The names of the first `count` images, of at most sixteen.
 pub fn first_names(count: usize) -> &'static [&'static str]
     ensures { length result.now ≡ min count 16 }
 {
@@ -34,8 +34,8 @@ pub struct Outside {
     pub notes: MemSink,
 }
 
-/// Objects for a run over images of these names, each of some sectors of one repeated byte, and of
-/// none where none are given for the name.
+/// Objects for a run over images of these names. `sectors` has a byte for each sector of each of the
+/// first images, repeated over the sector; the other images are empty.
 pub fn images_of(
     alloc: Global,
     names: &[&str],
@@ -66,7 +66,7 @@ pub fn images_with(
     let mut images = MemImages::new(alloc)?;
     add_contents(&mut images, names, contents)?;
 
-    // Of two images of one name the first is meant: those that have no bytes above are empty.
+    // Where two images have one name, the name means the first. So those without bytes above are empty.
     add_all(alloc, &mut images, names, &[])?;
     Ok(Outside {
         images,
@@ -105,7 +105,7 @@ fn add_all(
     Ok(())
 }
 
-/// Adds an image, so that its name may be attached beside those that might be before.
+/// Adds an image, so that its name may be attached too.
 #[tactic(auto, using(crate::proofs::Named::added, crate::proofs::Named::kept))]
 fn add(images: &mut MemImages, name: &str, bytes: &[u8]) -> Result<(), Memory>
     ensures named { OnOk result (IsTrue ((seen_of images.new).world.may_attach name.now)) }

@@ -19,7 +19,7 @@ struct Placed<'a> {
     fields: &'a [Field],
 }
 
-/// Images of so many bytes, zero but for these sectors.
+/// Images of these lengths in bytes, zero but for these sectors.
 fn images(alloc: Global, lengths: &[usize], placed: &[Placed]) -> Result<Vec<Vec<u8>>, Memory> {
     let mut made = Vec::new(alloc);
     for length in lengths {
@@ -60,7 +60,7 @@ fn run<R: Threads + Sync>(
     Ok((status, met))
 }
 
-/// Runs a survey over images of so many bytes, zero but for these sectors, and compares its plan.
+/// Runs a survey over images of these lengths in bytes, zero but for these sectors, and compares its plan.
 fn check<R: Threads + Sync + Abort>(
     rt: &R,
     alloc: Global,

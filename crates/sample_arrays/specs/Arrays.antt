@@ -16,11 +16,11 @@ use Rattle.raid_terms.specs.Exponent.{exponent_of, item_in}
 use Rattle.raid_terms.specs.Role.{item_of, p_of, q_of}
 use Rattle.sample_arrays.specs.Marks.{group_blocks, volume_sector}
 
--- the image sector after the last one of so many rows of chunks
+-- the image sector after the last one of `rows` rows of chunks
 abbrev pub end_of : Head → ℕ → ℕ
 end_of head rows = head.offset + rows * head.chunk
 
--- a file of whole sectors up to an end, of which each number is a byte, so that all of it is told
+-- a file of whole sectors up to an end, of which each number is a byte, so that all of it is known
 pub record IsFile (end : ℕ) (file : List ℕ × List ℕ) : Type 0 where
   pub long : length file.1 ≡ 512 * end
   pub told : told_bytes file.1 ≡ Some file.1
@@ -54,7 +54,7 @@ member_sector volume head slot t =
     else if stands_in slot (q_of head (t / head.chunk)) then q_sector volume head t
     else volume (row_sector head t (item_in head (t / head.chunk) slot))
 
--- the image of a slot: zeros up to the offset, then so many rows of its member
+-- the image of a slot: zeros up to the offset, then `rows` rows of its member
 unfoldable pub image_of : (ℕ → List ℕ) → Head → ℕ → ℕ → List ℕ
 image_of volume head rows slot =
     replicate (512 * head.offset) 0 ++ flat_map (member_sector volume head slot) (range_with_len 0 (rows * head.chunk))

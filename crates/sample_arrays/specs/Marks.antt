@@ -10,11 +10,11 @@ use Rattle.sample_arrays.specs.Words.{random_sector}
 abbrev pub group_blocks : ℕ → ℕ → ℕ
 group_blocks sectors items = sectors / 512 - (sectors / 512 - 1) % items
 
--- with zeros after it, so many bytes
+-- the bytes, and zeros after them up to n bytes
 abbrev pub padded : ℕ → List ℕ → List ℕ
 padded n bytes = bytes ++ replicate (n - length bytes) 0
 
--- a superblock: blocks of 4096 bytes, 64 groups of so many, and sectors of 512 bytes
+-- a superblock: blocks of 4096 bytes, 64 groups of `blocks` blocks, and sectors of 512 bytes
 unfoldable pub super_sector : ℕ → List ℕ
 super_sector blocks =
     padded 512 (padded 102 (padded 84 (padded 32 (codes "XFSB" ++ to_be_bytes w32 4096) ++ replicate 16 165) ++ to_be_bytes w32 blocks ++ to_be_bytes w32 64) ++ to_be_bytes w16 512)
@@ -23,11 +23,11 @@ super_sector blocks =
 unfoldable pub header_sector : List ℕ → ℕ → List ℕ
 header_sector letters group = padded 512 (letters ++ to_be_bytes w32 1 ++ to_be_bytes w32 group)
 
--- sector k of a group of so many blocks, of the first three
+-- sector k of a group of `blocks` blocks, where k is 0, 1 or 2
 abbrev pub mark_sector : ℕ → ℕ → ℕ → List ℕ
 mark_sector blocks group k = if k == 0 then super_sector blocks else if k == 1 then header_sector (codes "XAGF") group else header_sector (codes "XAGI") group
 
--- volume sector v is one of the first three of the 64 groups
+-- volume sector v is one of the first three sectors of one of the 64 groups
 abbrev pub is_mark : ℕ → ℕ → Bool
 is_mark blocks v = nat_lt (v / (8 * blocks)) 64 && nat_lt (v % (8 * blocks)) 3
 

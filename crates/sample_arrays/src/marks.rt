@@ -26,7 +26,7 @@ pub(crate) struct Filling {
     pub(crate) blocks: Option<u32>,
 }
 
-/// The blocks of a group of a volume of so many sectors, of rows with so many data items.
+/// The blocks of a group of a volume of `sectors` sectors, whose rows have `items` data items.
 pub(crate) fn group_blocks(sectors: u64, items: u64) -> u32
     requires some { 512 ≤ sectors }
     requires most { sectors < 2 ^ 32 }
@@ -75,7 +75,7 @@ fn mark_sector(blocks: u32, sector: u64) -> Sector
     }
 }
 
-/// The superblock of an XFS with groups of so many blocks.
+/// The superblock of an XFS with groups of `blocks` blocks.
 #[tactic(auto, unfolding(crate::specs::Marks::super_sector))]
 fn super_sector(blocks: u32) -> Sector
     ensures bytes { result.items ≡ super_sector_of blocks }
@@ -109,7 +109,7 @@ fn header_sector(letters: &[u8; 4], group: u32) -> Sector
     sector
 }
 
-/// Appends zeros up to so many bytes.
+/// Appends zeros up to a length of `bytes` bytes.
 fn pad(sector: &mut Sector, bytes: usize)
     requires few { length sector.old.items ≤ bytes }
     requires room { bytes ≤ 512 }

@@ -25,7 +25,7 @@ pub(crate) fn data_blocks(head: &Head) -> u8
     head.members - head.level.redundancy()
 }
 
-/// The sector of the volume of an item, beside a sector of the members.
+/// The volume sector of an item at a sector of the members.
 #[tactic(auto, using(address_map::proofs::Heads::some_chunk, crate::proofs::Near::row_near))]
 fn row_sector(head: &Head, sector: u64, item: u8) -> u64
     requires head { IsTrue (is_valid_head head.now) }
@@ -38,7 +38,7 @@ fn row_sector(head: &Head, sector: u64, item: u8) -> u64
     chunk * head.chunk + sector % head.chunk
 }
 
-/// The data of an item.
+/// The data of an item at a sector of the members.
 fn data_sector(filling: &Filling, head: &Head, sector: u64, item: u8) -> Sector
     requires blocks { IfSome filling.now.blocks (λ blocks. 1 ≤ blocks) }
     requires head { IsTrue (is_valid_head head.now) }
@@ -50,7 +50,7 @@ fn data_sector(filling: &Filling, head: &Head, sector: u64, item: u8) -> Sector
     volume_sector(filling, row_sector(head, sector, item))
 }
 
-/// P beside a sector of the members.
+/// P at a sector of the members.
 #[tactic(auto, using(crate::proofs::Sums::no_sectors, crate::proofs::Sums::one_sector_more))]
 fn p_sector(filling: &Filling, head: &Head, sector: u64) -> [u8; SECTOR]
     requires blocks { IfSome filling.now.blocks (λ blocks. 1 ≤ blocks) }
@@ -68,7 +68,7 @@ fn p_sector(filling: &Filling, head: &Head, sector: u64) -> [u8; SECTOR]
     sum
 }
 
-/// The weight of an item in Q.
+/// The weight of an item in Q: 2 to the power of its exponent.
 #[tactic(auto, using(crate::proofs::Sums::holds_item))]
 fn weight(head: &Head, row: u64, item: u8) -> u8
     requires head { IsTrue (is_valid_head head.now) }
@@ -79,7 +79,7 @@ fn weight(head: &Head, row: u64, item: u8) -> u8
     power(exponent(head, row, slot_of_item(head, row, item)))
 }
 
-/// Q beside a sector of the members.
+/// Q at a sector of the members.
 #[tactic(auto, using(address_map::proofs::Heads::some_chunk, crate::proofs::Sums::no_sectors, crate::proofs::Sums::one_sector_more, crate::proofs::Sums::weighed))]
 fn q_sector(filling: &Filling, head: &Head, sector: u64) -> [u8; SECTOR]
     requires blocks { IfSome filling.now.blocks (λ blocks. 1 ≤ blocks) }
@@ -129,7 +129,7 @@ fn add(image: &mut Vec<u8>, bytes: &[u8]) -> Result<(), Memory>
     image.extend_from_slice(bytes).map_err(|_| Memory)
 }
 
-/// The image of a slot: zeros up to the data offset, and so many rows of its member.
+/// The image of a slot: zeros up to the data offset, and then `rows` rows of its member.
 #[tactic(auto, using(address_map::proofs::Heads::some_chunk, crate::proofs::Images::no_sectors, crate::proofs::Images::one_sector_more))]
 pub(crate) fn image(
     alloc: Global,

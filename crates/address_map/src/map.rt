@@ -31,7 +31,7 @@ pub struct Home {
     pub sector: u64,
 }
 
-/// The whole rows of chunks before the image sector `end`.
+/// How many whole rows of chunks lie before the image sector `end`.
 #[tactic(auto, using(crate::proofs::Heads::some_chunk))]
 pub fn rows(head: &Head, end: u64) -> u64
     requires { IsTrue (is_valid_head head.now) }
@@ -40,7 +40,7 @@ pub fn rows(head: &Head, end: u64) -> u64
     end.saturating_sub(head.offset) / head.chunk
 }
 
-/// The sectors of a member that lie in whole rows.
+/// How many sectors of a member lie in whole rows.
 #[tactic(auto, using(crate::proofs::Heads::whole_below, crate::proofs::Heads::some_chunk))]
 pub fn area(head: &Head, end: u64) -> u64
     requires { IsTrue (is_valid_head head.now) }
@@ -49,7 +49,7 @@ pub fn area(head: &Head, end: u64) -> u64
     rows(head, end) * head.chunk
 }
 
-/// The data items of a row.
+/// How many data items a row has.
 #[tactic(auto, using(raid_layouts::proofs::Levels::enough))]
 fn data_blocks(head: &Head) -> u8
     requires { IsTrue (is_valid_head head.now) }
@@ -62,7 +62,7 @@ fn data_blocks(head: &Head) -> u8
     }
 }
 
-/// The sectors of the volume.
+/// How many sectors the volume has.
 #[tactic(auto, using(crate::proofs::Heads::volume_fits, crate::proofs::Heads::few_data, crate::proofs::Heads::whole_below))]
 pub fn volume_sectors(head: &Head, end: u64) -> u64
     requires head { IsTrue (is_valid_head head.now) }

@@ -98,14 +98,14 @@ impl Sweep {
         self.first
     }
 
-    /// The sectors of each block.
+    /// How many sectors each block has.
     pub fn count(&self) -> usize
         ensures { result ≡ self.now.count }
     {
         self.count
     }
 
-    /// The block of an image.
+    /// The bytes of the block of an image, which are not copied.
     #[tactic(auto, using(crate::proofs::Blocks::blocks_length, crate::proofs::Blocks::block_at, crate::proofs::Blocks::block_inside))]
     pub fn block(&self, image: usize) -> &[u8]
         requires { image < length self.now.blocks }

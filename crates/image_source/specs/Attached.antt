@@ -14,7 +14,7 @@ told_all (image ∷ images) = option_and_then (λ bytes. option_map (λ others. 
 abbrev pub IsWhole : Image → Type 0
 IsWhole image = IfSome image.bytes (λ bytes. length bytes ≡ 512 * image.sectors)
 
--- each of the images is whole
+-- the known bytes of each image are 512 for each of its sectors
 abbrev pub AreWhole : List Image → Type 0
 AreWhole images = All IsWhole images
 

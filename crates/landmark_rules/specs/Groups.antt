@@ -77,7 +77,7 @@ kind_place Super = 3
 kind_place Agf = 4
 kind_place Agi = 5
 
--- the most groups of a kind
+-- the most groups of a kind that a plan may have
 abbrev pub most_groups : GroupKind → ℕ
 most_groups GptGroup = 1
 most_groups Ntfs = MOST_GROUPS

@@ -43,7 +43,7 @@ fn first_held(
     None
 }
 
-/// Whether the group holds at the origin.
+/// Whether the group holds at the origin: few enough misfits, and as many fits as are asked.
 fn holds_at(geo: &Geometry, end: u64, group: &Group, tests: &MarkTests, origin: u64) -> bool
     requires shaped { (images : ℕ) × (is_shaped geo.now images ≡ true) }
     requires end { end < 2 ^ 55 }

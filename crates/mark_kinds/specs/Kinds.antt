@@ -6,7 +6,7 @@ use Rattle.ntfs_marks.specs.FileRecord.{is_ntfs_record}
 use Rattle.xfs_marks.specs.Superblock.{is_xfs_super}
 use Rattle.xfs_marks.specs.Group.{is_xfs_agf, is_xfs_agi}
 
--- the test of each kind
+-- the tests of the six kinds
 abbrev pub kind_tests : List (List ℕ → Bool)
 kind_tests = is_gpt_header ∷ is_ntfs_boot ∷ is_ntfs_record ∷ is_xfs_super ∷ is_xfs_agf ∷ is_xfs_agi ∷ []
 

@@ -14,7 +14,7 @@ const UPDATE_SEQUENCE: u16 = 48;
 pub struct NtfsRecord {
     /// Its number, from 0 to 15.
     pub number: u32,
-    /// The bytes that it has.
+    /// Its allocated size, in bytes.
     pub bytes: u32,
 }
 

@@ -37,7 +37,7 @@ ddf_name NRestart = Some (codes "ddf-N-restart")
 ddf_name NContinue = Some (codes "ddf-N-continue")
 ddf_name _ = None
 
--- striping has one pattern
+-- level 0 has one pattern
 abbrev pub striping_name : Pattern → Option (List ℕ)
 striping_name Plain = Some (codes "raid0")
 striping_name _ = None

@@ -77,7 +77,7 @@ pub(crate) fn item_of_slot(head: &Head, row: u64, slot: u8) -> u8
     }
 }
 
-/// The role of a slot in a row.
+/// What a slot is for in a row: P, Q, or a data item by its number.
 pub fn role(head: &Head, row: u64, slot: u8) -> SlotRole
     requires head { IsTrue (is_valid_head head.now) }
     requires slot { slot < head.now.members }

@@ -22,6 +22,6 @@ area head end = rows head end * head.chunk
 abbrev pub data_blocks : Head → ℕ
 data_blocks head = head.members - redundancy head.level
 
--- sectors of the volume
+-- sectors of the volume: a member's sectors in whole rows, for each data block of a row
 abbrev pub volume_sectors : Head → ℕ → ℕ
 volume_sectors head end = area head end * data_blocks head

@@ -22,7 +22,7 @@ use Rattle.raid_params.specs.declared.types.Syndrome.TheVariants.{NoQ}
 abbrev pub fewest : Level → ℕ
 fewest level = redundancy level + 2
 
--- the level has the pattern
+-- the level has the pattern: level 0 has Plain alone, level 5 six others, and level 6 all but Plain
 abbrev pub has_pattern : Level → Pattern → Bool
 has_pattern Raid0 Plain = true
 has_pattern Raid0 _ = false

@@ -35,6 +35,6 @@ abbrev pub cells_from : Head → ℕ → ℕ → List (Option ℕ) → List Cell
 cells_from head row slot [] = []
 cells_from head row slot (held ∷ slots) = record { part = part_of head row slot; missing = is_none held } ∷ cells_from head row (slot + 1) slots
 
--- the cells of a row
+-- the cells of a row, one for each slot
 abbrev pub row_cells : Geometry → ℕ → List Cell
 row_cells geo row = cells_from geo.head row 0 geo.slots.items

@@ -49,8 +49,8 @@ fn main(rt: HostRuntime) -> ExitCode {
     ))
 }
 
-/// Opens `/dev/null` three times, which takes what is closed of the descriptors 0 to 2 as long as the
-/// answer lives. A plan read from there is empty, and what is written there fails.
+/// Opens `/dev/null` three times. So each of the descriptors 0 to 2 that was closed is taken as long as
+/// the answer lives. A plan read from there is empty, and what is written there fails.
 fn hold_descriptors<R: Files>(rt: &R) -> [io::Result<R::File>; 3] {
     let open = || File::open(rt, "/dev/null");
     [open(), open(), open()]

@@ -18,7 +18,7 @@ static NAMES: [&str; 16] = [
 /// The bytes that the output has room for.
 const ROOM: usize = 8192;
 
-/// What a run meets.
+/// The objects that a run works on.
 #[derive(Drop)]
 pub struct Outside {
     pub images: MemImages,
@@ -115,7 +115,7 @@ pub fn images_of(alloc: Global, images: &[&[u8]]) -> Result<Vec<Vec<u8>>, Memory
     Ok(contents)
 }
 
-/// A run of these words, and its status.
+/// Runs these words, and gives the status.
 pub fn run_words<R: Threads + Sync>(
     rt: &R,
     alloc: Global,

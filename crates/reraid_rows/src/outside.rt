@@ -25,7 +25,7 @@ pub fn first_names(count: usize) -> &'static [&'static str]
     &NAMES[..count.min(16)]
 }
 
-/// What a run meets.
+/// The objects that a run works on.
 #[derive(Drop)]
 pub struct Outside {
     pub images: MemImages,
@@ -137,7 +137,7 @@ pub fn filled(alloc: Global, sectors: &[u8]) -> Result<Vec<u8>, Memory>
     Ok(bytes)
 }
 
-/// A run of a command over the images of these names, and its status.
+/// Runs a command over the images of these names, and gives the status.
 pub(crate) fn run_command<R: Threads + Sync>(
     rt: &R,
     alloc: Global,

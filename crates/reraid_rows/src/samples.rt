@@ -1,5 +1,4 @@
-//! Arrays that are generated, and what of them is found. The totals were worked out by hand, the marks by another
-//! program.
+//! Generated arrays, and what is found of them. The totals were worked out by hand, the marks by another program.
 use crate::outside::{Outside, images_of, run_command};
 use crate::words::{Command, Operand};
 use image_source::Memory;

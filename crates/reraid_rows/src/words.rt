@@ -43,7 +43,7 @@ pub enum Command<'a> {
     Write(&'a [Operand<'a>]),
     /// The member of a slot of a set.
     Rebuild(&'a [Operand<'a>]),
-    /// What of an array that is generated is found.
+    /// What is found of a generated array.
     Sample(&'a [Operand<'a>]),
 }
 

@@ -40,7 +40,7 @@ value_of (Repeat n) = n
 value_of (Missing n) = n
 value_of (NoRow n) = n
 
--- the status of a stop
+-- the status with which the program ends at a stop
 abbrev pub status_of : Stop → ℕ
 status_of (Word number) = 1
 status_of (PlanLine number) = 2
@@ -58,19 +58,19 @@ status_of PlanFault = 11
 status_of OutFault = 12
 status_of OutOfMemory = 20
 
--- the stop of a fault of the plan
+-- why a run ends where no plan was read
 abbrev pub stop_of_plan : FaultOfPlan → Stop
 stop_of_plan (PlanLineOf number) = PlanLine number
 stop_of_plan PlanMemory = OutOfMemory
 
--- the stop of a page
+-- why a run ends where a page could not be made
 abbrev pub stop_of_page : PageFault → Stop
 stop_of_page PageMany = Many
 stop_of_page (PageCursor fault) = Cursor fault
 stop_of_page ReadFault = ImageFault
 stop_of_page PageMemory = OutOfMemory
 
--- the stop of a fault while a volume or a member is written
+-- why a run ends where a volume or a member could not be written
 abbrev pub stop_of_volume : VolumeFault → Stop
 stop_of_volume VolumeRead = ImageFault
 stop_of_volume VolumeWrite = OutFault

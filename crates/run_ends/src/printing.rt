@@ -8,7 +8,7 @@ use image_source::{Memory, Sink};
 use itoa::Buffer;
 use plan_text::Text;
 
-/// Puts an answer, whole, if there is one.
+/// Puts the answer whole, if there is one, or says why there is none.
 pub fn print<K: Sink>(out: &mut K, answer: Result<Text, Stop>) -> Result<(), Stop>
     ensures printed { IsPrinted (K.gained out.old) (K.gained out.new) (K.faults out.old) (K.faults out.new) answer result }
     ensures later { K.faults out.old ≤ K.faults out.new }
@@ -38,7 +38,7 @@ pub fn add_number(text: &mut Text, number: u64) -> Result<(), Memory>
     text.extend_from_slice(buffer.format(number).as_bytes())
 }
 
-/// Appends a line of a name, which ends with a space, and how many of how many.
+/// Appends the line `NAME PART of WHOLE`. The name ends with a space.
 #[tactic(auto, unfolding(crate::specs::Printing::share_line))]
 pub fn add_share(text: &mut Text, name: &[u8], part: u64, whole: u64) -> Result<(), Memory>
     ensures { OnOk result (text.new ≡ text.old ++ share_line name.now part whole) }

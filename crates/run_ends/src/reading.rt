@@ -9,7 +9,7 @@ use image_source::Source;
 use raid_params::PLAN_BYTES;
 use std::alloc::Global;
 
-/// How many bytes are taken at once.
+/// The most bytes that one call takes.
 const PIECE: usize = 4096;
 
 /// All that a source has left, unless that is more than a plan may have. At most one call of `take`

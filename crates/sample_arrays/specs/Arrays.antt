@@ -1,4 +1,4 @@
--- Arrays that are generated: the members of a set over a generated volume.
+-- Generated arrays: the members of a set over a generated volume.
 use Rattle.std.specs.Prelude.{ℕ, zero, suc, ◌≡◌, ◌+◌, ◌*◌, ◌/◌, ◌%◌, Bool, if◌then◌else◌, List, ◌++◌, map, length, replicate, bit_xor, decimal, unwrap_or}
 use Rattle.std.specs.List.{flat_map, range_with_len}
 use Rattle.std.specs.Simd.Lanes.{zip2}

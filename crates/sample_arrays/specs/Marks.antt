@@ -31,7 +31,7 @@ mark_sector blocks group k = if k == 0 then super_sector blocks else if k == 1 t
 abbrev pub is_mark : ℕ → ℕ → Bool
 is_mark blocks v = nat_lt (v / (8 * blocks)) 64 && nat_lt (v % (8 * blocks)) 3
 
--- volume sector v of an array that is generated from a number, with the groups of an XFS or without
+-- volume sector v of the array generated from a number, with the groups of an XFS or without
 abbrev pub volume_sector : ℕ → Option ℕ → ℕ → List ℕ
 volume_sector number None v = random_sector number v
 volume_sector number (Some blocks) v =

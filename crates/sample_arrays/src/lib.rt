@@ -1,4 +1,4 @@
-//! Arrays that are generated: the images of a set over a volume of random words, for trying the tool.
+//! Generated arrays: the images of a set over a volume of random words, for trying the tool.
 //!
 //! [`sample`] fills a volume with the words of SplitMix64, and, where it is asked for, writes the first
 //! sectors of the groups of an XFS over them. Each filled slot of the set gives an image. No volume is kept:

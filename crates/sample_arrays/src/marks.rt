@@ -37,7 +37,7 @@ pub(crate) fn group_blocks(sectors: u64, items: u64) -> u32
     (most - (most - 1) % items) as u32
 }
 
-/// Sector `sector` of the volume.
+/// Sector `sector` of the volume: one of the first three of an XFS group, or words of the generator.
 pub(crate) fn volume_sector(filling: &Filling, sector: u64) -> Sector
     requires near { 64 * sector < 2 ^ 64 }
     requires blocks { IfSome filling.now.blocks (λ blocks. 1 ≤ blocks) }

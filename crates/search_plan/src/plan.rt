@@ -8,7 +8,7 @@ use raid_params::{Bounds, MOST};
 pub struct Limits {
     /// The most tested sector rows that may be unsound.
     pub badrows: u64,
-    /// The member sector from which on none is tested.
+    /// Only member sectors below this are tested.
     pub window: u64,
 }
 

@@ -39,7 +39,7 @@ unfoldable pub count_in : Plan → List Head → ℕ
 count_in plan [] = 0
 count_in plan (head ∷ heads) = length (lists_of (space_of plan head.level head.members)) + count_in plan heads
 
--- the heads of a plan
+-- the heads of a plan in the order of the product, each with its slot lists and its first rank
 abbrev pub heads_of : Plan → List HeadSets
 heads_of plan = numbered plan 0 (heads plan.bounds)
 
@@ -47,7 +47,7 @@ heads_of plan = numbered plan 0 (heads plan.bounds)
 abbrev pub end_of : HeadSets → ℕ
 end_of sets = sets.first + length (lists_of sets.space)
 
--- the sets of a head
+-- the sets of a head, in the order of its slot lists
 abbrev pub sets_in : HeadSets → List Geometry
 sets_in sets = map (λ slots. record { head = sets.head; slots = record { items = slots } }) (lists_of sets.space)
 

@@ -73,7 +73,7 @@ fn place_among<T: Placed>(values: &[T], value: &T) -> Option<usize>
     values.iter().position(|other| place == other.place())
 }
 
-// The chunk and the offset of this rank among those of the plan.
+// The pair of this rank among the plan's pairs of a chunk and an offset.
 fn end_at(plan: &Plan, rank: u128) -> (u64, u64)
     requires { rank < length plan.now.bounds.chunks.items * length plan.now.bounds.offsets.items }
     ensures { slice_get (pairs plan.now.bounds.chunks.items plan.now.bounds.offsets.items) rank ≡ Some result }
@@ -112,7 +112,7 @@ impl Block {
         starts * ends
     }
 
-    // The pattern and the order of Q of this rank among those of the block.
+    // The pair of this rank among the block's pairs of a pattern and an order of Q.
     fn start_at(&self, rank: u128) -> (Pattern, Syndrome)
         requires { rank < length self.now.patterns.items * length self.now.syndromes.items }
         ensures { slice_get (pairs self.now.patterns.items self.now.syndromes.items) rank ≡ Some result }

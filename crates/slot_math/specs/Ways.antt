@@ -50,6 +50,6 @@ are_images n [] = true
 are_images n (None ∷ l) = are_images n l
 are_images n (Some i ∷ l) = nat_lt i n && are_images n l
 
--- the list is one of the space
+-- the list is one of the space: its places, its images, none twice, and its number of empty places
 abbrev pub is_listed : Space → List (Option ℕ) → Bool
 is_listed s l = (length l == s.members) && are_images s.images l && is_distinct l && nat_le s.low (empties l) && nat_le (empties l) s.high

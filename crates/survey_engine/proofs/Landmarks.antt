@@ -1,4 +1,4 @@
--- Byte 3 tells what a sector may be.
+-- Byte 3 says which kind of landmark a sector may be.
 use Rattle.std.proofs.Common.{◌≡◌, ◌≢◌, ℕ, List, Bool, true, false, cond, Some, None, refl, sym, ◌∙◌, arith, slice_index}
 use Rattle.std.specs.Option.{option_map}
 use Rattle.gpt_marks.specs.Header.{is_gpt_header, gpt_header, gpt_header_of}

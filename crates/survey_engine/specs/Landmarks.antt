@@ -12,7 +12,7 @@ use Rattle.landmark_rules.specs.declared.marks.Kind.TheVariants.{Gpt as GptKind,
 use Rattle.survey_engine.specs.declared.landmark.Landmark.{Landmark}
 use Rattle.survey_engine.specs.declared.landmark.Landmark.TheVariants.{Gpt, Boot, FileRecord, Super, Agf, Agi}
 
--- the kind of a landmark
+-- the kind of a landmark, without its numbers
 abbrev pub kind_of : Landmark → Kind
 kind_of (Gpt h) = GptKind
 kind_of (Boot b) = BootKind

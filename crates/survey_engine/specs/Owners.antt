@@ -42,7 +42,7 @@ is_same_owner (Ntfs a) (Ntfs b) = is_same_boot a b
 is_same_owner (Xfs a) (Xfs b) = is_same_super a b
 is_same_owner a b = false
 
--- the kind of the group of an owner
+-- the kind of the group that the marks of an owner make
 abbrev pub group_kind : Owner → GroupKind
 group_kind Table = GptGroup
 group_kind (Ntfs b) = NtfsGroup
@@ -100,11 +100,11 @@ IsSoundOwner (Xfs x) = IsTrue (is_sound x)
 abbrev pub mark_in : Owner → Bool → Sighting → Option Mark
 mark_in owner alone s = option_map (λ rule. record { kind = kind_of s.landmark; image = s.image; sector = s.sector; rule = rule }) (rule_in owner alone s.landmark)
 
--- the group of an owner
+-- the group of an owner: the marks of its sightings, in their order
 abbrev pub group_for : List Sighting → Bool → Owner → Group
 group_for found alone owner = record { kind = group_kind owner; marks = filter_map (mark_in owner alone) found }
 
--- the groups of a kind
+-- the groups of a kind, one for each owner
 unfoldable pub groups_in : List Sighting → GroupKind → List Group
 groups_in found kind = map (group_for found (length (owners_of kind found) == 1)) (owners_of kind found)
 

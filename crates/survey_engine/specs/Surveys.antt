@@ -27,7 +27,7 @@ pub record IsSurveyable (ask : Ask) (attached : List Image) : Type 0 where
   pub short : All (λ image. image.sectors < 2 ^ 55) attached
   pub long : All (λ image. ask.end ≤ image.sectors) attached
 
--- the lengths of images
+-- the lengths of the attached images, in sectors
 abbrev pub lengths_of : List Image → List ℕ
 lengths_of attached = map (λ image. image.sectors) attached
 

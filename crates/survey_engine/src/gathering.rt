@@ -17,8 +17,8 @@ use image_source::{Images, ListOf, Memory};
 use raid_params::MOST;
 use std::alloc::Global;
 
-/// The sightings of the images that count, in order of sector, then image. No sector below the smallest
-/// offset is read, and each sector from there to the end is read once.
+/// The sightings that count among those of the images, in order of sector, then image. No sector below
+/// the smallest offset is read, and each sector from there to the end is read once.
 pub fn gather<I: Images>(
     alloc: Global,
     images: &mut I,

@@ -103,7 +103,7 @@ fn most_groups(kind: GroupKind) -> usize
     }
 }
 
-/// The group of an owner.
+/// The group of an owner: the marks of its sightings, in their order.
 #[tactic(auto, using(crate::proofs::Groups::marks_none, crate::proofs::Groups::marks_some, crate::proofs::Groups::marks_same, crate::proofs::Groups::marks_all, crate::proofs::Groups::sound_at))]
 fn group_for(alloc: Global, found: &[Sighting], alone: bool, owner: &Owner) -> Result<Group, Memory>
     requires found { All (λ s. IsSound s.landmark) found.now }

@@ -50,7 +50,7 @@ pub fn origins<I: Images>(
 }
 
 /// Adds the hints of a sighting: where it is a header whose entries follow, the first blocks of the
-/// partitions in the next sector.
+/// partitions that the next sector lists.
 fn add_hints<I: Images>(
     images: &mut I,
     lengths: &[u64],

@@ -35,7 +35,7 @@ impl Owner {
         }
     }
 
-    /// The kind of its group.
+    /// The kind of the group that its marks make.
     pub fn group_kind(&self) -> GroupKind
         ensures { result ≡ group_kind self.now }
     {

@@ -31,8 +31,8 @@ pub enum SurveyFault {
 /// Surveys the attached images: the plan repeats what was asked, and adds the images' lengths, the groups
 /// of marks that the sightings make, and the origins that partition tables hint at.
 ///
-/// Sectors from the smallest offset to the end are read once, and one sector of entries for a header of a
-/// partition table that counts.
+/// Each sector from the smallest offset to the end is read once, and at most one sector of entries for
+/// each header of a partition table that counts.
 pub fn survey<I: Images>(alloc: Global, images: &mut I, ask: &Ask) -> Result<Plan, SurveyFault>
     requires { IsSurveyable ask.now (I.seen images.old).attached }
     ensures plan { IfOk result IsPlan }

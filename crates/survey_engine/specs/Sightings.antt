@@ -36,8 +36,9 @@ is_group_asked kinds Xfs = kinds.xfs
 abbrev pub is_dropped : Ask → Place → Bool
 is_dropped ask at = list_any (λ drop. drop.image == at.image && drop.sector == at.sector) ask.drops.items
 
--- a landmark is a sighting, in an image of that length: its kind is asked for, no data can begin after it
--- at an offset (offsets rise, so that the first is the smallest), it is not dropped, and no own table
+-- a landmark is a sighting, in an image of that length: its kind is asked for, it does not lie before the
+-- smallest offset (which is the first, since offsets rise), it is not dropped, and it is not of the
+-- image's own table
 abbrev pub is_sighting : Ask → ℕ → Place → Landmark → Bool
 is_sighting ask length at landmark =
     is_group_asked ask.kinds (group_of (kind_of landmark))

@@ -10,9 +10,9 @@ use Rattle.candidate_enum.specs.Survivors.{Question}
 unfoldable pub meets : Question → List (Option ℕ) → Bool
 meets q prefix = list_any (begins prefix) (slice_range (lists_of q.space) q.from q.stop)
 
--- the tests of a prefix that has `places` places to come: none where no list of a rank in the range begins with
--- it, one where it is not admitted or has all its places, and else one and those of the prefixes with one place
--- more
+-- the tests of a prefix that has `places` places to come. There are none where no list of a rank in the range
+-- begins with it, and one where it is not admitted or has all its places. Elsewhere there is one for the
+-- prefix, and those of the prefixes with one place more
 unfoldable pub tests : Question → ℕ → List (Option ℕ) → ℕ
 tests q zero prefix = if meets q prefix then 1 else 0
 tests q (suc places) prefix =

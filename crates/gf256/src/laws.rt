@@ -57,8 +57,8 @@ pub fn undoing()
     ensures no_zero_divisor { (a b : ℕ) → a < 2 ^ 8 → b < 2 ^ 8 → product a b ≡ 0 → a ≢ 0 → b ≡ 0 }
 {}
 
-/// The powers of 2 begin at 1 and double, add, repeat after 255, and are all bytes but 0, each once, so two of them with different
-/// exponents below 255 have a sum that is not 0.
+/// The powers of 2 begin at 1 and double. In a product their exponents add, and they repeat after 255. They are all
+/// bytes but 0, each once, so two of them with different exponents below 255 have a sum that is not 0.
 #[tactic(auto, using(crate::proofs::Powers::first, crate::proofs::Powers::next, crate::proofs::Powers::powers_add, crate::proofs::Powers::period, crate::proofs::Powers::power_fits, crate::proofs::Powers::not_zero, crate::proofs::Powers::distinct, crate::proofs::Powers::sum_not_zero, crate::proofs::Powers::is_power))]
 pub fn powers()
     ensures first { power_of 0 ≡ 1 }

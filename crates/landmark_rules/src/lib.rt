@@ -1,11 +1,11 @@
 //! Landmarks: where the marks of images lie on the volume of a parameter set, and whether they lie where
 //! file systems and partition tables put them.
 //!
-//! A mark is a landmark sector of an image with the rule that says where on the volume it may lie. The marks
-//! of one partition table or file system form a group. [`groups_hold`] is the landmark test of a parameter
-//! set, [`held_origin`] says from where a group holds, [`tally`] counts, and [`sector_in`] says which sector of the
-//! volume a slot holds at a sector of its image. Rules stand in `specs/Rules`,
-//! where marks lie in `specs/Marks`, the test and what a plan may hold in `specs/Groups`.
+//! A mark is a landmark sector of an image with the rule that says where on the volume it may lie. The marks of one
+//! partition table or file system form a group. [`groups_hold`] is the landmark test of a parameter set, and
+//! [`held_origin`] says from where a group holds. [`tally`] counts, and [`sector_in`] says which sector of the
+//! volume a slot holds at a sector of its image. Rules stand in `specs/Rules`, where marks lie in `specs/Marks`,
+//! the test and what a plan may hold in `specs/Groups`.
 #![tactic(auto)]
 
 mod counting;

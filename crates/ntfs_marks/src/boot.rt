@@ -30,11 +30,11 @@ pub struct NtfsBoot {
     pub serial: u64,
 }
 
-/// The fields of a boot sector. None where the sector is none: another OEM identifier or end marker,
-/// sectors of another size than 512 bytes, clusters that are no power of two from 1 to 128 sectors,
-/// records that are not 512 to 65,536 bytes in whole sectors, no sectors at all or 2^55 and more, or a
-/// record 15, of the table or of its copy, at sector 2^55 or later, records 0 to 15 taken to stand in
-/// one run.
+/// The fields of a boot sector. None where the sector is none: another OEM identifier or end marker;
+/// sectors of another size than 512 bytes; clusters that are no power of two from 1 to 128 sectors;
+/// records that are not 512 to 65,536 bytes in whole sectors; no sectors at all, or 2^55 or more; or a
+/// record 15, of the table or of its copy, at sector 2^55 or later. Records 0 to 15 are taken to stand
+/// in one run.
 #[tactic(auto, using(crate::proofs::Sizes::no_boot, crate::proofs::Sizes::size_is, crate::proofs::Sizes::size_allowed, crate::proofs::Limits::boot_within))]
 pub fn read_boot(sector: &[u8; SECTOR]) -> Option<NtfsBoot>
     ensures boot { result ≡ ntfs_boot sector.now }

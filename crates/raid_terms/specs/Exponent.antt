@@ -1,4 +1,4 @@
--- The exponent of a data block: the power of 2 by which Q weighs it, in the order that the syndrome counts.
+-- The exponent of a data block: Q weighs it by 2 to this power. The order of Q says which it is.
 use Rattle.std.specs.Prelude.{ℕ, ◌+◌, ◌%◌, ◌==◌, ◌&&◌, not, List, map, count_by, position, unwrap_or}
 use Rattle.std.specs.List.{range_with_len, take_while}
 use Rattle.raid_params.specs.declared.types.Head.{Head}

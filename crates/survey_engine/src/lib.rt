@@ -2,8 +2,8 @@
 //!
 //! [`survey`] sweeps the attached images side by side in sector order. A sector that is a GPT header, an
 //! NTFS boot sector or file record, an XFS superblock, AGF or AGI is a sighting. Of each kind the first
-//! 4,096 count. They make the groups of the plan, one for the partition table and one for each file system,
-//! and the entries after a GPT header say at which volume sectors a file system may begin.
+//! 4,096 count. They make the groups of the plan, one for the partition table and one for each file system.
+//! The entries after a GPT header say at which volume sectors a file system may begin.
 //!
 //! What a sector may be stands in `specs/Landmarks`, which are sightings and count in `specs/Sightings`,
 //! groups and the rules of their marks in `specs/Owners`, the origins in `specs/Origins`, and the plan in

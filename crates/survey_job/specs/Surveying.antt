@@ -20,7 +20,7 @@ use Rattle.run_ends.specs.declared.stop.Stop.TheVariants.{Images}
 abbrev pub members_for : List ℕ → ℕ → List ℕ
 members_for asked names = if nat_eq (length asked) 0 then max names 2 ∷ [] else asked
 
--- the window: what is asked for, or the end, and at least 1
+-- the window: what is asked for, or else the end, and 1 where the end is 0
 abbrev pub window_for : Option ℕ → ℕ → ℕ
 window_for window end = unwrap_or window (max end 1)
 
@@ -61,6 +61,6 @@ survey_output asked names attached told =
     option_map (λ images. plan_text (survey_plan (ask_of asked names (end_of asked.end attached)) attached images)) told
 
 -- the most sectors that `survey` reads: each sector of each image from the smallest offset to the end once, and
--- one of entries for each partition table that counts
+-- one of entries for each header that counts, of which there are at most MOST_MARKS
 abbrev pub survey_reads : SurveyWords → List Image → ℕ
 survey_reads asked attached = length attached * (end_of asked.end attached - slice_index asked.bounds.offsets.items 0) + MOST_MARKS

@@ -27,10 +27,10 @@ pub struct XfsSuper {
     pub sector: u32,
 }
 
-/// The fields of a superblock that begins in the sector. None where none does: another magic number, a
-/// block size that is no power of two from 512 to 65,536, no blocks or no groups, a sector size that is
-/// no power of two from 512 to 32,768 or above the block size, or an end at sector 2^55 or
-/// later, the end being where the AGI of one more group would lie.
+/// The fields of a superblock that begins in the sector. None where none does: another magic number; a
+/// block size that is no power of two from 512 to 65,536; no blocks or no groups; a sector size that is
+/// no power of two from 512 to 32,768, or is above the block size; or an end at sector 2^55 or later.
+/// The end is where the AGI of one more group would lie.
 #[tactic(auto, unfolding(crate::specs::Superblock::xfs_super, crate::specs::Superblock::is_xfs_super), using(crate::proofs::Limits::super_sound))]
 pub fn read_super(sector: &[u8; SECTOR]) -> Option<XfsSuper>
     ensures superblock { result ≡ xfs_super sector.now }

@@ -16,3 +16,5 @@ pub mod Horner
 pub mod Apart
 pub mod StripSums
 pub mod Asked
+pub mod Needed
+pub mod RowSteps

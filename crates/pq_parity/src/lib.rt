@@ -14,6 +14,7 @@
 
 mod known;
 pub mod laws;
+mod lost_data;
 mod rows;
 mod solving;
 mod strips;
@@ -22,5 +23,6 @@ mod syndromes;
 mod tests;
 mod weights;
 
+pub use lost_data::solve_data;
 pub use rows::{row_holds, sectors_hold};
 pub use solving::{solve, solve_lost};

@@ -18,3 +18,4 @@ pub mod StripSums
 pub mod Asked
 pub mod Needed
 pub mod RowSteps
+pub mod Finding

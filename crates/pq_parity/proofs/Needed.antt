@@ -179,7 +179,7 @@ kind_step true P = refl
 kind_step true Q = refl
 kind_step true (Block k) = refl
 
-missing_kinds : (cells : List Cell) → count_by (λ c. c.missing) cells ≡ lost_data cells + (count_by (λ c. c.missing && is_p c.part) cells + count_by (λ c. c.missing && is_q c.part) cells)
+pub missing_kinds : (cells : List Cell) → count_by (λ c. c.missing) cells ≡ lost_data cells + (count_by (λ c. c.missing && is_p c.part) cells + count_by (λ c. c.missing && is_q c.part) cells)
 missing_kinds [] = refl
 missing_kinds (cell ∷ cells) =
     let a = kind_step cell.missing cell.part in
@@ -190,7 +190,7 @@ none_step : (a b : Bool) → (a || b) ≡ false → (a ≡ false) × (b ≡ fals
 none_step true b h = absurd (false≢true (sym h))
 none_step false b h = (refl, h)
 
-none_counted : (test : Cell → Bool) (cells : List Cell) → list_any test cells ≡ false → count_by test cells ≡ 0
+pub none_counted : (test : Cell → Bool) (cells : List Cell) → list_any test cells ≡ false → count_by test cells ≡ 0
 none_counted test [] h = refl
 none_counted test (cell ∷ cells) h =
     let s = none_step (test cell) (list_any test cells) h in
@@ -198,7 +198,7 @@ none_counted test (cell ∷ cells) h =
     let b = none_counted test cells s.1 in
     omega (arith, count_cons test cell cells)
 
-some_counted : (test : Cell → Bool) (cells : List Cell) → list_any test cells ≡ true → 1 ≤ count_by test cells
+pub some_counted : (test : Cell → Bool) (cells : List Cell) → list_any test cells ≡ true → 1 ≤ count_by test cells
 some_counted test [] h = absurd (false≢true h)
 some_counted test (cell ∷ cells) h = at (some_counted test cells) (test cell) refl h
   where

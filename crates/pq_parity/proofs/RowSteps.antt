@@ -1,16 +1,25 @@
 -- Sector rows that are done one after the other.
-use Rattle.std.proofs.Common.{ℕ, ◌≡◌, ◌≢◌, ◌<◌, ◌≤◌, ◌+◌, ◌*◌, true, List, length, get_or, slice_get, slice_index, IfSome, inl, inr, arith, refl, ap, ◌∙◌, subst}
+use Rattle.std.proofs.Common.{ℕ, ◌≡◌, ◌≢◌, ◌<◌, ◌≤◌, ◌+◌, ◌*◌, true, false, List, length, get_or, slice_get, slice_index, IfSome, inl, inr, arith, refl, sym, ap, ap₂, ◌∙◌, subst}
 use Rattle.std.specs.declared.option.Option.{Option}
 use Rattle.std.specs.declared.option.Option.TheVariants.{None, Some}
 use Rattle.std.proofs.lemmas.Bool.{cases_lt}
 use Rattle.std.proofs.lemmas.Option.{slice_get-get_or}
 use Rattle.raid_params.specs.declared.types.Cell.{Cell}
-use Rattle.raid_terms.specs.Parity.{is_data, IsRow}
+use Rattle.raid_params.specs.declared.types.Part.TheVariants.{Q}
+use Rattle.raid_terms.specs.Parity.{in_p, in_q, is_data, IsRow}
 use Rattle.raid_terms.specs.Solving.{lost_byte}
-use Rattle.pq_parity.specs.Needs.{AgreeInRows, AreWhole, HoldLostData, KeepAllBut}
+use Rattle.pq_parity.specs.LostBytes.{weighed}
+use Rattle.pq_parity.specs.Needs.{needs, AgreeInRows, AreWhole, HoldLostData, KeepAllBut}
 use Rattle.pq_parity.specs.Regions.{region_column, HoldsLost}
+use Rattle.pq_parity.specs.Finding.{is_lost_at, AreFinders, FindsAt, IsFinder, IsFor}
+use Rattle.pq_parity.specs.Known.{no_cell}
+use Rattle.pq_parity.specs.declared.finders.Finder.{Finder}
+use Rattle.pq_parity.specs.Syndromes.{known_sum, sum_at, AreColumns, IsSyndrome}
+use Rattle.pq_parity.proofs.Finding.{found_by_p, lost_here, lost_inside, lost_missing, lost_part, no_other}
+use Rattle.pq_parity.proofs.Pairs.{weighed_p}
+use Rattle.pq_parity.proofs.Sums.{in_p_fits, known_sum_fits}
 use Rattle.pq_parity.proofs.Needed.{same_lost, some_case}
-use Rattle.pq_parity.proofs.Regions.{map_same, no_cell, regions_apart}
+use Rattle.pq_parity.proofs.Regions.{map_same, regions_apart}
 
 -- the columns of regions
 abbrev pub columns_of : List Cell → ℕ → List ℕ → ℕ → ℕ → List ℕ
@@ -91,46 +100,97 @@ by_needed cells stride from count old new column row long whole agree held = λ 
 pub lost_row_none : (cells : List Cell) (stride from : ℕ) (old new : List ℕ) → HoldLostData cells stride from 0 new (columns_of cells stride old)
 lost_row_none cells stride from old new = λ place. of_each (slice_get cells place) _ (λ cell m d j x low high below. absurd (omega arith))
 
--- one more cell of a row
-pub lost_cell_more : (cells : List Cell) (stride j place : ℕ) (old mid new : List ℕ) → 512 * j + 512 ≤ stride →
-    ((i : ℕ) → i < place → IfSome (slice_get cells i) (λ cell. cell.missing ≡ true → is_data cell.part ≡ true → HoldsLost cells stride j old mid i)) →
-    IfSome (slice_get cells place) (λ cell. cell.missing ≡ true → is_data cell.part ≡ true → HoldsLost cells stride j old new place) →
-    ((p : ℕ) → IfSome (slice_get cells place) (λ cell. cell.missing ≡ true → is_data cell.part ≡ true → (x : ℕ) → x < 512 → p ≢ stride * place + (512 * j + x)) → slice_index new p ≡ slice_index mid p) →
-    (i : ℕ) → i < place + 1 → IfSome (slice_get cells i) (λ cell. cell.missing ≡ true → is_data cell.part ≡ true → HoldsLost cells stride j old new i)
-lost_cell_more cells stride j place old mid new fits so_far here kept = λ i below.
-    elim (cases_lt i place) [
-      | inl less ↦ of_both (slice_get cells i) _ _ _
-          (λ cell before _ m d x inside.
-          kept (stride * i + (512 * j + x))
-          (of_each (slice_get cells place) _ (λ other n e z short. regions_apart stride j i (512 * j + x) place z fits (omega arith) short (λ same. absurd (omega arith))))
-          ∙ before m d x inside)
-          (so_far i less) (of_each (slice_get cells i) (λ cell. Unit {0}) (λ cell. tt))
-      | inr same ↦ (let e : place ≡ i = omega arith in
-          subst (λ (k : ℕ). IfSome (slice_get cells k) (λ cell. cell.missing ≡ true → is_data cell.part ≡ true → HoldsLost cells stride j old new k)) e here)
-    ]
-
-pub kept_cell_more : (cells : List Cell) (stride j place : ℕ) (old mid new : List ℕ) → KeepAllBut cells stride j 1 old mid →
-    ((p : ℕ) → IfSome (slice_get cells place) (λ cell. cell.missing ≡ true → is_data cell.part ≡ true → (x : ℕ) → x < 512 → p ≢ stride * place + (512 * j + x)) → slice_index new p ≡ slice_index mid p) →
-    KeepAllBut cells stride j 1 old new
-kept_cell_more cells stride j place old mid new kept others = λ p apart.
-    others p
-    (of_both (slice_get cells place) _ _ _ (λ cell far _ m d x inside. far m d j x (omega arith) (omega arith) inside) (apart place) (of_each (slice_get cells place) (λ cell. Unit {0}) (λ cell. tt)))
-    ∙ kept p apart
-
--- all cells of a row
-pub lost_row_all : (cells : List Cell) (stride j n : ℕ) (old new : List ℕ) → length cells ≤ n →
-    ((i : ℕ) → i < n → IfSome (slice_get cells i) (λ cell. cell.missing ≡ true → is_data cell.part ≡ true → HoldsLost cells stride j old new i)) →
-    HoldLostData cells stride j 1 new (columns_of cells stride old)
-lost_row_all cells stride j n old new all each = λ place.
-    elim (cases_lt place n) [
-      | inl below ↦ of_both (slice_get cells place) _ _ _
-          (λ cell hold _ m d k x low high inside.
-          let e : j ≡ k = omega arith in
-          subst (λ (i : ℕ). slice_index new (stride * place + (512 * i + x)) ≡ lost_byte cells (columns_of cells stride old i x) place) e (hold m d x inside))
-          (each place below) (of_each (slice_get cells place) (λ cell. Unit {0}) (λ cell. tt))
-      | inr above ↦ no_cell cells place _ (omega arith)
-    ]
-
 -- what is said of a place is said of its cell
 pub from_there : (cells : List Cell) (place : ℕ) (d : Cell) → place < length cells → (A : Cell → Type 0) → IfSome (slice_get cells place) A → A (get_or cells place d)
 from_there cells place d h A all = rw (slice_get-get_or cells place d h) at all
+
+-- what a fill of one region keeps is kept
+pub kept_by_fill : (cells : List Cell) (stride j place : ℕ) (old new : List ℕ) → is_lost_at cells place ≡ true →
+    ((p : ℕ) → ((x : ℕ) → x < 512 → p ≢ stride * place + (512 * j + x)) → slice_index new p ≡ slice_index old p) → KeepAllBut cells stride j 1 old new
+kept_by_fill cells stride j place old new lost kept = λ p apart.
+    kept p (λ x inside. from_there cells place no_cell (lost_inside cells place lost) _ (apart place) (lost_missing cells place lost) (lost_part cells place lost) j x (omega arith) (omega arith) inside)
+
+pub kept_by_both : (cells : List Cell) (stride j : ℕ) (old mid new : List ℕ) → KeepAllBut cells stride j 1 old mid → KeepAllBut cells stride j 1 mid new → KeepAllBut cells stride j 1 old new
+kept_by_both cells stride j old mid new kept also = λ p apart. also p apart ∙ kept p apart
+
+-- what is so of each missing data cell by its place
+pub lost_by_place : (cells : List Cell) (stride j : ℕ) (old new : List ℕ) →
+    ((place : ℕ) → is_lost_at cells place ≡ true → HoldsLost cells stride j old new place) → HoldLostData cells stride j 1 new (columns_of cells stride old)
+lost_by_place cells stride j old new each = λ place.
+    some_case cells (slice_get cells place) place _ refl
+    (λ cell is m d k x low high inside.
+    let e : j ≡ k = omega arith in
+    subst (λ (i : ℕ). slice_index new (stride * place + (512 * i + x)) ≡ lost_byte cells (columns_of cells stride old i x) place) e (each place (lost_here cells place cell is m d) x inside))
+
+-- a region that was filled before another
+pub holds_still : (cells : List Cell) (stride j place other : ℕ) (old mid new : List ℕ) → 512 * j + 512 ≤ stride → place ≢ other → HoldsLost cells stride j old mid place →
+    ((p : ℕ) → ((x : ℕ) → x < 512 → p ≢ stride * other + (512 * j + x)) → slice_index new p ≡ slice_index mid p) → HoldsLost cells stride j old new place
+holds_still cells stride j place other old mid new fits apart held kept = λ x inside.
+    kept (stride * place + (512 * j + x)) (λ z short. regions_apart stride j place (512 * j + x) other z fits (omega arith) short apart) ∙ held x inside
+
+-- different columns of a row are apart
+pub columns_apart : (stride j i place x z : ℕ) → 512 * j + 512 ≤ stride → x < 512 → z < 512 → x ≢ z → stride * i + (512 * j + x) ≢ stride * place + (512 * j + z)
+columns_apart stride j i place x z fits inside short apart = λ e.
+    elim (cases_lt i place) [
+      | inl less ↦ regions_apart stride j i (512 * j + x) place z fits (omega arith) short (λ same. absurd (omega arith)) e
+      | inr more ↦ elim (cases_lt place i) [
+        | inl less ↦ regions_apart stride j i (512 * j + x) place z fits (omega arith) short (λ same. absurd (omega arith)) e
+        | inr not_less ↦ (let same : i ≡ place = omega arith in
+            let here : stride * i ≡ stride * place = ap (λ (s : ℕ). stride * s) same in
+            apart (omega arith))
+      ]
+    ]
+
+-- P's sum in the region of the one missing data cell
+pub row_by_p : (cells : List Cell) (stride j place : ℕ) (old new : List ℕ) → IsRow cells → is_lost_at cells place ≡ true → needs cells Q ≡ false → AreColumns cells (columns_of cells stride old j) →
+    ((x : ℕ) → x < 512 → slice_index new (stride * place + (512 * j + x)) ≡ sum_at in_p cells (columns_of cells stride old j) x) → HoldLostData cells stride j 1 new (columns_of cells stride old)
+row_by_p cells stride j place old new row lost unneeded columns sums =
+    lost_by_place cells stride j old new
+    (λ i also. subst (λ (k : ℕ). HoldsLost cells stride j old new k) (sym (no_other cells place lost unneeded i also))
+    (λ x inside. sums x inside
+    ∙ sym (found_by_p cells place row lost unneeded (columns_of cells stride old j x) (columns x).0 (columns x).1
+    ∙ weighed_p (known_sum in_p cells (columns_of cells stride old j x)) (known_sum in_q cells (columns_of cells stride old j x)) (known_sum_fits in_p in_p_fits cells (columns_of cells stride old j x) (columns x).1))))
+
+-- the weighed sums in the region of a missing data cell
+pub cell_by_both : (cells : List Cell) (stride j place a b : ℕ) (old new p q : List ℕ) → FindsAt cells place a b → AreColumns cells (columns_of cells stride old j) →
+    IsSyndrome in_p cells (columns_of cells stride old j) p → IsSyndrome in_q cells (columns_of cells stride old j) q →
+    ((x : ℕ) → x < 512 → slice_index new (stride * place + (512 * j + x)) ≡ weighed a b (slice_index p x) (slice_index q x)) → HoldsLost cells stride j old new place
+cell_by_both cells stride j place a b old new p q finds columns by_p by_q bytes = λ x inside.
+    bytes x inside ∙ ap₂ (weighed a b) (by_p.bytes x inside) (by_q.bytes x inside) ∙ sym (finds (columns_of cells stride old j x) (columns x).0 (columns x).1)
+
+-- what a fill writes
+abbrev pub IsFill : ℕ → ℕ → Finder → List ℕ → List ℕ → List ℕ → Type 0
+IsFill stride j finder p q new =
+    (x : ℕ) → x < 512 → slice_index new (stride * finder.place + (512 * j + x)) ≡ weighed finder.by_p.factor finder.by_q.factor (slice_index p x) (slice_index q x)
+
+pub row_by_one : (cells : List Cell) (stride j : ℕ) (one : Finder) (other : Option Finder) (old new p q : List ℕ) → AreFinders cells one other → other ≡ None → AreColumns cells (columns_of cells stride old j) →
+    IsSyndrome in_p cells (columns_of cells stride old j) p → IsSyndrome in_q cells (columns_of cells stride old j) q → IsFill stride j one p q new → HoldLostData cells stride j 1 new (columns_of cells stride old)
+row_by_one cells stride j one other old new p q finders none columns by_p by_q bytes =
+    lost_by_place cells stride j old new
+    (λ i lost. elim (finders.all i lost) [
+      | inl e ↦ subst (λ (k : ℕ). HoldsLost cells stride j old new k) (sym e)
+          (cell_by_both cells stride j one.place one.by_p.factor one.by_q.factor old new p q finders.first.finds columns by_p by_q bytes)
+      | inr second ↦ absurd (subst (λ (o : Option Finder). IsFor o i) none second)
+    ])
+
+pub row_by_two : (cells : List Cell) (stride j : ℕ) (one finder : Finder) (other : Option Finder) (old mid new p q : List ℕ) → 512 * j + 512 ≤ stride → AreFinders cells one other → other ≡ Some finder →
+    AreColumns cells (columns_of cells stride old j) → IsSyndrome in_p cells (columns_of cells stride old j) p → IsSyndrome in_q cells (columns_of cells stride old j) q → IsFill stride j one p q mid →
+    IsFill stride j finder p q new → ((k : ℕ) → ((x : ℕ) → x < 512 → k ≢ stride * finder.place + (512 * j + x)) → slice_index new k ≡ slice_index mid k) → HoldLostData cells stride j 1 new (columns_of cells stride old)
+row_by_two cells stride j one finder other old mid new p q fits finders is columns by_p by_q bytes also kept =
+    let second = subst (λ (o : Option Finder). IfSome o (IsFinder cells)) is finders.second in
+    let apart = subst (λ (o : Option Finder). IfSome o (λ f. one.place ≢ f.place)) is finders.apart in
+    lost_by_place cells stride j old new
+    (λ i lost. elim (finders.all i lost) [
+      | inl e ↦ subst (λ (k : ℕ). HoldsLost cells stride j old new k) (sym e)
+          (holds_still cells stride j one.place finder.place old mid new fits apart
+          (cell_by_both cells stride j one.place one.by_p.factor one.by_q.factor old mid p q finders.first.finds columns by_p by_q bytes) kept)
+      | inr here ↦ subst (λ (k : ℕ). HoldsLost cells stride j old new k) (sym (subst (λ (o : Option Finder). IsFor o i) is here))
+          (cell_by_both cells stride j finder.place finder.by_p.factor finder.by_q.factor old new p q second.finds columns by_p by_q also)
+    ])
+
+pub kept_by_two : (cells : List Cell) (stride j : ℕ) (one finder : Finder) (other : Option Finder) (old mid new : List ℕ) → AreFinders cells one other → other ≡ Some finder →
+    ((k : ℕ) → ((x : ℕ) → x < 512 → k ≢ stride * one.place + (512 * j + x)) → slice_index mid k ≡ slice_index old k) →
+    ((k : ℕ) → ((x : ℕ) → x < 512 → k ≢ stride * finder.place + (512 * j + x)) → slice_index new k ≡ slice_index mid k) → KeepAllBut cells stride j 1 old new
+kept_by_two cells stride j one finder other old mid new finders is kept also =
+    let second = subst (λ (o : Option Finder). IfSome o (IsFinder cells)) is finders.second in
+    kept_by_both cells stride j old mid new (kept_by_fill cells stride j one.place old mid finders.first.lost kept) (kept_by_fill cells stride j finder.place mid new second.lost also)

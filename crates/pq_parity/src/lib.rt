@@ -12,6 +12,7 @@
 //! in falling order of exponents, so that it takes doublings alone; a test is left at the first strip that fails.
 #![tactic(auto)]
 
+mod finders;
 mod known;
 pub mod laws;
 mod lost_data;

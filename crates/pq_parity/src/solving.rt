@@ -56,7 +56,7 @@ pub fn solve_lost(cells: &[Cell], sectors: &mut [u8], stride: usize, j: usize)
 
 /// The sums by which the missing cells are found: those of both equations, or those of P's alone where one
 /// cell that is not Q is missing.
-pub fn sums_for(cells: &[Cell], sectors: &[u8], stride: usize, j: usize) -> Sums
+fn sums_for(cells: &[Cell], sectors: &[u8], stride: usize, j: usize) -> Sums
     requires cells { IsRow cells.now }
     requires missing { first_missing cells.now ≢ None }
     requires sectors { stride * length cells.now ≤ length sectors.now }
@@ -92,7 +92,7 @@ fn is_q_missing(cells: &[Cell]) -> bool
 
 /// Writes the lost sector of the cell at this place into its region, where the cell is missing.
 #[tactic(auto, using(crate::proofs::Regions::region_inside))]
-pub fn fill_sector(
+fn fill_sector(
     cells: &[Cell],
     place: usize,
     by_p: &[u8],
@@ -140,7 +140,7 @@ fn find_sector(cells: &[Cell], place: usize, by_p: &[u8], by_q: &[u8], to: &mut 
 }
 
 /// What the first other missing cell holds.
-fn other_missing(cells: &[Cell], place: usize) -> Option<Part>
+pub fn other_missing(cells: &[Cell], place: usize) -> Option<Part>
     requires { place < length cells.now }
     ensures { result ≡ option_or (first_missing (take place cells.now)) (first_missing (drop (place + 1) cells.now)) }
 {

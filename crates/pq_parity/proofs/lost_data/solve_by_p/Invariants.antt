@@ -1,6 +1,6 @@
 use Rattle.pq_parity.specs.Needs.{HoldLostData, KeepAllBut}
 use Rattle.pq_parity.proofs.RowSteps.{columns_of}
-use Rattle.pq_parity.proofs.lost_data.solve_data.Given as goal
+use Rattle.pq_parity.proofs.lost_data.solve_by_p.Given as goal
 
 abbrev pub invariant-loop-row : goal.invariant-loop-row
 invariant-loop-row l = record {

@@ -25,7 +25,7 @@ uname -srm
 sed -n 's/^model name[^:]*: //p' /proc/cpuinfo | head -n 1
 rt version
 printf '%-14s %14s %14s %11s %11s %6s\n' kernel 'lanes ns/list' 'plain ns/list' 'lanes GB/s' 'plain GB/s' ratio
-for kernel in xor_into double_xor scale_xor scale first_nonzero; do
+for kernel in xor_into double_xor scale_xor scale weigh first_nonzero; do
     if [ "$("$program" "$kernel" lanes 1000)" != "$("$program" "$kernel" plain 1000)" ]; then
         echo "$kernel: the two ways leave different bytes" >&2
         exit 1

@@ -7,16 +7,19 @@
 
 ghost use Rattle.std.specs.Prelude.{◌≡◌, length};
 
+use lane_kernels::Multiplier;
 use std::{env, io};
 
-/// The bytes of a list: both lists stay in the first cache.
+/// The bytes of a list: the lists stay in the first cache.
 const LENGTH: usize = 4096;
 
-/// The factor of the products. Every factor takes the same steps.
+/// The factors of the products. Every factor takes the same steps.
 const FACTOR: u8 = 0x8E;
 
+const OTHER_FACTOR: u8 = 0xF4;
+
 const USAGE: &str =
-    "usage: bench_kernels xor_into|double_xor|scale_xor|scale|first_nonzero lanes|plain ROUNDS";
+    "usage: bench_kernels xor_into|double_xor|scale_xor|scale|weigh|first_nonzero lanes|plain ROUNDS";
 
 #[derive(Clone, Copy)]
 enum Kernel {
@@ -24,6 +27,7 @@ enum Kernel {
     DoubleXor,
     ScaleXor,
     Scale,
+    Weigh,
     FirstNonzero,
 }
 
@@ -39,6 +43,7 @@ fn kernel_named(word: &str) -> Option<Kernel> {
         "double_xor" => Some(Kernel::DoubleXor),
         "scale_xor" => Some(Kernel::ScaleXor),
         "scale" => Some(Kernel::Scale),
+        "weigh" => Some(Kernel::Weigh),
         "first_nonzero" => Some(Kernel::FirstNonzero),
         _ => None,
     }
@@ -102,6 +107,15 @@ fn plain_scale(a: &mut [u8], factor: u8) {
     }
 }
 
+fn plain_weigh(to: &mut [u8], p: &[u8], q: &[u8])
+    requires p { length to.old ≡ length p.now }
+    requires q { length to.old ≡ length q.now }
+{
+    for at in 0..to.len() {
+        to[at] = gf256::add(gf256::mul(FACTOR, p[at]), gf256::mul(OTHER_FACTOR, q[at]));
+    }
+}
+
 fn plain_first_nonzero(a: &[u8]) -> Option<usize> {
     a.iter().position(|byte| *byte != 0)
 }
@@ -117,7 +131,22 @@ fn change(kernel: Kernel, way: Way, a: &mut [u8; LENGTH], b: &[u8; LENGTH]) {
         (Kernel::ScaleXor, Way::Plain) => plain_scale_xor(a, b, FACTOR),
         (Kernel::Scale, Way::Lanes) => lane_kernels::scale(a, FACTOR),
         (Kernel::Scale, Way::Plain) => plain_scale(a, FACTOR),
-        (Kernel::FirstNonzero, _) => (),
+        (Kernel::Weigh | Kernel::FirstNonzero, _) => (),
+    }
+}
+
+// One round of weighing, with the tables that were made before all rounds.
+fn weigh(
+    way: Way,
+    to: &mut [u8; LENGTH],
+    p: &[u8; LENGTH],
+    by_p: &Multiplier,
+    q: &[u8; LENGTH],
+    by_q: &Multiplier,
+) {
+    match way {
+        Way::Lanes => lane_kernels::weigh(to, p, by_p, q, by_q),
+        Way::Plain => plain_weigh(to, p, q),
     }
 }
 
@@ -134,16 +163,23 @@ fn search(way: Way, zeros: &mut [u8; LENGTH], round: u32) -> usize {
 fn run(kernel: Kernel, way: Way, rounds: u32) -> u64 {
     let mut a = bytes(11, 37);
     let b = bytes(200, 101);
-    let mut zeros = [0u8; LENGTH];
+    let mut other = [0u8; LENGTH];
+    let by_a = Multiplier::new(FACTOR);
+    let by_b = Multiplier::new(OTHER_FACTOR);
     let mut places = 0u64;
     for round in 0..rounds {
-        if let Kernel::FirstNonzero = kernel {
-            places = places.wrapping_add(search(way, &mut zeros, round) as u64);
-        } else {
-            change(kernel, way, &mut a, &b);
+        match kernel {
+            Kernel::FirstNonzero => {
+                places = places.wrapping_add(search(way, &mut other, round) as u64);
+            }
+            Kernel::Weigh => {
+                a[0] = (round % 256) as u8;
+                weigh(way, &mut other, &a, &by_a, &b, &by_b);
+            }
+            _ => change(kernel, way, &mut a, &b),
         }
     }
-    sum_of(&a).wrapping_add(places)
+    sum_of(&a).wrapping_add(sum_of(&other)).wrapping_add(places)
 }
 
 fn main(rt: HostRuntime) -> io::Result<()> {

@@ -8,7 +8,7 @@ use lib.Dec.{leb}
 use lib.Lanes.{zip2, Each1}
 use Rattle.gf256.specs.Field.{product}
 use Rattle.gf256.proofs.Products.{additive_right}
-use Rattle.lane_kernels.specs.Formulas.{scaled_sum}
+use Rattle.lane_kernels.specs.Formulas.{scaled_sum, weighed_sum}
 use Rattle.lane_kernels.specs.Tables.{IsTable}
 
 by_halves : (f k : ℕ) → f < 256 → bit_xor (product f (k % 16)) (product f (16 * (k / 16))) ≡ product f k
@@ -68,3 +68,9 @@ pub scaled_sums : (f : ℕ) (xs ys : List ℕ) → zip2 bit_xor xs (map (product
 scaled_sums f [] ys = refl
 scaled_sums f (x ∷ xs) [] = refl
 scaled_sums f (x ∷ xs) (y ∷ ys) = ap (λ (t : List ℕ). bit_xor x (product f y) ∷ t) (scaled_sums f xs ys)
+
+-- so is a sum of two maps
+pub weighed_sums : (f g : ℕ) (xs ys : List ℕ) → zip2 bit_xor (map (product f) xs) (map (product g) ys) ≡ zip2 (weighed_sum f g) xs ys
+weighed_sums f g [] ys = refl
+weighed_sums f g (x ∷ xs) [] = refl
+weighed_sums f g (x ∷ xs) (y ∷ ys) = ap (λ (t : List ℕ). bit_xor (product f x) (product g y) ∷ t) (weighed_sums f g xs ys)

@@ -95,3 +95,50 @@ done_block_alone f a old at n h d =
 
 pub done_all_alone : (f : ℕ → ℕ) (a old : List ℕ) (at : ℕ) → length old ≤ at → Done (alone f) a old old at → a ≡ map f old
 done_all_alone f a old at h d = done_all (alone f) a old old at h d ∙ zip2-alone f old old refl
+
+-- a loop that writes a third list: below `at` it is f of p and q
+pub record Written (f : ℕ → ℕ → ℕ) (to p q : List ℕ) (at : ℕ) : Type 0 where
+  pub front : take at to ≡ zip2 f (take at p) (take at q)
+  pub long : length to ≡ length p
+  pub wide : length q ≡ length p
+  pub within : at ≤ length p
+
+pub written_none : (f : ℕ → ℕ → ℕ) (to p q : List ℕ) → length to ≡ length p → length to ≡ length q → Written f to p q 0
+written_none f to p q e g = record { front = refl; long = e; wide = sym g ∙ e; within = omega arith }
+
+-- what one more piece of both makes
+more : (f : ℕ → ℕ → ℕ) (p q : List ℕ) (at n : ℕ) → at ≤ length p → length q ≡ length p → zip2 f (take at p) (take at q) ++ zip2 f (take n (drop at p)) (take n (drop at q)) ≡ zip2 f (take (at + n) p) (take (at + n) q)
+more f p q at n h e =
+    sym (zip2-append f (take at p) (take n (drop at p)) (take at q) (take n (drop at q)) (length-take-le at p h ∙ sym (length-take-le at q (omega arith))))
+    ∙ ap (λ (t : List ℕ). zip2 f t (take at q ++ take n (drop at q))) (sym (take-add at n p))
+    ∙ ap (zip2 f (take (at + n) p)) (sym (take-add at n q))
+
+pub written_block : (f : ℕ → ℕ → ℕ) (to p q : List ℕ) (at n : ℕ) → at + n ≤ length p → Written f to p q at → Written f (put_chunk at to (zip2 f (chunk at n p) (chunk at n q))) p q (at + n)
+written_block f to p q at n h w =
+    let ys = zip2 f (chunk at n p) (chunk at n q) in
+    let lp : length (chunk at n p) ≡ n = length-chunk at n p h in
+    let lq : length (chunk at n q) ≡ n = length-chunk at n q (omega (arith, w.wide)) in
+    let ly : length ys ≡ n = length-zip2 f (chunk at n p) (chunk at n q) (lp ∙ sym lq) ∙ lp in
+    record {
+      front = take_more_put_chunk at to ys (at + n) (omega arith) (omega (arith, w.long)) ∙ ap (λ (t : List ℕ). t ++ ys) w.front ∙ more f p q at n w.within w.wide;
+      long = length-put_chunk at to ys ∙ w.long;
+      wide = w.wide;
+      within = h;
+    }
+
+pub written_one : (f : ℕ → ℕ → ℕ) (to p q : List ℕ) (at : ℕ) → at < length p → Written f to p q at → Written f (set to at (f (get_or p at 0) (get_or q at 0))) p q (at + 1)
+written_one f to p q at h w =
+    let y = f (get_or p at 0) (get_or q at 0) in
+    record {
+      front = take_more_set to at y (omega (arith, w.long)) ∙ ap (λ (t : List ℕ). t ++ (y ∷ [])) w.front
+          ∙ sym (zip2-append f (take at p) (get_or p at 0 ∷ []) (take at q) (get_or q at 0 ∷ []) (length-take-le at p w.within ∙ sym (length-take-le at q (omega (arith, w.wide, w.within)))))
+          ∙ ap (λ (t : List ℕ). zip2 f t (take at q ++ (get_or q at 0 ∷ []))) (sym (take_more p at 0 h))
+          ∙ ap (zip2 f (take (at + 1) p)) (sym (take_more q at 0 (omega (arith, w.wide))));
+      long = length-set to at y ∙ w.long;
+      wide = w.wide;
+      within = omega arith;
+    }
+
+pub written_all : (f : ℕ → ℕ → ℕ) (to p q : List ℕ) (at : ℕ) → length p ≤ at → Written f to p q at → to ≡ zip2 f p q
+written_all f to p q at h w =
+    sym (take_all at to (omega (arith, w.long))) ∙ w.front ∙ ap (λ (t : List ℕ). zip2 f t (take at q)) (take_all at p h) ∙ ap (zip2 f p) (take_all at q (omega (arith, w.wide)))

@@ -1,20 +1,21 @@
-//! Products of a list by one factor.
+//! Products of lists by factors.
 
 ghost use Rattle.std.specs.Prelude.{ℕ, ◌≡◌, ◌+◌, ◌≤◌, ◌<◌, ◌^◌, length, map};
 ghost use Rattle.std.specs.Simd.Lanes.{zip2, put_chunk, chunk, Each1};
 ghost use Rattle.gf256.specs.Field.{product};
-ghost use Rattle.lane_kernels.specs.Formulas.{scaled_sum};
+ghost use Rattle.lane_kernels.specs.Formulas.{scaled_sum, weighed_sum};
 ghost use Rattle.lane_kernels.specs.Tables.{IsTable};
 
 use crate::LANES;
 use crate::blocks::load;
 use std::simd::prelude::*;
 
-// A factor with its products by 0 to 15 and by 16 times those: a product of a byte is the sum of two look-ups, one a half
-// of the byte. A look-up reads within 16 lanes, so each table stands twice.
+/// A factor with its products by 0 to 15 and by 16 times those: a product of a byte is the sum of two look-ups, one a half
+/// of the byte. A look-up reads within 16 lanes, so each table stands twice.
 #[derive(Drop)]
-struct Multiplier {
-    factor: u8,
+pub struct Multiplier {
+    /// The factor.
+    pub factor: u8,
     low: u8x32,
     high: u8x32,
     ghost in_range: { factor < 2 ^ 8 },
@@ -36,7 +37,8 @@ fn table(factor: u8, unit: u8) -> [u8; 32]
 }
 
 impl Multiplier {
-    fn new(factor: u8) -> Multiplier
+    /// The multiplier of a factor. To make one takes 32 products.
+    pub fn new(factor: u8) -> Multiplier
         ensures { result.factor ≡ factor }
     {
         Multiplier {
@@ -110,6 +112,41 @@ pub fn scale(a: &mut [u8], factor: u8)
     }
     while at < a.len() {
         a[at] = gf256::mul(factor, a[at]);
+        at += 1;
+    }
+}
+
+fn weigh_block(to: &mut [u8], p: &[u8], by_p: &Multiplier, q: &[u8], by_q: &Multiplier, at: usize)
+    requires to { at + 32 ≤ length to.old }
+    requires p { at + 32 ≤ length p.now }
+    requires q { at + 32 ≤ length q.now }
+    ensures { to.new ≡ put_chunk at to.old (zip2 (weighed_sum by_p.now.factor by_q.now.factor) (chunk at 32 p.now) (chunk at 32 q.now)) }
+{
+    let part = by_p.times(load(p, at));
+    (part ^ by_q.times(load(q, at))).copy_to_slice(&mut to[at..]);
+}
+
+fn weigh_byte(p: u8, by_p: u8, q: u8, by_q: u8) -> u8
+    ensures { result ≡ weighed_sum by_p by_q p q }
+{
+    gf256::add(gf256::mul(by_p, p), gf256::mul(by_q, q))
+}
+
+/// Writes the sum of two lists, each times a factor: at each place `by_p * p + by_q * q`, the products and the sum of the
+/// field. The three are equally long.
+#[tactic(auto, using(crate::proofs::Steps::written_none, crate::proofs::Steps::written_all))]
+pub fn weigh(to: &mut [u8], p: &[u8], by_p: &Multiplier, q: &[u8], by_q: &Multiplier)
+    requires p { length to.old ≡ length p.now }
+    requires q { length to.old ≡ length q.now }
+    ensures { to.new ≡ zip2 (weighed_sum by_p.now.factor by_q.now.factor) p.now q.now }
+{
+    let mut at = 0;
+    while at + LANES <= to.len() {
+        weigh_block(to, p, by_p, q, by_q, at);
+        at += LANES;
+    }
+    while at < to.len() {
+        to[at] = weigh_byte(p[at], by_p.factor, q[at], by_q.factor);
         at += 1;
     }
 }

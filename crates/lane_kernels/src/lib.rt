@@ -1,7 +1,8 @@
 //! Sums and products of lists of bytes in the field of `gf256`, 32 bytes at a time.
 //!
 //! Each kernel goes by vectors of 32 lanes, and by a plain loop over the rest that fills no vector. Its
-//! clause gives the whole list of its formula, for every length. `pq_parity` finds lost sectors with them,
+//! clause gives the whole list of its formula, for every length. The tables of a factor are made once, as a
+//! [`Multiplier`], where many lists take it. `pq_parity` finds lost sectors with them,
 //! `prune_filters` the rows in which images differ, and `bench_kernels` times them. The formulas stand in `specs/Formulas`, the tables of products in
 //! `specs/Tables`.
 #![tactic(auto)]
@@ -13,7 +14,7 @@ mod sums;
 mod tests;
 mod zeros;
 
-pub use factors::{scale, scale_xor};
+pub use factors::{Multiplier, scale, scale_xor, weigh};
 pub use sums::{double_xor, xor_into};
 pub use zeros::first_nonzero;
 

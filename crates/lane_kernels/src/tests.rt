@@ -1,6 +1,6 @@
 //! The kernels beside plain loops. The products here are by shifts and sums, and by no table.
 
-use crate::{double_xor, first_nonzero, scale, scale_xor, xor_into};
+use crate::{Multiplier, double_xor, first_nonzero, scale, scale_xor, weigh, xor_into};
 
 // No vector; less than one; one; one and a rest; many.
 const LENGTHS: [usize; 7] = [0, 1, 15, 31, 32, 33, 512];
@@ -69,6 +69,25 @@ fn each_place_holds_the_formula(rt: HostRuntime) {
             assert_eq!(rt;
                 scaled[at],
                 if in_list { times(0xF4, a[at]) } else { a[at] },
+                "{at} of {length}"
+            );
+        }
+    }
+}
+
+#[test]
+fn each_place_holds_the_weighed_sum(rt: HostRuntime) {
+    let (p, q) = (bytes(11, 37), bytes(200, 101));
+    let (by_p, by_q) = (Multiplier::new(0x8E), Multiplier::new(0xF4));
+    for length in LENGTHS {
+        assert!(rt; length <= 512);
+        let mut sum = [7; 512];
+        weigh(&mut sum[..length], &p[..length], &by_p, &q[..length], &by_q);
+        for at in 0..512usize {
+            let weighed = times(0x8E, p[at]) ^ times(0xF4, q[at]);
+            assert_eq!(rt;
+                sum[at],
+                if at < length { weighed } else { 7 },
                 "{at} of {length}"
             );
         }

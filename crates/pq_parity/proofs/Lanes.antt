@@ -97,3 +97,11 @@ put_inside zero xs ys l p e h fits = let same : p ≡ l = omega arith in ap (λ 
 put_inside (suc i) [] ys l p e h fits = absurd (omega arith)
 put_inside (suc i) (x ∷ xs) ys l zero e h fits = absurd (omega arith)
 put_inside (suc i) (x ∷ xs) ys l (suc p) e h fits = put_inside i xs ys l p (omega arith) h (omega arith)
+
+pub put_after : (i : ℕ) (xs ys : List ℕ) (p : ℕ) → i + length ys ≤ p → get_or (put_chunk i xs ys) p 0 ≡ get_or xs p 0
+put_after i [] ys p h = refl
+put_after zero (x ∷ xs) [] p h = refl
+put_after zero (x ∷ xs) (y ∷ ys) zero h = absurd (omega arith)
+put_after zero (x ∷ xs) (y ∷ ys) (suc p) h = put_after zero xs ys p (omega arith)
+put_after (suc i) (x ∷ xs) ys zero h = absurd (omega arith)
+put_after (suc i) (x ∷ xs) ys (suc p) h = put_after i xs ys p (omega arith)

@@ -16,3 +16,6 @@ pub mod Horner
 pub mod Apart
 pub mod StripSums
 pub mod Asked
+pub mod Needed
+pub mod RowSteps
+pub mod Finding

@@ -36,10 +36,10 @@ found_by test [] x d i e = absurd i
 found_by test (z ∷ zs) x d i e = found_step (test z) test z zs x d refl i e (λ j. found_by test zs x d j e)
 
 -- the sums of what is known of a column
-abbrev p_of : List Cell → List ℕ → ℕ
+abbrev pub p_of : List Cell → List ℕ → ℕ
 p_of cells bytes = known_sum in_p cells bytes
 
-abbrev q_of : List Cell → List ℕ → ℕ
+abbrev pub q_of : List Cell → List ℕ → ℕ
 q_of cells bytes = known_sum in_q cells bytes
 
 -- these bytes at the missing cells pass
@@ -79,7 +79,7 @@ pub other_parts : (cells : List Cell) (place : ℕ) (other : Option Part) → ot
 other_parts cells place other e = e ∙ ap₂ (λ (a b : Option Part). option_or a b) (first_lost (take place cells)) (first_lost (drop (place + 1) cells))
 
 -- a lost byte, by weights that find it
-lost_is : (cells : List Cell) (bytes : List ℕ) (place : ℕ) (cell : Cell) (other : Option Part) (a b : ℕ) → IsRow cells → length bytes ≡ length cells →
+pub lost_is : (cells : List Cell) (bytes : List ℕ) (place : ℕ) (cell : Cell) (other : Option Part) (a b : ℕ) → IsRow cells → length bytes ≡ length cells →
     AllByRecursion (λ x. x < 256) bytes → slice_get cells place ≡ Some cell → cell.missing ≡ true →
     other ≡ option_or (first_missing (take place cells)) (first_missing (drop (place + 1) cells)) → Finds cell.part other a b →
     lost_byte cells bytes place ≡ weighed a b (p_of cells bytes) (q_of cells bytes)

@@ -14,7 +14,7 @@ use Rattle.pq_parity.specs.LostBytes.{Apart, Finds, weighed}
 one_times : (x : ℕ) → x < 256 → product 1 x ≡ x
 one_times x h = commutes 1 x (omega arith) h ∙ product_one x h
 
-weighed_p : (p q : ℕ) → p < 256 → weighed 1 0 p q ≡ p
+pub weighed_p : (p q : ℕ) → p < 256 → weighed 1 0 p q ≡ p
 weighed_p p q h = ap₂ (λ (a b : ℕ). bit_xor a b) (one_times p h) (product_zero_left q) ∙ sum_zero p
 
 weighed_q : (b p q : ℕ) → weighed 0 b p q ≡ product b q

@@ -5,3 +5,4 @@ pub mod Unbreakable
 pub mod Known
 pub mod Passes
 pub mod Needs
+pub mod Finding

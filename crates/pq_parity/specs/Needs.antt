@@ -44,3 +44,7 @@ abbrev pub KeepAllBut : List Cell → ℕ → ℕ → ℕ → List ℕ → List 
 KeepAllBut cells stride from count old new =
     (p : ℕ) → ((place : ℕ) → IfSome (slice_get cells place) (λ cell. cell.missing ≡ true → is_data cell.part ≡ true →
     (j x : ℕ) → from ≤ j → j < from + count → x < 512 → p ≢ stride * place + (512 * j + x))) → slice_index new p ≡ slice_index old p
+
+-- columns of these sectors, with a byte for each cell
+abbrev pub AreWhole : List Cell → ℕ → ℕ → (ℕ → ℕ → List ℕ) → Type 0
+AreWhole cells from count column = (j x : ℕ) → from ≤ j → j < from + count → x < 512 → length (column j x) ≡ length cells

@@ -7,13 +7,21 @@
 //!
 //! [`row_holds`] and [`solve`] take a row whose sectors stand one after the other, [`sectors_hold`] and
 //! [`solve_lost`] one whose sectors lie in regions of the members. `member_regions` tests rows and finds
-//! lost sectors with the latter. The equations stand in `Parity` of `raid_terms`, lost bytes in `Solving`,
-//! the two sums in `specs/Syndromes`, the regions in `specs/Regions`. Sums are formed by strips of 64 columns, Q's
-//! in falling order of exponents, so that it takes doublings alone; a test is left at the first strip that fails.
+//! lost sectors with the latter. [`solve_data`] finds the data alone, of many sector rows with the same
+//! cells, and asks of the regions no parity that these are not found by: where P tells the one lost block,
+//! its sums go straight into the region; elsewhere each lost block takes the two sums of the row times its
+//! factors, whose tables are made once.
+//!
+//! The equations stand in `Parity` of `raid_terms`, lost bytes in `Solving`, the two sums in
+//! `specs/Syndromes`, the regions in `specs/Regions`, what data are found by in `specs/Needs`. Sums are
+//! formed by strips of 64 columns, Q's in falling order of exponents, so that it takes doublings alone; a
+//! test is left at the first strip that fails.
 #![tactic(auto)]
 
+mod finders;
 mod known;
 pub mod laws;
+mod lost_data;
 mod rows;
 mod solving;
 mod strips;
@@ -22,5 +30,6 @@ mod syndromes;
 mod tests;
 mod weights;
 
+pub use lost_data::solve_data;
 pub use rows::{row_holds, sectors_hold};
 pub use solving::{solve, solve_lost};

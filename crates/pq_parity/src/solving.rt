@@ -140,7 +140,7 @@ fn find_sector(cells: &[Cell], place: usize, by_p: &[u8], by_q: &[u8], to: &mut 
 }
 
 /// What the first other missing cell holds.
-fn other_missing(cells: &[Cell], place: usize) -> Option<Part>
+pub fn other_missing(cells: &[Cell], place: usize) -> Option<Part>
     requires { place < length cells.now }
     ensures { result ≡ option_or (first_missing (take place cells.now)) (first_missing (drop (place + 1) cells.now)) }
 {

@@ -59,6 +59,7 @@ pub fn store(to: &mut [u8], at: usize, lanes: u8x64)
     ensures long { length to.new ≡ length to.old }
     ensures before { (p : ℕ) → p < at → slice_index to.new p ≡ slice_index to.old p }
     ensures lanes { (lane : ℕ) → lane < 64 → slice_index to.new (at + lane) ≡ slice_index lanes lane }
+    ensures after { (p : ℕ) → at + 64 ≤ p → slice_index to.new p ≡ slice_index to.old p }
 {
     lanes.copy_to_slice(&mut to[at..]);
 }

@@ -51,13 +51,26 @@ pub fn sums_of(cells: &[Cell], sectors: &[u8], stride: usize, j: usize) -> Sums
     ensures p { IsSyndrome in_p cells.now (region_column (length cells.now) stride sectors.now j) result.p }
     ensures q { IsSyndrome in_q cells.now (region_column (length cells.now) stride sectors.now j) result.q }
 {
-    let known = known_of(cells);
+    sums_by(cells, &known_of(cells), sectors, stride, j)
+}
+
+/// The same, by what is known of the cells.
+pub fn sums_by(cells: &[Cell], known: &Known, sectors: &[u8], stride: usize, j: usize) -> Sums
+    requires cells { IsRow cells.now }
+    requires q { has_q cells.now ≡ true }
+    requires known { ArePlaces cells.now (length cells.now) known.now }
+    requires sectors { stride * length cells.now ≤ length sectors.now }
+    requires j { 512 * j + 512 ≤ stride }
+    ensures columns { AreColumns cells.now (region_column (length cells.now) stride sectors.now j) }
+    ensures p { IsSyndrome in_p cells.now (region_column (length cells.now) stride sectors.now j) result.p }
+    ensures q { IsSyndrome in_q cells.now (region_column (length cells.now) stride sectors.now j) result.q }
+{
     let mut sums = Sums {
         p: [0; SECTOR],
         q: [0; SECTOR],
     };
     for strip in 0..STRIPS {
-        let (p, q) = strip_sums(cells, &known, sectors, stride, j, strip);
+        let (p, q) = strip_sums(cells, known, sectors, stride, j, strip);
         store(&mut sums.p, STRIP * strip, p);
         store(&mut sums.q, STRIP * strip, q);
     }

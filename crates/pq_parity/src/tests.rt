@@ -2,7 +2,7 @@
 ghost use Rattle.std.specs.Prelude.{◌≡◌, ◌≢◌, ◌<◌, ◌≤◌, [], ◌∷◌, count_by};
 ghost use Rattle.raid_terms.specs.Parity.{IsRow};
 
-use crate::{row_holds, solve};
+use crate::{row_holds, solve, solve_data};
 use image_source::SECTOR;
 use raid_params::{Cell, Part};
 
@@ -178,5 +178,47 @@ fn six_members(rt: HostRuntime) {
     assert!(rt; row_holds(&cells, &row));
     for place in [0, 511, 512, 1800, 2048, 3071] {
         assert!(rt; !row_holds(&cells, &changed(row, place)), "at {place}");
+    }
+}
+
+/// Writes a byte all over the sector number `j` of the region of a place. A region has four sectors.
+fn put(regions: &mut [u8; 8192], place: usize, j: usize, byte: u8)
+    requires place { place < 4 }
+    requires j { j < 4 }
+{
+    let at = 2048 * place + SECTOR * j;
+    regions[at..at + SECTOR].fill(byte);
+}
+
+/// Whether that sector repeats the byte.
+fn repeats(regions: &[u8; 8192], place: usize, j: usize, byte: u8) -> bool
+    requires place { place < 4 }
+    requires j { j < 4 }
+{
+    let at = 2048 * place + SECTOR * j;
+    regions[at..at + SECTOR].iter().all(|x| *x == byte)
+}
+
+// Sectors 1 and 2 of the regions, with Q and P as the lines of Python above give them:
+//
+//     assert 0x12 ^ 0x9F == 0x8D and doubled(0x12, 7) ^ doubled(0x9F, 200) == 0x3A
+//     assert 0x47 ^ 0xE3 == 0xA4 and doubled(0x47, 7) ^ doubled(0xE3, 200) == 0x56
+#[test]
+fn lost_data_of_two_rows(rt: HostRuntime) {
+    let rows = [[0x3A, 0x12, 0x9F, 0x8D], [0x56, 0x47, 0xE3, 0xA4]];
+    let both = four(7, 200, false, true, true, false);
+    let mut regions = [0xAA; 8192];
+    for row in 0..2usize {
+        put(&mut regions, 0, row + 1, rows[row][0]);
+        put(&mut regions, 3, row + 1, rows[row][3]);
+    }
+    solve_data(&both, &mut regions, 2048, 1, 2);
+    for row in 0..2usize {
+        for place in 0..4usize {
+            assert!(rt;
+                repeats(&regions, place, row + 1, rows[row][place]),
+                "{place} of {row}"
+            );
+        }
     }
 }

@@ -2,7 +2,7 @@ use Rattle.std.proofs.Common.{ℕ, ◌≡◌, ◌<◌, ◌*◌, length, slice_in
 use Rattle.raid_terms.specs.Parity.{in_p, in_q}
 use Rattle.pq_parity.specs.Regions.{region_column}
 use Rattle.pq_parity.specs.Syndromes.{sum_at}
-use Rattle.pq_parity.proofs.syndromes.sums_of.Given as goal
+use Rattle.pq_parity.proofs.syndromes.sums_by.Given as goal
 
 abbrev pub invariant-loop-strip : goal.invariant-loop-strip
 invariant-loop-strip l = record {

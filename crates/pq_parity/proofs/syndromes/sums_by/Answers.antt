@@ -4,7 +4,7 @@ use Rattle.pq_parity.specs.Regions.{region_column}
 use Rattle.pq_parity.specs.Syndromes.{sum_at}
 use Rattle.pq_parity.proofs.Soundness.{region_columns}
 use Rattle.pq_parity.proofs.StripSums.{columns_more}
-use Rattle.pq_parity.proofs.syndromes.sums_of.Goals as goal
+use Rattle.pq_parity.proofs.syndromes.sums_by.Goals as goal
 
 pub loop-strip-preserved : goal.loop-strip-preserved
 loop-strip-preserved c = record {

@@ -11,3 +11,4 @@ pub mod LostParts
 pub mod NeededParts
 pub mod ReadParts
 pub mod NeededSums
+pub mod DataFound

@@ -1,5 +1,7 @@
 //! Which sectors of a member the volume is found by, and how far that goes on.
 ghost use Rattle.std.specs.Prelude.{ℕ, ◌≡◌, ◌/◌, ◌<◌, ◌≤◌, length};
+ghost use Rattle.std.specs.List.{list_all};
+ghost use Rattle.std.specs.Option.{is_some};
 ghost use Rattle.pq_parity.specs.Needs.{is_p_lost as is_p_lost_of, lost_data as lost_data_of};
 ghost use Rattle.raid_terms.specs.Cells.{row_cells};
 ghost use Rattle.member_regions.specs.Members.{IsTestable};
@@ -7,6 +9,13 @@ ghost use Rattle.member_regions.specs.Needs.{is_needed as is_needed_of};
 
 use raid_layouts::{p_slot, q_slot};
 use raid_params::Geometry;
+
+/// Whether each slot holds an image.
+pub(crate) fn is_full(geo: &Geometry) -> bool
+    ensures { result ≡ list_all is_some geo.now.slots.items }
+{
+    geo.slots.iter().all(|held| held.is_some())
+}
 
 /// How many data blocks of a row are lost.
 #[tactic(auto, using(crate::proofs::Sets::testable_head, crate::proofs::Sets::testable_slots))]

@@ -6,11 +6,11 @@ ghost use Rattle.image_source.specs.Seen.{OnlyReads};
 ghost use Rattle.raid_terms.specs.Parity.{is_sound, IsRow};
 ghost use Rattle.pq_parity.specs.Regions.{region_column};
 ghost use Rattle.member_regions.specs.Members.{held, IsTestable, Reaches};
-ghost use Rattle.member_regions.specs.Needs.{HoldNeeded, needed_sectors};
+ghost use Rattle.member_regions.specs.Needs.{HoldData, HoldNeeded, needed_sectors};
 ghost use Rattle.member_regions.specs.Regions.{HoldAll, HoldRead, IsRoomFor, KeepsRoom};
 
 use crate::reading::{read_members, read_needed};
-use crate::solving::solve_members;
+use crate::solving::{find_data, solve_members};
 use image_source::{Failed, Images, Memory, SECTOR};
 use pq_parity::sectors_hold;
 use raid_params::{Cell, Geometry};
@@ -131,6 +131,21 @@ impl Regions {
             HoldAll bytes geo.now self.new.stride first count self.new.bytes }
     {
         solve_members(geo, &mut self.sectors, self.stride, first, count);
+    }
+
+    /// Finds the lost data among the `count` sectors of each missing member, from member sector `first`
+    /// on, by the needed ones.
+    #[tactic(auto, using(crate::proofs::Room::room_inside))]
+    pub fn solve_data(&mut self, geo: &Geometry, first: u64, count: usize)
+        requires room { IsRoomFor (length geo.now.slots.items) count self.old }
+        requires set { IsTestable geo.now }
+        requires first { first + count < 2 ^ 55 }
+        ensures room { KeepsRoom self.old self.new }
+        ensures found { (bytes : List (List ℕ)) →
+            HoldNeeded bytes geo.now self.old.stride first count self.old.bytes →
+            HoldData bytes geo.now self.new.stride first count self.new.bytes }
+    {
+        find_data(geo, &mut self.sectors, self.stride, first, count);
     }
 
     /// The `count` sectors of the region of a slot from its sector `at` on.

@@ -12,3 +12,4 @@ pub mod NeededParts
 pub mod ReadParts
 pub mod NeededSums
 pub mod DataFound
+pub mod NeededRows

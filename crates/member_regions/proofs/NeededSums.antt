@@ -9,7 +9,7 @@ use Rattle.member_regions.specs.Needs.{is_needed, needed_of, needed_sectors}
 use Rattle.member_regions.proofs.ReadParts.{count_parts}
 
 -- the first number apart
-sum_first : (f : ℕ → ℕ) (a n : ℕ) → sum (map f (range_with_len a (suc n))) ≡ f a + sum (map f (range_with_len (a + 1) n))
+pub sum_first : (f : ℕ → ℕ) (a n : ℕ) → sum (map f (range_with_len a (suc n))) ≡ f a + sum (map f (range_with_len (a + 1) n))
 sum_first f a n =
     sum-map f (range_with_len a (suc n)) ∙ sum_by-cons f a (range_with_len (a + 1) n) ∙ ap (λ (k : ℕ). f a + k) (sym (sum-map f (range_with_len (a + 1) n)))
 

@@ -6,6 +6,7 @@
 //! regions hold stands in `specs/Regions`, what is asked of the members in `specs/Members`.
 #![tactic(auto)]
 
+pub mod laws;
 mod needs;
 mod reading;
 mod regions;

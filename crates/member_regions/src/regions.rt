@@ -98,6 +98,7 @@ impl Regions {
         requires held { All (Reaches (I.seen images.old).attached (geo.now.head.offset + (first + count)))
             geo.now.slots.items }
         requires near { geo.now.head.offset + (first + count) < 2 ^ 55 }
+        requires some { 1 ≤ count }
         ensures room { KeepsRoom self.old self.new }
         ensures told { OnOk result (IfSome (told_all (I.seen images.old).attached)
             (λ bytes. HoldNeeded bytes geo.now self.new.stride first count self.new.bytes)) }

@@ -7,3 +7,9 @@ pub mod OneMore
 pub mod Members
 pub mod Alike
 pub mod Solved
+pub mod LostParts
+pub mod NeededParts
+pub mod ReadParts
+pub mod NeededSums
+pub mod DataFound
+pub mod NeededRows

@@ -26,6 +26,12 @@ needed_of geo first n slot = count_by (is_needed geo slot) (range_with_len first
 unfoldable pub needed_sectors : Geometry → ℕ → ℕ → ℕ
 needed_sectors geo first n = sum (map (needed_of geo first n) (range_with_len 0 (length geo.slots.items)))
 
+-- the sectors hold the needed ones of `count` sectors of a slot from sector `first` on
+abbrev pub HoldNeededOf : List (List ℕ) → Geometry → ℕ → ℕ → ℕ → List ℕ → Type 0
+HoldNeededOf images geo slot first count sectors =
+    (j x : ℕ) → j < count → x < 512 → is_needed geo slot (first + j) ≡ true →
+    slice_index sectors (512 * j + x) ≡ byte_in images geo (first + j) slot x (slice_index_or geo.slots.items slot None)
+
 -- the regions hold the needed ones of `count` sectors of each member from sector `first` on
 abbrev pub HoldNeeded : List (List ℕ) → Geometry → ℕ → ℕ → ℕ → List ℕ → Type 0
 HoldNeeded images geo stride first count sectors =

@@ -6,10 +6,11 @@ ghost use Rattle.image_source.specs.Seen.{OnlyReads};
 ghost use Rattle.raid_terms.specs.Parity.{is_sound, IsRow};
 ghost use Rattle.pq_parity.specs.Regions.{region_column};
 ghost use Rattle.member_regions.specs.Members.{held, IsTestable, Reaches};
+ghost use Rattle.member_regions.specs.Needs.{HoldData, HoldNeeded, needed_sectors};
 ghost use Rattle.member_regions.specs.Regions.{HoldAll, HoldRead, IsRoomFor, KeepsRoom};
 
-use crate::reading::read_members;
-use crate::solving::solve_members;
+use crate::reading::{read_members, read_needed};
+use crate::solving::{find_data, solve_members};
 use image_source::{Failed, Images, Memory, SECTOR};
 use pq_parity::sectors_hold;
 use raid_params::{Cell, Geometry};
@@ -82,6 +83,31 @@ impl Regions {
         read_members(images, &mut self.sectors, geo, self.stride, first, count)
     }
 
+    /// Reads those of `count` sectors of each member, from member sector `first` on, that the volume is
+    /// found by.
+    #[tactic(auto, using(crate::proofs::Room::room_inside))]
+    pub fn read_needed<I: Images>(
+        &mut self,
+        images: &mut I,
+        geo: &Geometry,
+        first: u64,
+        count: usize,
+    ) -> Result<(), Failed>
+        requires room { IsRoomFor (length geo.now.slots.items) count self.old }
+        requires set { IsTestable geo.now }
+        requires held { All (Reaches (I.seen images.old).attached (geo.now.head.offset + (first + count)))
+            geo.now.slots.items }
+        requires near { geo.now.head.offset + (first + count) < 2 ^ 55 }
+        requires some { 1 ≤ count }
+        ensures room { KeepsRoom self.old self.new }
+        ensures told { OnOk result (IfSome (told_all (I.seen images.old).attached)
+            (λ bytes. HoldNeeded bytes geo.now self.new.stride first count self.new.bytes)) }
+        ensures reads { OnlyReads (I.seen images.old) (I.seen images.new) (needed_sectors geo.now first count) }
+        ensures cause { HasCause (I.seen images.old).faults (I.seen images.new).faults result }
+    {
+        read_needed(images, &mut self.sectors, geo, self.stride, first, count)
+    }
+
     /// Whether the sectors number `j` of the regions are a sound row of these cells.
     #[tactic(auto, using(crate::proofs::Room::room_inside))]
     pub fn is_sound(&self, cells: &[Cell], j: usize) -> bool
@@ -105,6 +131,21 @@ impl Regions {
             HoldAll bytes geo.now self.new.stride first count self.new.bytes }
     {
         solve_members(geo, &mut self.sectors, self.stride, first, count);
+    }
+
+    /// Finds the lost data among the `count` sectors of each missing member, from member sector `first`
+    /// on, by the needed ones.
+    #[tactic(auto, using(crate::proofs::Room::room_inside))]
+    pub fn solve_data(&mut self, geo: &Geometry, first: u64, count: usize)
+        requires room { IsRoomFor (length geo.now.slots.items) count self.old }
+        requires set { IsTestable geo.now }
+        requires first { first + count < 2 ^ 55 }
+        ensures room { KeepsRoom self.old self.new }
+        ensures found { (bytes : List (List ℕ)) →
+            HoldNeeded bytes geo.now self.old.stride first count self.old.bytes →
+            HoldData bytes geo.now self.new.stride first count self.new.bytes }
+    {
+        find_data(geo, &mut self.sectors, self.stride, first, count);
     }
 
     /// The `count` sectors of the region of a slot from its sector `at` on.

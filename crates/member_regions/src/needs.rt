@@ -1,5 +1,5 @@
 //! Which sectors of a member the volume is found by, and how far that goes on.
-ghost use Rattle.std.specs.Prelude.{ℕ, ◌≡◌, ◌/◌, ◌<◌, ◌≤◌, length};
+ghost use Rattle.std.specs.Prelude.{ℕ, ◌≡◌, ◌≢◌, ◌/◌, ◌<◌, ◌≤◌, length};
 ghost use Rattle.std.specs.List.{list_all};
 ghost use Rattle.std.specs.Option.{is_some};
 ghost use Rattle.pq_parity.specs.Needs.{is_p_lost as is_p_lost_of, lost_data as lost_data_of};
@@ -81,7 +81,8 @@ pub(crate) fn row_end(geo: &Geometry, sector: u64, end: u64) -> u64
     sector + left.min(end - sector)
 }
 
-/// The member sector before `end` at which a run ends: of neighbours of `sector` that are needed as it is.
+/// Where the run of a member sector ends, at most at `end`: from it on all sectors before are needed, or
+/// none is.
 pub(crate) fn run_end(geo: &Geometry, slot: usize, sector: u64, end: u64) -> u64
     requires set { IsTestable geo.now }
     requires slot { slot < length geo.now.slots.items }
@@ -89,6 +90,9 @@ pub(crate) fn run_end(geo: &Geometry, slot: usize, sector: u64, end: u64) -> u64
     ensures goes_on { sector < result }
     ensures end { result ≤ end }
     ensures alike { (t : ℕ) → sector ≤ t → t < result → is_needed_of geo.now slot t ≡ is_needed_of geo.now slot sector }
+
+    // It is the whole run: the next sector is not of it.
+    ensures whole { result < end → is_needed_of geo.now slot result ≢ is_needed_of geo.now slot sector }
 {
     let needed = is_needed(geo, slot, sector);
     let mut at = row_end(geo, sector, end);

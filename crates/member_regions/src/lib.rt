@@ -4,6 +4,10 @@
 //! `prune_filters` compares whole images in it, `virtual_volume` and `member_rebuild` find in it what lost
 //! members held. [`read_members`] and [`solve_members`] do the same in bytes that the caller has. What
 //! regions hold stands in `specs/Regions`, what is asked of the members in `specs/Members`.
+//!
+//! A volume wants the data alone. [`Regions::read_needed`] reads what these are found by: the data that
+//! are there, and for each lost data block of a row one of its parity blocks. [`Regions::solve_data`] finds
+//! the lost data by it. What is needed stands in `specs/Needs`, and [`laws`] says how much that is.
 #![tactic(auto)]
 
 pub mod laws;

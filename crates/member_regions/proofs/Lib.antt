@@ -7,3 +7,4 @@ pub mod OneMore
 pub mod Members
 pub mod Alike
 pub mod Solved
+pub mod ImageSums

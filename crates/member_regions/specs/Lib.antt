@@ -1,3 +1,4 @@
 pub mod Members
 pub mod Regions
 pub mod Needs
+pub mod ImageSums

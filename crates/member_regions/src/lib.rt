@@ -4,14 +4,19 @@
 //! `prune_filters` compares whole images in it, `virtual_volume` and `member_rebuild` find in it what lost
 //! members held. [`read_members`] and [`solve_members`] do the same in bytes that the caller has. What
 //! regions hold stands in `specs/Regions`, what is asked of the members in `specs/Members`.
+//!
+//! [`sum_images`] adds up the sectors of all images at each place, where each image has a region: `row_scan` and
+//! `prune_filters` test rows by these sums. What they say stands in `specs/ImageSums`.
 #![tactic(auto)]
 
+mod image_sums;
 mod reading;
 mod regions;
 mod solving;
 #[cfg(test)]
 mod tests;
 
+pub use image_sums::{ImageSum, sum_images};
 pub use reading::{read_member, read_members};
 pub use regions::{BLOCK, Regions, zeros};
 pub use solving::{solve_members, turn_to};

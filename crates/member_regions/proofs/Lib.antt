@@ -13,3 +13,4 @@ pub mod ReadParts
 pub mod NeededSums
 pub mod DataFound
 pub mod NeededRows
+pub mod ImageSums

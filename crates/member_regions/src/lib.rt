@@ -8,8 +8,12 @@
 //! A volume wants the data alone. [`Regions::read_needed`] reads what these are found by: the data that
 //! are there, and for each lost data block of a row one of its parity blocks. [`Regions::solve_data`] finds
 //! the lost data by it. What is needed stands in `specs/Needs`, and [`laws`] says how much that is.
+//!
+//! [`sum_images`] adds up the sectors of all images at each place, where each image has a region: `row_scan` and
+//! `prune_filters` test rows by these sums. What they say stands in `specs/ImageSums`.
 #![tactic(auto)]
 
+mod image_sums;
 pub mod laws;
 mod needs;
 mod reading;
@@ -18,6 +22,7 @@ mod solving;
 #[cfg(test)]
 mod tests;
 
+pub use image_sums::{ImageSum, sum_images};
 pub use reading::{read_member, read_members};
 pub use regions::{BLOCK, Regions, zeros};
 pub use solving::{solve_members, turn_to};

@@ -11,7 +11,8 @@ use Rattle.raid_params.specs.declared.types.Part.TheVariants.{Block, P, Q}
 use Rattle.raid_terms.specs.Cells.{cells_from, stands_in, weight_at}
 use Rattle.raid_terms.specs.Parity.{equations_hold, filled, has_p, in_p, is_sound, is_sound_column, member_byte, p_holds, q_holds, sum_of}
 use Rattle.raid_terms.specs.Role.{p_of, q_of}
-use Rattle.prune_filters.specs.Rows.{differ, xor_all, xor_byte}
+use Rattle.member_regions.specs.ImageSums.{xor_all}
+use Rattle.prune_filters.specs.Rows.{differ, xor_byte}
 use Rattle.prune_filters.proofs.Totals.{IsSum, placed, total}
 
 pub xor_is : IsSum bit_xor

@@ -1,19 +1,16 @@
--- The sectors of a row, as they lie in memory.
-use Rattle.std.proofs.Common.{◌≡◌, ◌≢◌, ℕ, zero, suc, ◌+◌, ◌-◌, ◌*◌, ◌/◌, ◌%◌, ◌<◌, ◌≤◌, List, [], ◌∷◌, length, map, replicate, drop, get_or, set, cond, arith, ap, ap₂, sym, refl, ◌∙◌, Bool, true, false, not, ◌==◌, ◌&&◌, ◌||◌, nat_eq, if◌then◌else◌, Option, Some, None, inl, inr, bit_xor, MatchOption}
+-- The sums of the images' sectors, and what they say of the images.
+use Rattle.std.proofs.Common.{◌≡◌, ℕ, zero, suc, ◌+◌, ◌*◌, ◌/◌, ◌%◌, ◌<◌, ◌≤◌, List, [], ◌∷◌, length, map, replicate, set, cond, arith, ap, ap₂, sym, refl, ◌∙◌, Bool, true, false, not, ◌==◌, ◌&&◌, ◌||◌, nat_eq, if◌then◌else◌, inl, inr, bit_xor}
 use Rattle.std.proofs.lemmas.Bool.{cases_eq, eq-eqb, eqb-true, ne_eqb}
-use Rattle.std.proofs.lemmas.List.{ext_get_or, get_or-drop, get_or-take}
 use Rattle.std.proofs.lemmas.Nat.{mod_below}
-use Rattle.std.proofs.lemmas.Simd.{get_or-zip2}
-use Rattle.std.specs.Cmp.Lexicographic.{other_text, pointwise, same_text}
-use Rattle.std.specs.Int.Bits.{xor_self, xor_zero_l, xor_zero_r}
-use Rattle.std.specs.List.{All, count_by, list_any, range_with_len, slice_index, slice_index_or, slice_range}
-use Rattle.std.specs.Option.{is_some}
-use Rattle.std.specs.Simd.Lanes.{zip2}
-use Rattle.gf256.proofs.Sums.{sum_associates}
+use Rattle.std.specs.Bool.{Decides}
+use Rattle.std.specs.Int.Bits.{xor_self, xor_zero_l}
+use Rattle.std.specs.List.{count_by, list_any, range_with_len, slice_index, slice_index_or}
+use Rattle.gf256.proofs.Sums.{equal_from_sum, sum_associates}
+use Rattle.member_regions.specs.ImageSums.{IsImageSum, room_byte, sum_byte, SumImages, xor_all}
 use Rattle.member_regions.specs.Regions.{Room}
-use Rattle.prune_filters.specs.Rows.{differ, every, others, xor_all, xor_byte}
-use Rattle.prune_filters.specs.Xors.{byte_in, differ_beside, differ_in, sector_in, CountRows, HoldRow, IsFlagged, RowTable}
-use Rattle.prune_filters.specs.declared.row_flags.RowFlags.{RowFlags}
+use Rattle.member_regions.specs.declared.image_sums.ImageSum.{ImageSum}
+use Rattle.prune_filters.specs.Rows.{differ, every, others, xor_byte}
+use Rattle.prune_filters.specs.Xors.{AreSumsOf, CountRows, HoldRow, HoldRows, IsSumOf, RowTable}
 use Rattle.prune_filters.proofs.Adding.{each_set}
 use Rattle.prune_filters.proofs.Columns.{xor_is, xor_others, xor_total}
 use Rattle.prune_filters.proofs.Prefixes.{sum_more}
@@ -46,94 +43,18 @@ each_fails f n x none lt = by_case (f x) refl
     by_case false e = e
     by_case true e = let bad : true ≡ false = sym (some_of f 0 n x (omega arith) (omega arith) e) ∙ none in (cc)
 
-any_alike : (f g : ℕ → Bool) (a n : ℕ) → ((x : ℕ) → a ≤ x → x < a + n → f x ≡ g x) → list_any f (range_with_len a n) ≡ list_any g (range_with_len a n)
-any_alike f g a zero same = refl
-any_alike f g a (suc n) same = ap₂ (λ (b c : Bool). b || c) (same a (omega arith) (omega arith)) (any_alike f g (a + 1) n (λ x low high. same x (omega arith) (omega arith)))
-
--- the first byte that is not zero tells
-pub first_tells : (o : Option ℕ) (sum : List ℕ) → length sum ≡ 512 →
-    MatchOption o (All (λ x. x ≡ 0) sum) (λ i. (i < length sum) × (slice_index sum i ≢ 0) × ((k : ℕ) → k < i → slice_index sum k ≡ 0)) → is_some o ≡ differ_in sum
-unfolding differ_in
-first_tells None sum long all =
-    sym (none_of (λ x. not (nat_eq (slice_index sum x) 0)) 0 512
-    (λ x low high. ap not (eq-eqb (slice_index sum x) 0 (all x 0 (omega arith)))))
-first_tells (Some i) sum long found =
-    let below = found.0 in
-    sym (some_of (λ x. not (nat_eq (slice_index sum x) 0)) 0 512 i (omega arith) (omega arith) (ap not (ne_eqb (slice_index sum i) 0 found.1)))
-
--- two bytes whose exclusive or is zero are the same
-xor_same : (a b : ℕ) → bit_xor a b ≡ 0 → a ≡ b
-xor_same a b e =
-    sym (xor_zero_r a) ∙ ap (bit_xor a) (sym (xor_self b)) ∙ sym (sum_associates a b b) ∙ ap (λ (x : ℕ). bit_xor x b) e ∙ xor_zero_l b
-
-not_false : (b : Bool) → not b ≡ false → b ≡ true
-not_false true e = refl
-not_false false e = (cc)
-
--- so does a comparison
-pub other_tells : (sector sum : List ℕ) → length sector ≡ 512 → length sum ≡ 512 → not (pointwise nat_eq sector sum) ≡ differ_beside sector sum
-unfolding differ_beside
-other_tells sector sum long wide = by_case (pointwise nat_eq sector sum) refl
+-- a flag that tells of bytes whether they are zeros tells whether one is not
+tells_other : (flag : Bool) (f : ℕ → ℕ) → Decides flag ((x : ℕ) → x < 512 → f x ≡ 0) → not flag ≡ list_any (λ x. not (nat_eq (f x) 0)) (range_with_len 0 512)
+tells_other true f decides = sym (none_of (λ x. not (nat_eq (f x) 0)) 0 512 (λ x low high. ap not (eq-eqb (f x) 0 (decides.0 refl x (omega arith)))))
+tells_other false f decides = by_case (list_any (λ x. not (nat_eq (f x) 0)) (range_with_len 0 512)) refl
   where
-    test : ℕ → Bool
-    test x = not (nat_eq (bit_xor (slice_index sector x) (slice_index sum x)) 0)
+    not_false : (b : Bool) → not b ≡ false → b ≡ true
+    not_false true e = refl
+    not_false false e = (cc)
 
-    alike : list_any (λ x. not (nat_eq (bit_xor (slice_index sector x) (slice_index sum x)) 0)) (range_with_len 0 512) ≡ false → sector ≡ sum
-    alike none = ext_get_or 0 sector sum (long ∙ sym wide)
-        (λ x lt. xor_same (slice_index sector x) (slice_index sum x) (eqb-true (bit_xor (slice_index sector x) (slice_index sum x)) 0
-        (not_false (nat_eq (bit_xor (slice_index sector x) (slice_index sum x)) 0)
-        (each_fails (λ x. not (nat_eq (bit_xor (slice_index sector x) (slice_index sum x)) 0)) 512 x none (omega arith)))))
-
-    differs : (b : Bool) → list_any (λ x. not (nat_eq (bit_xor (slice_index sector x) (slice_index sum x)) 0)) (range_with_len 0 512) ≡ b → sector ≢ sum → true ≡ b
-    differs true e apart = refl
-    differs false e apart = absurd (apart (alike e))
-
-    by_case : (b : Bool) → pointwise nat_eq sector sum ≡ b →
-        not (pointwise nat_eq sector sum) ≡ list_any (λ x. not (nat_eq (bit_xor (slice_index sector x) (slice_index sum x)) 0)) (range_with_len 0 512)
-    by_case true e =
-        let same : sector ≡ sum = same_text sector sum (sym e) in
-        ap not e ∙ sym (none_of (λ x. not (nat_eq (bit_xor (slice_index sector x) (slice_index sum x)) 0)) 0 512
-        (λ x low high. ap not (eq-eqb (bit_xor (slice_index sector x) (slice_index sum x)) 0
-        (ap (λ (l : List ℕ). bit_xor (slice_index l x) (slice_index sum x)) same ∙ xor_self (slice_index sum x)))))
-    by_case false e =
-        ap not e ∙ differs (list_any (λ x. not (nat_eq (bit_xor (slice_index sector x) (slice_index sum x)) 0)) (range_with_len 0 512)) refl (other_text sector sum (sym e))
-
--- the exclusive or of one image more
-pub xor_none : (n x : ℕ) → get_or (replicate n 0) x 0 ≡ xor_all []
-unfolding xor_all
-xor_none zero x = refl
-xor_none (suc n) zero = refl
-xor_none (suc n) (suc x) = xor_none n x
-
-xor_from : (f : ℕ → ℕ) (a n : ℕ) → xor_all (map f (range_with_len a (suc n))) ≡ bit_xor (xor_all (map f (range_with_len a n))) (f (a + n))
-unfolding xor_all
-xor_from f a zero = xor_zero_r (f a) ∙ ap f (let e : a ≡ a + 0 = omega arith in e) ∙ sym (xor_zero_l (f (a + 0)))
-xor_from f a (suc n) =
-    let e : a + 1 + n ≡ a + suc n = omega arith in
-    ap (bit_xor (f a)) (xor_from f (a + 1) n ∙ ap (λ (k : ℕ). bit_xor (xor_all (map f (range_with_len (a + 1) n))) (f k)) e)
-    ∙ sym (sum_associates (f a) (xor_all (map f (range_with_len (a + 1) n))) (f (a + suc n)))
-
-pub xor_more : (f : ℕ → ℕ) (n : ℕ) → xor_all (map f (every (n + 1))) ≡ bit_xor (xor_all (map f (every n))) (f n)
-xor_more f n =
-    let e : n + 1 ≡ suc n = omega arith in
-    ap (λ (k : ℕ). xor_all (map f (every k))) e ∙ xor_from f 0 n ∙ ap (λ (k : ℕ). bit_xor (xor_all (map f (every n))) (f k)) (let z : 0 + n ≡ n = omega arith in z)
-
--- a byte of a sector of a region
-part_byte : (bs : List ℕ) (a n x : ℕ) → x < n → get_or (slice_range bs a (a + n)) x 0 ≡ get_or bs (a + x) 0
-part_byte bs a n x lt = get_or-take (a + n - a) (drop a bs) x 0 (omega arith) ∙ get_or-drop a bs x 0
-
-pub sector_byte : (room : Room) (i j x : ℕ) → x < 512 → get_or (sector_in room i j) x 0 ≡ byte_in room i j x
-sector_byte room i j x lt =
-    let e : room.stride * i + 512 * j + x ≡ room.stride * i + (512 * j + x) = omega arith in
-    part_byte room.bytes (room.stride * i + 512 * j) 512 x lt ∙ ap (λ (k : ℕ). get_or room.bytes k 0) e
-
-pub sum_step : (room : Room) (n j x : ℕ) (sum region new : List ℕ) → x < 512 → length sum ≡ 512 → length region ≡ 512 → region ≡ sector_in room n j → new ≡ zip2 bit_xor sum region →
-    get_or sum x 0 ≡ xor_all (map (λ i. byte_in room i j x) (every n)) → get_or new x 0 ≡ xor_all (map (λ i. byte_in room i j x) (every (n + 1)))
-sum_step room n j x sum region new lt long wide is grown known =
-    ap (λ (l : List ℕ). get_or l x 0) grown
-    ∙ get_or-zip2 bit_xor sum region x 0 0 0 (omega arith) (omega arith)
-    ∙ ap₂ bit_xor known (ap (λ (l : List ℕ). get_or l x 0) is ∙ sector_byte room n j x lt)
-    ∙ sym (xor_more (λ i. byte_in room i j x) n)
+    by_case : (b : Bool) → list_any (λ x. not (nat_eq (f x) 0)) (range_with_len 0 512) ≡ b → true ≡ b
+    by_case true e = refl
+    by_case false e = sym (decides.1 (λ x below. eqb-true (f x) 0 (not_false (nat_eq (f x) 0) (each_fails (λ x. not (nat_eq (f x) 0)) 512 x e below))))
 
 -- the exclusive or without one image
 taken_out : (f : ℕ → ℕ) (i a n : ℕ) → a ≤ i → i < a + n → total bit_xor f (range_with_len a n) ≡ bit_xor (f i) (total bit_xor (λ k. cond (k == i) 0 (f k)) (range_with_len a n))
@@ -160,59 +81,58 @@ xor_but f n i lt =
     ∙ twice (f i) (total bit_xor (λ k. cond (k == i) 0 (f k)) (every n))
     ∙ sym (xor_others f i (every n))
 
--- what is told of sectors in memory is told of the images
-byte_at : List (List ℕ) → ℕ → ℕ → ℕ
-byte_at images at i = slice_index (slice_index_or images i []) at
+-- a byte of an image
+abbrev image_byte : List (List ℕ) → ℕ → ℕ → ℕ
+image_byte images at i = slice_index (slice_index_or images i []) at
 
 map_alike : (f g : ℕ → ℕ) (a n : ℕ) → ((i : ℕ) → a ≤ i → i < a + n → f i ≡ g i) → map f (range_with_len a n) ≡ map g (range_with_len a n)
 map_alike f g a zero same = refl
 map_alike f g a (suc n) same = ap₂ (λ (x : ℕ) (l : List ℕ). x ∷ l) (same a (omega arith) (omega arith)) (map_alike f g (a + 1) n (λ i low high. same i (omega arith) (omega arith)))
 
 -- the sum in memory is that of the images
-IsSum : List (List ℕ) → ℕ → ℕ → List ℕ → Type 0
-IsSum images n sector sum = (x : ℕ) → x < 512 → slice_index sum x ≡ xor_byte images (every n) (512 * sector + x)
+sum_held : (images : List (List ℕ)) (n sector j x : ℕ) (room : Room) → HoldRow images n sector j room → x < 512 → sum_byte room n j x ≡ xor_byte images (every n) (512 * sector + x)
+sum_held images n sector j x room hold below =
+    ap xor_all (map_alike (room_byte room (512 * j + x)) (image_byte images (512 * sector + x)) 0 n (λ i low high. hold i x (omega arith) below))
 
-is_sum : (images : List (List ℕ)) (n sector j : ℕ) (room : Room) (sum : List ℕ) → HoldRow images n sector j room →
-    ((x : ℕ) → x < 512 → slice_index sum x ≡ xor_all (map (λ i. byte_in room i j x) (every n))) → IsSum images n sector sum
-unfolding IsSum
-is_sum images n sector j room sum hold known x lt =
-    known x lt ∙ ap xor_all (map_alike (λ i. byte_in room i j x) (λ i. slice_index (slice_index_or images i []) (512 * sector + x)) 0 n (λ i low high. hold i x (omega arith) lt))
+-- it is the sector of an image just where the sum of the others is zero
+others_zero : (images : List (List ℕ)) (n sector i j : ℕ) (room : Room) (flag : Bool) → i < n → HoldRow images n sector j room →
+    Decides flag ((x : ℕ) → x < 512 → sum_byte room n j x ≡ room_byte room (512 * j + x) i) → Decides flag ((x : ℕ) → x < 512 → xor_byte images (others n i) (512 * sector + x) ≡ 0)
+others_zero images n sector i j room flag lt hold decides = (
+  λ holds x below.
+      sym (xor_but (image_byte images (512 * sector + x)) n i lt)
+      ∙ ap (bit_xor (image_byte images (512 * sector + x) i)) (sym (sum_held images n sector j x room hold below) ∙ decides.0 holds x below ∙ hold i x lt below)
+      ∙ xor_self (image_byte images (512 * sector + x) i),
+  λ zeros. decides.1 (λ x below.
+      sum_held images n sector j x room hold below
+      ∙ sym (equal_from_sum (image_byte images (512 * sector + x) i) (xor_byte images (every n) (512 * sector + x)) (xor_but (image_byte images (512 * sector + x)) n i lt ∙ zeros x below))
+      ∙ sym (hold i x lt below)),
+)
 
-differ_all : (images : List (List ℕ)) (n sector : ℕ) (sum : List ℕ) → IsSum images n sector sum → differ_in sum ≡ differ images (every n) sector
-unfolding differ_in differ IsSum
-differ_all images n sector sum is =
-    any_alike (λ x. not (nat_eq (slice_index sum x) 0)) (λ x. not (nat_eq (xor_byte images (every n) (512 * sector + x)) 0)) 0 512
-    (λ x low high. ap (λ (k : ℕ). not (nat_eq k 0)) (is x (omega arith)))
+-- what the sum of a row says of the images
+sum_of_row : (images : List (List ℕ)) (n sector j : ℕ) (room : Room) (sum : ImageSum) → HoldRow images n sector j room → IsImageSum room n j sum → IsSumOf images n sector sum
+unfolding differ
+sum_of_row images n sector j room sum hold is = record {
+  all = tells_other sum.is_zero (λ x. xor_byte images (every n) (512 * sector + x)) (
+    λ holds x below. sym (sum_held images n sector j x room hold below) ∙ is.zero.0 holds x below,
+    λ zeros. is.zero.1 (λ x below. sum_held images n sector j x room hold below ∙ zeros x below),
+  );
+  beside = λ i lt. tells_other (slice_index_or sum.is_image i false) (λ x. xor_byte images (others n i) (512 * sector + x))
+      (others_zero images n sector i j room (slice_index_or sum.is_image i false) lt hold (is.image i lt));
+}
 
-differ_but : (images : List (List ℕ)) (n sector i j : ℕ) (room : Room) (sum : List ℕ) → i < n → HoldRow images n sector j room → IsSum images n sector sum →
-    differ_beside (sector_in room i j) sum ≡ differ images (others n i) sector
-unfolding differ_beside differ IsSum byte_at
-differ_but images n sector i j room sum lt hold is =
-    any_alike (λ x. not (nat_eq (bit_xor (slice_index (sector_in room i j) x) (slice_index sum x)) 0)) (λ x. not (nat_eq (xor_byte images (others n i) (512 * sector + x)) 0)) 0 512
-    (λ x low high.
-    let below : x < 512 = omega arith in
-    ap (λ (k : ℕ). not (nat_eq k 0)) (ap₂ bit_xor (sector_byte room i j x below ∙ hold i x lt below) (is x below) ∙ xor_but (byte_at images (512 * sector + x)) n i lt))
-
--- what the sectors of a row tell
-pub row_told : (images : List (List ℕ)) (n sector j : ℕ) (room : Room) (sum : List ℕ) (all : Bool) (beside : List Bool) → HoldRow images n sector j room →
-    ((x : ℕ) → x < 512 → slice_index sum x ≡ xor_all (map (λ i. byte_in room i j x) (every n))) → all ≡ differ_in sum →
-    ((i : ℕ) → i < n → slice_index_or beside i false ≡ differ_beside (sector_in room i j) sum) → IsFlagged images n sector (record { all = all; beside = beside })
-row_told images n sector j room sum all beside hold known is others_are =
-    let sums : IsSum images n sector sum = is_sum images n sector j room sum hold known in
-    record {
-      all = is ∙ differ_all images n sector sum sums;
-      beside = λ i below. others_are i below ∙ differ_but images n sector i j room sum below hold sums;
-    }
+-- and what those of some rows do
+pub sums_of_rows : (images : List (List ℕ)) (n sector rows : ℕ) (room : Room) (sums : List ImageSum) → HoldRows images n sector rows room → SumImages room n rows sums → AreSumsOf images n sector rows sums
+sums_of_rows images n sector rows room sums hold are = λ j none lt. sum_of_row images n (sector + j) j room (slice_index_or sums j none) (hold j lt) (are j none lt)
 
 -- a row more
-pub count_more : (images : List (List ℕ)) (count chunk offset t : ℕ) (old : RowTable) (flags : RowFlags) (row : List ℕ) (more : ℕ) → 0 < count → count ≤ length old.beside →
-    IsFlagged images count (offset + t) flags → more ≡ (if flags.all then 1 else 0) →
-    ((i : ℕ) → i < count → slice_index row i ≡ slice_index (slice_index_or old.beside (t / chunk % count) []) i + (if slice_index_or flags.beside i false then 1 else 0)) →
+pub count_more : (images : List (List ℕ)) (count chunk offset t : ℕ) (old : RowTable) (sum : ImageSum) (row : List ℕ) (more : ℕ) → 0 < count → count ≤ length old.beside →
+    IsSumOf images count (offset + t) sum → more ≡ (if not sum.is_zero then 1 else 0) →
+    ((i : ℕ) → i < count → slice_index row i ≡ slice_index (slice_index_or old.beside (t / chunk % count) []) i + (if not (slice_index_or sum.is_image i false) then 1 else 0)) →
     CountRows images count chunk offset t old → CountRows images count chunk offset (t + 1) (record { all = old.all + more; beside = set old.beside (t / chunk % count) row })
-count_more images count chunk offset t old flags row more some wide told is counts before =
+count_more images count chunk offset t old sum row more some wide says is counts before =
     let turn : t / chunk % count < count = mod_below (t / chunk) count some in
     record {
-      all = ap₂ (λ (a b : ℕ). a + b) before.all (is ∙ ap (λ (b : Bool). cond b 1 0) told.all)
+      all = ap₂ (λ (a b : ℕ). a + b) before.all (is ∙ ap (λ (b : Bool). cond b 1 0) says.all)
           ∙ sym (sum_more (λ s. cond (differ images (every count) (offset + s)) 1 0) t);
       beside = λ k i low below.
           each_set {X = List ℕ} (λ k row. (i : ℕ) → i < count → slice_index row i ≡ count_by (λ s. (s / chunk % count == k) && differ images (others count i) (offset + s)) (range_with_len 0 (t + 1)))
@@ -220,7 +140,7 @@ count_more images count chunk offset t old flags row more some wide told is coun
           (λ i below.
           counts i below
           ∙ ap₂ (λ (a b : ℕ). a + b) (before.beside (t / chunk % count) i turn below)
-          (ap (λ (b : Bool). cond b 1 0) (told.beside i below)
+          (ap (λ (b : Bool). cond b 1 0) (says.beside i below)
           ∙ sym (ap (λ (b : Bool). cond (b && differ images (others count i) (offset + t)) 1 0) (eq-eqb (t / chunk % count) (t / chunk % count) refl)))
           ∙ sym (sum_more (λ s. cond ((s / chunk % count == t / chunk % count) && differ images (others count i) (offset + s)) 1 0) t))
           (λ k low ne i below.

@@ -1,5 +1,5 @@
 -- What the exclusive or of whole images tells of a prefix, where every slot list holds every image.
-use Rattle.std.specs.Prelude.{ℕ, ◌+◌, ◌*◌, ◌/◌, min, Bool, true, false, not, ◌==◌, ◌&&◌, ◌||◌, nat_eq, nat_le, List, [], ◌∷◌, length, map, filter, count_by, bit_xor, slice_index, slice_index_or}
+use Rattle.std.specs.Prelude.{ℕ, ◌+◌, ◌*◌, ◌/◌, min, Bool, true, false, not, ◌==◌, ◌&&◌, ◌||◌, nat_eq, nat_le, List, [], length, map, filter, count_by, slice_index, slice_index_or}
 use Rattle.std.specs.List.{list_any, range_with_len}
 use Rattle.std.specs.Option.{option_map_or, option_and_then}
 use Rattle.std.specs.declared.option.Option.{Option}
@@ -9,12 +9,8 @@ use Rattle.raid_params.specs.declared.types.Head.{Head}
 use Rattle.raid_params.specs.declared.types.Level.{Level}
 use Rattle.raid_params.specs.declared.types.Level.TheVariants.{Raid0, Raid5, Raid6}
 use Rattle.raid_terms.specs.Role.{q_of}
+use Rattle.member_regions.specs.ImageSums.{xor_all}
 use Rattle.search_plan.specs.declared.plan.Plan.{Plan}
-
--- the exclusive or of numbers
-unfoldable pub xor_all : List ℕ → ℕ
-xor_all [] = 0
-xor_all (x ∷ xs) = bit_xor x (xor_all xs)
 
 -- the exclusive or of byte `at` of some of the images
 abbrev pub xor_byte : List (List ℕ) → List ℕ → ℕ → ℕ

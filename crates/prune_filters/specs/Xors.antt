@@ -1,15 +1,16 @@
 -- What the tables of rows hold.
-use Rattle.std.specs.Prelude.{ℕ, ◌≡◌, ◌+◌, ◌-◌, ◌*◌, ◌^◌, ◌/◌, ◌%◌, ◌<◌, ◌≤◌, ◌⊎◌, min, max, true, Bool, not, ◌==◌, ◌&&◌, nat_eq, List, [], length, count_by, fold, bit_xor, slice_index, slice_index_or, slice_range, All, IsSomeAnd, ◌||◌, nat_le, false}
-use Rattle.std.specs.List.{list_any, range_with_len, sum_by}
+use Rattle.std.specs.Prelude.{ℕ, ◌≡◌, ◌+◌, ◌-◌, ◌*◌, ◌^◌, ◌/◌, ◌%◌, ◌<◌, ◌≤◌, ◌⊎◌, min, max, true, Bool, not, ◌==◌, ◌&&◌, List, [], length, count_by, fold, slice_index, slice_index_or, All, IsSomeAnd, ◌||◌, nat_le, false}
+use Rattle.std.specs.List.{range_with_len, sum_by}
 use Rattle.std.specs.Option.{option_map_or}
 use Rattle.std.specs.declared.option.Option.{Option}
 use Rattle.raid_params.specs.declared.types.Head.{Head}
 use Rattle.raid_params.specs.declared.types.Level.{Level}
 use Rattle.raid_params.specs.declared.types.Level.TheVariants.{Raid0, Raid5, Raid6}
+use Rattle.member_regions.specs.ImageSums.{room_byte}
 use Rattle.member_regions.specs.Regions.{Room}
+use Rattle.member_regions.specs.declared.image_sums.ImageSum.{ImageSum}
 use Rattle.search_plan.specs.declared.plan.Plan.{Plan}
 use Rattle.prune_filters.specs.Rows.{differ, every, needs_table, on_q, others}
-use Rattle.prune_filters.specs.declared.row_flags.RowFlags.{RowFlags}
 
 -- a table as contracts see it: in how many of some rows the images differ, and in how many those but one do, by the
 -- row's place among as many rows of chunks as there are images, and by the one
@@ -74,30 +75,23 @@ broken_in table Raid6 head prefix = min (sum_by (beside_q table head prefix) (ra
 abbrev pub rows_hold_by : Option RowTable → Plan → Head → List (Option ℕ) → Bool
 rows_hold_by xors plan head prefix = not (needs_table plan head) || option_map_or (λ table. nat_le (broken_in table head.level head prefix) plan.limits.badrows) xors false
 
--- byte x of sector j of a region
-abbrev pub byte_in : Room → ℕ → ℕ → ℕ → ℕ
-byte_in room i j x = slice_index room.bytes (room.stride * i + (512 * j + x))
-
--- sector j of a region
-abbrev pub sector_in : Room → ℕ → ℕ → List ℕ
-sector_in room i j = slice_range room.bytes (room.stride * i + 512 * j) (room.stride * i + 512 * j + 512)
-
 -- the sectors number j of the regions are those of as many images at this sector
 abbrev pub HoldRow : List (List ℕ) → ℕ → ℕ → ℕ → Room → Type 0
-HoldRow images count sector j room = (i x : ℕ) → i < count → x < 512 → byte_in room i j x ≡ slice_index (slice_index_or images i []) (512 * sector + x)
+HoldRow images count sector j room = (i x : ℕ) → i < count → x < 512 → room_byte room (512 * j + x) i ≡ slice_index (slice_index_or images i []) (512 * sector + x)
 
 -- so are all of so many, from this sector on
 abbrev pub HoldRows : List (List ℕ) → ℕ → ℕ → ℕ → Room → Type 0
 HoldRows images count sector rows room = (j : ℕ) → j < rows → HoldRow images count (sector + j) j room
 
--- what is told of a row: whether the images differ at this sector, and whether those but one do
-pub record IsFlagged (images : List (List ℕ)) (count sector : ℕ) (row : RowFlags) : Type 0 where
-  pub all : row.all ≡ differ images (every count) sector
-  pub beside : (i : ℕ) → i < count → slice_index_or row.beside i false ≡ differ images (others count i) sector
+-- the sum of the images at this sector is zeros just where they do not differ, and the sector of one of them just where the
+-- others do not
+pub record IsSumOf (images : List (List ℕ)) (count sector : ℕ) (sum : ImageSum) : Type 0 where
+  pub all : not sum.is_zero ≡ differ images (every count) sector
+  pub beside : (i : ℕ) → i < count → not (slice_index_or sum.is_image i false) ≡ differ images (others count i) sector
 
--- so it is of so many rows, from this sector on
-abbrev pub AreFlagged : List (List ℕ) → ℕ → ℕ → ℕ → List RowFlags → Type 0
-AreFlagged images count sector rows flags = (j : ℕ) (none : RowFlags) → j < rows → IsFlagged images count (sector + j) (slice_index_or flags j none)
+-- so it is at each of the first sectors from this one on
+abbrev pub AreSumsOf : List (List ℕ) → ℕ → ℕ → ℕ → List ImageSum → Type 0
+AreSumsOf images count sector rows sums = (j : ℕ) (none : ImageSum) → j < rows → IsSumOf images count (sector + j) (slice_index_or sums j none)
 
 -- each table counts the tested rows of its chunk among so many
 abbrev pub CountFirst : List (List ℕ) → Plan → List ℕ → ℕ → ℕ → List RowTable → Type 0
@@ -117,11 +111,3 @@ pub record AreFew (most : ℕ) (table : RowTable) : Type 0 where
 -- none of them is
 abbrev pub AreAllFew : ℕ → List RowTable → Type 0
 AreAllFew most tables = All (AreFew most) tables
-
--- a byte of a sector is not zero
-unfoldable pub differ_in : List ℕ → Bool
-differ_in sum = list_any (λ x. not (nat_eq (slice_index sum x) 0)) (range_with_len 0 512)
-
--- two sectors are not the same
-unfoldable pub differ_beside : List ℕ → List ℕ → Bool
-differ_beside sector sum = list_any (λ x. not (nat_eq (bit_xor (slice_index sector x) (slice_index sum x)) 0)) (range_with_len 0 512)

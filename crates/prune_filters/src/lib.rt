@@ -20,7 +20,6 @@ mod laws;
 mod mark_table;
 mod prefix;
 mod row_counts;
-mod row_flags;
 mod rows;
 mod settling;
 #[cfg(test)]

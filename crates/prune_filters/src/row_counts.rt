@@ -1,23 +1,23 @@
 //! How many rows of sectors tell that the images differ.
-ghost use Rattle.std.specs.Prelude.{◌≡◌, ◌+◌, ◌<◌, ◌≤◌, ◌^◌, ℕ, false, slice_index, slice_index_or, if◌then◌else◌};
+ghost use Rattle.std.specs.Prelude.{◌≡◌, ◌+◌, ◌<◌, ◌≤◌, ◌^◌, ℕ, false, not, slice_index, slice_index_or, if◌then◌else◌};
 ghost use Rattle.raid_params.specs.declared.limits.TheConstants.{MOST};
 
-use crate::row_flags::RowFlags;
+use member_regions::ImageSum;
 use raid_params::MOST;
 
 /// A count for each image.
 pub(crate) type RowCounts = [u64; MOST];
 
-/// The counts of the images, each with one more where the others differ in the row.
-pub(crate) fn count_row(counts: &RowCounts, row: &RowFlags, images: usize) -> RowCounts
+/// The counts of the images, each with one more where the others differ in the row, of which this is the sum.
+pub(crate) fn count_row(counts: &RowCounts, sum: &ImageSum, images: usize) -> RowCounts
     requires images { images ≤ MOST }
     requires few { (i : ℕ) → slice_index counts.now i < 2 ^ 63 }
-    ensures counts { (i : ℕ) → i < images → slice_index result i ≡ slice_index counts.now i + (if slice_index_or row.now.beside i false then 1 else 0) }
+    ensures counts { (i : ℕ) → i < images → slice_index result i ≡ slice_index counts.now i + (if not (slice_index_or sum.now.is_image i false) then 1 else 0) }
     ensures few { (i : ℕ) → slice_index result i ≤ slice_index counts.now i + 1 }
 {
     let mut more = *counts;
     for image in 0..images {
-        more[image] += one_if(row.beside[image]);
+        more[image] += one_if(!sum.is_image[image]);
     }
     more
 }

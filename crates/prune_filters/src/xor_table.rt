@@ -9,15 +9,14 @@ ghost use Rattle.raid_params.specs.declared.limits.TheConstants.{MOST};
 ghost use Rattle.member_regions.specs.Regions.{IsRoomFor};
 ghost use Rattle.member_regions.specs.declared.regions.TheConstants.{BLOCK};
 ghost use Rattle.search_plan.specs.Plans.{IsPlan};
-ghost use Rattle.prune_filters.specs.Xors.{most_tested, tested_with, AreAllFew, AreFew, AreFlagged, AreXorTables, CountFirst, CountRows, HoldRows, IsFlagged, IsXorTable};
+ghost use Rattle.prune_filters.specs.Xors.{most_tested, tested_with, AreAllFew, AreFew, AreSumsOf, AreXorTables, CountFirst, CountRows, HoldRows, IsSumOf, IsXorTable};
 ghost use Rattle.prune_filters.specs.Reading.{AreOfPlan, EndsTable};
 ghost use Rattle.prune_filters.specs.declared.xor_table.TableFault.TheVariants.{Memory};
 
 use crate::row_counts::{RowCounts, count_row, one_if};
-use crate::row_flags::{RowFlags, flag_rows};
 use crate::settling::{are_known, most_rows, rows_tested};
 use image_source::{Failed, Images};
-use member_regions::{BLOCK, Regions};
+use member_regions::{BLOCK, ImageSum, Regions, sum_images};
 use raid_params::{Geometry, Head, Level, MOST, Pattern, Slots, Syndrome};
 use search_plan::Plan;
 use std::alloc::Global;
@@ -134,7 +133,7 @@ impl XorTable {
     /// Counts those of `count` rows that are tested. The first of them is row `first`.
     fn add_tested(
         &mut self,
-        flags: &[RowFlags; BLOCK],
+        sums: &[ImageSum; BLOCK],
         plan: &Plan,
         chunk: u64,
         offset: u64,
@@ -146,7 +145,7 @@ impl XorTable {
         requires count { count ≤ BLOCK }
         requires rows { first + count < 2 ^ 55 }
         requires few { AreFew first self.old }
-        ensures counts { (bytes : List (List ℕ)) → AreFlagged bytes (length plan.now.lengths.items) (offset + first) count flags.now →
+        ensures counts { (bytes : List (List ℕ)) → AreSumsOf bytes (length plan.now.lengths.items) (offset + first) count sums.now →
             CountRows bytes (length plan.now.lengths.items) chunk offset (min first (tested_with plan.now chunk offset)) self.old →
             CountRows bytes (length plan.now.lengths.items) chunk offset (min (first + count) (tested_with plan.now chunk offset)) self.new }
         ensures few { AreFew (first + count) self.new }
@@ -154,14 +153,14 @@ impl XorTable {
         let tested = rows_tested(plan, chunk, offset);
         if first < tested {
             let rows = (tested - first).min(count as u64) as usize;
-            self.add_rows(flags, plan.lengths.len(), chunk, first, rows);
+            self.add_rows(sums, plan.lengths.len(), chunk, first, rows);
         }
     }
 
     /// Counts the first `rows` of some rows, of which the first is row `first`.
     fn add_rows(
         &mut self,
-        flags: &[RowFlags; BLOCK],
+        sums: &[ImageSum; BLOCK],
         images: usize,
         chunk: u64,
         first: u64,
@@ -173,29 +172,29 @@ impl XorTable {
         requires count { rows ≤ BLOCK }
         requires rows { first + rows < 2 ^ 55 }
         requires few { AreFew first self.old }
-        ensures counts { (bytes : List (List ℕ)) (offset : ℕ) → AreFlagged bytes images (offset + first) rows flags.now →
+        ensures counts { (bytes : List (List ℕ)) (offset : ℕ) → AreSumsOf bytes images (offset + first) rows sums.now →
             CountRows bytes images chunk offset first self.old → CountRows bytes images chunk offset (first + rows) self.new }
         ensures few { AreFew (first + rows) self.new }
     {
         for j in 0..rows {
-            self.add_row(&flags[j], images, chunk, first + j as u64);
+            self.add_row(&sums[j], images, chunk, first + j as u64);
         }
     }
 
-    /// Counts row `t`.
-    fn add_row(&mut self, row: &RowFlags, images: usize, chunk: u64, t: u64)
+    /// Counts row `t`, of which this is the sum.
+    fn add_row(&mut self, sum: &ImageSum, images: usize, chunk: u64, t: u64)
         requires some { 0 < images }
         requires images { images ≤ MOST }
         requires chunk { 0 < chunk }
         requires row { t < 2 ^ 55 }
         requires few { AreFew t self.old }
-        ensures counts { (bytes : List (List ℕ)) (offset : ℕ) → IsFlagged bytes images (offset + t) row.now →
+        ensures counts { (bytes : List (List ℕ)) (offset : ℕ) → IsSumOf bytes images (offset + t) sum.now →
             CountRows bytes images chunk offset t self.old → CountRows bytes images chunk offset (t + 1) self.new }
         ensures few { AreFew (t + 1) self.new }
     {
         let turn = (t / chunk) as usize % images;
-        self.all += one_if(row.all);
-        self.beside[turn] = count_row(&self.beside[turn], row, images);
+        self.all += one_if(!sum.is_zero);
+        self.beside[turn] = count_row(&self.beside[turn], sum, images);
     }
 }
 
@@ -277,9 +276,9 @@ fn add_block(
     ensures few { AreAllFew (first + count) tables.new.items }
     ensures long { length tables.new.items ≡ length tables.old.items }
 {
-    let flags = flag_rows(regions, plan.lengths.len(), count);
+    let sums = sum_images(regions, plan.lengths.len(), count);
     for place in 0..chunks.len() {
-        tables[place].add_tested(&flags, plan, chunks[place], offset, first, count);
+        tables[place].add_tested(&sums, plan, chunks[place], offset, first, count);
     }
 }
 

@@ -17,7 +17,8 @@ use Rattle.pq_parity.proofs.Fillings.{AreBytes, lost}
 use Rattle.pq_parity.proofs.Sums.{part_sum}
 use Rattle.member_regions.proofs.Sets.{row_length}
 use Rattle.member_regions.specs.Regions.{Room}
-use Rattle.row_scan.specs.ImageSums.{held_byte, IsBlankAt, IsChunkRow, room_byte, slots_column}
+use Rattle.member_regions.specs.ImageSums.{IsBlankAt, room_byte}
+use Rattle.row_scan.specs.ImageSums.{held_byte, IsChunkRow, slots_column}
 use Rattle.row_scan.specs.declared.left_out.ChunkRow.{ChunkRow}
 
 -- what adds nothing where the byte is 0

@@ -1,19 +1,18 @@
 -- P's equation over all images but one.
-use Rattle.std.proofs.Common.{ℕ, zero, suc, inl, inr, ◌≡◌, ◌≢◌, ◌<◌, ◌≤◌, ◌+◌, ◌*◌, Bool, true, false, not, cond, List, [], ◌∷◌, length, map, take, set, get_or, bit_xor, replicate, refl, sym, ap, subst, ◌∙◌, arith, add-one, Option, Some, None, IfSome, IsSomeAnd, slice_range}
+use Rattle.std.proofs.Common.{ℕ, zero, suc, inl, inr, ◌≡◌, ◌≢◌, ◌<◌, ◌≤◌, ◌+◌, ◌*◌, Bool, true, false, not, cond, List, [], ◌∷◌, length, map, take, set, get_or, bit_xor, replicate, refl, sym, ap, subst, ◌∙◌, arith, add-one, Option, Some, None, IfSome, IsSomeAnd}
 use Rattle.std.proofs.Math.ListN.{get_or-eq_default}
 use Rattle.std.proofs.lemmas.Bool.{cases_lt}
-use Rattle.std.proofs.lemmas.Simd.{get_or-zip2}
-use Rattle.std.specs.Simd.Lanes.{zip2}
 use Rattle.std.proofs.lemmas.List.{get_or-map, get_or-replicate, get_or-set_other, get_or-set_same, get_or_default, length-map}
 use Rattle.gf256.proofs.Sums.{sum_associates, equal_from_sum, sum_commutes, sum_self, sum_zero}
 use Rattle.raid_params.specs.declared.types.Cell.{Cell}
 use Rattle.raid_terms.specs.Parity.{in_p}
 use Rattle.std.specs.Bool.{Decides}
 use Rattle.pq_parity.specs.Syndromes.{Cancel, known_in, known_sum}
+use Rattle.member_regions.specs.ImageSums.{all_sum, IsImageSum, room_byte, sum_byte}
 use Rattle.member_regions.specs.Regions.{Room}
-use Rattle.row_scan.proofs.ImageRows.{part_at}
-use Rattle.row_scan.specs.ImageSums.{AddsAllBut, all_sum, held_byte, IsImageSum, IsUnmarked, marked_sum, room_byte, slots_column, sum_byte}
-use Rattle.row_scan.specs.declared.image_sums.ImageSum.{ImageSum}
+use Rattle.member_regions.specs.declared.image_sums.ImageSum.{ImageSum}
+use Rattle.member_regions.proofs.ImageSums.{sum_next as all_next, sum_none as all_none}
+use Rattle.row_scan.specs.ImageSums.{AddsAllBut, held_byte, IsUnmarked, marked_sum, slots_column}
 use Rattle.row_scan.specs.declared.left_out.LeftOut.{LeftOut}
 use Rattle.row_scan.specs.declared.left_out.LeftOut.TheVariants.{Nobody, One}
 
@@ -100,27 +99,29 @@ sum_none bytes = refl
 
 -- none of no images is not marked
 pub unmarked_none : (marks : List Bool) → IsUnmarked marks 0 Nobody
-unfolding all_sum marked_sum
-unmarked_none marks f = refl
+unfolding marked_sum
+unmarked_none marks f = sym (all_none f)
 
 -- one more image that is marked
 marked_next : (marks : List Bool) (n : ℕ) (out : LeftOut) → get_or marks n false ≡ true → IsUnmarked marks n out → IsUnmarked marks (suc n) out
-unfolding all_sum marked_sum
+unfolding marked_sum
 marked_next marks n Nobody here is = λ f.
-    ap (λ (b : Bool). bit_xor (marked_sum f marks n) (cond b (f n) 0)) here ∙ ap (λ (a : ℕ). bit_xor a (f n)) (is f)
+    ap (λ (b : Bool). bit_xor (marked_sum f marks n) (cond b (f n) 0)) here ∙ ap (λ (a : ℕ). bit_xor a (f n)) (is f) ∙ sym (all_next f n)
 marked_next marks n (One image) here is = (
   omega (arith, is.0),
   λ f.
-      ap (λ (b : Bool). bit_xor (marked_sum f marks n) (cond b (f n) 0)) here ∙ ap (λ (a : ℕ). bit_xor a (f n)) (is.1 f) ∙ swap_after (all_sum f n) (f image) (f n),
+      ap (λ (b : Bool). bit_xor (marked_sum f marks n) (cond b (f n) 0)) here ∙ ap (λ (a : ℕ). bit_xor a (f n)) (is.1 f) ∙ swap_after (all_sum f n) (f image) (f n)
+      ∙ ap (λ (a : ℕ). bit_xor a (f image)) (sym (all_next f n)),
 )
 
 -- the first that is not
 unmarked_next : (marks : List Bool) (n : ℕ) → get_or marks n false ≡ false → IsUnmarked marks n Nobody → IsUnmarked marks (suc n) (One n)
-unfolding all_sum marked_sum
+unfolding marked_sum
 unmarked_next marks n here is = (
   omega arith,
   λ f.
-      ap (λ (b : Bool). bit_xor (marked_sum f marks n) (cond b (f n) 0)) here ∙ sum_zero (marked_sum f marks n) ∙ is f ∙ sym (twice_none (all_sum f n) (f n)),
+      ap (λ (b : Bool). bit_xor (marked_sum f marks n) (cond b (f n) 0)) here ∙ sum_zero (marked_sum f marks n) ∙ is f ∙ sym (twice_none (all_sum f n) (f n))
+      ∙ ap (λ (a : ℕ). bit_xor a (f n)) (sym (all_next f n)),
 )
 
 pub unmarked_more : (marks : List Bool) (n : ℕ) (out : LeftOut) → get_or marks n false ≡ true → IsUnmarked marks n out → IsUnmarked marks (n + 1) out
@@ -194,88 +195,3 @@ pub told_if_there : (room : Room) (cells : List Cell) (slots : List (Option ℕ)
     IfSome flag (λ f. f ≡ get_or sum.is_image image false) → IfSome flag (λ f. Decides f (Cancel in_p cells (slots_column room slots place)))
 told_if_there room cells slots n place image sum out None is but first here = tt
 told_if_there room cells slots n place image sum out (Some flag) is but first here = told_one room cells slots n place image sum out flag is but first here
-
--- the sector of a region
-region_at : (room : Room) (region : List ℕ) (image place x : ℕ) → region ≡ slice_range room.bytes (room.stride * image + 512 * place) (room.stride * image + 512 * place + 512 * 1) → x < 512 →
-    get_or region x 0 ≡ room_byte room (512 * place + x) image
-region_at room region image place x is below =
-    let at : room.stride * image + 512 * place + x ≡ room.stride * image + (512 * place + x) = omega arith in
-    ap (λ (xs : List ℕ). get_or xs x 0) is ∙ part_at room.bytes (room.stride * image + 512 * place) (room.stride * image + 512 * place + 512 * 1) x (omega arith)
-    ∙ ap (λ (k : ℕ). get_or room.bytes k 0) at
-
--- no image, no sum
-pub summed_none : (room : Room) (place x : ℕ) → x < 512 → get_or (replicate 512 0) x 0 ≡ sum_byte room 0 place x
-unfolding all_sum
-summed_none room place x below = get_or-replicate 512 x 0 0 below
-
-summed_suc : (f : ℕ → ℕ) (n : ℕ) → all_sum f (suc n) ≡ bit_xor (all_sum f n) (f n)
-unfolding all_sum
-summed_suc f n = refl
-
--- one more image
-pub summed_more : (room : Room) (sum region : List ℕ) (image place x : ℕ) → length sum ≡ 512 → length region ≡ 512 * 1 →
-    region ≡ slice_range room.bytes (room.stride * image + 512 * place) (room.stride * image + 512 * place + 512 * 1) → get_or sum x 0 ≡ sum_byte room image place x → x < 512 →
-    get_or (zip2 bit_xor sum region) x 0 ≡ sum_byte room (image + 1) place x
-summed_more room sum region image place x long long' is so_far below =
-    get_or-zip2 bit_xor sum region x 0 0 0 (omega arith) (omega arith)
-    ∙ ap (λ (a : ℕ). bit_xor a (get_or region x 0)) so_far
-    ∙ ap (bit_xor (sum_byte room image place x)) (region_at room region image place x is below)
-    ∙ sym (rw add-one (summed_suc (room_byte room (512 * place + x)) image))
-
-pub bytes_more : (room : Room) (region : List ℕ) (image place : ℕ) → ((k : ℕ) → get_or region k 0 < 256) →
-    region ≡ slice_range room.bytes (room.stride * image + 512 * place) (room.stride * image + 512 * place + 512 * 1) →
-    ((i x : ℕ) → i < image → x < 512 → room_byte room (512 * place + x) i < 256) → (i x : ℕ) → i < image + 1 → x < 512 → room_byte room (512 * place + x) i < 256
-bytes_more room region image place fit is before i x inside below =
-    elim (cases_lt i image) [
-      | inl less ↦ before i x less below
-      | inr more ↦
-          (let at : i ≡ image = omega arith in
-          let here = region_at room region image place x is below in
-          subst (λ (k : ℕ). room_byte room (512 * place + x) k < 256) (sym at) (subst (λ (b : ℕ). b < 256) here (fit x)))
-    ]
-
-pub blank_more : (room : Room) (region : List ℕ) (image place : ℕ) → ((x : ℕ) → x < 512 → get_or region x 0 ≡ 0) →
-    region ≡ slice_range room.bytes (room.stride * image + 512 * place) (room.stride * image + 512 * place + 512 * 1) →
-    ((i x : ℕ) → i < image → x < 512 → room_byte room (512 * place + x) i ≡ 0) → (i x : ℕ) → i < image + 1 → x < 512 → room_byte room (512 * place + x) i ≡ 0
-blank_more room region image place zeros is before i x inside below =
-    elim (cases_lt i image) [
-      | inl less ↦ before i x less below
-      | inr more ↦
-          (let at : i ≡ image = omega arith in
-          subst (λ (k : ℕ). room_byte room (512 * place + x) k ≡ 0) (sym at) (sym (region_at room region image place x is below) ∙ zeros x below))
-    ]
-
-same_lists : (xs ys : List ℕ) → length xs ≡ length ys → ((k : ℕ) → k < length xs → get_or xs k 0 ≡ get_or ys k 0) → xs ≡ ys
-same_lists [] [] long same = refl
-same_lists [] (y ∷ ys) long same = absurd (omega arith)
-same_lists (x ∷ xs) [] long same = absurd (omega arith)
-same_lists (x ∷ xs) (y ∷ ys) long same =
-    ap (λ (z : ℕ). z ∷ xs) (same 0 (omega arith)) ∙ ap (λ (zs : List ℕ). y ∷ zs) (same_lists xs ys (omega arith) (λ k less. same (suc k) (omega arith)))
-
--- whether the sum is the sector of a region
-pub image_told : (room : Room) (sum region : List ℕ) (n image place : ℕ) (flag : Bool) → length sum ≡ 512 → length region ≡ 512 * 1 →
-    region ≡ slice_range room.bytes (room.stride * image + 512 * place) (room.stride * image + 512 * place + 512 * 1) → ((x : ℕ) → x < 512 → get_or sum x 0 ≡ sum_byte room n place x) →
-    Decides flag (sum ≡ region) → Decides flag ((x : ℕ) → x < 512 → sum_byte room n place x ≡ room_byte room (512 * place + x) image)
-image_told room sum region n image place flag long long' is sums decides = (
-  λ holds x below. sym (sums x below) ∙ ap (λ (xs : List ℕ). get_or xs x 0) (decides.0 holds) ∙ region_at room region image place x is below,
-  λ same. decides.1 (same_lists sum region (omega arith)
-      (λ x inside. let below : x < 512 = omega arith in sums x below ∙ same x below ∙ sym (region_at room region image place x is below))),
-)
-
--- one more flag
-pub flags_more : (P : ℕ → Bool → Type 0) (flags : List Bool) (n : ℕ) (flag : Bool) → n < length flags → ((i : ℕ) → i < n → P i (get_or flags i false)) → P n flag →
-    (i : ℕ) → i < n + 1 → P i (get_or (set flags n flag) i false)
-flags_more P flags n flag inside before here i below =
-    elim (cases_lt i n) [
-      | inl less ↦ rw (get_or-set_other flags n i flag false (omega arith)) (before i less)
-      | inr more ↦ (let at : i ≡ n = omega arith in rw (at, get_or-set_same flags n flag false inside) here)
-    ]
-
--- one more place
-pub places_more : (P : ℕ → ImageSum → Type 0) (sums : List ImageSum) (n : ℕ) (sum : ImageSum) → n < length sums → ((i : ℕ) (d : ImageSum) → i < n → P i (get_or sums i d)) → P n sum →
-    (i : ℕ) (d : ImageSum) → i < n + 1 → P i (get_or (set sums n sum) i d)
-places_more P sums n sum inside before here i d below =
-    elim (cases_lt i n) [
-      | inl less ↦ rw (get_or-set_other sums n i sum d (omega arith)) (before i d less)
-      | inr more ↦ (let at : i ≡ n = omega arith in rw (at, get_or-set_same sums n sum d inside) here)
-    ]

@@ -1,6 +1,7 @@
 -- From tallies to verdicts.
-use Rattle.std.proofs.Common.{◌≡◌, ℕ, ◌<◌, ◌≤◌, Bool, true, false, List, [], ◌∷◌, length, get_or, map, refl, sym, ◌∙◌, arith, Option, Some, None, All, IfSome}
+use Rattle.std.proofs.Common.{◌≡◌, ℕ, ◌<◌, ◌≤◌, Bool, true, false, List, [], ◌∷◌, length, get_or, map, refl, sym, ap, subst, ◌∙◌, arith, Option, Some, None, All, IfSome}
 use Rattle.std.specs.Option.{is_some}
+use Rattle.std.specs.Prelude.{MatchOption}
 use Rattle.std.proofs.lemmas.List.{ext_get_or, get_or-map, length-map}
 use Rattle.image_source.specs.Attached.{told_all}
 use Rattle.image_source.specs.Seen.{Image, TellsBytes}
@@ -12,8 +13,8 @@ use Rattle.search_plan.specs.declared.plan.Plan.{Plan}
 use Rattle.member_regions.specs.Members.{IsTestable}
 use Rattle.member_regions.specs.Regions.{IsRoomFor, Room}
 use Rattle.member_regions.specs.declared.regions.TheConstants.{BLOCK}
-use Rattle.row_scan.specs.ImageRows.{rows_of}
-use Rattle.row_scan.specs.Pass.{AllTallies, CanScan, IsDecided, IsScanned}
+use Rattle.row_scan.specs.ImageRows.{rows_before, rows_of}
+use Rattle.row_scan.specs.Pass.{AllTallies, BeginAnew, CanScan, IsDecided, IsScanned, SettlesOnly, TalliesTo}
 use Rattle.row_scan.specs.Scan.{is_unbreakable, IsScannable}
 use Rattle.row_scan.specs.Verdicts.{verdicts_of}
 use Rattle.row_scan.proofs.Parity.{at_most, passes_where}
@@ -81,6 +82,21 @@ told_verdicts attached plan sets tallies passed tells scanned long is decided = 
     by_told : (told : Option (List (List ℕ))) → told_all attached ≡ told → IfSome told (λ bytes. AllTallies (IsDecided bytes plan) sets tallies) → IfSome told (λ bytes. passed ≡ verdicts_of bytes plan sets)
     by_told None e all = tt
     by_told (Some bytes) e all = are_verdicts bytes plan sets tallies passed (λ i k. told_below attached bytes i k tells e) scanned all long is
+
+-- a tally that begins anew counts no row, and one that is settled stays so
+anew_at : (images : List (List ℕ)) (plan : Plan) (geo : Geometry) (old new : Option ℕ) → MatchOption old (new ≡ None) (λ k. new ≡ Some plan.limits.badrows) → SettlesOnly images plan geo old → TalliesTo images plan 0 geo new
+anew_at images plan geo None new is settles = subst (λ (tally : Option ℕ). TalliesTo images plan 0 geo tally) (sym is) (settles refl)
+anew_at images plan geo (Some k) new is settles =
+    subst (λ (tally : Option ℕ). TalliesTo images plan 0 geo tally) (sym is)
+    (λ breakable. let none : rows_before plan geo 0 ≡ 0 = omega arith in let sound : unsound_rows images geo (rows_before plan geo 0) ≡ 0 = ap (unsound_rows images geo) none in omega arith)
+
+-- after the samples and a sweep the tallies are those of all rows
+pub decided_from : (told : Option (List (List ℕ))) (plan : Plan) (sets : List Geometry) (sampled anew swept : List (Option ℕ)) → length sampled ≡ length sets → BeginAnew plan.limits.badrows sampled anew →
+    IfSome told (λ bytes. AllTallies (SettlesOnly bytes plan) sets sampled) → IfSome told (λ bytes. AllTallies (TalliesTo bytes plan 0) sets anew → AllTallies (IsDecided bytes plan) sets swept) →
+    IfSome told (λ bytes. AllTallies (IsDecided bytes plan) sets swept)
+decided_from None plan sets sampled anew swept long begin settles goes = tt
+decided_from (Some bytes) plan sets sampled anew swept long begin settles goes =
+    goes (λ i d e below. anew_at bytes plan (get_or sets i e) (get_or sampled i d) (get_or anew i d) (begin i d (omega arith)) (settles i d e below))
 
 -- a list is told by its elements
 pub some_of : (passed : List Bool) (tallies : List (Option ℕ)) → length passed ≡ length tallies → ((i : ℕ) (d : Bool) (e : Option ℕ) → i < length tallies → get_or passed i d ≡ is_some (get_or tallies i e)) → passed ≡ map is_some tallies

@@ -15,7 +15,8 @@ use Rattle.member_regions.proofs.Sets.{row_length, testable_row}
 use Rattle.member_regions.specs.Members.{IsTestable}
 use Rattle.member_regions.specs.Regions.{Room}
 use Rattle.row_scan.specs.ImageRows.{HoldsSet}
-use Rattle.row_scan.specs.ImageSums.{AddsAllBut, held_byte, IsChunkRow, IsWhole, room_byte, slots_column}
+use Rattle.member_regions.specs.ImageSums.{room_byte}
+use Rattle.row_scan.specs.ImageSums.{AddsAllBut, held_byte, IsChunkRow, IsWhole, slots_column}
 use Rattle.row_scan.specs.declared.left_out.ChunkRow.{ChunkRow}
 use Rattle.row_scan.specs.declared.left_out.LeftOut.{LeftOut}
 use Rattle.row_scan.specs.declared.runs.Run.{Run}

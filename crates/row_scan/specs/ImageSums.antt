@@ -1,6 +1,5 @@
 -- P's test of the rows of a run, by the exclusive or of the sectors of all images.
-use Rattle.std.specs.Prelude.{ℕ, zero, suc, ◌≡◌, ◌<◌, ◌≤◌, ◌+◌, ◌*◌, Bool, true, false, bit_xor, if◌then◌else◌, List, map, slice_index, slice_index_or, IfSome, IsSomeAnd, All}
-use Rattle.std.specs.Bool.{Decides}
+use Rattle.std.specs.Prelude.{ℕ, zero, suc, ◌≡◌, ◌<◌, ◌≤◌, ◌+◌, ◌*◌, Bool, true, false, bit_xor, if◌then◌else◌, List, map, slice_index_or, IfSome, IsSomeAnd, All}
 use Rattle.std.specs.declared.option.Option.{Option}
 use Rattle.std.specs.declared.option.Option.TheVariants.{None, Some}
 use Rattle.member_regions.specs.declared.regions.TheConstants.{BLOCK}
@@ -11,19 +10,14 @@ use Rattle.raid_terms.specs.Cells.{row_cells}
 use Rattle.raid_terms.specs.Parity.{has_p, in_p}
 use Rattle.pq_parity.specs.LostBytes.{first_missing}
 use Rattle.pq_parity.specs.Syndromes.{known_sum}
+use Rattle.member_regions.specs.ImageSums.{all_sum, room_byte, SumImages}
 use Rattle.member_regions.specs.Regions.{Room}
-use Rattle.row_scan.specs.declared.image_sums.ImageSum.{ImageSum}
 use Rattle.row_scan.specs.declared.image_sums.ImageSums.{ImageSums}
 use Rattle.row_scan.specs.declared.left_out.ChunkRow.{ChunkRow}
 use Rattle.row_scan.specs.declared.left_out.LeftOut.{LeftOut}
 use Rattle.row_scan.specs.declared.left_out.LeftOut.TheVariants.{Nobody, One}
 
--- the exclusive or of what the first n images give
-unfoldable pub all_sum : (ℕ → ℕ) → ℕ → ℕ
-all_sum f zero = 0
-all_sum f (suc n) = bit_xor (all_sum f n) (f n)
-
--- the same of those that are marked
+-- the exclusive or of what those of the first n images give that are marked
 unfoldable pub marked_sum : (ℕ → ℕ) → List Bool → ℕ → ℕ
 marked_sum f marks zero = 0
 marked_sum f marks (suc n) = bit_xor (marked_sum f marks n) (if slice_index_or marks n false then f n else 0)
@@ -33,35 +27,15 @@ abbrev pub held_byte : (ℕ → ℕ) → Option ℕ → ℕ
 held_byte f None = 0
 held_byte f (Some image) = f image
 
--- byte y of the region of an image
-abbrev pub room_byte : Room → ℕ → ℕ → ℕ
-room_byte room y image = slice_index room.bytes (room.stride * image + y)
-
 -- column x of the sectors number `place` of the images in the slots
 abbrev pub slots_column : Room → List (Option ℕ) → ℕ → ℕ → List ℕ
 slots_column room slots place x = map (held_byte (room_byte room (512 * place + x))) slots
 
--- the exclusive or of the sectors number `place` of the first n regions, byte x
-abbrev pub sum_byte : Room → ℕ → ℕ → ℕ → ℕ
-sum_byte room n place x = all_sum (room_byte room (512 * place + x)) n
-
--- the sectors number `place` of the first n regions are zeros
-abbrev pub IsBlankAt : Room → ℕ → ℕ → Type 0
-IsBlankAt room n place = (image x : ℕ) → image < n → x < 512 → room_byte room (512 * place + x) image ≡ 0
-
--- the sum is as told: zeros or not, and the sector of each image or not; where they are told to be, all sectors are zeros.
--- They are bytes
-pub record IsImageSum (room : Room) (n place : ℕ) (sum : ImageSum) : Type 0 where
-  pub bytes : (image x : ℕ) → image < n → x < 512 → room_byte room (512 * place + x) image < 256
-  pub zero : Decides sum.is_zero ((x : ℕ) → x < 512 → sum_byte room n place x ≡ 0)
-  pub blank : sum.is_blank ≡ true → IsBlankAt room n place
-  pub image : (image : ℕ) → image < n → Decides (slice_index_or sum.is_image image false) ((x : ℕ) → x < 512 → sum_byte room n place x ≡ room_byte room (512 * place + x) image)
-
--- so it is at each of the places
+-- at so many places it is known of so many images what their sum is
 pub record AreImageSums (room : Room) (known : ImageSums) : Type 0 where
   pub few : known.images ≤ MOST
   pub short : known.places ≤ BLOCK
-  pub each : (place : ℕ) (d : ImageSum) → place < known.places → IsImageSum room known.images place (slice_index_or known.sums place d)
+  pub each : SumImages room known.images known.places known.sums
 
 -- P's equation adds up the images that are left where this one is left out, or none
 abbrev pub AddsAllBut : List Cell → List (Option ℕ) → ℕ → LeftOut → Type 0

@@ -29,6 +29,7 @@ mod reading;
 mod rows;
 mod runs;
 mod samples;
+mod scan_parts;
 mod sweeping;
 mod tallies;
 #[cfg(test)]

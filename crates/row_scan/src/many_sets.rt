@@ -13,6 +13,7 @@ ghost use Rattle.row_scan.specs.Windows.{scan_reads};
 use crate::gates::Gate;
 use crate::one_set::ScanFault;
 use crate::samples::test_samples;
+use crate::scan_parts::{Scanned, Threading};
 use crate::sweeping::sweep;
 use crate::verdict_list::Verdicts;
 use image_source::{Failed, Images, Memory};
@@ -57,15 +58,17 @@ pub fn scan<R: Threads + Sync, I: Images, G: Gate + Sync>(
         |_| ScanFault::Memory,
     )?;
     let mut regions = image_regions(alloc, plan).map_err(|_| ScanFault::Memory)?;
-    judge(
+    let threads = Threading {
         rt,
+        gate: Some(gate),
+    };
+    judge(
+        &threads,
+        &Scanned { plan, sets },
         images,
         &mut regions,
-        plan,
-        sets,
         &mut tallies,
         &mut verdicts.passed,
-        gate,
     )
     .map_err(|_| ScanFault::ReadFault)?;
     Ok(verdicts)
@@ -78,57 +81,32 @@ fn image_regions(alloc: Global, plan: &Plan) -> Result<Regions, Memory>
     Regions::new(alloc, plan.lengths.len(), BLOCK)
 }
 
-/// The same with the room that it takes: the tallies as they begin, and a place for each verdict.
+/// The same with the room that it takes: the tallies as they begin, and a place for each verdict. The tallies become
+/// those of all tested rows of the sets: how many more may be unsound, and None where more are than may be.
 fn judge<R: Threads + Sync, I: Images, G: Gate + Sync>(
-    rt: &R,
+    threads: &Threading<R, G>,
+    scanned: &Scanned,
     images: &mut I,
     regions: &mut Regions,
-    plan: &Plan,
-    sets: &[Geometry],
     tallies: &mut [Option<u64>],
     passed: &mut [bool],
-    gate: &G,
 ) -> Result<(), Failed>
-    requires can { CanScan plan.now sets.now (I.seen images.old).attached regions.old }
-    requires some { 1 ≤ length sets.now }
-    requires begun { tallies.old ≡ replicate (length sets.now) (Some plan.now.limits.badrows) }
-    requires places { length passed.old ≡ length sets.now }
+    requires can { CanScan scanned.now.plan.now scanned.now.sets.now (I.seen images.old).attached regions.old }
+    requires some { 1 ≤ length scanned.now.sets.now }
+    requires begun { tallies.old ≡ replicate (length scanned.now.sets.now) (Some scanned.now.plan.now.limits.badrows) }
+    requires places { length passed.old ≡ length scanned.now.sets.now }
     ensures told { OnOk result (IfSome (told_all (I.seen images.old).attached)
-        (λ bytes. passed.new ≡ verdicts_of bytes plan.now sets.now)) }
-    ensures places { length passed.new ≡ length sets.now }
+        (λ bytes. passed.new ≡ verdicts_of bytes scanned.now.plan.now scanned.now.sets.now)) }
+    ensures places { length passed.new ≡ length scanned.now.sets.now }
     ensures reads { OnlyReads (I.seen images.old) (I.seen images.new)
-        (scan_reads (length (I.seen images.old).attached) plan.now.end plan.now.limits.window (offsets_of sets.now)) }
+        (scan_reads (length (I.seen images.old).attached) scanned.now.plan.now.end scanned.now.plan.now.limits.window (offsets_of scanned.now.sets.now)) }
     ensures cause { HasCause (I.seen images.old).faults (I.seen images.new).faults result }
 {
-    tally_all(rt, images, regions, plan, sets, tallies, gate)?;
+    test_samples(scanned, images, regions, tallies)?;
+    count_anew(scanned.plan, tallies);
+    sweep(threads, scanned, images, regions, tallies)?;
     tell_verdicts(tallies, passed);
     Ok(())
-}
-
-/// Makes the tallies those of all tested rows of the sets: how many more may be unsound, and None where more are
-/// than may be.
-fn tally_all<R: Threads + Sync, I: Images, G: Gate + Sync>(
-    rt: &R,
-    images: &mut I,
-    regions: &mut Regions,
-    plan: &Plan,
-    sets: &[Geometry],
-    tallies: &mut [Option<u64>],
-    gate: &G,
-) -> Result<(), Failed>
-    requires can { CanScan plan.now sets.now (I.seen images.old).attached regions.old }
-    requires some { 1 ≤ length sets.now }
-    requires begun { tallies.old ≡ replicate (length sets.now) (Some plan.now.limits.badrows) }
-    ensures told { OnOk result (IfSome (told_all (I.seen images.old).attached)
-        (λ bytes. AllTallies (IsDecided bytes plan.now) sets.now tallies.new)) }
-    ensures long { length tallies.new ≡ length sets.now }
-    ensures reads { OnlyReads (I.seen images.old) (I.seen images.new)
-        (scan_reads (length (I.seen images.old).attached) plan.now.end plan.now.limits.window (offsets_of sets.now)) }
-    ensures cause { HasCause (I.seen images.old).faults (I.seen images.new).faults result }
-{
-    test_samples(images, regions, plan, sets, tallies)?;
-    count_anew(plan, tallies);
-    sweep(rt, images, regions, plan, sets, tallies, gate)
 }
 
 /// Lets the tallies that are not settled begin again, so that no row counts twice.

@@ -3,6 +3,7 @@ ghost use Rattle.std.specs.Prelude.{◌≡◌, ◌⊎◌, length, All, MatchOpti
 ghost use Rattle.row_scan.specs.Pass.{IsOwnRun, IsNextRun, IsNotLater, NothingLeft, IsScanned};
 
 use crate::image_rows::{is_open, rows_of};
+use crate::scan_parts::Scanned;
 use member_regions::BLOCK;
 use raid_params::Geometry;
 use search_plan::Plan;
@@ -18,16 +19,19 @@ pub struct Run {
 
 /// The first image sectors from `at` on that an open set has tested rows in, at most a block, all of them tested
 /// rows of one set. None where no open set has any left.
-pub fn next_run(plan: &Plan, sets: &[Geometry], tallies: &[Option<u64>], at: u64) -> Option<Run>
-    requires sets { All (IsScanned plan.now) sets.now }
-    requires long { length tallies.now ≡ length sets.now }
+pub fn next_run(scanned: &Scanned, tallies: &[Option<u64>], at: u64) -> Option<Run>
+    requires sets { All (IsScanned scanned.now.plan.now) scanned.now.sets.now }
+    requires long { length tallies.now ≡ length scanned.now.sets.now }
     ensures { MatchOption result
-        (NothingLeft plan.now sets.now tallies.now (length sets.now) at)
-        (IsNextRun plan.now sets.now tallies.now (length sets.now) at) }
+        (NothingLeft scanned.now.plan.now scanned.now.sets.now tallies.now (length scanned.now.sets.now) at)
+        (IsNextRun scanned.now.plan.now scanned.now.sets.now tallies.now (length scanned.now.sets.now) at) }
 {
     let mut next = None;
-    for k in 0..sets.len() {
-        next = earlier(next, own_run(plan, &sets[k], tallies[k], at));
+    for k in 0..scanned.sets.len() {
+        next = earlier(
+            next,
+            own_run(scanned.plan, &scanned.sets[k], tallies[k], at),
+        );
     }
     next
 }

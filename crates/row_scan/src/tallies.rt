@@ -10,8 +10,8 @@ use crate::gates::{Gate, OpenGate};
 use crate::image_rows::tally_after;
 use crate::image_sums::ImageSums;
 use crate::runs::Run;
+use crate::scan_parts::{Scanned, Threading};
 use member_regions::{BLOCK, Regions};
-use raid_params::Geometry;
 use search_plan::Plan;
 use std::thread;
 use std::thread::Threads;
@@ -25,29 +25,27 @@ const MANY: usize = 16;
 /// Adds the rows of a run to the tallies: in pieces that each pass the gate first, where there is one, and else in
 /// pieces where many tallies are open.
 pub fn add_run<R: Threads + Sync, G: Gate + Sync>(
-    rt: &R,
-    plan: &Plan,
-    sets: &[Geometry],
+    threads: &Threading<R, G>,
+    scanned: &Scanned,
     tallies: &mut [Option<u64>],
     regions: &Regions,
     run: Run,
-    gate: Option<&G>,
 )
-    requires long { length tallies.old ≡ length sets.now }
-    requires sets { All (IsTallied regions.now) sets.now }
+    requires long { length tallies.old ≡ length scanned.now.sets.now }
+    requires sets { All (IsTallied regions.now) scanned.now.sets.now }
     requires run { run.first + run.count < 2 ^ 55 }
     requires most { run.count ≤ BLOCK }
-    requires room { IsRoomFor (length plan.now.lengths.items) run.count regions.now }
-    ensures added { AddAll plan.now sets.now 0 run regions.now tallies.old tallies.new }
+    requires room { IsRoomFor (length scanned.now.plan.now.lengths.items) run.count regions.now }
+    ensures added { AddAll scanned.now.plan.now scanned.now.sets.now 0 run regions.now tallies.old tallies.new }
     ensures long { length tallies.new ≡ length tallies.old }
 {
-    let sums = sums_for(plan, tallies, regions, run);
-    match gate {
-        Some(gate) => add_in_pieces(rt, plan, sets, tallies, regions, &sums, run, gate),
+    let sums = sums_for(scanned.plan, tallies, regions, run);
+    match threads.gate {
+        Some(gate) => { add_in_pieces(threads.rt, gate, scanned, tallies, regions, &sums, run) }
         None if are_many(tallies) => {
-            add_in_pieces(rt, plan, sets, tallies, regions, &sums, run, &OpenGate)
+            add_in_pieces(threads.rt, &OpenGate, scanned, tallies, regions, &sums, run)
         }
-        None => add_to_piece(plan, sets, 0, tallies, regions, &sums, run),
+        None => add_to_piece(scanned, 0, tallies, regions, &sums, run),
     }
 }
 
@@ -71,20 +69,19 @@ pub fn sums_for(plan: &Plan, tallies: &[Option<u64>], regions: &Regions, run: Ru
 /// Adds the rows of a run to the tallies in pieces that may run side by side. Each piece passes the gate first.
 fn add_in_pieces<R: Threads + Sync, G: Gate + Sync>(
     rt: &R,
-    plan: &Plan,
-    sets: &[Geometry],
+    gate: &G,
+    scanned: &Scanned,
     tallies: &mut [Option<u64>],
     regions: &Regions,
     sums: &ImageSums,
     run: Run,
-    gate: &G,
 )
-    requires long { length tallies.old ≡ length sets.now }
-    requires sets { All (IsTallied regions.now) sets.now }
+    requires long { length tallies.old ≡ length scanned.now.sets.now }
+    requires sets { All (IsTallied regions.now) scanned.now.sets.now }
     requires sums { AreImageSums regions.now sums.now }
     requires run { run.first + run.count < 2 ^ 55 }
     requires room { 512 * run.count ≤ regions.now.stride }
-    ensures added { AddAll plan.now sets.now 0 run regions.now tallies.old tallies.new }
+    ensures added { AddAll scanned.now.plan.now scanned.now.sets.now 0 run regions.now tallies.old tallies.new }
     ensures long { length tallies.new ≡ length tallies.old }
 {
     thread::for_each_chunk_mut(
@@ -92,34 +89,40 @@ fn add_in_pieces<R: Threads + Sync, G: Gate + Sync>(
         tallies,
         PIECE,
         &|start: usize, piece: &mut [Option<u64>]|
-            requires { (start + length piece.old ≤ length sets.now) × All (IsTallied regions.now) sets.now × AreImageSums regions.now sums.now × (run.first + run.count < 2 ^ 55) × (512 * run.count ≤ regions.now.stride) }
-            ensures added { AddAll plan.entry.now sets.entry.now start run regions.entry.now piece.old piece.new }
+            requires { (start + length piece.old ≤ length scanned.now.sets.now) × All (IsTallied regions.now) scanned.now.sets.now × AreImageSums regions.now sums.now × (run.first + run.count < 2 ^ 55) × (512 * run.count ≤ regions.now.stride) }
+            ensures added { AddAll scanned.entry.now.plan.now scanned.entry.now.sets.now start run regions.entry.now piece.old piece.new }
         {
             gate.pass(start / PIECE);
-            add_to_piece(plan, sets, start, piece, regions, sums, run);
+            add_to_piece(scanned, start, piece, regions, sums, run);
         },
     );
 }
 
 /// Adds the rows of a run to the tallies of the sets from number `start` on.
 pub fn add_to_piece(
-    plan: &Plan,
-    sets: &[Geometry],
+    scanned: &Scanned,
     start: usize,
     piece: &mut [Option<u64>],
     regions: &Regions,
     sums: &ImageSums,
     run: Run,
 )
-    requires long { start + length piece.old ≤ length sets.now }
-    requires sets { All (IsTallied regions.now) sets.now }
+    requires long { start + length piece.old ≤ length scanned.now.sets.now }
+    requires sets { All (IsTallied regions.now) scanned.now.sets.now }
     requires sums { AreImageSums regions.now sums.now }
     requires run { run.first + run.count < 2 ^ 55 }
     requires room { 512 * run.count ≤ regions.now.stride }
-    ensures added { AddAll plan.now sets.now start run regions.now piece.old piece.new }
+    ensures added { AddAll scanned.now.plan.now scanned.now.sets.now start run regions.now piece.old piece.new }
     ensures long { length piece.new ≡ length piece.old }
 {
     for i in 0..piece.len() {
-        piece[i] = tally_after(plan, &sets[start + i], piece[i], regions, sums, run);
+        piece[i] = tally_after(
+            scanned.plan,
+            &scanned.sets[start + i],
+            piece[i],
+            regions,
+            sums,
+            run,
+        );
     }
 }

@@ -7,20 +7,21 @@ ghost use Rattle.row_scan.specs.Wanted.{AreWanted, HasNone, KeepMarks, MarkWante
 
 use crate::image_rows::asks;
 use crate::runs::Run;
+use crate::scan_parts::Scanned;
 use raid_params::{Geometry, Head, Level, Pattern, Slots, Syndrome};
 use search_plan::Plan;
 
 /// The images of which some asking tally needs a run, each in the slot of its own number, the others left out.
-pub fn wanted_images(plan: &Plan, sets: &[Geometry], tallies: &[Option<u64>], run: Run) -> Geometry
-    requires sets { All IsTestable sets.now }
-    requires long { length tallies.now ≡ length sets.now }
+pub fn wanted_images(scanned: &Scanned, tallies: &[Option<u64>], run: Run) -> Geometry
+    requires sets { All IsTestable scanned.now.sets.now }
+    requires long { length tallies.now ≡ length scanned.now.sets.now }
     requires run { run.first + run.count < 2 ^ 64 }
-    ensures wanted { AreWanted plan.now sets.now tallies.now run result.slots.items (length result.slots.items) }
-    ensures slots { length result.slots.items ≡ length plan.now.lengths.items }
+    ensures wanted { AreWanted scanned.now.plan.now scanned.now.sets.now tallies.now run result.slots.items (length result.slots.items) }
+    ensures slots { length result.slots.items ≡ length scanned.now.plan.now.lengths.items }
     ensures offset { result.head.offset ≡ 0 }
 {
-    let images = plan.lengths.len();
-    let marks = wanted_marks(plan, sets, tallies, run);
+    let images = scanned.plan.lengths.len();
+    let marks = wanted_marks(scanned, tallies, run);
     let mut slots = Slots::new();
     for image in 0..images {
         let image = image as u8;
@@ -42,15 +43,15 @@ pub fn wanted_images(plan: &Plan, sets: &[Geometry], tallies: &[Option<u64>], ru
 }
 
 /// Marks the images of which some asking tally needs a run.
-fn wanted_marks(plan: &Plan, sets: &[Geometry], tallies: &[Option<u64>], run: Run) -> [bool; 256]
-    requires sets { All IsTestable sets.now }
-    requires long { length tallies.now ≡ length sets.now }
+fn wanted_marks(scanned: &Scanned, tallies: &[Option<u64>], run: Run) -> [bool; 256]
+    requires sets { All IsTestable scanned.now.sets.now }
+    requires long { length tallies.now ≡ length scanned.now.sets.now }
     requires run { run.first + run.count < 2 ^ 64 }
-    ensures { MarkWanted plan.now sets.now tallies.now run (length sets.now) result }
+    ensures { MarkWanted scanned.now.plan.now scanned.now.sets.now tallies.now run (length scanned.now.sets.now) result }
 {
     let mut marks = [false; 256];
-    for k in 0..sets.len() {
-        mark_set(&mut marks, plan, &sets[k], tallies[k], run);
+    for k in 0..scanned.sets.len() {
+        mark_set(&mut marks, scanned.plan, &scanned.sets[k], tallies[k], run);
     }
     marks
 }

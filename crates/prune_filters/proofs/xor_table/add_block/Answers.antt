@@ -1,7 +1,8 @@
 use Rattle.std.proofs.Common.{◌≡◌, ◌≢◌, ℕ, ◌+◌, ◌<◌, min, length, get_or, arith, refl, sym, subst, ◌∙◌}
 use Rattle.std.proofs.lemmas.List.{get_or-set_other, get_or_read_under, length-set}
-use Rattle.prune_filters.specs.Xors.{tested_with, AreFew, AreFlagged, CountRows, HoldRows, RowTable}
+use Rattle.prune_filters.specs.Xors.{tested_with, AreFew, AreSumsOf, CountRows, HoldRows, RowTable}
 use Rattle.prune_filters.proofs.Adding.{each_set}
+use Rattle.prune_filters.proofs.Sectors.{sums_of_rows}
 use Rattle.prune_filters.proofs.xor_table.add_block.Goals as goal
 
 pub loop-place-preserved : goal.loop-place-preserved
@@ -13,13 +14,14 @@ loop-place-preserved c =
           (min (c.args.first + c.args.count) (tested_with c.args.plan.now (get_or c.args.chunks.now n 0) c.args.offset)) table in
           let Q : RowTable → Type 0 = λ table. CountRows bytes (length c.args.plan.now.lengths.items) (get_or c.args.chunks.now c.loop-place.place 0) c.args.offset
           (min c.args.first (tested_with c.args.plan.now (get_or c.args.chunks.now c.loop-place.place 0) c.args.offset)) table in
-          let F : ℕ → Type 0 = λ n. HoldRows bytes n (c.args.offset + c.args.first) c.args.count c.args.regions.now → AreFlagged bytes n (c.args.offset + c.args.first) c.args.count c.flag_rows-flags.result in
-          let flags : F (length c.args.plan.now.lengths.items) = subst F c.len.ensures.value (c.flag_rows-flags.ensures bytes (c.args.offset + c.args.first)) in
+          let F : ℕ → Type 0 = λ n. HoldRows bytes n (c.args.offset + c.args.first) c.args.count c.args.regions.now → AreSumsOf bytes n (c.args.offset + c.args.first) c.args.count c.sum_images-sums.result in
+          let sums : F (length c.args.plan.now.lengths.items) = subst F c.len.ensures.value
+          (λ hold. sums_of_rows bytes c.len.result (c.args.offset + c.args.first) c.args.count c.args.regions.now c.sum_images-sums.result hold c.sum_images-sums.ensures) in
           let read : c.index_mut.result.now ≡ get_or c.loop-place.tables.items c.loop-place.place none
           = get_or_read_under c.loop-place.tables.items c.loop-place.place (length c.loop-place.tables.items) c.index_mut.result.now none c.index_mut.ensures.value within refl in
           let same : c.index_mut.result.now ≡ get_or c.args.tables.now.items c.loop-place.place none = read ∙ c.loop-place.invariant.rest c.loop-place.place none (omega arith) in
           each_set {X = RowTable} P c.loop-place.tables.items (c.loop-place.place + 1) c.loop-place.place c.add_tested.new.self none within
-          (c.add_tested.ensures.counts bytes (flags hold) (subst Q (sym same) (before c.loop-place.place none c.loop-place-test.true)))
+          (c.add_tested.ensures.counts bytes (sums hold) (subst Q (sym same) (before c.loop-place.place none c.loop-place-test.true)))
           (λ i low ne. c.loop-place.invariant.done bytes hold before i none (omega arith)) k lt;
       rest = λ k none le.
           let other : k ≢ c.loop-place.place = λ e. absurd (let x : k ≡ c.loop-place.place = e in omega arith) in

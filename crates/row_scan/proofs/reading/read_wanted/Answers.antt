@@ -9,12 +9,12 @@ use Rattle.row_scan.proofs.reading.read_wanted.Goals as goal
 pub returns-clause-told : goal.returns-clause-told
 returns-clause-told g c =
     let few : length c.wanted_images-wanted.result.slots.items ≡ length (g.I.Images.seen c.args.images.now).attached = c.wanted_images-wanted.ensures.slots ∙ sym c.requires.can.planned in
-    let there : All (λ (geo : Geometry). All (λ (slot : Option ℕ). IfSome slot (λ image. image < length c.wanted_images-wanted.result.slots.items)) geo.slots.items) c.args.sets.now =
-    subst (λ (n : ℕ). All (λ (geo : Geometry). All (λ (slot : Option ℕ). IfSome slot (λ image. image < n)) geo.slots.items) c.args.sets.now) (sym few) c.requires.can.there in
+    let there : All (λ (geo : Geometry). All (λ (slot : Option ℕ). IfSome slot (λ image. image < length c.wanted_images-wanted.result.slots.items)) geo.slots.items) c.args.scanned.now.sets.now =
+    subst (λ (n : ℕ). All (λ (geo : Geometry). All (λ (slot : Option ℕ). IfSome slot (λ image. image < n)) geo.slots.items) c.args.scanned.now.sets.now) (sym few) c.requires.can.there in
     ok_then c.read.result (told_all (g.I.Images.seen c.args.images.now).attached)
     (λ bytes. HoldRead bytes c.wanted_images-wanted.result c.read.new.self.stride c.args.run.first (512 * c.args.run.count) (length c.wanted_images-wanted.result.slots.items) c.read.new.self.bytes)
-    (λ bytes. HoldAsked bytes c.args.plan.now c.args.sets.now c.args.tallies.now c.args.run c.read.new.self)
-    (λ bytes hold. hold_asked bytes c.args.plan.now c.args.sets.now c.args.tallies.now c.args.run c.wanted_images-wanted.result c.read.new.self
+    (λ bytes. HoldAsked bytes c.args.scanned.now.plan.now c.args.scanned.now.sets.now c.args.tallies.now c.args.run c.read.new.self)
+    (λ bytes hold. hold_asked bytes c.args.scanned.now.plan.now c.args.scanned.now.sets.now c.args.tallies.now c.args.run c.wanted_images-wanted.result c.read.new.self
     c.wanted_images-wanted.ensures.offset c.wanted_images-wanted.ensures.wanted there hold)
     c.read.ensures.told
 

@@ -3,4 +3,4 @@ use Rattle.row_scan.specs.Pass.{IsNextRun, NothingLeft}
 use Rattle.row_scan.proofs.runs.next_run.Given as goal
 
 abbrev pub invariant-loop-k : goal.invariant-loop-k
-invariant-loop-k l = MatchOption l.next (NothingLeft l.plan l.sets l.tallies l.k l.at) (IsNextRun l.plan l.sets l.tallies l.k l.at)
+invariant-loop-k l = MatchOption l.next (NothingLeft l.scanned.plan.now l.scanned.sets.now l.tallies l.k l.at) (IsNextRun l.scanned.plan.now l.scanned.sets.now l.tallies l.k l.at)

@@ -8,7 +8,7 @@ use Rattle.row_scan.proofs.samples.test_samples.Given as goal
 abbrev pub invariant-loop-k : goal.invariant-loop-k
 invariant-loop-k g l = record {
   reads : OnlyReads (g.I.Images.seen l.fn.images) (g.I.Images.seen l.images) (length (g.I.Images.seen l.fn.images).attached * l.k);
-  told : IfSome (told_all (g.I.Images.seen l.fn.images).attached) (λ bytes. AllTallies (TalliesSome bytes l.plan l.at) l.sets l.tallies);
-  long : length l.tallies ≡ length l.sets;
+  told : IfSome (told_all (g.I.Images.seen l.fn.images).attached) (λ bytes. AllTallies (TalliesSome bytes l.scanned.plan.now l.at) l.scanned.sets.now l.tallies);
+  long : length l.tallies ≡ length l.scanned.sets.now;
   room : KeepsRoom l.fn.regions l.regions;
 }

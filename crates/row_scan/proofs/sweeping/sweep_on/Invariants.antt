@@ -6,12 +6,12 @@ use Rattle.row_scan.proofs.sweeping.sweep_on.Given as goal
 
 abbrev pub invariant-loop-next : goal.invariant-loop-next
 invariant-loop-next g l = record {
-  reads : ReadsWindows (g.I.Images.seen l.fn.images) (g.I.Images.seen l.images) l.plan l.sets l.from l.at;
-  told : IfSome (told_all (g.I.Images.seen l.fn.images).attached) (λ bytes. AllTallies (TalliesTo bytes l.plan l.from) l.sets l.fn.tallies → AllTallies (TalliesTo bytes l.plan l.at) l.sets l.tallies);
-  long : length l.tallies ≡ length l.sets;
+  reads : ReadsWindows (g.I.Images.seen l.fn.images) (g.I.Images.seen l.images) l.scanned.plan.now l.scanned.sets.now l.from l.at;
+  told : IfSome (told_all (g.I.Images.seen l.fn.images).attached) (λ bytes. AllTallies (TalliesTo bytes l.scanned.plan.now l.from) l.scanned.sets.now l.fn.tallies → AllTallies (TalliesTo bytes l.scanned.plan.now l.at) l.scanned.sets.now l.tallies);
+  long : length l.tallies ≡ length l.scanned.sets.now;
   room : KeepsRoom l.fn.regions l.regions;
-  within : l.at ≤ l.plan.end;
+  within : l.at ≤ l.scanned.plan.now.end;
 }
 
 abbrev pub decreases-loop-next : goal.decreases-loop-next
-decreases-loop-next g l = l.plan.end - l.at
+decreases-loop-next g l = l.scanned.plan.now.end - l.at

@@ -6,6 +6,6 @@ use Rattle.row_scan.proofs.tallies.add_to_piece.Given as goal
 abbrev pub invariant-loop-i : goal.invariant-loop-i
 invariant-loop-i l = record {
   long : length l.piece ≡ length l.initial.piece;
-  done : (i : ℕ) (d : Option ℕ) (e : Geometry) → i < l.i → AddsRun l.plan (get_or l.sets (l.start + i) e) l.run l.regions (get_or l.initial.piece i d) (get_or l.piece i d);
+  done : (i : ℕ) (d : Option ℕ) (e : Geometry) → i < l.i → AddsRun l.scanned.plan.now (get_or l.scanned.sets.now (l.start + i) e) l.run l.regions (get_or l.initial.piece i d) (get_or l.piece i d);
   rest : (i : ℕ) (d : Option ℕ) → l.i ≤ i → get_or l.piece i d ≡ get_or l.initial.piece i d;
 }

@@ -5,5 +5,5 @@ use Rattle.row_scan.proofs.wanted.wanted_marks.Given as goal
 abbrev pub invariant-loop-k : goal.invariant-loop-k
 invariant-loop-k l = record {
   long : length l.marks ≡ 256;
-  marked : MarkWanted l.plan l.sets l.tallies l.run l.k l.marks;
+  marked : MarkWanted l.scanned.plan.now l.scanned.sets.now l.tallies l.run l.k l.marks;
 }

@@ -1,6 +1,6 @@
 use Rattle.std.proofs.Common.{◌≤◌, ℕ, ◌+◌, ◌-◌, min, length, arith, subst, ap, ◌∙◌}
 use Rattle.address_map.proofs.Heads.{chunk_above}
-use Rattle.prune_filters.specs.Xors.{tested_with, AreFlagged, CountRows}
+use Rattle.prune_filters.specs.Xors.{tested_with, AreSumsOf, CountRows}
 use Rattle.prune_filters.proofs.Settled.{counts_on}
 use Rattle.prune_filters.proofs.xor_table.XorTable.add_tested.Goals as goal
 
@@ -10,7 +10,7 @@ rows_tested-tested-requires c = record { chunk = chunk_above c.args.chunk c.requ
 pub returns-then-first-tested-clause-counts : goal.returns-then-first-tested-clause-counts
 returns-then-first-tested-clause-counts c = λ bytes told before.
     let few : c.min-rows.result ≤ c.args.count = let rows = c.min-rows.ensures in omega arith in
-    let P : ℕ → Type 0 = λ n. AreFlagged bytes n (c.args.offset + c.args.first) c.min-rows.result c.args.flags.now → CountRows bytes n c.args.chunk c.args.offset c.args.first c.args.self.now →
+    let P : ℕ → Type 0 = λ n. AreSumsOf bytes n (c.args.offset + c.args.first) c.min-rows.result c.args.sums.now → CountRows bytes n c.args.chunk c.args.offset c.args.first c.args.self.now →
     CountRows bytes n c.args.chunk c.args.offset (c.args.first + c.min-rows.result) c.add_rows.new.self in
     let grows : P (length c.args.plan.now.lengths.items) = subst P c.len.ensures.value (c.add_rows.ensures.counts bytes c.args.offset) in
     counts_on bytes (length c.args.plan.now.lengths.items) c.args.chunk c.args.offset c.args.first c.args.count c.min-rows.result (tested_with c.args.plan.now c.args.chunk c.args.offset)

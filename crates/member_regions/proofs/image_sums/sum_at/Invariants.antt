@@ -1,6 +1,6 @@
 use Rattle.std.proofs.Common.{ℕ, ◌≡◌, ◌<◌, ◌+◌, ◌*◌, length, get_or}
-use Rattle.row_scan.specs.ImageSums.{room_byte, sum_byte}
-use Rattle.row_scan.proofs.image_sums.sum_of.Given as goal
+use Rattle.member_regions.specs.ImageSums.{room_byte, sum_byte}
+use Rattle.member_regions.proofs.image_sums.sum_at.Given as goal
 
 abbrev pub invariant-loop-image : goal.invariant-loop-image
 invariant-loop-image l = record {

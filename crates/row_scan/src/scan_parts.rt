@@ -1,0 +1,21 @@
+//! What a scan is of, and with.
+use raid_params::Geometry;
+use search_plan::Plan;
+
+/// What is scanned: parameter sets of a plan.
+#[derive(Drop)]
+pub struct Scanned<'a> {
+    /// The plan.
+    pub plan: &'a Plan,
+    /// The parameter sets.
+    pub sets: &'a [Geometry],
+}
+
+/// What runs the pieces of a scan.
+#[derive(Drop)]
+pub struct Threading<'a, R, G> {
+    /// What starts threads.
+    pub rt: &'a R,
+    /// The gate that each piece passes first, where there is one.
+    pub gate: Option<&'a G>,
+}

@@ -1,7 +1,4 @@
-pub mod Commas
-pub mod RisingLists
 pub mod ReadValues
-pub mod Drops
 pub mod NameTexts
 pub mod Spelled
 pub mod LookUps

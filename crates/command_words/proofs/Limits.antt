@@ -9,12 +9,13 @@ use Rattle.arrayvec.specs.ArrayVec.{ArrayVec}
 use Rattle.raid_params.specs.Validity.{is_chunk}
 use Rattle.raid_params.specs.declared.limits.TheConstants.{MOST, MOST_MISSING}
 use Rattle.raid_params.specs.declared.types.Geometry.{Geometry}
+use Rattle.plan_text.specs.Parts.{AreMembers}
 use Rattle.plan_text.specs.SetText.{HasWord}
 use Rattle.search_plan.specs.Places.{level_place, pattern_place, syndrome_place}
 use Rattle.search_plan.specs.Plans.{AreBounds, AreRising, AreTests}
 use Rattle.command_words.specs.Commands.{AreAsked, IsCommandLine, IsWithin, bounds_of, chunks_or, command_of, drops_or, has_landmark, kinds_or, levels_or, members_or, number_in, number_or, patterns_or, plain_survey, sectors_or, set_in, survey_of, syndromes_or, tests_of}
 use Rattle.command_words.specs.Items.{landmark_place}
-use Rattle.command_words.specs.Operands.{AreDrops, AreFitting, AreMembers, IsFitting, IsValueOf, kind_of, value_of}
+use Rattle.command_words.specs.Operands.{AreDrops, AreFitting, IsFitting, IsValueOf, kind_of, value_of}
 use Rattle.command_words.specs.declared.command.Command.{Command}
 use Rattle.command_words.specs.declared.command.Verb.{Verb}
 use Rattle.command_words.specs.declared.command.Verb.TheVariants.{Survey, List as ListVerb, Check, Map, Write, Rebuild, Sample}
@@ -27,7 +28,6 @@ use Rattle.command_words.specs.declared.table.ValueKind.TheVariants.{Number as N
 use Rattle.command_words.specs.declared.table.ValueKind.{ValueKind}
 use Rattle.command_words.specs.declared.values.Value.{Value}
 use Rattle.command_words.proofs.LookUps.{fitting_value, number_below, number_within, operands_fit}
-use Rattle.command_words.proofs.RisingLists.{without_places}
 use Rattle.command_words.proofs.Said.{made_check, made_list, made_map, made_rebuild, made_sample, made_survey, made_write}
 
 -- numbers that rise, tested
@@ -86,7 +86,7 @@ IsPower n = IsTrue (is_chunk n)
 chunks_are : (r : Option Value) → Fits r ChunksKind → AreSizes (chunks_or r).items
 unfolding rises is_chunk
 chunks_are None fits = (are_rising (chunks_or None).items (lit≤ tt) refl, all_if IsPower is_chunk (λ n is. is) (chunks_or None).items refl)
-chunks_are (Some v) fits = let is = fits v refl in subst (λ w. AreSizes (chunks_or (Some w)).items) (sym is.1) (without_places is.0.items is.2.list.rising, is.2.all)
+chunks_are (Some v) fits = let is = fits v refl in subst (λ w. AreSizes (chunks_or (Some w)).items) (sym is.1) is.2
 
 abbrev ArePlaces : List ℕ → Type 0
 ArePlaces ns = AreRising ns × (length ns ≤ 64) × All (λ n. n < 2 ^ 55) ns
@@ -96,7 +96,7 @@ IsNear n = n < 2 ^ 55
 
 sectors_are : (others : List ℕ) (r : Option Value) → ArePlaces others → Fits r SectorsKind → ArePlaces (sectors_or others r).items
 sectors_are others None are fits = are
-sectors_are others (Some v) are fits = let is = fits v refl in subst (λ w. ArePlaces (sectors_or others (Some w)).items) (sym is.1) (without_places is.0.items is.2.list.rising, is.2.list.few, is.2.all)
+sectors_are others (Some v) are fits = let is = fits v refl in subst (λ w. ArePlaces (sectors_or others (Some w)).items) (sym is.1) is.2
 
 near_if : (n : ℕ) → nat_lt n 4194304 ≡ true → IsNear n
 near_if n is = let below = first_below n 4194304 is in omega arith
@@ -160,8 +160,8 @@ bounds_are os fit members are =
     let offsets = sectors_are (0 ∷ 2048 ∷ 262144 ∷ 264192 ∷ []) (value_of OffsetsName os) offsets_are (fits_of os fit OffsetsName) in
     record {
       levels = levels_rise (value_of LevelsName os) (fits_of os fit LevelsName);
-      members = without_places members.items are.list.rising;
-      few_members = are.all;
+      members = are.0;
+      few_members = are.1;
       patterns = patterns_rise (value_of PatternsName os) (fits_of os fit PatternsName);
       syndromes = syndromes_rise (value_of SyndromesName os) (fits_of os fit SyndromesName);
       chunks = chunks.0;

@@ -29,7 +29,7 @@ use Rattle.command_words.proofs.Spelled.{one_operand}
 abbrev pub BeginNone : List (List ℕ) → Type 0
 BeginNone words = (rest : List (List ℕ)) (command : Command) → IsCommandLine (words ++ rest) command → ⊥
 
--- the word after a front that begins some line, where the two begin none
+-- the word after a prefix that begins some line, where the two begin none
 pub refused_at : (words front : List (List ℕ)) (word : List ℕ) (rest : List (List ℕ)) (n : ℕ) → words ≡ front ++ word ∷ rest → n ≡ length front + 1 → BeginsLine front → BeginNone (front ++ word ∷ []) → IsRefusedWord words n
 refused_at words front word rest n at count some none =
     let long : length words ≡ length front + suc (length rest) = ap length at ∙ length-append front (word ∷ rest) in

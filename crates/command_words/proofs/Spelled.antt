@@ -6,12 +6,17 @@ use Rattle.std.proofs.lemmas.List.Elements.{All-head, All-tail}
 use Rattle.raid_params.specs.declared.types.Level.{Level}
 use Rattle.raid_params.specs.declared.types.Pattern.{Pattern}
 use Rattle.raid_params.specs.declared.types.Syndrome.{Syndrome}
+use Rattle.plan_text.specs.DropLaws.{drop_law}
+use Rattle.plan_text.specs.NameLaws.{byte_law, in_lists, level_law, number_law, pattern_law, syndrome_law}
+use Rattle.plan_text.specs.Spelling.{IsDrop, drop_name, drop_place, level_name, pattern_name, syndrome_name}
+use Rattle.plan_text.proofs.Fits.{chunks_are_short, members_are_bytes, offsets_are_short}
+use Rattle.plan_text.proofs.Lists.{some_value}
 use Rattle.plan_text.proofs.SetWords.{one_spelling}
-use Rattle.plan_text.specs.Spelling.{level_name, pattern_name, syndrome_name}
+use Rattle.plan_text.proofs.Spellings.{same_list}
 use Rattle.search_plan.specs.Places.{level_place, pattern_place, syndrome_place}
 use Rattle.search_plan.specs.declared.looking.DropAt.{DropAt}
-use Rattle.command_words.specs.Items.{IsDrop, drop_name, drop_place, landmark_name, landmark_place}
-use Rattle.command_words.specs.ItemLaws.{byte_law, drop_law, landmark_law, level_law, number_law, pattern_law, syndrome_law}
+use Rattle.command_words.specs.Items.{landmark_name, landmark_place}
+use Rattle.command_words.specs.ItemLaws.{landmark_law}
 use Rattle.command_words.specs.Operands.{IsOperand, IsValueOf, form_text, kind_of, marks_text, name_text, operand_word, operands_of, value_text}
 use Rattle.command_words.specs.declared.command.Form.{Form}
 use Rattle.command_words.specs.declared.command.Form.TheVariants.{Text, Json}
@@ -23,10 +28,7 @@ use Rattle.command_words.specs.declared.table.ValueKind.{ValueKind}
 use Rattle.command_words.specs.declared.table.ValueKind.TheVariants.{Number as NumberKind, Levels as LevelsKind, Members as MembersKind, Patterns as PatternsKind, Syndromes as SyndromesKind, Chunks as ChunksKind, Sectors as SectorsKind, Landmarks as LandmarksKind, Drops as DropsKind, Form as FormKind, Marks as MarksKind, Set as SetKind}
 use Rattle.command_words.specs.declared.values.Value.{Value}
 use Rattle.command_words.specs.declared.values.Value.TheVariants.{Number, Levels, Members, Patterns, Syndromes, Chunks, Sectors, Landmarks, Drops, Form as FormValue, Marks, Set}
-use Rattle.command_words.proofs.Commas.{same_list}
 use Rattle.command_words.proofs.NameTexts.{IsShort, one_name, plain_name, short_kind}
-use Rattle.command_words.proofs.ReadValues.{chunks_are_short, members_are_bytes, sectors_are_short}
-use Rattle.command_words.proofs.RisingLists.{some_value}
 
 -- two texts that are cut at the first `=` are the same where their parts are
 pub cut_once : (a b v w : List ℕ) → All (λ x. x ≢ 61) a → All (λ x. x ≢ 61) b → a ++ 61 ∷ v ≡ b ++ 61 ∷ w → (a ≡ b) × (v ≡ w)
@@ -75,22 +77,22 @@ one_value (NumberKind least most) short v w a b e =
     let n = b.3 in
     same_held (λ n. Number n) a.0 b.0 v w a.1 b.1 (decimal_injective a.0 b.0 (omega arith) (omega arith) (texts (λ n. Number n) a.0 b.0 v w a.1 b.1 e))
 one_value LevelsKind short v w a b e =
-    let same = same_list level_name (λ x. Unit {0}) level_law a.0.items b.0.items (some_value level_place a.0.items a.2.rising) (some_value level_place b.0.items b.2.rising) (λ k d lt. tt) (λ k d lt. tt) (texts (λ xs. Levels xs) a.0 b.0 v w a.1 b.1 e) in
+    let same = same_list level_name (λ x. Unit {0}) (in_lists level_name (λ x. Unit {0}) level_law) a.0.items b.0.items (some_value level_place a.0.items a.2.rising) (some_value level_place b.0.items b.2.rising) (λ k d lt. tt) (λ k d lt. tt) (texts (λ xs. Levels xs) a.0 b.0 v w a.1 b.1 e) in
     same_held (λ (xs : List Level). Levels (record { items = xs })) a.0.items b.0.items v w a.1 b.1 same
 one_value MembersKind short v w a b e =
-    let same = same_list decimal (λ n. n < 2 ^ 8) byte_law a.0.items b.0.items (some_value (λ n. n) a.0.items a.2.list.rising) (some_value (λ n. n) b.0.items b.2.list.rising) (members_are_bytes a.0.items a.2.all) (members_are_bytes b.0.items b.2.all) (texts (λ xs. Members xs) a.0 b.0 v w a.1 b.1 e) in
+    let same = same_list decimal (λ n. n < 2 ^ 8) (in_lists decimal (λ n. n < 2 ^ 8) byte_law) a.0.items b.0.items a.2.0.some b.2.0.some (members_are_bytes a.0.items a.2.1) (members_are_bytes b.0.items b.2.1) (texts (λ xs. Members xs) a.0 b.0 v w a.1 b.1 e) in
     same_held (λ (xs : List ℕ). Members (record { items = xs })) a.0.items b.0.items v w a.1 b.1 same
 one_value PatternsKind short v w a b e =
-    let same = same_list pattern_name (λ x. Unit {0}) pattern_law a.0.items b.0.items (some_value pattern_place a.0.items a.2.rising) (some_value pattern_place b.0.items b.2.rising) (λ k d lt. tt) (λ k d lt. tt) (texts (λ xs. Patterns xs) a.0 b.0 v w a.1 b.1 e) in
+    let same = same_list pattern_name (λ x. Unit {0}) (in_lists pattern_name (λ x. Unit {0}) pattern_law) a.0.items b.0.items (some_value pattern_place a.0.items a.2.rising) (some_value pattern_place b.0.items b.2.rising) (λ k d lt. tt) (λ k d lt. tt) (texts (λ xs. Patterns xs) a.0 b.0 v w a.1 b.1 e) in
     same_held (λ (xs : List Pattern). Patterns (record { items = xs })) a.0.items b.0.items v w a.1 b.1 same
 one_value SyndromesKind short v w a b e =
-    let same = same_list syndrome_name (λ x. Unit {0}) syndrome_law a.0.items b.0.items (some_value syndrome_place a.0.items a.2.rising) (some_value syndrome_place b.0.items b.2.rising) (λ k d lt. tt) (λ k d lt. tt) (texts (λ xs. Syndromes xs) a.0 b.0 v w a.1 b.1 e) in
+    let same = same_list syndrome_name (λ x. Unit {0}) (in_lists syndrome_name (λ x. Unit {0}) syndrome_law) a.0.items b.0.items (some_value syndrome_place a.0.items a.2.rising) (some_value syndrome_place b.0.items b.2.rising) (λ k d lt. tt) (λ k d lt. tt) (texts (λ xs. Syndromes xs) a.0 b.0 v w a.1 b.1 e) in
     same_held (λ (xs : List Syndrome). Syndromes (record { items = xs })) a.0.items b.0.items v w a.1 b.1 same
 one_value ChunksKind short v w a b e =
-    let same = same_list decimal (λ n. n < 2 ^ 64) number_law a.0.items b.0.items (some_value (λ n. n) a.0.items a.2.list.rising) (some_value (λ n. n) b.0.items b.2.list.rising) (chunks_are_short a.0.items a.2.all) (chunks_are_short b.0.items b.2.all) (texts (λ xs. Chunks xs) a.0 b.0 v w a.1 b.1 e) in
+    let same = same_list decimal (λ n. n < 2 ^ 64) (in_lists decimal (λ n. n < 2 ^ 64) number_law) a.0.items b.0.items a.2.0.some b.2.0.some (chunks_are_short a.0.items a.2.1) (chunks_are_short b.0.items b.2.1) (texts (λ xs. Chunks xs) a.0 b.0 v w a.1 b.1 e) in
     same_held (λ (xs : List ℕ). Chunks (record { items = xs })) a.0.items b.0.items v w a.1 b.1 same
 one_value SectorsKind short v w a b e =
-    let same = same_list decimal (λ n. n < 2 ^ 64) number_law a.0.items b.0.items (some_value (λ n. n) a.0.items a.2.list.rising) (some_value (λ n. n) b.0.items b.2.list.rising) (sectors_are_short a.0.items a.2.all) (sectors_are_short b.0.items b.2.all) (texts (λ xs. Sectors xs) a.0 b.0 v w a.1 b.1 e) in
+    let same = same_list decimal (λ n. n < 2 ^ 64) (in_lists decimal (λ n. n < 2 ^ 64) number_law) a.0.items b.0.items a.2.0.some b.2.0.some (offsets_are_short a.0.items a.2.2) (offsets_are_short b.0.items b.2.2) (texts (λ xs. Sectors xs) a.0 b.0 v w a.1 b.1 e) in
     same_held (λ (xs : List ℕ). Sectors (record { items = xs })) a.0.items b.0.items v w a.1 b.1 same
 one_value LandmarksKind short v w a b e =
     let same = same_list landmark_name (λ x. Unit {0}) landmark_law a.0.items b.0.items (some_value landmark_place a.0.items a.2.rising) (some_value landmark_place b.0.items b.2.rising) (λ k d lt. tt) (λ k d lt. tt) (texts (λ xs. Landmarks xs) a.0 b.0 v w a.1 b.1 e) in

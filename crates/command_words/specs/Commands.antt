@@ -15,12 +15,13 @@ use Rattle.raid_params.specs.declared.types.Pattern.TheVariants.{Plain, La, Ra, 
 use Rattle.raid_params.specs.declared.types.Syndrome.{Syndrome}
 use Rattle.raid_params.specs.declared.types.Syndrome.TheVariants.{NoQ, AfterQ, ByData, BySlot}
 use Rattle.landmark_rules.specs.declared.marks.MarkTests.{MarkTests}
+use Rattle.plan_text.specs.Parts.{AreMembers}
 use Rattle.plan_text.specs.SetText.{HasWord}
 use Rattle.search_plan.specs.Plans.{AreBounds, AreTests}
 use Rattle.search_plan.specs.declared.looking.DropAt.{DropAt}
 use Rattle.search_plan.specs.declared.looking.Kinds.{Kinds}
 use Rattle.command_words.specs.Items.{landmark_place}
-use Rattle.command_words.specs.Operands.{AreDrops, AreMembers, AreOperands, operand_word, value_of}
+use Rattle.command_words.specs.Operands.{AreDrops, AreOperands, operand_word, value_of}
 use Rattle.command_words.specs.declared.command.Command.{Command}
 use Rattle.command_words.specs.declared.command.Command.TheVariants.{Survey as SurveyCommand, List as ListCommand, Check as CheckCommand, Map as MapCommand, Write as WriteCommand, Rebuild as RebuildCommand, Sample as SampleCommand}
 use Rattle.command_words.specs.declared.command.Form.{Form}
@@ -138,7 +139,7 @@ survey_of operands names = record {
 unfoldable pub plain_survey : SurveyWords
 plain_survey = survey_of [] 2
 
--- the command with these operands and so many words up to the names, unless an operand is missing that it
+-- the command with these operands and `names` words up to the names, unless an operand is missing that it
 -- asks for. A listing has 4,000,000 lines at most on all its pages together
 abbrev pub command_of : Verb → List Operand → ℕ → Option Command
 command_of Survey operands names = Some (SurveyCommand (survey_of operands names))

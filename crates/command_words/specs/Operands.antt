@@ -1,22 +1,22 @@
 -- The operands of commands: their names, their values and limits, and how they are spelled.
-use Rattle.std.specs.Prelude.{ℕ, ◌≡◌, ◌≤◌, ◌<◌, ◌^◌, ◌-◌, Bool, true, false, IsTrue, List, [], ◌∷◌, ◌++◌, length, map, All, Contains, codes, decimal, if◌then◌else◌}
+use Rattle.std.specs.Prelude.{ℕ, ◌≡◌, ◌≤◌, ◌^◌, ◌-◌, Bool, true, false, List, [], ◌∷◌, ◌++◌, length, map, All, Contains, codes, decimal, if◌then◌else◌}
 use Rattle.std.specs.List.{IsDistinct}
 use Rattle.std.specs.Str.{bytes_eq}
 use Rattle.std.specs.declared.option.Option.{Option}
 use Rattle.std.specs.declared.option.Option.TheVariants.{None, Some}
 use Rattle.arrayvec.specs.ArrayVec.{ArrayVec}
-use Rattle.raid_params.specs.Validity.{is_chunk}
-use Rattle.raid_params.specs.declared.limits.TheConstants.{MOST, MOST_CHUNKS, MOST_DROPS, MOST_LESS_ONE, MOST_LEVELS, MOST_MISSING, MOST_OFFSETS, MOST_PATTERNS, MOST_SYNDROMES}
+use Rattle.raid_params.specs.declared.limits.TheConstants.{MOST, MOST_DROPS, MOST_LEVELS, MOST_MISSING, MOST_OFFSETS, MOST_PATTERNS, MOST_SYNDROMES}
 use Rattle.raid_params.specs.declared.types.Geometry.{Geometry}
 use Rattle.raid_params.specs.declared.types.Level.{Level}
 use Rattle.raid_params.specs.declared.types.Pattern.{Pattern}
 use Rattle.raid_params.specs.declared.types.Syndrome.{Syndrome}
 use Rattle.plan_text.specs.SetText.{HasWord, set_word}
-use Rattle.plan_text.specs.Spelling.{level_name, pattern_name, syndrome_name, commas}
+use Rattle.plan_text.specs.Parts.{AreChunks, AreMembers, AreSectors}
+use Rattle.plan_text.specs.Spelling.{IsDrop, level_name, pattern_name, syndrome_name, commas, drop_name, drop_place}
 use Rattle.search_plan.specs.Places.{level_place, pattern_place, syndrome_place}
 use Rattle.search_plan.specs.Plans.{AreRising}
 use Rattle.search_plan.specs.declared.looking.DropAt.{DropAt}
-use Rattle.command_words.specs.Items.{IsDrop, drop_name, drop_place, landmark_name, landmark_place}
+use Rattle.command_words.specs.Items.{landmark_name, landmark_place}
 use Rattle.command_words.specs.declared.command.Form.{Form}
 use Rattle.command_words.specs.declared.command.Form.TheVariants.{Text, Json}
 use Rattle.command_words.specs.declared.command.Verb.{Verb}
@@ -108,23 +108,10 @@ abbrev pub marks_text : Bool → List ℕ
 marks_text false = codes "none"
 marks_text true = codes "xfs"
 
--- a list of values: it rises strictly, and has so many at most. Where their kind has no more, that says nothing
+-- a list of values: it rises strictly, and has `most` at most. Where their kind has no more, that says nothing
 pub record IsList {A : Type 0} (place : A → ℕ) (most : ℕ) (xs : List A) : Type 0 where
   pub rising : AreRising (map place xs)
   pub few : length xs ≤ most
-
--- numbers of members, chunks, and places on an image or on the volume
-pub record AreMembers (ns : List ℕ) : Type 0 where
-  pub list : IsList (λ n. n) MOST_LESS_ONE ns
-  pub all : All (λ n. (2 ≤ n) × (n ≤ MOST)) ns
-
-pub record AreChunks (ns : List ℕ) : Type 0 where
-  pub list : IsList (λ n. n) MOST_CHUNKS ns
-  pub all : All (λ n. IsTrue (is_chunk n)) ns
-
-pub record AreSectors (ns : List ℕ) : Type 0 where
-  pub list : IsList (λ n. n) MOST_OFFSETS ns
-  pub all : All (λ n. n < 2 ^ 55) ns
 
 -- sectors of images
 pub record AreDrops (drops : List DropAt) : Type 0 where
@@ -139,7 +126,7 @@ IsValueOf value MembersKind = (ns : ArrayVec ℕ) × (value ≡ Members ns) × A
 IsValueOf value PatternsKind = (xs : ArrayVec Pattern) × (value ≡ Patterns xs) × IsList pattern_place MOST_PATTERNS xs.items
 IsValueOf value SyndromesKind = (xs : ArrayVec Syndrome) × (value ≡ Syndromes xs) × IsList syndrome_place MOST_SYNDROMES xs.items
 IsValueOf value ChunksKind = (ns : ArrayVec ℕ) × (value ≡ Chunks ns) × AreChunks ns.items
-IsValueOf value SectorsKind = (ns : ArrayVec ℕ) × (value ≡ Sectors ns) × AreSectors ns.items
+IsValueOf value SectorsKind = (ns : ArrayVec ℕ) × (value ≡ Sectors ns) × AreSectors MOST_OFFSETS ns.items
 IsValueOf value LandmarksKind = (xs : ArrayVec Landmark) × (value ≡ Landmarks xs) × IsList landmark_place 3 xs.items
 IsValueOf value DropsKind = (ds : ArrayVec DropAt) × (value ≡ Drops ds) × AreDrops ds.items
 IsValueOf value FormKind = (form : Form) × (value ≡ FormValue form)

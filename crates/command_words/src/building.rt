@@ -63,7 +63,7 @@ const OFFSETS: [u64; 4] = [0, 2048, 262_144, 264_192];
 /// the first partition.
 const ORIGINS: [u64; 2] = [0, 2048];
 
-/// The command with these operands and so many words up to the names, unless one is missing that it asks
+/// The command with these operands and `names` words up to the names, unless one is missing that it asks
 /// for, or a listing becomes too long.
 pub fn build(verb: Verb, operands: &[Operand], names: usize) -> Option<Command>
     requires { AreFitting operands.now }
@@ -129,7 +129,7 @@ pub fn can_be_short(operands: &[Operand]) -> bool
     both_fit(number(operands, Name::Size), number(operands, Name::Pages))
 }
 
-/// Whether so many lines a page and so many pages are few enough, as far as they are known.
+/// Whether `pages` pages of `size` lines are few enough, as far as they are known.
 fn both_fit(size: Option<u64>, pages: Option<u64>) -> bool
     ensures { result ≡ lines_fit size pages }
 {

@@ -14,7 +14,6 @@ mod building;
 mod command;
 mod items;
 mod laws;
-mod lists;
 mod operands;
 mod reading;
 mod table;

@@ -1,28 +1,22 @@
 //! The values of operands, each read from its whole text.
-ghost use Rattle.std.specs.Prelude.{◌≡◌, ◌≢◌, ◌≤◌, ◌<◌, ◌^◌, ◌↔◌, ℕ, Bool, List, All, IsTrue, MatchOption, decimal, map};
-ghost use Rattle.raid_params.specs.Validity.{is_chunk as is_chunk_size};
-ghost use Rattle.plan_text.specs.Spelling.{commas};
-ghost use Rattle.command_words.specs.Operands.{AreChunks, AreMembers, AreSectors, IsValueOf, form_text, marks_text, value_text};
+ghost use Rattle.std.specs.Prelude.{◌≡◌, ◌≢◌, ◌≤◌, ℕ, Bool, MatchOption, decimal};
+ghost use Rattle.command_words.specs.Operands.{IsValueOf, form_text, marks_text, value_text};
 ghost use Rattle.command_words.specs.declared.command.Form.{Form as FormOf};
 ghost use Rattle.command_words.specs.declared.values.Value.{Value as ValueOf};
 
 use crate::command::Form;
 use crate::items::Landmark;
-use crate::lists::rising;
 use crate::table::ValueKind;
 use arrayvec::ArrayVec;
-use plan_text::{read_number, read_set};
+use plan_text::{read_chunks, read_members, read_number, read_sectors, read_set, rising};
 use raid_params::{
-    Geometry, Level, MOST, MOST_CHUNKS, MOST_DROPS, MOST_LESS_ONE, MOST_LEVELS, MOST_OFFSETS,
-    MOST_PATTERNS, MOST_SYNDROMES, Pattern, SECTORS_END, Syndrome, is_chunk,
+    Geometry, Level, MOST_CHUNKS, MOST_DROPS, MOST_LESS_ONE, MOST_LEVELS, MOST_OFFSETS,
+    MOST_PATTERNS, MOST_SYNDROMES, Pattern, Syndrome,
 };
 use search_plan::DropAt;
 
 /// The kinds of landmarks: there are three.
 pub const MOST_LANDMARKS: usize = 3;
-
-/// The fewest members of an array: at level 0 two.
-const FEWEST_MEMBERS: u8 = 2;
 
 /// The value of an operand.
 #[derive(Drop)]
@@ -89,66 +83,6 @@ fn number_within(text: &[u8], least: u64, most: u64) -> Option<u64>
         return None;
     }
     Some(number)
-}
-
-/// The numbers of members.
-fn read_members(text: &[u8]) -> Option<ArrayVec<u8, MOST_LESS_ONE>>
-    ensures { MatchOption result
-        ((ns : List ℕ) → AreMembers ns → text.now ≢ commas (map decimal ns))
-        (λ ns. AreMembers ns.items × (text.now ≡ commas (map decimal ns.items))) }
-{
-    let members = rising(text)?;
-    if are_members(&members) {
-        Some(members)
-    } else {
-        None
-    }
-}
-
-/// The chunks, in sectors.
-fn read_chunks(text: &[u8]) -> Option<ArrayVec<u64, MOST_CHUNKS>>
-    ensures { MatchOption result
-        ((ns : List ℕ) → AreChunks ns → text.now ≢ commas (map decimal ns))
-        (λ ns. AreChunks ns.items × (text.now ≡ commas (map decimal ns.items))) }
-{
-    let chunks = rising(text)?;
-    if are_chunks(&chunks) {
-        Some(chunks)
-    } else {
-        None
-    }
-}
-
-/// Places, in sectors.
-fn read_sectors(text: &[u8]) -> Option<ArrayVec<u64, MOST_OFFSETS>>
-    ensures { MatchOption result
-        ((ns : List ℕ) → AreSectors ns → text.now ≢ commas (map decimal ns))
-        (λ ns. AreSectors ns.items × (text.now ≡ commas (map decimal ns.items))) }
-{
-    let sectors = rising(text)?;
-    if are_sectors(&sectors) {
-        Some(sectors)
-    } else {
-        None
-    }
-}
-
-fn are_members(members: &[u8]) -> bool
-    ensures { IsTrue result ↔ All (λ n. (2 ≤ n) × (n ≤ MOST)) members.now }
-{
-    members.iter().all(|count| FEWEST_MEMBERS <= *count && usize::from(*count) <= MOST)
-}
-
-fn are_chunks(chunks: &[u64]) -> bool
-    ensures { IsTrue result ↔ All (λ n. IsTrue (is_chunk_size n)) chunks.now }
-{
-    chunks.iter().all(|chunk| is_chunk(*chunk))
-}
-
-fn are_sectors(sectors: &[u64]) -> bool
-    ensures { IsTrue result ↔ All (λ n. n < 2 ^ 55) sectors.now }
-{
-    sectors.iter().all(|sector| *sector < SECTORS_END)
 }
 
 /// The form of listings.

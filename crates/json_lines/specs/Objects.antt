@@ -37,7 +37,7 @@ set_data rank head slots = object (
     (member (codes "pattern") (string (pattern_name head.pattern)) (member (codes "rank") (number (unsigned rank))
     (member (codes "slots") (array (slots_data slots)) (member (codes "syndrome") (string (syndrome_name head.syndrome)) no_members))))))))
 
--- the object of where the next page begins, of so many ranks
+-- the object of where the next page begins, of `total` ranks
 abbrev pub next_data : ℕ → ℕ → Data
 next_data next total = object (member (codes "next") (number (unsigned next)) (member (codes "total") (number (unsigned total)) no_members))
 

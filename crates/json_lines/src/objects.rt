@@ -1,16 +1,16 @@
 //! Lines of JSON.
 ghost use Rattle.std.specs.Prelude.{◌≡◌, IfOk, string_bytes};
 ghost use Rattle.json_lines.specs.Objects.{level_number as level_number_of, name_data, next_data, next_object, set_data, set_object, slots_data};
-ghost use Rattle.plan_text.specs.Spelling.{line as line_of, pattern_name as pattern_spelling, syndrome_name as syndrome_spelling};
+ghost use Rattle.plan_text.specs.Spelling.{line as line_of};
 ghost use Rattle.raid_layouts.specs.Names.{name_of};
 ghost use Rattle.serde_json.specs.Data.{array};
 ghost use Rattle.serde_json.specs.View.{view};
 ghost use Rattle.serde_json.specs.Written.{compact_text};
 
 use image_source::Memory;
-use plan_text::Text;
+use plan_text::{Text, pattern_name, syndrome_name};
 use raid_layouts::md_name;
-use raid_params::{Geometry, Head, Level, Pattern, Syndrome};
+use raid_params::{Geometry, Head, Level};
 use serde_json::{Value, json};
 use std::alloc::{AllocError, Global};
 
@@ -123,37 +123,5 @@ fn level_number(level: Level) -> u8
         Level::Raid0 => 0,
         Level::Raid5 => 5,
         Level::Raid6 => 6,
-    }
-}
-
-fn pattern_name(pattern: Pattern) -> &'static str
-    ensures { result.now ≡ pattern_spelling pattern }
-{
-    match pattern {
-        Pattern::Plain => "plain",
-        Pattern::La => "la",
-        Pattern::Ra => "ra",
-        Pattern::Ls => "ls",
-        Pattern::Rs => "rs",
-        Pattern::ParityFirst => "parity-first",
-        Pattern::ParityLast => "parity-last",
-        Pattern::NRestart => "n-restart",
-        Pattern::NContinue => "n-continue",
-        Pattern::La6 => "la-6",
-        Pattern::Ra6 => "ra-6",
-        Pattern::Ls6 => "ls-6",
-        Pattern::Rs6 => "rs-6",
-        Pattern::ParityFirst6 => "parity-first-6",
-    }
-}
-
-fn syndrome_name(syndrome: Syndrome) -> &'static str
-    ensures { result.now ≡ syndrome_spelling syndrome }
-{
-    match syndrome {
-        Syndrome::NoQ => "none",
-        Syndrome::AfterQ => "after-q",
-        Syndrome::ByData => "by-data",
-        Syndrome::BySlot => "by-slot",
     }
 }

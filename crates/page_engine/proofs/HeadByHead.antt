@@ -145,7 +145,7 @@ reads_all attached other plan from to b a page full old new same is reads =
     let Q : Option ℕ → Type 0 = λ o. Scans (told_all attached) plan from (tested_by to page (let r : Result (Option ℕ) PageFault = Ok o in r)) (spared_by (let r : Result (Option ℕ) PageFault = Ok o in r)) b a old new in
     subst Q is (subst P same reads)
 
--- the images that were told are those that are
+-- the images that were known are those that are
 pub scans_told : (attached other : List Image) (plan : Plan) (from to spare b a : ℕ) (old new : Seen) → other ≡ attached → Scans (told_all other) plan from to spare b a old new → Scans (told_all attached) plan from to spare b a old new
 scans_told attached other plan from to spare b a old new same scanned =
     let P : List Image → Type 0 = λ images. Scans (told_all images) plan from to spare b a old new in

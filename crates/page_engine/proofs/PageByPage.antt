@@ -40,7 +40,7 @@ the_last told plan size span zero from mid pages page going is_page at few = abs
 the_last told plan size span (suc count) from mid [] page going is_page at few = ((let P : ℕ → Type 0 = λ n. IsPageFrom told plan n size span page in subst P (sym going) is_page), inl (at, refl))
 the_last told plan size span (suc count) from mid (first ∷ pages) page going is_page at few = (going.0, inr (going.1, the_last told plan size span count first.next mid pages page going.2 is_page at (omega arith)))
 
--- so many pages
+-- `count` pages
 pub all_made : (told : Option (List (List ℕ))) (plan : Plan) (size span count from to : ℕ) (pages : List ListPage) → Going told plan size span from to pages → length pages ≡ count → ArePagesFrom told plan size span count from pages
 unfolding Going ArePagesFrom
 all_made told plan size span zero from to [] going many = refl

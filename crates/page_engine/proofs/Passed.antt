@@ -13,7 +13,7 @@ use Rattle.page_engine.proofs.Ranges.{adds_line, adds_none, adds_past}
 use Rattle.page_engine.proofs.SetTests.{candidate_passes}
 use Rattle.page_engine.proofs.Waiting.{none_join, stands_anew, wait_ends, wait_nothing}
 
--- the verdicts are those on the sets of some lines, over the bytes of the images where they are told
+-- the verdicts are those on the sets of some lines, over the bytes of the images where they are known
 abbrev pub Judged : Option (List (List ℕ)) → Plan → List Line → List Bool → Type 0
 Judged told plan waiting verdicts = IfSome told (λ bytes. verdicts ≡ verdicts_of bytes plan (map (λ line. line.geo) waiting))
 

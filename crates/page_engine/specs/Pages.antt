@@ -31,7 +31,7 @@ abbrev pub IsPageOf : List (List ℕ) → Plan → ℕ → ℕ → ℕ → ListP
 IsPageOf images plan from size span page =
     IsPage (passes_at images plan) (total_of plan) from size span (map (λ held. held.rank) page.lines) page.next
 
--- a page from a rank on, with its sets, over the bytes of the images where they are told
+-- a page from a rank on, with its sets, over the bytes of the images where they are known
 pub record IsPageFrom (told : Option (List (List ℕ))) (plan : Plan) (from size span : ℕ) (found : ListPage) : Type 0 where
   pub page : IfSome told (λ bytes. IsPageOf bytes plan from size span found)
   pub sets : All (HoldsSet plan) found.lines
@@ -39,7 +39,7 @@ pub record IsPageFrom (told : Option (List (List ℕ))) (plan : Plan) (from size
   pub forward : from ≤ found.next
   pub within : found.next ≤ stop_of (total_of plan) from span
 
--- so many pages, each where the last one goes on, or fewer where one goes on at the total: no page comes after it
+-- `count` pages, each where the last one goes on, or fewer where one goes on at the total: no page comes after it
 unfoldable pub ArePagesFrom : Option (List (List ℕ)) → Plan → ℕ → ℕ → ℕ → ℕ → List ListPage → Type 0
 ArePagesFrom told plan size span zero from pages = pages ≡ []
 ArePagesFrom told plan size span (suc count) from [] = ⊥
@@ -62,7 +62,7 @@ EndsTest old new (Cursor fault) = ⊥
 EndsTest old new ReadFault = Rose old.faults new.faults
 EndsTest old new Memory = Unit {0}
 
--- a set of the plan is hopeful: each prefix of its slots is, over the bytes of the images. Where some are not told, any is
+-- a set of the plan is hopeful: each prefix of its slots is, over the bytes of the images. Where some are not known, any is
 unfoldable pub is_hopeful_at : Option (List (List ℕ)) → Plan → ℕ → Bool
 is_hopeful_at None plan rank = true
 is_hopeful_at (Some bytes) plan rank = option_map_or (λ geo. all_admitted (is_hopeful bytes plan geo.head) geo.slots.items) (slice_get (sets_of plan) rank) false
@@ -108,14 +108,14 @@ abbrev pub tested_to : ℕ → Result ListPage PageFault → ℕ
 tested_to stop (Ok page) = page.next
 tested_to stop (Err fault) = stop
 
--- where a page from a rank on ends: where the next one begins, over the bytes of the images where they are told. Where
+-- where a page from a rank on ends: where the next one begins, over the bytes of the images where they are known. Where
 -- pages failed, the last is the one that could not be made, and ends with its range
 abbrev pub IsPageEnd : Option (List (List ℕ)) → Plan → ℕ → ℕ → Bool → ℕ → ℕ → List ℕ → Type 0
 IsPageEnd told plan size span failed from end later =
     ((failed ≡ true) × (end ≡ stop_of (total_of plan) from span) × (later ≡ []))
     ⊎ ((from ≤ end) × (end ≤ stop_of (total_of plan) from span) × IfSome told (λ bytes. end ≡ page_next (passes_at bytes plan) (total_of plan) from size span))
 
--- where pages end, of which there are at most so many, each where the last one ended
+-- where pages end, of which there are at most `count`, each where the last one ended
 unfoldable pub ArePageEnds : Option (List (List ℕ)) → Plan → ℕ → ℕ → Bool → ℕ → ℕ → List ℕ → Type 0
 ArePageEnds told plan size span failed count from [] = Unit {0}
 ArePageEnds told plan size span failed zero from (end ∷ later) = ⊥

@@ -58,7 +58,7 @@ pub record IsAsked (plan : Plan) (head : Head) (space : Space) : Type 0 where
   pub members : space.members ≡ head.members
   pub level : Contains plan.bounds.levels.items head.level
 
--- tables of rows that are kept, a table for each chunk of the plan, over the bytes of the images where they are told
+-- tables of rows that are kept, a table for each chunk of the plan, over the bytes of the images where they are known
 pub record IsKept (told : Option (List (List ℕ))) (plan : Plan) (kept : OffsetTables) : Type 0 where
   pub long : length kept.tables.items ≡ length plan.bounds.chunks.items
   pub tables : IfSome told (λ bytes. AreXorTables bytes plan plan.bounds.chunks.items kept.offset kept.tables.items)
@@ -76,7 +76,7 @@ abbrev pub left_after : {A : Type 0} → Plan → List OffsetTables → Result A
 left_after plan kept (Ok a) = left_reads plan kept
 left_after plan kept (Err fault) = 0
 
--- nothing but the counts changed, and no more was read than so many sectors and what is no longer left to read
+-- nothing but the counts changed, and no more was read than `sectors` and what is no longer left to read
 pub record Spends (before after : ℕ) (old new : Seen) (sectors : ℕ) : Type 0 where
   pub fewer : after ≤ before
   pub reads : OnlyReads old new (before - after + sectors)
@@ -89,7 +89,7 @@ pub record IsCandidate (told : Option (List (List ℕ))) (plan : Plan) (line : L
   pub groups : groups_hold line.geo plan.end plan.tests plan.groups ≡ true
   pub hopeful : is_hopeful_at told plan line.rank ≡ true
 
--- of a head's sets that pass, each prefix of the slots is admitted, over the bytes of the images where they are told
+-- of a head's sets that pass, each prefix of the slots is admitted, over the bytes of the images where they are known
 abbrev pub LeavesOutNone : Option (List (List ℕ)) → Plan → Head → (List (Option ℕ) → Bool) → Type 0
 LeavesOutNone told plan head admits = IfSome told (λ bytes. (rank : ℕ) (slots : List (Option ℕ)) →
     slice_get (sets_of plan) rank ≡ Some (record { head = head; slots = record { items = slots } }) → passes_at bytes plan rank ≡ true → all_admitted admits slots ≡ true)
@@ -166,7 +166,7 @@ AddsWaiting told plan from at size waiting old new full = MatchOption full
     (AddsAll told plan from at size old new)
     (λ next. FillsPage told plan from at size next old new × BeginBefore next waiting)
 
--- so many scans are no more than there are sets of the ranks from one up to another of which rows have to be tested, nor
+-- `count` scans are no more than there are sets of the ranks from one up to another of which rows have to be tested, nor
 -- than there are `MOST_SETS` hopeful ones, where `spare` more are counted
 pub record AreScans (told : Option (List (List ℕ))) (plan : Plan) (from to spare count : ℕ) : Type 0 where
   pub needed : count ≤ open_ranks told plan from to

@@ -138,7 +138,7 @@ fn copy_of(geo: &Geometry) -> Geometry
 }
 
 /// Appends those of the waiting sets that pass, with a verdict for each, as long as the lines are fewer than `size`; gives
-/// the rank after the last of them where the lines are so many then.
+/// the rank after the last of them where there are `size` lines then.
 fn add_passed(
     lines: &mut Lines,
     waiting: &[Line],

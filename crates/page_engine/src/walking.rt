@@ -23,7 +23,7 @@ use row_scan::{Gate, MOST_SETS};
 use set_product::{HeadSets, Heads};
 use std::thread::Threads;
 
-/// The page of a plan from a rank on, where the plan has so many sets.
+/// The page of a plan from a rank on, where the plan has `total` sets.
 pub(crate) fn walk<R: Threads + Sync, I: Images, G: Gate + Sync>(
     paging: &Paging<R, G>,
     images: &mut I,
@@ -54,7 +54,7 @@ pub(crate) fn walk<R: Threads + Sync, I: Images, G: Gate + Sync>(
         tested: from,
         waiting: Lines::new(paging.alloc),
     };
-    let next = fill(paging, images, kept, from, stop, &mut page)?;
+    let next = fill(paging, images, kept, stop, &mut page)?;
     Ok(ListPage {
         lines: page.lines,
         next,
@@ -62,21 +62,21 @@ pub(crate) fn walk<R: Threads + Sync, I: Images, G: Gate + Sync>(
     })
 }
 
-/// Makes a page whole, of the sets of ranks from `from` up to `stop`, and gives the rank from which the next page goes on.
+/// Makes a page whole, of the sets of ranks from where it is tested up to `stop`, and gives the rank from which the next
+/// page goes on.
 fn fill<R: Threads + Sync, I: Images, G: Gate + Sync>(
     paging: &Paging<R, G>,
     images: &mut I,
     kept: &mut KeptTables,
-    from: u64,
     stop: u64,
     page: &mut Gathered,
 ) -> Result<u64, PageFault>
     requires plan { IsPlan paging.now.plan.now }
     requires lengths { AgreeWith paging.now.plan.now (I.seen images.old).attached }
     requires few { total_of paging.now.plan.now < 2 ^ 64 }
-    requires range { from ≤ stop }
+    requires range { page.old.tested ≤ stop }
     requires stop { stop ≤ total_of paging.now.plan.now }
-    requires stands { StandsAt (told_all (I.seen images.old).attached) paging.now.plan.now paging.now.size from page.old }
+    requires stands { StandsAt (told_all (I.seen images.old).attached) paging.now.plan.now paging.now.size page.old.tested page.old }
     requires kept { All (IsKept (told_all (I.seen images.old).attached) paging.now.plan.now) kept.old }
     ensures finishes { IfOk result (Finishes (told_all (I.seen images.old).attached) paging.now.plan.now paging.now.size stop page.old page.new) }
     ensures ends { IfErr result (EndsTest (I.seen images.old) (I.seen images.new)) }
@@ -84,7 +84,7 @@ fn fill<R: Threads + Sync, I: Images, G: Gate + Sync>(
         (left_reads paging.now.plan.now kept.old) (left_after paging.now.plan.now kept.new result) (I.seen images.old) (I.seen images.new) }
     ensures kept { All (IsKept (told_all (I.seen images.old).attached) paging.now.plan.now) kept.new }
 {
-    match gather_range(paging, images, kept, from, stop, page)? {
+    match gather_range(paging, images, kept, page.tested, stop, page)? {
         Some(next) => Ok(next),
         None => finish(paging, images, stop, page),
     }

@@ -75,7 +75,7 @@ refusal_causes before after stop is images plan sectors = record {
   unread = λ h. sectors;
 }
 
--- what holds of a text, where it is told
+-- what holds of a text, where it is known
 pub if_some : (left : Option (List ℕ)) (P Q : List ℕ → Type 0) → ((text : List ℕ) → P text → Q text) → IfSome left P → IfSome left Q
 if_some None P Q h p = tt
 if_some (Some text) P Q h p = h text p

@@ -18,7 +18,7 @@ use Rattle.run_ends.specs.Printing.{or_dash, share_line}
 use Rattle.run_ends.specs.declared.stop.Stop.{Stop}
 use Rattle.run_ends.specs.declared.stop.Stop.TheVariants.{Set}
 
--- the set breaks a rule, over so many images and the plan's end
+-- the set breaks a rule, over `names` images and the plan's end
 abbrev pub rule_refusal : Geometry → ℕ → Plan → Option Stop
 rule_refusal set names plan = option_map (λ fault. Set fault) (first_fault set names plan.end)
 
@@ -69,7 +69,7 @@ verdict_line holds = line (if holds then codes "pass" else codes "fail")
 abbrev pub tests_hold : Plan → Geometry → ℕ → Bool
 tests_hold plan set unsound = nat_le unsound plan.limits.badrows && groups_hold set plan.end plan.tests plan.groups
 
--- what `check` prints where so many rows are unsound
+-- what `check` prints where `unsound` rows are unsound
 unfoldable pub report : Plan → Geometry → ℕ → List ℕ
 report plan set unsound =
     rank_line (rank_of plan set) ++ unsound_line unsound (rows_tested plan set)
@@ -79,7 +79,7 @@ report plan set unsound =
 abbrev pub check_text : List (List ℕ) → Plan → Geometry → List ℕ
 check_text images plan set = report plan set (unsound_rows images set (rows_tested plan set))
 
--- over what the plan's text says, where the bytes of the images are told
+-- over what the plan's text says, where the bytes of the images are known
 abbrev pub check_output : Geometry → PlanReading → Option (List (List ℕ)) → Option (List ℕ)
 check_output set (Reads plan) (Some images) = Some (check_text images plan set)
 check_output set _ _ = None

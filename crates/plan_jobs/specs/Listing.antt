@@ -34,7 +34,7 @@ abbrev pub line_in : Form → ℕ → Geometry → List ℕ
 line_in Text rank geo = set_line rank geo
 line_in Json rank geo = set_object rank geo
 
--- the line of where the next page begins, of so many ranks
+-- the line of where the next page begins, of `total` ranks
 abbrev pub next_in : Form → ℕ → ℕ → List ℕ
 next_in Text next total = share_line (codes "next ") next total
 next_in Json next total = next_object next total
@@ -53,7 +53,7 @@ page_text form images plan size span from =
     flat_map (line_of form plan) (page_ranks (passes_at images plan) (total_of plan) from size span)
     ++ next_in form (next_of images plan size span from) (total_of plan)
 
--- so many pages, each where the last one goes on, or fewer where one goes on at the total
+-- `count` pages, each where the last one goes on, or fewer where one goes on at the total
 unfoldable pub pages_text : Form → List (List ℕ) → Plan → ℕ → ℕ → ℕ → ℕ → List ℕ
 pages_text form images plan size span zero from = []
 pages_text form images plan size span (suc count) from =
@@ -77,7 +77,7 @@ pub record ListReads (told : Option (List (List ℕ))) (asked : Listing) (plan :
   pub are : ArePageEnds told plan asked.size asked.span failed asked.pages asked.from ends
   pub few : after ≤ before + (table_reads plan + scans_to told plan asked.from ends * most_scanned plan)
 
--- what `list` prints over what the plan's text says, where the bytes of the images are told
+-- what `list` prints over what the plan's text says, where the bytes of the images are known
 abbrev pub list_output : Listing → PlanReading → Option (List (List ℕ)) → Option (List ℕ)
 list_output asked (Reads plan) (Some images) = Some (listing images plan asked)
 list_output asked _ _ = None

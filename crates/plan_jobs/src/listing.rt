@@ -19,7 +19,7 @@ use crate::preparing::prepare;
 use command_words::Form;
 use image_source::{Images, MOST_ATTACHED, Memory, Sink, Source};
 use json_lines::{json_line, json_next};
-use page_engine::{Line, ListPage, PageFault, PageList, pages};
+use page_engine::{Line, ListPage, PageFault, PageList, PageRange, pages};
 use plan_text::{Text, set_line};
 use row_scan::Gate;
 use run_ends::{Stop, add_share, print};
@@ -40,6 +40,17 @@ pub struct Listing {
     pub pages: u64,
     /// How they are written.
     pub form: Form,
+}
+
+/// What a listing is made with.
+#[derive(Drop)]
+struct Tools<'a, R, G> {
+    /// That which starts threads.
+    rt: &'a R,
+    /// That which gives memory.
+    alloc: Global,
+    /// What each piece of a scan passes.
+    gate: &'a G,
 }
 
 /// Prints pages of the sets of a plan that pass, whole or not at all. The source holds the plan's text;
@@ -72,18 +83,17 @@ pub fn list<R: Threads + Sync, S: Source, I: Images, K: Sink, G: Gate + Sync>(
     ensures world { (I.seen images.new).world ≡ (I.seen images.old).world }
     ensures attached { (I.seen images.new).attached ≡ (I.seen images.old).attached }
 {
-    print(out, answer(rt, alloc, source, images, names, asked, gate))
+    let tools = Tools { rt, alloc, gate };
+    print(out, answer(&tools, source, images, names, asked))
 }
 
 /// The text of `list`, or why there is none.
 fn answer<R: Threads + Sync, S: Source, I: Images, G: Gate + Sync>(
-    rt: &R,
-    alloc: Global,
+    tools: &Tools<R, G>,
     source: &mut S,
     images: &mut I,
     names: usize,
     asked: &Listing,
-    gate: &G,
 ) -> Result<Text, Stop>
     requires attached { length (I.seen images.old).attached ≡ min names MOST_ATTACHED }
     requires size { 1 ≤ asked.now.size }
@@ -104,8 +114,8 @@ fn answer<R: Threads + Sync, S: Source, I: Images, G: Gate + Sync>(
     ensures world { (I.seen images.new).world ≡ (I.seen images.old).world }
     ensures attached { (I.seen images.new).attached ≡ (I.seen images.old).attached }
 {
-    match prepare(alloc, source, images, names) {
-        Ok(plan) => listed(rt, alloc, images, &plan, asked, gate),
+    match prepare(tools.alloc, source, images, names) {
+        Ok(plan) => listed(tools, images, &plan, asked),
         Err(stop) => Err(stop),
     }
 }
@@ -113,12 +123,10 @@ fn answer<R: Threads + Sync, S: Source, I: Images, G: Gate + Sync>(
 /// The text of `list` over a plan with which the images agree, or why there is none.
 #[tactic(auto, using(crate::proofs::Listed::pages_printed))]
 fn listed<R: Threads + Sync, I: Images, G: Gate + Sync>(
-    rt: &R,
-    alloc: Global,
+    tools: &Tools<R, G>,
     images: &mut I,
     plan: &Plan,
     asked: &Listing,
-    gate: &G,
 ) -> Result<Text, Stop>
     requires plan { IsPlan plan.now }
     requires lengths { AgreeWith plan.now (I.seen images.old).attached }
@@ -132,20 +140,18 @@ fn listed<R: Threads + Sync, I: Images, G: Gate + Sync>(
         (record { images = (I.seen images.new).faults; plan = 0; out = 0; sectors = (I.seen images.new).sectors_read }) result }
     ensures reads { ReadsPages (told_all (I.seen images.old).attached) plan.now asked.now.size asked.now.span (is_err result) asked.now.pages asked.now.from (I.seen images.old) (I.seen images.new) }
 {
-    match found_pages(rt, alloc, images, plan, asked, gate) {
-        Ok(found) => Ok(pages_text(alloc, asked.form, found.as_slice())?),
+    match found_pages(tools, images, plan, asked) {
+        Ok(found) => Ok(pages_text(tools.alloc, asked.form, found.as_slice())?),
         Err(fault) => Err(Stop::from(fault)),
     }
 }
 
 /// The pages that are asked for.
 fn found_pages<R: Threads + Sync, I: Images, G: Gate + Sync>(
-    rt: &R,
-    alloc: Global,
+    tools: &Tools<R, G>,
     images: &mut I,
     plan: &Plan,
     asked: &Listing,
-    gate: &G,
 ) -> Result<PageList, PageFault>
     requires plan { IsPlan plan.now }
     requires lengths { AgreeWith plan.now (I.seen images.old).attached }
@@ -157,17 +163,13 @@ fn found_pages<R: Threads + Sync, I: Images, G: Gate + Sync>(
     ensures ends { IfErr result (EndsPage plan.now asked.now.from (I.seen images.old) (I.seen images.new)) }
     ensures reads { ReadsPages (told_all (I.seen images.old).attached) plan.now asked.now.size asked.now.span (is_err result) asked.now.pages asked.now.from (I.seen images.old) (I.seen images.new) }
 {
-    pages(
-        rt,
-        alloc,
-        images,
-        plan,
-        asked.from,
-        asked.size,
-        asked.span,
-        asked.pages,
-        gate,
-    )
+    let range = PageRange {
+        from: asked.from,
+        size: asked.size,
+        span: asked.span,
+        count: asked.pages,
+    };
+    pages(tools.rt, tools.alloc, images, plan, &range, tools.gate)
 }
 
 /// The bytes of pages.
@@ -211,7 +213,7 @@ fn set_text(alloc: Global, form: Form, held: &Line) -> Result<Text, Memory>
     }
 }
 
-/// Appends the line of where the next page begins, of so many ranks.
+/// Appends the line of where the next page begins, of `total` ranks.
 fn add_next(alloc: Global, text: &mut Text, form: Form, next: u64, total: u64) -> Result<(), Memory>
     ensures { OnOk result (text.new ≡ text.old ++ next_in form next total) }
 {

@@ -11,7 +11,7 @@ use plan_text::{Plan, read_plan};
 use run_ends::{Stop, plan_fault, read_all};
 use std::alloc::Global;
 
-/// Reads the plan to the end of its source, and compares so many images with it.
+/// Reads the plan to the end of its source, and compares `names` images with it.
 #[tactic(auto, using(crate::proofs::Plans::reading_ends, crate::proofs::Plans::plan_ends, crate::proofs::Plans::disagrees, crate::proofs::Plans::is_prepared, crate::proofs::Plans::few_lengths))]
 pub(crate) fn prepare<S: Source, I: Images>(
     alloc: Global,

@@ -18,7 +18,7 @@ use search_plan::Plan;
 use set_product::product_rank;
 use std::alloc::Global;
 
-/// The text of `check` over a set of which so many tested rows are unsound.
+/// The text of `check` over a set of which `unsound` tested rows are unsound.
 #[tactic(auto, unfolding(crate::specs::Checking::report))]
 pub(crate) fn report(
     alloc: Global,

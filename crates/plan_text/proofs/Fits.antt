@@ -42,7 +42,7 @@ fits_from n (m ∷ ns) low high up least all =
     let more = fits_from m ns (low + 1) high (tail_rises n m ns up) (omega arith) (All-tail (IsBelow high) n (m ∷ ns) all) in
     omega arith
 
--- so many different numbers are there from low to high
+-- numbers that rise from `low` up to `high` are at most `high - low`
 pub rising_fits : (ns : List ℕ) (low high : ℕ) → AreRising ns → All (λ m. (low ≤ m) × (m < high)) ns → length ns + low ≤ high
 rising_fits [] low high rising all = let some = rising.some in absurd (omega arith)
 rising_fits (n ∷ ns) low high rising all =

@@ -73,7 +73,7 @@ si_push xs y h last k lt =
           )
     ]
 
--- the front of a list of which all is so, and what follows it
+-- a prefix of a list of which all is so, and what follows it
 all_front : {A : Type 0} (P : A → Type 0) (xs ys : List A) → All P (xs ++ ys) → All P xs
 all_front P [] ys h = All-nil P
 all_front P (x ∷ xs) ys h = All-cons P x xs (All-head P x (xs ++ ys) h) (all_front P xs ys (All-tail P x (xs ++ ys) h))
@@ -163,7 +163,7 @@ marks_push p gs g =
     ∙ count_append p (marks_in gs) (g.marks ++ [])
     ∙ ap (λ (ms : List Mark). count_by p (marks_in gs) + count_by p ms) (append-nil g.marks)
 
--- the front of the groups of a plan, and of the marks of its last group
+-- a prefix of the groups of a plan, with a prefix of the marks of its last group
 pub front : (lengths : List ℕ) (closed : List Group) (kind : GroupKind) (marks more : List Mark) (rest : List Group) → AreGroups lengths (closed ++ group_with kind (marks ++ more) ∷ rest) → AreGroups lengths (closed ++ group_with kind marks ∷ [])
 front lengths closed kind marks more rest are = record {
   order =

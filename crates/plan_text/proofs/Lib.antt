@@ -20,3 +20,4 @@ pub mod RefusedLines
 pub mod PlanEnds
 pub mod Written
 pub mod Examples
+pub mod Drops

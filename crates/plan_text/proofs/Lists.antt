@@ -1,37 +1,44 @@
 -- Lists that rise, each on one line.
-use Rattle.std.proofs.Common.{◌≡◌, ◌≢◌, ◌<◌, ◌≤◌, ◌+◌, ◌^◌, ◌↔◌, ℕ, Bool, true, false, IsTrue, nat_lt, List, [], ◌∷◌, ◌++◌, All, length, map, get_or, decimal, refl, sym, arith}
+use Rattle.std.proofs.Common.{◌≡◌, ◌≢◌, ◌<◌, ◌≤◌, ◌+◌, ◌^◌, ◌↔◌, ℕ, Bool, true, false, IsTrue, nat_lt, List, [], ◌∷◌, ◌++◌, All, length, map, get_or, decimal, refl, sym, ap, ◌∙◌, arith, Option, None, Some, MatchOption}
 use Rattle.std.specs.List.{IsAllAdjacentAnswer}
 use Rattle.std.specs.List.Sorted.{IsStrictlyIncreasing}
 use Rattle.std.proofs.lemmas.Bool.{false≢true}
 use Rattle.std.proofs.lemmas.Bool.Decides.{nat_tests}
-use Rattle.std.proofs.lemmas.List.{get_or-map, length-map}
+use Rattle.std.proofs.lemmas.List.{append_cancel_left, get_or-map, length-map}
 use Rattle.std.proofs.lemmas.List.Elements.{All-head, All-tail, All-nil, All-cons, All-append}
 use Rattle.search_plan.specs.Plans.{AreRising}
-use Rattle.plan_text.specs.Spelling.{IsSpelling, commas}
-use Rattle.plan_text.specs.NameLaws.{number_law}
-use Rattle.plan_text.proofs.Spellings.{IsWithout, plain_word}
+use Rattle.plan_text.specs.Spelling.{IsFieldName, commas}
+use Rattle.plan_text.specs.NameLaws.{number_law, without_mark}
+use Rattle.plan_text.proofs.Spellings.{IsWithout}
 
 pub decimal_line : (n : ℕ) → n < 2 ^ 64 → IsWithout 10 (decimal n)
-decimal_line n small = plain_word 10 (decimal n) refl (number_law.has_no_mark n small)
+decimal_line n small = without_mark 10 (decimal n) refl (number_law.has_no_mark n small)
 
 abbrev IsNoFeed : ℕ → Type 0
 IsNoFeed byte = byte ≢ 10
 
 -- a list stands on one line
-pub list_line : {A : Type 0} (name : A → List ℕ) (IsSpelled : A → Type 0) → IsSpelling name IsSpelled → (xs : List A) → All IsSpelled xs → IsWithout 10 (commas (map name xs))
+pub list_line : {A : Type 0} (name : A → List ℕ) (IsSpelled : A → Type 0) → IsFieldName name IsSpelled → (xs : List A) → All IsSpelled xs → IsWithout 10 (commas (map name xs))
 list_line name IsSpelled s [] all = All-nil IsNoFeed
-list_line name IsSpelled s (x ∷ []) all = plain_word 10 (name x) refl (s.has_no_mark x (All-head IsSpelled x [] all))
+list_line name IsSpelled s (x ∷ []) all = without_mark 10 (name x) refl (s.has_no_mark x (All-head IsSpelled x [] all))
 list_line name IsSpelled s (x ∷ y ∷ xs) all =
     let comma : 44 ≢ 10 = λ e. absurd (omega (arith, e)) in
-    All-append IsNoFeed (name x) (44 ∷ commas (map name (y ∷ xs))) (plain_word 10 (name x) refl (s.has_no_mark x (All-head IsSpelled x (y ∷ xs) all)))
+    All-append IsNoFeed (name x) (44 ∷ commas (map name (y ∷ xs))) (without_mark 10 (name x) refl (s.has_no_mark x (All-head IsSpelled x (y ∷ xs) all)))
     (All-cons IsNoFeed 44 (commas (map name (y ∷ xs))) comma (list_line name IsSpelled s (y ∷ xs) (All-tail IsSpelled x (y ∷ xs) all)))
 
 -- and so does a number or a list after a word
 pub number_line : (word : List ℕ) → IsWithout 10 word → (n : ℕ) → n < 2 ^ 64 → IsWithout 10 (word ++ decimal n)
 number_line word is n small = All-append IsNoFeed word (decimal n) is (decimal_line n small)
 
-pub word_line : {A : Type 0} (name : A → List ℕ) (IsSpelled : A → Type 0) → IsSpelling name IsSpelled → (word : List ℕ) → IsWithout 10 word → (xs : List A) → All IsSpelled xs → IsWithout 10 (word ++ commas (map name xs))
+pub word_line : {A : Type 0} (name : A → List ℕ) (IsSpelled : A → Type 0) → IsFieldName name IsSpelled → (word : List ℕ) → IsWithout 10 word → (xs : List A) → All IsSpelled xs → IsWithout 10 (word ++ commas (map name xs))
 word_line name IsSpelled s word is xs all = All-append IsNoFeed word (commas (map name xs)) is (list_line name IsSpelled s xs all)
+
+-- what a text spells after a word
+pub after_word : {A V : Type 0} (items : V → List A) (IsList : List A → Type 0) (name : List A → List ℕ) (line word text : List ℕ) (r : Option V) → line ≡ word ++ text →
+    MatchOption r ((xs : List A) → IsList xs → text ≢ name xs) (λ v. IsList (items v) × (text ≡ name (items v))) →
+    MatchOption r ((xs : List A) → IsList xs → line ≢ word ++ name xs) (λ v. IsList (items v) × (line ≡ word ++ name (items v)))
+after_word items IsList name line word text None e h = λ xs is same. h xs is (append_cancel_left word text (name xs) (sym e ∙ same))
+after_word items IsList name line word text (Some v) e h = (h.0, e ∙ ap (λ (ds : List ℕ). word ++ ds) h.1)
 
 pub some_value : {A : Type 0} (place : A → ℕ) (xs : List A) → AreRising (map place xs) → 1 ≤ length xs
 some_value place xs rising = let some = rising.some in let same = length-map xs place in omega arith

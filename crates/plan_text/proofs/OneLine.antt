@@ -1,13 +1,13 @@
 -- Values that stand on one line.
-use Rattle.std.proofs.Common.{◌≡◌, ◌≢◌, ◌+◌, ℕ, true, IsTrue, List, [], ◌∷◌, ◌++◌, length, not, ◌==◌, refl, sym, ap, subst, ◌∙◌, arith, Option, None, Some, MatchOption, Result}
+use Rattle.std.proofs.Common.{◌≡◌, ◌≢◌, ◌+◌, ℕ, true, IsTrue, List, [], ◌∷◌, ◌++◌, not, ◌==◌, refl, sym, ap, subst, ◌∙◌, arith, Option, None, Some, MatchOption, Result}
 use Rattle.std.specs.Option.{ok_or}
 use Rattle.std.proofs.lemmas.Bool.{and_parts}
 use Rattle.std.proofs.lemmas.Bool.Decides.{nat_tests}
 use Rattle.std.proofs.lemmas.List.Elements.{All-nil, All-cons}
 use Rattle.plan_text.specs.declared.fault.PlanFault.{PlanFault}
-use Rattle.plan_text.specs.declared.fault.PlanFault.TheVariants.{Line, Memory}
+use Rattle.plan_text.specs.declared.fault.PlanFault.TheVariants.{Line}
 use Rattle.plan_text.specs.PlanText.{IsLine}
-use Rattle.plan_text.specs.Reading.{Cursor, IsOff, IsRefusedAfter, IsRefusal, IsRead, Reads, is_line}
+use Rattle.plan_text.specs.Reading.{Cursor, IsOff, IsRefusal, IsRead, Reads, is_line}
 use Rattle.plan_text.proofs.Spellings.{has_mark, first_mark, IsWithout}
 
 -- a reader took this line
@@ -80,41 +80,3 @@ pub line_answer : {X : Type 0} (IsX : X → Type 0) (name : X → List ℕ) (x :
     MatchOption r ((y : X) → IsX y → line ≢ name y) (λ y. IsX y × (line ≡ name y)) → answer ≡ ok_or r (Line to.taken) → Reads IsX (λ x. name x ∷ []) from to answer
 line_answer IsX name x is_x are_lines from to line None answer at h e = rw e (off_line IsX name x is_x are_lines from to line at h)
 line_answer IsX name x is_x are_lines from to line (Some y) answer at h e = rw e (on_line IsX name from to line y at h.0 h.1)
-
--- the line that a value was read from
-pub read_at : {X : Type 0} (IsX : X → Type 0) (name : X → List ℕ) (from to : Cursor) (x : X) → IsRead IsX (λ x. name x ∷ []) from to x → IsAt from to (name x)
-read_at IsX name from to x read = (read.plain 0 [] (omega arith), read.rest, read.taken)
-
--- of fewer values on one line
-first_of_more : {X : Type 0} (IsX : X → Type 0) (name : X → List ℕ) (text : List ℕ) (taken : ℕ) (r : IsRefusedAfter IsX (λ x. name x ∷ []) text taken) (lines : List (List ℕ)) → lines ≡ r.lines → lines ≡ []
-first_of_more IsX name text taken r [] e = refl
-first_of_more IsX name text taken r (l ∷ ls) e =
-    let begins : name r.value ∷ [] ≡ (l ∷ ls) ++ r.more = r.begins ∙ ap (λ (xs : List (List ℕ)). xs ++ r.more) (sym e) in
-    let rest : [] ≡ ls ++ r.more = cc in
-    let none : r.more ≡ [] = nothing ls r.more rest in
-    absurd (subst (IsOff r.rest) none (r.off r.value r.more r.is_value r.begins))
-  where
-    nothing : (xs ys : List (List ℕ)) → [] ≡ xs ++ ys → ys ≡ []
-    nothing [] ys e = sym e
-    nothing (x ∷ xs) ys e = let same = ap length e in absurd (omega arith)
-
-pub fewer : {X : Type 0} (IsX IsY : X → Type 0) (name : X → List ℕ) (y : X) → IsY y → ((z : X) → IsY z → IsX z) → (from : Cursor) (fault : PlanFault) → IsRefusal IsX (λ x. name x ∷ []) from fault → IsRefusal IsY (λ x. name x ∷ []) from fault
-fewer IsX IsY name y is_y all from Memory h = tt
-fewer IsX IsY name y is_y all from (Line n) h =
-    let r = h.2 in
-    let none = first_of_more IsX name from.rest h.0 r r.lines refl in (
-      h.0,
-      h.1,
-      record {
-        lines = r.lines;
-        plain = r.plain;
-        many = r.many;
-        rest = r.rest;
-        text_is = r.text_is;
-        value = y;
-        is_value = is_y;
-        more = name y ∷ [];
-        begins = ap (λ (xs : List (List ℕ)). xs ++ name y ∷ []) (sym none);
-        off = λ z others is e. r.off z others (all z is) e;
-      },
-    )

@@ -14,10 +14,10 @@ use Rattle.search_plan.specs.Places.{level_place, pattern_place, syndrome_place}
 use Rattle.search_plan.specs.Plans.{IsPlan}
 use Rattle.plan_text.specs.declared.fault.PlanFault.{PlanFault}
 use Rattle.plan_text.specs.declared.fault.PlanFault.TheVariants.{Line}
-use Rattle.plan_text.specs.NameLaws.{level_law, pattern_law, syndrome_law, byte_law, number_law}
+use Rattle.plan_text.specs.NameLaws.{in_lists, level_law, pattern_law, syndrome_law, byte_law, number_law}
 use Rattle.plan_text.specs.PlanText.{IsFault, IsRefusedLine, groups_lines, image_lines, plan_lines, plan_text, search_lines}
 use Rattle.plan_text.specs.Reading.{Cursor, followed}
-use Rattle.plan_text.specs.Spelling.{IsSpelling, level_name, pattern_name, syndrome_name, commas}
+use Rattle.plan_text.specs.Spelling.{IsFieldName, level_name, pattern_name, syndrome_name, commas}
 use Rattle.plan_text.proofs.Fits.{members_are_bytes, chunks_are_short, offsets_are_short}
 use Rattle.plan_text.proofs.GroupSteps.{are_spelled}
 use Rattle.plan_text.proofs.Lists.{some_value}
@@ -93,8 +93,8 @@ eq_plan p q a b c d e f = let same : plan_with p.lengths.items p.end p.bounds p.
 number : (word : List ℕ) (m n : ℕ) → m < 2 ^ 55 → n < 2 ^ 55 → word ++ decimal m ≡ word ++ decimal n → m ≡ n
 number word m n p q e = decimal_injective m n (omega arith) (omega arith) (append_cancel_left word (decimal m) (decimal n) e)
 
-listed : {A : Type 0} (name : A → List ℕ) (IsSpelled : A → Type 0) → IsSpelling name IsSpelled → (word : List ℕ) (xs ys : List A) → 1 ≤ length xs → 1 ≤ length ys → All IsSpelled xs → All IsSpelled ys → word ++ commas (map name xs) ≡ word ++ commas (map name ys) → xs ≡ ys
-listed name IsSpelled s word xs ys some more p q e = same_list name IsSpelled s xs ys some more p q (append_cancel_left word (commas (map name xs)) (commas (map name ys)) e)
+listed : {A : Type 0} (name : A → List ℕ) (IsSpelled : A → Type 0) → IsFieldName name IsSpelled → (word : List ℕ) (xs ys : List A) → 1 ≤ length xs → 1 ≤ length ys → All IsSpelled xs → All IsSpelled ys → word ++ commas (map name xs) ≡ word ++ commas (map name ys) → xs ≡ ys
+listed name IsSpelled s word xs ys some more p q e = same_list name IsSpelled (in_lists name IsSpelled s) xs ys some more p q (append_cancel_left word (commas (map name xs)) (commas (map name ys)) e)
 
 abbrev line_at : ℕ → List (List ℕ) → List ℕ
 line_at i lines = get_or lines i []

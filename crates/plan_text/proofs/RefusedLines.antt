@@ -34,7 +34,7 @@ in_lines (l ∷ lines) rest =
 pub text_of : (plan : Plan) → plan_text plan ≡ followed (plan_lines plan) []
 text_of plan = sym (append-nil (plan_text plan)) ∙ in_lines (plan_lines plan) []
 
--- lines at the front of others
+-- lines that are a prefix of others
 pub following : (xs ys : List (List ℕ)) (rest : List ℕ) → All IsLine xs → All IsLine ys → followed xs rest ≡ followed ys [] → (others : List (List ℕ)) × (ys ≡ xs ++ others) × (rest ≡ followed others [])
 following [] ys rest p q e = (ys, refl, e)
 following (x ∷ xs) [] rest p q e = let same = ap length e in let more = length-append x (10 ∷ followed xs rest) in absurd (omega arith)
@@ -184,7 +184,7 @@ fault_of text from (Line n) rest taken h =
     subst (IsRefusedLine text) line (refused_line text r.rest r.lines r.plain (sym rest ∙ r.text_is) r.value r.is_value r.more r.begins (λ q others is e. off_is_other r.rest others (r.off q others is e)))
 fault_of text from Memory rest taken h = tt
 
--- the front of lines at the front of a text
+-- a prefix of the lines with which a text begins
 begins_front : (text : List ℕ) (xs ys : List (List ℕ)) → Begins text (xs ++ ys) → Begins text xs
 begins_front text xs ys b = record {
   plain = front xs ys b.plain;

@@ -1,6 +1,5 @@
 -- The lists of a plan, line by line.
-use Rattle.std.proofs.Common.{◌≡◌, ◌≢◌, ◌≤◌, ◌<◌, ◌^◌, ℕ, IsTrue, List, [], ◌∷◌, ◌++◌, All, drop, length, map, codes, decimal, refl, sym, ap, subst, arith, lit≤, lit<, Option, None, Some, MatchOption}
-use Rattle.std.proofs.lemmas.List.{append_cancel_left}
+use Rattle.std.proofs.Common.{◌≡◌, ◌≢◌, ◌≤◌, ◌<◌, ◌^◌, ℕ, IsTrue, List, [], ◌∷◌, All, drop, length, map, codes, decimal, refl, sym, ap, arith, lit≤, lit<, Option, None, Some, MatchOption}
 use Rattle.std.proofs.lemmas.List.Elements.{All-nil, All-cons}
 use Rattle.arrayvec.specs.declared.array_vec.ArrayVec.{ArrayVec}
 use Rattle.raid_params.specs.declared.limits.TheConstants.{MOST, MOST_CHUNKS, MOST_LESS_ONE, MOST_LEVELS, MOST_OFFSETS, MOST_ORIGINS, MOST_PATTERNS, MOST_SYNDROMES}
@@ -12,18 +11,12 @@ use Rattle.raid_params.specs.declared.types.Syndrome.TheVariants.{NoQ}
 use Rattle.raid_params.specs.Validity.{is_chunk}
 use Rattle.search_plan.specs.Places.{level_place, pattern_place, syndrome_place}
 use Rattle.search_plan.specs.Plans.{AreRising}
-use Rattle.plan_text.specs.declared.fault.PlanFault.TheVariants.{Line}
 use Rattle.plan_text.specs.declared.parts.Kinds.{Kinds}
 use Rattle.plan_text.specs.declared.parts.Sizes.{Sizes}
 use Rattle.plan_text.specs.Parts.{AreMembers, AreChunks, AreSectors, AreKinds, AreSizes, lines_of_kinds, lines_of_sizes}
-use Rattle.plan_text.specs.PlanText.{IsLine}
-use Rattle.plan_text.specs.Reading.{Cursor, IsRead, IsRefusal}
-use Rattle.plan_text.specs.Spelling.{IsSpelling, level_name, pattern_name, syndrome_name, commas, named}
+use Rattle.plan_text.specs.Spelling.{level_name, pattern_name, syndrome_name, commas, named}
 use Rattle.plan_text.proofs.Fits.{levels_fit, patterns_fit, syndromes_fit}
-use Rattle.plan_text.proofs.Lists.{word_line}
-use Rattle.plan_text.proofs.OneLine.{off_line, read_at}
 use Rattle.plan_text.proofs.Refusals.{StandsIn, one_line}
-use Rattle.plan_text.proofs.Spellings.{same_list}
 
 pub one_rises : (n : ℕ) → AreRising (n ∷ [])
 one_rises n = record { some = lit≤ tt; rising = λ k lt. absurd (omega arith) }
@@ -37,20 +30,6 @@ pub of_items : {A V : Type 0} (items : V → List A) (IsList : List A → Type 0
     MatchOption r ((v : V) → IsList (items v) → line ≢ name (items v)) (λ v. IsList (items v) × (line ≡ name (items v)))
 of_items items IsList name line None h = λ v is. h (items v) is
 of_items items IsList name line (Some v) h = h
-
--- a list that was read and is not one of fewer
-pub off_fewer : {A V : Type 0} (items : V → List A) (name : A → List ℕ) (IsSpelled : A → Type 0) → IsSpelling name IsSpelled → (IsX IsY : List A → Type 0) (word : List ℕ) → IsLine word → (y : V) → IsY (items y) →
-    ((xs : List A) → IsX xs → (1 ≤ length xs) × All IsSpelled xs) → ((xs : List A) → IsY xs → (1 ≤ length xs) × All IsSpelled xs) →
-    (from to : Cursor) (x : V) → IsRead (λ v. IsX (items v)) (λ v. (word ++ commas (map name (items v))) ∷ []) from to x → (IsY (items x) → ⊥) →
-    IsRefusal (λ v. IsY (items v)) (λ v. (word ++ commas (map name (items v))) ∷ []) from (Line to.taken)
-off_fewer items name IsSpelled s IsX IsY word is_word y is_y of_x of_y from to x read none =
-    off_line (λ v. IsY (items v)) (λ v. word ++ commas (map name (items v))) y is_y (λ z is. word_line name IsSpelled s word is_word (items z) (of_y (items z) is).1) from to (word ++ commas (map name (items x)))
-    (read_at (λ v. IsX (items v)) (λ v. word ++ commas (map name (items v))) from to x read)
-    (λ z is e.
-    let at_x = of_x (items x) read.is_value in
-    let at_z = of_y (items z) is in
-    let same : items x ≡ items z = same_list name IsSpelled s (items x) (items z) at_x.0 at_z.0 at_x.1 at_z.1 (append_cancel_left word (commas (map name (items x))) (commas (map name (items z))) e) in
-    none (subst IsY (sym same) is))
 
 abbrev Levels : Type 0
 Levels = ArrayVec Level MOST_LEVELS (Unit {0})

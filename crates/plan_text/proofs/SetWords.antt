@@ -6,7 +6,7 @@ use Rattle.raid_params.specs.declared.types.Level.{Level}
 use Rattle.raid_params.specs.declared.types.Pattern.{Pattern}
 use Rattle.raid_params.specs.declared.types.Syndrome.{Syndrome}
 use Rattle.plan_text.specs.Spelling.{level_name, pattern_name, syndrome_name, slot_name, commas}
-use Rattle.plan_text.specs.NameLaws.{level_law, pattern_law, syndrome_law, number_law, slot_law}
+use Rattle.plan_text.specs.NameLaws.{in_lists, level_law, pattern_law, syndrome_law, number_law, slot_law}
 use Rattle.plan_text.specs.SetText.{HasWord, set_word}
 use Rattle.plan_text.proofs.Spellings.{next_value, same_list}
 
@@ -49,6 +49,6 @@ one_spelling g h has_g has_h e =
     let layout = same_layout h (set_word g) g.head.level g.head.pattern g.head.syndrome _ _ (sizes_text g) (tt, refl) (tt, refl) (tt, refl) e in
     let chunk = same_chunk h has_h (sizes_text g) g.head.chunk _ (omega (arith, has_g.chunk), refl) layout.3 in
     let offset = same_offset h has_h _ g.head.offset _ (omega (arith, has_g.offset), refl) chunk.1 in
-    let slots = same_list slot_name (λ slot. IfSome slot (λ image. image < MOST)) slot_law g.slots.items h.slots.items has_g.some has_h.some has_g.images has_h.images offset.1 in
+    let slots = same_list slot_name (λ slot. IfSome slot (λ image. image < MOST)) (in_lists slot_name (λ slot. IfSome slot (λ image. image < MOST)) slot_law) g.slots.items h.slots.items has_g.some has_h.some has_g.images has_h.images offset.1 in
     let members = has_g.members ∙ ap length slots ∙ sym has_h.members in
     same_set g h layout.0 members layout.1 layout.2 chunk.0 offset.0 slots

@@ -1,12 +1,10 @@
 -- What it says of values that a text spells them up to a mark, or with commas between them.
-use Rattle.std.proofs.Common.{◌≡◌, ◌≢◌, ◌≤◌, ◌+◌, ℕ, true, List, [], ◌∷◌, ◌++◌, All, IsTrue, length, map, refl, sym, ap, subst, ◌∙◌, arith, length-append, suc, get_or, drop, drop-cons, Option, None, Some, MatchOption, Result, Ok, Err, OnOk, OnErr, IsOk, ◌↔◌}
+use Rattle.std.proofs.Common.{◌≡◌, ◌≢◌, ◌≤◌, ◌+◌, ℕ, List, [], ◌∷◌, ◌++◌, All, IsTrue, length, map, refl, sym, ap, subst, ◌∙◌, arith, length-append, suc, get_or, drop, drop-cons, Option, None, Some, MatchOption, Result, Ok, Err, OnOk, OnErr, IsOk, ◌↔◌}
 use Rattle.std.specs.Result.{result_ok}
-use Rattle.std.specs.List.{list_all}
-use Rattle.std.proofs.lemmas.Bool.{and_parts}
-use Rattle.std.proofs.lemmas.Bool.Decides.{nat_tests}
 use Rattle.std.proofs.lemmas.List.{drop_all}
-use Rattle.std.proofs.lemmas.List.Elements.{All-head, All-tail, All-nil, All-cons, All-push}
-use Rattle.plan_text.specs.Spelling.{IsSpelling, commas, is_mark, is_plain}
+use Rattle.std.proofs.lemmas.List.Elements.{All-head, All-tail, All-push}
+use Rattle.plan_text.specs.NameLaws.{without_mark}
+use Rattle.plan_text.specs.Spelling.{IsFieldName, IsSpelling, commas, is_mark}
 
 pub none_then : {A : Type 0} (P : Type 0) (Q : A → Type 0) (r : Option A) → r ≡ None → P → MatchOption r P Q
 none_then P Q r none holds = rw none holds
@@ -31,15 +29,6 @@ IsOther mark byte = byte ≢ mark
 abbrev pub IsWithout : ℕ → List ℕ → Type 0
 IsWithout mark bytes = All (λ byte. byte ≢ mark) bytes
 
-plain_byte : (mark byte : ℕ) → IsTrue (is_mark mark) → is_plain byte ≡ true → byte ≢ mark
-plain_byte mark byte is plain same = grind (arith, nat_tests)
-
-pub plain_word : (mark : ℕ) (bytes : List ℕ) → IsTrue (is_mark mark) → list_all is_plain bytes ≡ true → IsWithout mark bytes
-plain_word mark [] is plain = All-nil (IsOther mark)
-plain_word mark (byte ∷ bytes) is plain =
-    let parts = and_parts (is_plain byte) (list_all is_plain bytes) plain in
-    All-cons (IsOther mark) byte bytes (plain_byte mark byte is parts.0) (plain_word mark bytes is parts.1)
-
 pub has_mark : (mark : ℕ) (word rest : List ℕ) → IsWithout mark (word ++ mark ∷ rest) → ⊥
 has_mark mark [] rest all = All-head (IsOther mark) mark rest all refl
 has_mark mark (b ∷ word) rest all = has_mark mark word rest (All-tail (IsOther mark) b (word ++ mark ∷ rest) all)
@@ -57,15 +46,27 @@ first_mark mark (x ∷ xs) (y ∷ ys) u v p q e =
     (cc, more.1)
 
 -- a word up to a mark is the value's
-pub word_is : {A : Type 0} (name : A → List ℕ) (IsSpelled : A → Type 0) → IsSpelling name IsSpelled → (mark : ℕ) (word rest more : List ℕ) (x : A) → IsTrue (is_mark mark) → IsWithout mark word → IsSpelled x →
+pub word_is : {A : Type 0} (name : A → List ℕ) (IsSpelled : A → Type 0) → IsFieldName name IsSpelled → (mark : ℕ) (word rest more : List ℕ) (x : A) → IsTrue (is_mark mark) → IsWithout mark word → IsSpelled x →
     word ++ mark ∷ rest ≡ name x ++ mark ∷ more → (word ≡ name x) × (rest ≡ more)
-word_is name IsSpelled s mark word rest more x is without spelled e = first_mark mark word (name x) rest more without (plain_word mark (name x) is (s.has_no_mark x spelled)) e
+word_is name IsSpelled s mark word rest more x is without spelled e = first_mark mark word (name x) rest more without (without_mark mark (name x) is (s.has_no_mark x spelled)) e
 
 -- values up to a mark are the same where the texts are
-pub same_value : {A : Type 0} (name : A → List ℕ) (IsSpelled : A → Type 0) → IsSpelling name IsSpelled → (mark : ℕ) (x y : A) (rest more : List ℕ) → IsTrue (is_mark mark) → IsSpelled x → IsSpelled y →
+pub same_value : {A : Type 0} (name : A → List ℕ) (IsSpelled : A → Type 0) → IsFieldName name IsSpelled → (mark : ℕ) (x y : A) (rest more : List ℕ) → IsTrue (is_mark mark) → IsSpelled x → IsSpelled y →
     name x ++ mark ∷ rest ≡ name y ++ mark ∷ more → (x ≡ y) × (rest ≡ more)
 same_value name IsSpelled s mark x y rest more is spelled_x spelled_y e =
-    let both = word_is name IsSpelled s mark (name x) rest more y is (plain_word mark (name x) is (s.has_no_mark x spelled_x)) spelled_y e in
+    let both = word_is name IsSpelled s mark (name x) rest more y is (without_mark mark (name x) is (s.has_no_mark x spelled_x)) spelled_y e in
+    (s.one_value x y spelled_x spelled_y both.0, both.1)
+
+-- a word up to a comma is the value's
+word_in_list : {A : Type 0} (name : A → List ℕ) (IsSpelled : A → Type 0) → IsSpelling name IsSpelled → (word rest more : List ℕ) (x : A) → IsWithout 44 word → IsSpelled x →
+    word ++ 44 ∷ rest ≡ name x ++ 44 ∷ more → (word ≡ name x) × (rest ≡ more)
+word_in_list name IsSpelled s word rest more x without spelled e = first_mark 44 word (name x) rest more without (s.has_no_comma x spelled) e
+
+-- values up to a comma are the same where the texts are
+same_in_list : {A : Type 0} (name : A → List ℕ) (IsSpelled : A → Type 0) → IsSpelling name IsSpelled → (x y : A) (rest more : List ℕ) → IsSpelled x → IsSpelled y →
+    name x ++ 44 ∷ rest ≡ name y ++ 44 ∷ more → (x ≡ y) × (rest ≡ more)
+same_in_list name IsSpelled s x y rest more spelled_x spelled_y e =
+    let both = word_in_list name IsSpelled s (name x) rest more y (s.has_no_comma x spelled_x) spelled_y e in
     (s.one_value x y spelled_x spelled_y both.0, both.1)
 
 -- values with a comma after each, and what follows
@@ -100,10 +101,10 @@ unfolding before
 left_after name IsSpelled s [] xs rest p q some e = (xs, (refl, some, q, e))
 left_after name IsSpelled s (i ∷ firsts) [] rest p q some e = absurd (omega arith)
 left_after name IsSpelled s (i ∷ firsts) (x ∷ []) rest p q some e =
-    let plain = plain_word 44 (name x) refl (s.has_no_mark x (All-head IsSpelled x [] q)) in
+    let plain = s.has_no_comma x (All-head IsSpelled x [] q) in
     absurd (has_mark 44 (name i) (before name firsts rest) (subst (IsWithout 44) (sym e) plain))
 left_after name IsSpelled s (i ∷ firsts) (x ∷ y ∷ xs) rest p q some e =
-    let both = same_value name IsSpelled s 44 i x (before name firsts rest) (commas (map name (y ∷ xs))) refl (All-head IsSpelled i firsts p) (All-head IsSpelled x (y ∷ xs) q) e in
+    let both = same_in_list name IsSpelled s i x (before name firsts rest) (commas (map name (y ∷ xs))) (All-head IsSpelled i firsts p) (All-head IsSpelled x (y ∷ xs) q) e in
     let more = left_after name IsSpelled s firsts (y ∷ xs) rest (All-tail IsSpelled i firsts p) (All-tail IsSpelled x (y ∷ xs) q) (omega arith) both.1 in
     let head : i ≡ x = both.0 in
     let tail : y ∷ xs ≡ firsts ++ more.0 = more.1.0 in
@@ -117,12 +118,12 @@ word_with_more : {A : Type 0} (name : A → List ℕ) (IsSpelled : A → Type 0)
     IsWord name IsSpelled firsts xs word
 word_with_more name IsSpelled s firsts xs [] word more left without = let some = left.1 in absurd (omega arith)
 word_with_more name IsSpelled s firsts xs (y ∷ []) word more left without =
-    let plain = plain_word 44 (name y) refl (s.has_no_mark y (All-head IsSpelled y [] left.2)) in
+    let plain = s.has_no_comma y (All-head IsSpelled y [] left.2) in
     absurd (has_mark 44 word more (subst (IsWithout 44) (sym left.3) plain))
 word_with_more name IsSpelled s firsts xs (y ∷ z ∷ ys) word more left without =
     let spelled = All-head IsSpelled y (z ∷ ys) left.2 in
     let lengths = ap length left.0 ∙ length-append firsts (y ∷ z ∷ ys) in
-    (y, spelled, (word_is name IsSpelled s 44 word more (commas (map name (z ∷ ys))) y refl without spelled left.3).0, omega arith)
+    (y, spelled, (word_in_list name IsSpelled s word more (commas (map name (z ∷ ys))) y without spelled left.3).0, omega arith)
 
 last_word : {A : Type 0} (name : A → List ℕ) (IsSpelled : A → Type 0) (firsts xs ys : List A) (word : List ℕ) → AreLeft name IsSpelled firsts xs word ys → IsWithout 44 word →
     IsWord name IsSpelled firsts xs word
@@ -167,20 +168,20 @@ same_list name IsSpelled s (x ∷ []) [] some more p q e = absurd (omega arith)
 same_list name IsSpelled s (x ∷ []) (y ∷ []) some more p q e =
     let head = s.one_value x y (All-head IsSpelled x [] p) (All-head IsSpelled y [] q) e in cc
 same_list name IsSpelled s (x ∷ []) (y ∷ z ∷ ys) some more p q e =
-    let plain = plain_word 44 (name x) refl (s.has_no_mark x (All-head IsSpelled x [] p)) in
+    let plain = s.has_no_comma x (All-head IsSpelled x [] p) in
     absurd (has_mark 44 (name y) (commas (map name (z ∷ ys))) (subst (IsWithout 44) e plain))
 same_list name IsSpelled s (x ∷ w ∷ xs) [] some more p q e = absurd (omega arith)
 same_list name IsSpelled s (x ∷ w ∷ xs) (y ∷ []) some more p q e =
-    let plain = plain_word 44 (name y) refl (s.has_no_mark y (All-head IsSpelled y [] q)) in
+    let plain = s.has_no_comma y (All-head IsSpelled y [] q) in
     absurd (has_mark 44 (name x) (commas (map name (w ∷ xs))) (subst (IsWithout 44) (sym e) plain))
 same_list name IsSpelled s (x ∷ w ∷ xs) (y ∷ z ∷ ys) some more p q e =
-    let both = same_value name IsSpelled s 44 x y (commas (map name (w ∷ xs))) (commas (map name (z ∷ ys))) refl (All-head IsSpelled x (w ∷ xs) p) (All-head IsSpelled y (z ∷ ys) q) e in
+    let both = same_in_list name IsSpelled s x y (commas (map name (w ∷ xs))) (commas (map name (z ∷ ys))) (All-head IsSpelled x (w ∷ xs) p) (All-head IsSpelled y (z ∷ ys) q) e in
     let tail = same_list name IsSpelled s (w ∷ xs) (z ∷ ys) (omega arith) (omega arith) (All-tail IsSpelled x (w ∷ xs) p) (All-tail IsSpelled y (z ∷ ys) q) both.1 in
     let head : x ≡ y = both.0 in
     cc
 
 -- a value that was read up to a mark is the one that stands there
-pub next_value : {A : Type 0} (name : A → List ℕ) (IsSpelled : A → Type 0) → IsSpelling name IsSpelled → (mark : ℕ) (text : List ℕ) (x y : A) (rest more : List ℕ) → IsTrue (is_mark mark) → IsSpelled x × (text ≡ name x ++ mark ∷ rest) → IsSpelled y →
+pub next_value : {A : Type 0} (name : A → List ℕ) (IsSpelled : A → Type 0) → IsFieldName name IsSpelled → (mark : ℕ) (text : List ℕ) (x y : A) (rest more : List ℕ) → IsTrue (is_mark mark) → IsSpelled x × (text ≡ name x ++ mark ∷ rest) → IsSpelled y →
     text ≡ name y ++ mark ∷ more → (x ≡ y) × (rest ≡ more)
 next_value name IsSpelled s mark text x y rest more is read spelled e = same_value name IsSpelled s mark x y rest more is read.0 spelled (sym read.1 ∙ e)
 

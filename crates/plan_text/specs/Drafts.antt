@@ -55,7 +55,7 @@ entry_line Done = codes "done"
 entry_line (GroupEntry kind) = named (codes "group") (group_name kind)
 entry_line (MarkEntry mark) = mark_line mark
 
--- a group of this kind may begin: kinds come in order, and of each there are at most so many
+-- a group of this kind may begin: kinds come in order, and each has a limit
 pub record MayBegin (draft : Draft) (kind : GroupKind) : Type 0 where
   pub order : IfSome draft.last (λ group. group_place group.kind ≤ group_place kind)
   pub few : slice_index draft.groups (group_place kind) < most_groups kind

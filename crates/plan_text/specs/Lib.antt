@@ -1,5 +1,6 @@
 pub mod Spelling
 pub mod NameLaws
+pub mod DropLaws
 pub mod SetText
 pub mod PlanText
 pub mod Reading

@@ -1,9 +1,11 @@
--- Proofs that each value has a name of its own, without a mark. The implementations of `Spelled`
+-- Proofs that each value has a name of its own, without a mark. The implementations of `Spelled` and `Field`
 -- give them as their law, which may cite `specs` alone.
-use Rattle.std.proofs.Common.{◌≡◌, ◌<◌, ◌≤◌, ◌^◌, ℕ, suc, true, List, [], ◌∷◌, sum, length, get_or, codes, decimal, cond, eqb, refl, sym, ap, ◌∙◌, arith, lit≤, Option, None, Some, IfSome}
+use Rattle.std.proofs.Common.{◌≡◌, ◌≢◌, ◌<◌, ◌≤◌, ◌^◌, ℕ, suc, true, IsTrue, List, [], ◌∷◌, All, sum, length, get_or, codes, decimal, cond, eqb, refl, sym, ap, ◌∙◌, arith, lit≤, Option, None, Some, IfSome}
 use Rattle.std.specs.Int.{IsInRange}
 use Rattle.std.specs.Cmp.Derive.{both_true}
+use Rattle.std.proofs.lemmas.Bool.{and_parts}
 use Rattle.std.proofs.lemmas.Bool.Decides.{nat_tests}
+use Rattle.std.proofs.lemmas.List.Elements.{All-nil, All-cons}
 use Rattle.std.proofs.lemmas.Str.Parse.{digit_at}
 use Rattle.std.proofs.lemmas.Fmt.{decimal_is_IsNumeral, decimal_injective}
 use Rattle.raid_params.specs.declared.limits.TheConstants.{MOST}
@@ -16,7 +18,24 @@ use Rattle.raid_params.specs.declared.types.Syndrome.{Syndrome}
 use Rattle.raid_params.specs.declared.types.Syndrome.TheVariants.{NoQ, AfterQ, ByData, BySlot}
 use Rattle.landmark_rules.specs.declared.marks.Kind.{Kind}
 use Rattle.landmark_rules.specs.declared.marks.Kind.TheVariants.{Gpt, Boot, FileRecord, Super, Agf, Agi}
-use Rattle.plan_text.specs.Spelling.{level_name, pattern_name, syndrome_name, kind_name, slot_name, is_plain, IsSpelling}
+use Rattle.plan_text.specs.Spelling.{level_name, pattern_name, syndrome_name, kind_name, slot_name, is_mark, is_plain, IsFieldName, IsSpelling}
+
+abbrev IsOther : ℕ → ℕ → Type 0
+IsOther mark byte = byte ≢ mark
+
+other_byte : (mark byte : ℕ) → IsTrue (is_mark mark) → is_plain byte ≡ true → byte ≢ mark
+other_byte mark byte is plain same = grind (arith, nat_tests)
+
+-- no byte of a plain text is a mark
+pub without_mark : (mark : ℕ) (bytes : List ℕ) → IsTrue (is_mark mark) → list_all is_plain bytes ≡ true → All (λ byte. byte ≢ mark) bytes
+without_mark mark [] is plain = All-nil (IsOther mark)
+without_mark mark (byte ∷ bytes) is plain =
+    let parts = and_parts (is_plain byte) (list_all is_plain bytes) plain in
+    All-cons (IsOther mark) byte bytes (other_byte mark byte is parts.0) (without_mark mark bytes is parts.1)
+
+-- a name without a mark has no comma
+pub in_lists : {A : Type 0} (name : A → List ℕ) (IsSpelled : A → Type 0) → IsFieldName name IsSpelled → IsSpelling name IsSpelled
+in_lists name IsSpelled law = record { one_value = law.one_value; has_no_comma = λ x spelled. without_mark 44 (name x) refl (law.has_no_mark x spelled) }
 
 -- the level with a name whose bytes have this sum
 level_at : ℕ → Level
@@ -36,7 +55,7 @@ level_has_no_mark Raid0 = refl
 level_has_no_mark Raid5 = refl
 level_has_no_mark Raid6 = refl
 
-pub level_law : IsSpelling level_name (λ level. Unit {0})
+pub level_law : IsFieldName level_name (λ level. Unit {0})
 level_law = record { one_value = λ x y p q. one_level x y; has_no_mark = λ x p. level_has_no_mark x }
 
 -- the pattern with a name whose bytes have this sum
@@ -92,7 +111,7 @@ pattern_has_no_mark Ls6 = refl
 pattern_has_no_mark Rs6 = refl
 pattern_has_no_mark ParityFirst6 = refl
 
-pub pattern_law : IsSpelling pattern_name (λ pattern. Unit {0})
+pub pattern_law : IsFieldName pattern_name (λ pattern. Unit {0})
 pattern_law = record { one_value = λ x y p q. one_pattern x y; has_no_mark = λ x p. pattern_has_no_mark x }
 
 -- the order of Q with a name whose bytes have this sum
@@ -115,7 +134,7 @@ syndrome_has_no_mark AfterQ = refl
 syndrome_has_no_mark ByData = refl
 syndrome_has_no_mark BySlot = refl
 
-pub syndrome_law : IsSpelling syndrome_name (λ syndrome. Unit {0})
+pub syndrome_law : IsFieldName syndrome_name (λ syndrome. Unit {0})
 syndrome_law = record { one_value = λ x y p q. one_syndrome x y; has_no_mark = λ x p. syndrome_has_no_mark x }
 
 -- the kind of landmark with a name whose bytes have this sum
@@ -147,7 +166,7 @@ kind_has_no_mark Super = refl
 kind_has_no_mark Agf = refl
 kind_has_no_mark Agi = refl
 
-pub kind_law : IsSpelling kind_name (λ kind. Unit {0})
+pub kind_law : IsFieldName kind_name (λ kind. Unit {0})
 kind_law = record { one_value = λ x y p q. one_kind x y; has_no_mark = λ x p. kind_has_no_mark x }
 
 plain_digit : (digit : ℕ) → IsInRange 48 57 digit → is_plain digit ≡ true
@@ -163,16 +182,16 @@ digit_of n i small lt = digit_at (decimal n) i (decimal_is_IsNumeral n small).0.
 decimal_has_no_mark : (n : ℕ) → n < 2 ^ 64 → list_all is_plain (decimal n) ≡ true
 decimal_has_no_mark n small = plain_digits (decimal n) (λ i lt. digit_of n i small lt)
 
-decimal_law : (end : ℕ) → end ≤ 2 ^ 64 → IsSpelling decimal (λ n. n < end)
+decimal_law : (end : ℕ) → end ≤ 2 ^ 64 → IsFieldName decimal (λ n. n < end)
 decimal_law end fits = record {
   one_value = λ m n p q e. decimal_injective m n (omega arith) (omega arith) e;
   has_no_mark = λ n p. decimal_has_no_mark n (omega arith);
 }
 
-pub number_law : IsSpelling decimal (λ n. n < 2 ^ 64)
+pub number_law : IsFieldName decimal (λ n. n < 2 ^ 64)
 number_law = decimal_law (2 ^ 64) (lit≤ tt)
 
-pub byte_law : IsSpelling decimal (λ n. n < 2 ^ 8)
+pub byte_law : IsFieldName decimal (λ n. n < 2 ^ 8)
 byte_law = decimal_law (2 ^ 8) (lit≤ tt)
 
 abbrev IsSlot : Option ℕ → Type 0
@@ -195,5 +214,5 @@ slot_has_no_mark : (x : Option ℕ) → IsSlot x → list_all is_plain (slot_nam
 slot_has_no_mark None p = refl
 slot_has_no_mark (Some n) p = decimal_has_no_mark n (omega (arith, p))
 
-pub slot_law : IsSpelling slot_name (λ slot. IfSome slot (λ image. image < MOST))
+pub slot_law : IsFieldName slot_name (λ slot. IfSome slot (λ image. image < MOST))
 slot_law = record { one_value = one_slot; has_no_mark = slot_has_no_mark }

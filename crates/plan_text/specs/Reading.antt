@@ -24,7 +24,7 @@ abbrev pub IsOff : List ℕ → List (List ℕ) → Type 0
 IsOff text [] = ⊥
 IsOff text (line ∷ lines) = (after : List ℕ) → text ≢ line ++ 10 ∷ after
 
--- a text is refused after so many lines: they begin the lines of some value, and those of each such value go on
+-- a text is refused after `taken` lines: they begin the lines of some value, and those of each such value go on
 -- otherwise than the text
 pub record IsRefusedAfter {A : Type 0} (IsValue : A → Type 0) (lines_of : A → List (List ℕ)) (text : List ℕ) (taken : ℕ) : Type 0 where
   pub lines : List (List ℕ)

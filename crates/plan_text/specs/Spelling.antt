@@ -1,8 +1,9 @@
 -- How values are spelled in the texts of reraid.
-use Rattle.std.specs.Prelude.{ℕ, ◌≡◌, Bool, true, List, [], ◌∷◌, ◌++◌, ◌==◌, ◌||◌, not, codes, decimal}
+use Rattle.std.specs.Prelude.{ℕ, ◌≡◌, ◌≢◌, ◌<◌, ◌^◌, ◌+◌, ◌*◌, Bool, true, List, [], ◌∷◌, ◌++◌, All, ◌==◌, ◌||◌, not, codes, decimal}
 use Rattle.std.specs.List.{join_with_byte, list_all}
 use Rattle.std.specs.declared.option.Option.{Option}
 use Rattle.std.specs.declared.option.Option.TheVariants.{None, Some}
+use Rattle.raid_params.specs.declared.limits.TheConstants.{MOST}
 use Rattle.raid_params.specs.declared.types.Level.{Level}
 use Rattle.raid_params.specs.declared.types.Level.TheVariants.{Raid0, Raid5, Raid6}
 use Rattle.raid_params.specs.declared.types.Pattern.{Pattern}
@@ -13,6 +14,7 @@ use Rattle.landmark_rules.specs.declared.marks.GroupKind.{GroupKind}
 use Rattle.landmark_rules.specs.declared.marks.GroupKind.TheVariants.{Gpt as GptGroup, Ntfs, Xfs}
 use Rattle.landmark_rules.specs.declared.marks.Kind.{Kind}
 use Rattle.landmark_rules.specs.declared.marks.Kind.TheVariants.{Gpt, Boot, FileRecord, Super, Agf, Agi}
+use Rattle.search_plan.specs.declared.looking.DropAt.{DropAt}
 
 abbrev pub level_name : Level → List ℕ
 level_name Raid0 = codes "0"
@@ -87,7 +89,24 @@ is_mark byte = byte == 44 || byte == 58 || byte == 32 || byte == 10
 abbrev pub is_plain : ℕ → Bool
 is_plain byte = not (is_mark byte)
 
--- names of values: each value has one of its own, and no name has a mark
+-- names of values that may stand in lists: each value has one of its own, and no name has a comma
 pub record IsSpelling {A : Type 0} (name : A → List ℕ) (IsSpelled : A → Type 0) : Type 0 where
   pub one_value : (x y : A) → IsSpelled x → IsSpelled y → name x ≡ name y → x ≡ y
+  pub has_no_comma : (x : A) → IsSpelled x → All (λ byte. byte ≢ 44) (name x)
+
+-- names of values that may stand before any mark: each value has one of its own, and no name has a mark
+pub record IsFieldName {A : Type 0} (name : A → List ℕ) (IsSpelled : A → Type 0) : Type 0 where
+  pub one_value : (x y : A) → IsSpelled x → IsSpelled y → name x ≡ name y → x ≡ y
   pub has_no_mark : (x : A) → IsSpelled x → list_all is_plain (name x) ≡ true
+
+-- a sector of an image, IMAGE:SECTOR
+abbrev pub drop_name : DropAt → List ℕ
+drop_name at = decimal at.image ++ 58 ∷ decimal at.sector
+
+-- sectors go by image, then sector
+abbrev pub drop_place : DropAt → ℕ
+drop_place at = at.image * 2 ^ 64 + at.sector
+
+pub record IsDrop (at : DropAt) : Type 0 where
+  pub image : at.image < MOST
+  pub sector : at.sector < 2 ^ 55

@@ -39,7 +39,7 @@ pub fn may_follow(draft: &Draft, lengths: &[u64], entry: &Entry) -> bool
     }
 }
 
-/// Whether a group of this kind may begin: kinds come in order, and of each there are at most so many.
+/// Whether a group of this kind may begin: kinds come in order, and each has a limit.
 fn may_begin(draft: &Draft, kind: GroupKind) -> bool
     requires { IsDraft draft.now }
     ensures { IsTrue result ↔ MayBegin draft.now kind }
@@ -84,7 +84,7 @@ fn may_add(draft: &Draft, lengths: &[u64], mark: &Mark) -> bool
     }
 }
 
-/// Whether there may be one more mark of a kind that has so many.
+/// Whether there may be one more mark of a kind that has `count`.
 fn has_room(count: usize) -> bool
     ensures { IsTrue result ↔ (count < MOST_MARKS) }
 {

@@ -1,4 +1,4 @@
-//! The front of a text, up to a mark.
+//! The prefix of a text up to a mark.
 ghost use Rattle.std.specs.Prelude.{◌≡◌, ◌≢◌, ◌∷◌, ◌++◌, All, MatchOption};
 
 /// What stands before the first such mark, and what follows the mark.

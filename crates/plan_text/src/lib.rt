@@ -5,11 +5,15 @@
 //! leading zero. Any other text is refused at one of its lines. A parameter set has one word in the same way.
 //!
 //! [`read_plan`] goes through the text once, a line at a time, and [`write_plan`] is its other direction;
-//! [`read_set`], [`write_set`] and [`set_line`] do the same for sets. The text of a plan and its refused
-//! line stand in `specs/PlanText`, that of a set in `specs/SetText`; `docs/FORMATS.md` says the same for
-//! users. The laws: a plan has one spelling, and so has a set; a text has at most one refused line.
+//! [`read_set`], [`write_set`] and [`set_line`] do the same for sets. The lists of the command line are read
+//! as those of a plan are: by [`rising`], [`read_members`], [`read_chunks`] and [`read_sectors`].
+//!
+//! The text of a plan and its refused line stand in `specs/PlanText`, that of a set in `specs/SetText`;
+//! `docs/FORMATS.md` says the same for users. The laws: a plan has one spelling, and so has a set; a text has
+//! at most one refused line.
 #![tactic(auto)]
 
+mod bounded;
 mod draft;
 mod drafting;
 mod entry;
@@ -18,6 +22,7 @@ mod front;
 mod groups;
 mod laws;
 mod lines;
+mod listed;
 mod marks;
 mod names;
 mod number;
@@ -33,14 +38,16 @@ mod tests;
 mod text;
 mod writer;
 
+pub use bounded::{read_chunks, read_members, read_sectors};
 pub use fault::PlanFault;
 pub use front::cut;
 pub use laws::{one_refused_line, one_spelling, set_words_have_one_spelling};
+pub use names::{pattern_name, syndrome_name};
 pub use number::{after, read_number};
 pub use plan::read_plan;
 pub use search_plan::{Limits, Placed, Plan};
 pub use set::{set_line, write_set};
 pub use set_word::read_set;
-pub use spelled::{Spelled, rising};
+pub use spelled::{Field, Listed, Spelled, rising};
 pub use text::Text;
 pub use writer::write_plan;

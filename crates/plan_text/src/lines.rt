@@ -1,12 +1,14 @@
 //! The value that a line spells after its name.
 ghost use Rattle.std.specs.Prelude.{◌≡◌, ◌≢◌, ◌≤◌, ◌++◌, ℕ, List, All, decimal, length, map, MatchOption};
 ghost use Rattle.search_plan.specs.Plans.{AreRising};
+ghost use Rattle.plan_text.specs.Parts.{AreChunks, AreMembers, AreSectors};
 ghost use Rattle.plan_text.specs.Spelling.{commas};
 
+use crate::bounded::{read_chunks, read_members, read_sectors};
 use crate::number::{after, read_number};
-use crate::spelled::{Spelled, rising};
+use crate::spelled::{Listed, rising};
 use arrayvec::ArrayVec;
-use search_plan::Placed;
+use raid_params::{MOST_CHUNKS, MOST_LESS_ONE};
 
 /// The number from `least` to `most` that a line spells after the word.
 pub fn number_after(line: &[u8], word: &[u8], least: u64, most: u64) -> Option<u64>
@@ -23,13 +25,37 @@ pub fn number_after(line: &[u8], word: &[u8], least: u64, most: u64) -> Option<u
 }
 
 /// The list that a line spells after the word, of values in strictly rising order.
-pub fn list_after<T: Spelled + Placed + Default, const CAP: usize>(
-    line: &[u8],
-    word: &[u8],
-) -> Option<ArrayVec<T, CAP>>
+pub fn list_after<T: Listed, const CAP: usize>(line: &[u8], word: &[u8]) -> Option<ArrayVec<T, CAP>>
     ensures { MatchOption result
         ((xs : List T) → AreRising (map T.place xs) × (length xs ≤ CAP) × All T.IsSpelled xs → line.now ≢ word.now ++ commas (map T.name xs))
         (λ xs. (AreRising (map T.place xs.items) × (length xs.items ≤ CAP) × All T.IsSpelled xs.items) × (line.now ≡ word.now ++ commas (map T.name xs.items))) }
 {
     rising(after(line, word)?)
+}
+
+/// The numbers of members that a line spells after the word.
+pub fn members_after(line: &[u8], word: &[u8]) -> Option<ArrayVec<u8, MOST_LESS_ONE>>
+    ensures { MatchOption result
+        ((ns : List ℕ) → AreMembers ns → line.now ≢ word.now ++ commas (map decimal ns))
+        (λ ns. AreMembers ns.items × (line.now ≡ word.now ++ commas (map decimal ns.items))) }
+{
+    read_members(after(line, word)?)
+}
+
+/// The chunks that a line spells after the word.
+pub fn chunks_after(line: &[u8], word: &[u8]) -> Option<ArrayVec<u64, MOST_CHUNKS>>
+    ensures { MatchOption result
+        ((ns : List ℕ) → AreChunks ns → line.now ≢ word.now ++ commas (map decimal ns))
+        (λ ns. AreChunks ns.items × (line.now ≡ word.now ++ commas (map decimal ns.items))) }
+{
+    read_chunks(after(line, word)?)
+}
+
+/// The places that a line spells after the word.
+pub fn sectors_after<const CAP: usize>(line: &[u8], word: &[u8]) -> Option<ArrayVec<u64, CAP>>
+    ensures { MatchOption result
+        ((ns : List ℕ) → AreSectors CAP ns → line.now ≢ word.now ++ commas (map decimal ns))
+        (λ ns. AreSectors CAP ns.items × (line.now ≡ word.now ++ commas (map decimal ns.items))) }
+{
+    read_sectors(after(line, word)?)
 }

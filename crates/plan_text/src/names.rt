@@ -1,11 +1,11 @@
 //! The names of levels, patterns, syndromes, slots and numbers.
 ghost use Rattle.std.specs.Prelude.{◌≡◌, ◌<◌, ◌^◌, ◌≢◌, ℕ, decimal, IfSome, MatchOption};
 ghost use Rattle.raid_params.specs.declared.limits.TheConstants.{MOST as MOST_IMAGES};
-ghost use Rattle.plan_text.specs.Spelling.{level_name, pattern_name, syndrome_name, kind_name, slot_name};
-ghost use Rattle.plan_text.specs.NameLaws.{level_law, pattern_law, syndrome_law, kind_law, byte_law, number_law, slot_law};
+ghost use Rattle.plan_text.specs.Spelling.{level_name, pattern_name as pattern_spelling, syndrome_name as syndrome_spelling, kind_name, slot_name};
+ghost use Rattle.plan_text.specs.NameLaws.{in_lists, level_law, pattern_law, syndrome_law, kind_law, byte_law, number_law, slot_law};
 
 use crate::number::read_number;
-use crate::spelled::Spelled;
+use crate::spelled::{Field, Spelled};
 use crate::text::{Text, add_number};
 use image_source::Memory;
 use landmark_rules::Kind;
@@ -25,6 +25,10 @@ impl Spelled for Level {
         }
     }
 
+    ghost law = { in_lists level_name (λ level. Unit {0}) level_law };
+}
+
+impl Field for Level {
     fn add_to(&self, text: &mut Text) -> Result<(), Memory> {
         let name = match self {
             Level::Raid0 => "0",
@@ -38,7 +42,7 @@ impl Spelled for Level {
 }
 
 impl Spelled for Pattern {
-    ghost name = { pattern_name };
+    ghost name = { pattern_spelling };
 
     ghost IsSpelled = { λ pattern. Unit {0} };
 
@@ -62,31 +66,41 @@ impl Spelled for Pattern {
         }
     }
 
+    ghost law = { in_lists pattern_spelling (λ pattern. Unit {0}) pattern_law };
+}
+
+impl Field for Pattern {
     fn add_to(&self, text: &mut Text) -> Result<(), Memory> {
-        let name = match self {
-            Pattern::Plain => "plain",
-            Pattern::La => "la",
-            Pattern::Ra => "ra",
-            Pattern::Ls => "ls",
-            Pattern::Rs => "rs",
-            Pattern::ParityFirst => "parity-first",
-            Pattern::ParityLast => "parity-last",
-            Pattern::NRestart => "n-restart",
-            Pattern::NContinue => "n-continue",
-            Pattern::La6 => "la-6",
-            Pattern::Ra6 => "ra-6",
-            Pattern::Ls6 => "ls-6",
-            Pattern::Rs6 => "rs-6",
-            Pattern::ParityFirst6 => "parity-first-6",
-        };
-        text.extend_from_slice(name.as_bytes())
+        text.extend_from_slice(pattern_name(*self).as_bytes())
     }
 
     ghost law = { pattern_law };
 }
 
+/// The name of a pattern.
+pub fn pattern_name(pattern: Pattern) -> &'static str
+    ensures { result.now ≡ pattern_spelling pattern }
+{
+    match pattern {
+        Pattern::Plain => "plain",
+        Pattern::La => "la",
+        Pattern::Ra => "ra",
+        Pattern::Ls => "ls",
+        Pattern::Rs => "rs",
+        Pattern::ParityFirst => "parity-first",
+        Pattern::ParityLast => "parity-last",
+        Pattern::NRestart => "n-restart",
+        Pattern::NContinue => "n-continue",
+        Pattern::La6 => "la-6",
+        Pattern::Ra6 => "ra-6",
+        Pattern::Ls6 => "ls-6",
+        Pattern::Rs6 => "rs-6",
+        Pattern::ParityFirst6 => "parity-first-6",
+    }
+}
+
 impl Spelled for Syndrome {
-    ghost name = { syndrome_name };
+    ghost name = { syndrome_spelling };
 
     ghost IsSpelled = { λ syndrome. Unit {0} };
 
@@ -100,17 +114,27 @@ impl Spelled for Syndrome {
         }
     }
 
+    ghost law = { in_lists syndrome_spelling (λ syndrome. Unit {0}) syndrome_law };
+}
+
+impl Field for Syndrome {
     fn add_to(&self, text: &mut Text) -> Result<(), Memory> {
-        let name = match self {
-            Syndrome::NoQ => "none",
-            Syndrome::AfterQ => "after-q",
-            Syndrome::ByData => "by-data",
-            Syndrome::BySlot => "by-slot",
-        };
-        text.extend_from_slice(name.as_bytes())
+        text.extend_from_slice(syndrome_name(*self).as_bytes())
     }
 
     ghost law = { syndrome_law };
+}
+
+/// The name of an order of Q.
+pub fn syndrome_name(syndrome: Syndrome) -> &'static str
+    ensures { result.now ≡ syndrome_spelling syndrome }
+{
+    match syndrome {
+        Syndrome::NoQ => "none",
+        Syndrome::AfterQ => "after-q",
+        Syndrome::ByData => "by-data",
+        Syndrome::BySlot => "by-slot",
+    }
 }
 
 impl Spelled for Kind {
@@ -130,6 +154,10 @@ impl Spelled for Kind {
         }
     }
 
+    ghost law = { in_lists kind_name (λ kind. Unit {0}) kind_law };
+}
+
+impl Field for Kind {
     fn add_to(&self, text: &mut Text) -> Result<(), Memory> {
         let name = match self {
             Kind::Gpt => "gpt",
@@ -154,6 +182,10 @@ impl Spelled for u64 {
         read_number(text)
     }
 
+    ghost law = { in_lists decimal (λ number. number < 2 ^ 64) number_law };
+}
+
+impl Field for u64 {
     fn add_to(&self, text: &mut Text) -> Result<(), Memory> {
         add_number(text, *self)
     }
@@ -170,6 +202,10 @@ impl Spelled for u8 {
         u8::try_from(read_number(text)?).ok()
     }
 
+    ghost law = { in_lists decimal (λ number. number < 2 ^ 8) byte_law };
+}
+
+impl Field for u8 {
     fn add_to(&self, text: &mut Text) -> Result<(), Memory> {
         add_number(text, u64::from(*self))
     }
@@ -190,6 +226,10 @@ impl Spelled for Option<u8> {
         }
     }
 
+    ghost law = { in_lists slot_name (λ slot. IfSome slot (λ image. image < MOST_IMAGES)) slot_law };
+}
+
+impl Field for Option<u8> {
     fn add_to(&self, text: &mut Text) -> Result<(), Memory> {
         match self {
             None => text.push(b'-'),

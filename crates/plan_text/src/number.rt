@@ -1,4 +1,4 @@
-//! Numbers and words at the front of a text.
+//! Numbers, and words that begin a text.
 ghost use Rattle.std.specs.Prelude.{◌≡◌, ◌≢◌, ◌<◌, ◌^◌, ◌++◌, ◌-◌, ℕ, List, decimal, MatchOption, length, slice_index, IsTrue, ◌↔◌};
 ghost use Rattle.std.specs.Char.{digit_value};
 ghost use Rattle.std.specs.Int.{IsInRange};

@@ -1,6 +1,5 @@
 //! The lines of a plan before its groups, one after the other.
-ghost use Rattle.std.specs.Prelude.{◌≡◌, ◌≤◌, ◌<◌, ◌^◌, ◌↔◌, ◌++◌, ◌∷◌, [], All, IsTrue, codes, decimal, length, map};
-ghost use Rattle.raid_params.specs.Validity.{is_chunk as is_chunk_size};
+ghost use Rattle.std.specs.Prelude.{◌≡◌, ◌≤◌, ◌++◌, ◌∷◌, [], All, IsTrue, codes, decimal, length, map};
 ghost use Rattle.search_plan.specs.Plans.{AreRising, AreLengths};
 ghost use Rattle.plan_text.specs.Parts.{AreMembers, AreChunks, AreSectors, AreKinds, AreSizes, AreCounts, IsSearch, lines_of_kinds, lines_of_sizes, lines_of_counts, lines_of_search};
 ghost use Rattle.plan_text.specs.PlanText.{image_lines};
@@ -8,20 +7,14 @@ ghost use Rattle.plan_text.specs.Reading.{Reads, is_line};
 ghost use Rattle.plan_text.specs.Spelling.{commas, named};
 
 use crate::fault::PlanFault;
-use crate::lines::{list_after, number_after};
+use crate::lines::{chunks_after, list_after, members_after, number_after, sectors_after};
 use crate::parts::{Counts, Kinds, Search, Sizes};
 use crate::reader::PlanReader;
-use crate::spelled::Spelled;
+use crate::spelled::{Field, Listed};
 use arrayvec::ArrayVec;
 use landmark_rules::MarkTests;
-use raid_params::{
-    Bounds, MOST, MOST_CHUNKS, MOST_LESS_ONE, MOST_MISSING, MOST_OFFSETS, MOST_ORIGINS,
-    SECTORS_END, is_chunk,
-};
-use search_plan::{Limits, Placed};
-
-/// The fewest members of an array: at level 0 two.
-const FEWEST_MEMBERS: u8 = 2;
+use raid_params::{Bounds, MOST, MOST_CHUNKS, MOST_LESS_ONE, MOST_MISSING, SECTORS_END};
+use search_plan::Limits;
 
 impl<'a> PlanReader<'a> {
     /// The number of images, from 1 to `MOST`, and their lengths in sectors.
@@ -126,42 +119,30 @@ impl<'a> PlanReader<'a> {
     fn members(&mut self) -> Result<ArrayVec<u8, MOST_LESS_ONE>, PlanFault>
         ensures { Reads (λ ns. AreMembers ns.items) (λ ns. named (codes "members") (commas (map decimal ns.items)) ∷ []) self.old self.new result }
     {
-        let members = self.list(b"members ")?;
-        if are_members(&members) {
-            Ok(members)
-        } else {
-            Err(self.refusal())
-        }
+        let line = self.next_line()?;
+        members_after(line, b"members ").ok_or(self.refusal())
     }
 
-    /// The chunk sizes in sectors.
+    /// The chunk sizes.
     fn chunks(&mut self) -> Result<ArrayVec<u64, MOST_CHUNKS>, PlanFault>
         ensures { Reads (λ ns. AreChunks ns.items) (λ ns. named (codes "chunks") (commas (map decimal ns.items)) ∷ []) self.old self.new result }
     {
-        let chunks = self.list(b"chunks ")?;
-        if are_chunks(&chunks) {
-            Ok(chunks)
-        } else {
-            Err(self.refusal())
-        }
+        let line = self.next_line()?;
+        chunks_after(line, b"chunks ").ok_or(self.refusal())
     }
 
-    /// Numbers of sectors, after the word.
+    /// The list after the word, of places in sectors.
     fn sectors<const CAP: usize>(&mut self, word: &[u8]) -> Result<ArrayVec<u64, CAP>, PlanFault>
         requires word { IsTrue (is_line word.now) }
         requires room { 1 ≤ CAP }
         ensures { Reads (λ ns. AreSectors CAP ns.items) (λ ns. (word.now ++ commas (map decimal ns.items)) ∷ []) self.old self.new result }
     {
-        let sectors = self.list(word)?;
-        if are_sectors(&sectors) {
-            Ok(sectors)
-        } else {
-            Err(self.refusal())
-        }
+        let line = self.next_line()?;
+        sectors_after(line, word).ok_or(self.refusal())
     }
 
     /// The list after the word, of values in strictly rising order.
-    fn list<T: Spelled + Placed + Default, const CAP: usize>(
+    fn list<T: Field + Listed, const CAP: usize>(
         &mut self,
         word: &[u8],
     ) -> Result<ArrayVec<T, CAP>, PlanFault>
@@ -198,22 +179,4 @@ impl<'a> PlanReader<'a> {
             Err(self.refusal())
         }
     }
-}
-
-fn are_members(members: &[u8]) -> bool
-    ensures { IsTrue result ↔ All (λ n. (2 ≤ n) × (n ≤ MOST)) members.now }
-{
-    members.iter().all(|count| FEWEST_MEMBERS <= *count && usize::from(*count) <= MOST)
-}
-
-fn are_chunks(chunks: &[u64]) -> bool
-    ensures { IsTrue result ↔ All (λ n. IsTrue (is_chunk_size n)) chunks.now }
-{
-    chunks.iter().all(|chunk| is_chunk(*chunk))
-}
-
-fn are_sectors(sectors: &[u64]) -> bool
-    ensures { IsTrue result ↔ All (λ n. n < 2 ^ 55) sectors.now }
-{
-    sectors.iter().all(|sector| *sector < SECTORS_END)
 }

@@ -3,7 +3,7 @@ ghost use Rattle.std.specs.Prelude.{◌≡◌, ◌∷◌, ◌++◌, IfOk, OnOk, 
 ghost use Rattle.plan_text.specs.SetText.{set_line as set_line_text, set_word};
 ghost use Rattle.plan_text.specs.Spelling.{level_name, pattern_name, syndrome_name};
 
-use crate::spelled::{Spelled, add_list};
+use crate::spelled::{Field, add_list};
 use crate::text::{Text, add_number};
 use image_source::Memory;
 use raid_params::{Geometry, Head};

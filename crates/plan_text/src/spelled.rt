@@ -1,17 +1,16 @@
 //! Values with a spelling of their own, and lists of them.
-ghost use Rattle.std.specs.Prelude.{◌≡◌, ◌≢◌, ◌≤◌, ◌∷◌, ◌++◌, ◌↔◌, ℕ, List, All, length, map, MatchOption, OnOk, IsTrue};
+ghost use Rattle.std.specs.Prelude.{◌≡◌, ◌≢◌, ◌≤◌, ◌∷◌, ◌++◌, ◌↔◌, ℕ, List, All, length, map, nat_lt, MatchOption, OnOk, IsTrue};
 ghost use Rattle.std.specs.List.{flat_map};
 ghost use Rattle.std.specs.List.Sorted.{IsStrictlyIncreasing};
 ghost use Rattle.search_plan.specs.Plans.{AreRising};
-ghost use Rattle.plan_text.specs.Spelling.{IsSpelling, commas, is_mark};
+ghost use Rattle.plan_text.specs.Spelling.{IsFieldName, IsSpelling, commas, is_mark};
 
 use crate::front::cut;
 use crate::text::Text;
 use arrayvec::ArrayVec;
 use image_source::Memory;
-use search_plan::Placed;
 
-/// A value that a text spells, in one way alone, without a mark that ends values.
+/// A value that a text spells, in one way alone. Its spelling has no comma, so that it may stand in lists.
 pub trait Spelled: Drop {
     ghost name: { Self → List ℕ };
 
@@ -21,15 +20,29 @@ pub trait Spelled: Drop {
     fn read(text: &[u8]) -> Option<Self>
         ensures { MatchOption result ((x : Self) → IsSpelled x → text.now ≢ name x) (λ x. IsSpelled x × (text.now ≡ name x)) };
 
-    /// Appends the spelling of the value.
-    fn add_to(&self, text: &mut Text) -> Result<(), Memory>
-        ensures { OnOk result (text.new ≡ text.old ++ name self.now) };
-
     ghost law: { IsSpelling name IsSpelled };
 }
 
+/// A value of which plans and set words are made. Its spelling has no mark that ends values, and it is written too.
+pub trait Field: Spelled {
+    /// Appends the spelling of the value.
+    fn add_to(&self, text: &mut Text) -> Result<(), Memory>
+        ensures { OnOk result (text.new ≡ text.old ++ Self.name self.now) };
+
+    ghost law: { IsFieldName Self.name Self.IsSpelled };
+}
+
+/// A value that stands in lists in strictly rising order: it has a place among those of its kind.
+pub trait Listed: Spelled + Default {
+    ghost place: { Self → ℕ };
+
+    /// Whether it stands before another one of its kind.
+    fn is_before(&self, next: &Self) -> bool
+        ensures { result ≡ nat_lt (place self.now) (place next.now) };
+}
+
 /// The value before the first such mark, and what follows the mark.
-pub fn value_until<T: Spelled>(text: &[u8], mark: u8) -> Option<(T, &[u8])>
+pub fn value_until<T: Field>(text: &[u8], mark: u8) -> Option<(T, &[u8])>
     requires { IsTrue (is_mark mark) }
     ensures { MatchOption result
         ((x : T) (rest : List ℕ) → T.IsSpelled x → text.entry.now ≢ T.name x ++ mark ∷ rest)
@@ -58,9 +71,7 @@ pub fn list<T: Spelled + Default, const CAP: usize>(text: &[u8]) -> Option<Array
 
 /// The values that a text spells with a comma between them, at least one and at most `CAP`, each with a
 /// place before the next one's.
-pub fn rising<T: Spelled + Placed + Default, const CAP: usize>(
-    text: &[u8],
-) -> Option<ArrayVec<T, CAP>>
+pub fn rising<T: Listed, const CAP: usize>(text: &[u8]) -> Option<ArrayVec<T, CAP>>
     ensures { MatchOption result
         ((xs : List T) → AreRising (map T.place xs) × (length xs ≤ CAP) × All T.IsSpelled xs → text.now ≢ commas (map T.name xs))
         (λ xs. (AreRising (map T.place xs.items) × (length xs.items ≤ CAP) × All T.IsSpelled xs.items) × (text.now ≡ commas (map T.name xs.items))) }
@@ -70,15 +81,15 @@ pub fn rising<T: Spelled + Placed + Default, const CAP: usize>(
 }
 
 /// Whether each value has a place before the next one's.
-fn rises<T: Placed>(values: &[T]) -> bool
+fn rises<T: Listed>(values: &[T]) -> bool
     ensures { IsTrue result ↔ IsStrictlyIncreasing (map T.place values.now) }
 {
-    values.is_sorted_by(|earlier, later| earlier.place() < later.place())
+    values.is_sorted_by(|earlier, later| earlier.is_before(later))
 }
 
 /// Appends the spellings of values, with a comma between them.
 #[tactic(auto, using(crate::proofs::Commas::with_commas))]
-pub fn add_list<T: Spelled>(text: &mut Text, values: &[T]) -> Result<(), Memory>
+pub fn add_list<T: Field>(text: &mut Text, values: &[T]) -> Result<(), Memory>
     ensures { OnOk result (text.new ≡ text.old ++ commas (map T.name values.now)) }
 {
     match values {
@@ -91,7 +102,7 @@ pub fn add_list<T: Spelled>(text: &mut Text, values: &[T]) -> Result<(), Memory>
 }
 
 /// Appends the spellings of values, with a comma before each.
-fn add_more<T: Spelled>(text: &mut Text, values: &[T]) -> Result<(), Memory>
+fn add_more<T: Field>(text: &mut Text, values: &[T]) -> Result<(), Memory>
     ensures { OnOk result (text.new ≡ text.old ++ flat_map (λ value. 44 ∷ T.name value) values.now) }
 {
     for value in values {

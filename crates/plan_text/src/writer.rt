@@ -4,7 +4,7 @@ ghost use Rattle.std.specs.List.{flat_map};
 ghost use Rattle.plan_text.specs.PlanText.{plan_text, image_lines, search_lines, kinds_lines, sizes_lines, counts_lines, groups_lines, mark_line, mark_text, rule_text};
 ghost use Rattle.plan_text.specs.Spelling.{commas, group_name, line as line_of, named};
 
-use crate::spelled::{Spelled, add_list};
+use crate::spelled::{Field, add_list};
 use crate::text::{Text, add_number};
 use image_source::Memory;
 use landmark_rules::{Group, GroupKind, Mark, MarkTests, Rule};
@@ -164,7 +164,7 @@ fn add_number_line(text: &mut Text, word: &[u8], number: u64) -> Result<(), Memo
 }
 
 /// Appends the line of a list after a word.
-fn add_list_line<T: Spelled>(text: &mut Text, word: &[u8], values: &[T]) -> Result<(), Memory>
+fn add_list_line<T: Field>(text: &mut Text, word: &[u8], values: &[T]) -> Result<(), Memory>
     ensures { OnOk result (text.new ≡ text.old ++ line_of (word.now ++ commas (map T.name values.now))) }
 {
     text.extend_from_slice(word)?;

@@ -5,7 +5,7 @@ use Rattle.std.proofs.lemmas.List.Sums.{sum_by-cons}
 use Rattle.std.specs.Option.{is_some}
 use Rattle.command_words.proofs.Limits.{plain_asked}
 use Rattle.command_words.specs.Commands.{plain_survey}
-use Rattle.command_words.specs.Operands.{AreMembers}
+use Rattle.plan_text.specs.Parts.{AreMembers}
 use Rattle.image_source.specs.Seen.{Image}
 use Rattle.member_regions.specs.Members.{held}
 use Rattle.raid_layouts.proofs.Levels.{at_most, enough}
@@ -80,10 +80,7 @@ bounds_are asked level members missing some most few = record {
 }
 
 two_are : AreMembers (2 ∷ [])
-two_are = record {
-  list = record { rising = one_rises 2; few = omega arith };
-  all = All-cons (λ n. (2 ≤ n) × (n ≤ 16)) 2 [] (omega arith, omega arith) (All-nil (λ n. (2 ≤ n) × (n ≤ 16)));
-}
+two_are = (one_rises 2, All-cons (λ n. (2 ≤ n) × (n ≤ 16)) 2 [] (omega arith, omega arith) (All-nil (λ n. (2 ≤ n) × (n ≤ 16))))
 
 window_is : (window : Option ℕ) (end : ℕ) → end < 2 ^ 55 → IfSome window (λ n. (1 ≤ n) × (n < 2 ^ 55)) → (1 ≤ window_for window end) × (window_for window end < 2 ^ 55)
 window_is None end near given = (omega arith, omega arith)

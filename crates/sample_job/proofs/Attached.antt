@@ -21,7 +21,7 @@ use Rattle.raid_params.specs.declared.types.Geometry.{Geometry}
 use Rattle.sample_arrays.specs.Arrays.{end_of, sampled, sampled_image, IsFile}
 use Rattle.sample_job.specs.Sampling.{sampled_bytes, sampled_images}
 
--- images that reach to an end are told whole
+-- images that reach to an end are known whole
 whole : (bytes : List ℕ) (end : ℕ) → length bytes ≡ 512 * end → whole_sectors bytes ≡ bytes
 whole bytes end long =
     let sectors : length bytes / 512 ≡ end = omega arith in
@@ -42,7 +42,7 @@ pub all_told : (number : ℕ) (set : Geometry) (rows : ℕ) (xfs : Bool) → All
 unfolding sampled_images sampled_bytes
 all_told number set rows xfs all = told_files (sampled number set rows xfs) (end_of set.head rows) all
 
--- and have so many sectors
+-- and have `end` sectors
 lengths_are : (files : List (List ℕ × List ℕ)) (end : ℕ) → All (IsFile end) files → All (λ image. image.sectors ≡ end) (map (λ file. image_of file.1) files)
 lengths_are [] end all = All-nil (λ (image : Image). image.sectors ≡ end)
 lengths_are (file ∷ files) end all =

@@ -21,7 +21,7 @@ use Rattle.survey_job.specs.Surveying.{survey_plan}
 use Rattle.sample_job.proofs.Attached.{all_told}
 use Rattle.sample_job.specs.Sampling.{array_refusals, found_text, is_among, sample_ask, sample_output, sample_plan, sample_refusal, sample_text, sampled_bytes, sampled_images}
 
--- the images that are attached are told whole
+-- the images that are attached are known whole
 pub told : (number : ℕ) (set : Geometry) (rows : ℕ) (xfs : Bool) (attached : List Image) → All (IsFile (end_of set.head rows)) (sampled number set rows xfs) →
     attached ≡ sampled_images number set rows xfs → told_all attached ≡ Some (sampled_bytes number set rows xfs)
 told number set rows xfs attached long there = ap told_all there ∙ all_told number set rows xfs long

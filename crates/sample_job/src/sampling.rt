@@ -42,6 +42,17 @@ use survey_job::ask_of;
 /// The most sets of the first page.
 const FIRST_PAGE: u64 = 1000;
 
+/// What the survey and the page are made with.
+#[derive(Drop)]
+struct Tools<'a, R, G> {
+    /// That which starts threads.
+    rt: &'a R,
+    /// That which gives memory.
+    alloc: Global,
+    /// What each piece of a scan passes.
+    gate: &'a G,
+}
+
 /// Prints what a survey and the first page of a listing find of an array that is generated, whole or not at
 /// all. `number` is that from which its bytes are made, `rows` its rows of chunks; `xfs` says whether its volume gets
 /// the landmarks of an XFS file system. Pieces of a scan of the listing may run side by side: each passes the gate.
@@ -65,18 +76,17 @@ pub fn sample<R: Threads + Sync, K: Sink, G: Gate + Sync>(
         (record { images = images; plan = plan; out = K.faults out.new; sectors = read })
         (K.gained out.old) (K.gained out.new) result }
 {
-    print(out, answer(rt, alloc, number, set, rows, xfs, gate))
+    let tools = Tools { rt, alloc, gate };
+    print(out, answer(&tools, number, set, rows, xfs))
 }
 
 /// The text of `sample`, or why there is none.
 fn answer<R: Threads + Sync, G: Gate + Sync>(
-    rt: &R,
-    alloc: Global,
+    tools: &Tools<R, G>,
     number: u64,
     set: &Geometry,
     rows: u64,
     xfs: bool,
-    gate: &G,
 ) -> Result<Text, Stop>
     requires set { HasWord set.now }
     requires some { 1 ≤ rows }
@@ -86,7 +96,7 @@ fn answer<R: Threads + Sync, G: Gate + Sync>(
     ensures early { IfErr result IsEarly }
 {
     match checked_end(set, rows, xfs) {
-        Ok(end) => found(rt, alloc, number, set, rows, xfs, end, gate),
+        Ok(end) => found(tools, number, set, rows, xfs, end),
         Err(stop) => Err(stop),
     }
 }
@@ -120,14 +130,12 @@ fn checked_end(set: &Geometry, rows: u64, xfs: bool) -> Result<u64, Stop>
 
 /// The text of `sample` of an array that may be made, or why there is none.
 fn found<R: Threads + Sync, G: Gate + Sync>(
-    rt: &R,
-    alloc: Global,
+    tools: &Tools<R, G>,
     number: u64,
     set: &Geometry,
     rows: u64,
     xfs: bool,
     end: u64,
-    gate: &G,
 ) -> Result<Text, Stop>
     requires end { end ≡ end_of set.now.head rows }
     requires ruled { first_fault set.now (held_in set.now.slots.items) (end_of set.now.head rows) ≡ None }
@@ -137,10 +145,10 @@ fn found<R: Threads + Sync, G: Gate + Sync>(
     ensures allowed { OnOk result (many_refusal (sample_plan number set.now rows xfs) ≡ None) }
     ensures refused { IfErr result (λ stop. (stop ≡ OutOfMemoryOf) ⊎ ((many_refusal (sample_plan number set.now rows xfs) ≡ Some stop) × IsRefusal stop)) }
 {
-    let mut images = attached(alloc, number, set, rows, xfs)?;
-    let plan = surveyed(alloc, &mut images, &ask_for(set, end))?;
-    match first_page(rt, alloc, &mut images, &plan, gate) {
-        Ok(page) => Ok(lines(alloc, set, end, &plan, &page)?),
+    let mut images = attached(tools.alloc, number, set, rows, xfs)?;
+    let plan = surveyed(tools.alloc, &mut images, &ask_for(set, end))?;
+    match first_page(tools, &mut images, &plan) {
+        Ok(page) => Ok(lines(tools.alloc, set, end, &plan, &page)?),
         Err(stop) => Err(stop),
     }
 }
@@ -202,7 +210,7 @@ fn ask_for(set: &Geometry, end: u64) -> Ask
     ask_of(SurveyWords { bounds, ..plain }, images as usize, end)
 }
 
-/// The plan of a survey of the images, which fails for want of memory alone.
+/// The plan of a survey of the images, which fails only out of memory.
 fn surveyed(alloc: Global, images: &mut OwnImages, ask: &Ask) -> Result<Plan, Memory>
     requires { IsSurveyable ask.now (seen_of_own images.old).attached }
     ensures plan { IfOk result IsPlan }
@@ -219,11 +227,9 @@ fn surveyed(alloc: Global, images: &mut OwnImages, ask: &Ask) -> Result<Plan, Me
 
 /// The first page of the sets of a plan that pass, or why there is none.
 fn first_page<R: Threads + Sync, G: Gate + Sync>(
-    rt: &R,
-    alloc: Global,
+    tools: &Tools<R, G>,
     images: &mut OwnImages,
     plan: &Plan,
-    gate: &G,
 ) -> Result<ListPage, Stop>
     requires plan { IsPlan plan.now }
     requires lengths { AgreeWith plan.now (seen_of_own images.old).attached }
@@ -232,6 +238,7 @@ fn first_page<R: Threads + Sync, G: Gate + Sync>(
     ensures allowed { OnOk result (many_refusal plan.now ≡ None) }
     ensures refused { IfErr result (λ stop. (stop ≡ OutOfMemoryOf) ⊎ ((many_refusal plan.now ≡ Some stop) × IsRefusal stop)) }
 {
+    let (rt, alloc, gate) = (tools.rt, tools.alloc, tools.gate);
     match page(rt, alloc, images, plan, 0, FIRST_PAGE, u64::MAX, gate) {
         Ok(found) => Ok(found),
         Err(PageFault::Many) => Err(Stop::Many),

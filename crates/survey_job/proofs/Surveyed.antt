@@ -10,7 +10,6 @@ use Rattle.image_source.specs.Seen.{Image, OnlyReads, Seen}
 use Rattle.raid_params.specs.declared.limits.TheConstants.{MOST, MOST_MARKS}
 use Rattle.search_plan.specs.Plans.{AreBounds, AreLimits}
 use Rattle.command_words.specs.Commands.{AreAsked}
-use Rattle.command_words.specs.Operands.{AreMembers}
 use Rattle.command_words.specs.declared.command.SurveyWords.{SurveyWords}
 use Rattle.run_ends.proofs.Lengths.{end_near}
 use Rattle.run_ends.proofs.Limits.{all_reach, no_limits}
@@ -20,6 +19,7 @@ use Rattle.run_ends.specs.Stops.{IsExcused}
 use Rattle.run_ends.specs.declared.agreement.Disagreement.{Disagreement}
 use Rattle.run_ends.specs.declared.stop.Stop.{Stop}
 use Rattle.run_ends.specs.declared.stop.Stop.TheVariants.{Images, ImageFault, PlanFault, OutFault, OutOfMemory}
+use Rattle.plan_text.specs.Parts.{AreMembers}
 use Rattle.plan_text.specs.PlanText.{plan_text}
 use Rattle.survey_engine.specs.Surveys.{IsSurveyable}
 use Rattle.survey_engine.specs.declared.ask.Ask.{Ask}
@@ -36,10 +36,10 @@ images_allowed asked names attached e = ap (option_map (λ (f : Disagreement). I
 
 -- the numbers of members to try are allowed
 one_number : (names : ℕ) → 1 ≤ names → names ≤ MOST → AreMembers (max names 2 ∷ [])
-one_number names some most = record {
-  list = record { rising = record { some = omega arith; rising = λ k lt. absurd (omega arith) }; few = omega arith };
-  all = All-cons (λ n. (2 ≤ n) × (n ≤ MOST)) (max names 2) [] (omega arith, omega arith) (All-nil (λ n. (2 ≤ n) × (n ≤ MOST)));
-}
+one_number names some most = (
+  record { some = omega arith; rising = λ k lt. absurd (omega arith) },
+  All-cons (λ n. (2 ≤ n) × (n ≤ MOST)) (max names 2) [] (omega arith, omega arith) (All-nil (λ n. (2 ≤ n) × (n ≤ MOST))),
+)
 
 not_none : (ns : List ℕ) → nat_eq (suc (length ns)) 0 ≡ false
 not_none ns = grind (arith, nat_tests)

@@ -10,4 +10,4 @@ returns-in_err-word g c =
 pub returns-in_err-value : goal.returns-in_err-value
 returns-in_err-value g c =
     none_then _ _ c.from_residual-in_err-value.result c.from_residual-in_err-value.ensures
-    (λ x rest spelled e. c.in_err-value.ensures x spelled (word_is g.T.Spelled.name g.T.Spelled.IsSpelled g.met.T.Spelled.law c.args.mark c.in_ok-word.word.now c.in_ok-word.rest.now rest x c.requires c.in_ok-word.ensures.0 spelled (sym c.in_ok-word.ensures.1 ∙ e)).0)
+    (λ x rest spelled e. c.in_err-value.ensures x spelled (word_is g.T.Spelled.name g.T.Spelled.IsSpelled g.met.T.Field.law c.args.mark c.in_ok-word.word.now c.in_ok-word.rest.now rest x c.requires c.in_ok-word.ensures.0 spelled (sym c.in_ok-word.ensures.1 ∙ e)).0)

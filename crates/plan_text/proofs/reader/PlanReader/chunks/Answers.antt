@@ -1,23 +1,24 @@
-use Rattle.std.proofs.Common.{◌≤◌, ◌<◌, ◌^◌, ◌++◌, [], ◌∷◌, All, length, map, codes, decimal, refl}
-use Rattle.raid_params.specs.declared.limits.TheConstants.{MOST_CHUNKS}
+use Rattle.std.proofs.Common.{◌<◌, ◌^◌, ◌++◌, ◌∙◌, [], ◌∷◌, ap, map, codes, decimal, refl}
+use Rattle.std.specs.Option.{ok_or}
 use Rattle.std.proofs.lemmas.Result.{err_from_is_err_and}
-use Rattle.search_plan.specs.Plans.{AreRising}
 use Rattle.plan_text.specs.NameLaws.{number_law}
 use Rattle.plan_text.specs.Parts.{AreChunks}
 use Rattle.plan_text.specs.Spelling.{commas}
-use Rattle.plan_text.proofs.Fits.{with_places, chunks_fit, chunks_are_short}
-use Rattle.plan_text.proofs.Lists.{some_value}
-use Rattle.plan_text.proofs.OneLine.{a_line, fewer}
-use Rattle.plan_text.proofs.SectionLines.{off_fewer, are_chunks}
+use Rattle.plan_text.proofs.Fits.{chunks_are_short}
+use Rattle.plan_text.proofs.Lists.{word_line}
+use Rattle.plan_text.proofs.OneLine.{a_line, no_line, line_answer}
+use Rattle.plan_text.proofs.SectionLines.{of_items, are_chunks}
 use Rattle.plan_text.proofs.reader.PlanReader.chunks.Goals as goal
 
-pub returns-in_err-chunks : goal.returns-in_err-chunks
-returns-in_err-chunks c =
+pub returns-in_err-line : goal.returns-in_err-line
+returns-in_err-line c =
     let p = err_from_is_err_and c.from_residual.result c.from_residual.ensures.1 in
-    rw (p.1, p.2) (fewer (λ xs. AreRising (map (λ n. n) xs.items) × (length xs.items ≤ MOST_CHUNKS) × All (λ n. n < 2 ^ 64) xs.items) (λ xs. AreChunks xs.items) (λ xs. codes "chunks " ++ commas (map decimal xs.items)) record { items = 1 ∷ [] } are_chunks (λ xs is. (with_places xs.items is.0, chunks_fit xs.items is.0 is.1, chunks_are_short xs.items is.1)) c.args.self.now _ c.in_err-chunks.ensures)
+    rw (p.1, p.2) (no_line (λ xs. AreChunks xs.items) (λ xs. codes "chunks " ++ commas (map decimal xs.items)) record { items = 1 ∷ [] } are_chunks c.args.self.now _ c.in_err-line.ensures)
 
-pub returns-else-are_chunks : goal.returns-else-are_chunks
-returns-else-are_chunks c =
-    rw c.refusal.ensures (off_fewer (λ xs. xs.items) decimal (λ n. n < 2 ^ 64) number_law (λ xs. AreRising (map (λ n. n) xs) × (length xs ≤ MOST_CHUNKS) × All (λ n. n < 2 ^ 64) xs) (λ xs. AreChunks xs) (codes "chunks ") (a_line (codes "chunks ") refl) record { items = 1 ∷ [] } are_chunks
-    (λ xs is. (some_value (λ n. n) xs is.0, is.2)) (λ xs is. (is.0.some, chunks_are_short xs is.1)) c.args.self.now c.list.new.self c.in_ok-chunks.chunks c.in_ok-chunks.ensures
-    (λ is. let holds = c.are_chunks.ensures.1 (rw c.deref.ensures.0 is.1) in let fails = c.if-are_chunks.false in cc))
+pub returns : goal.returns
+returns c =
+    line_answer (λ xs. AreChunks xs.items) (λ xs. codes "chunks " ++ commas (map decimal xs.items)) record { items = 1 ∷ [] } are_chunks
+    (λ xs is. word_line decimal (λ n. n < 2 ^ 64) number_law (codes "chunks ") (a_line (codes "chunks ") refl) xs.items (chunks_are_short xs.items is.1))
+    c.args.self.now c.next_line.new.self c.in_ok-line.line.now c.chunks_after.result c.ok_or.result c.in_ok-line.ensures
+    (of_items (λ xs. xs.items) (λ xs. AreChunks xs) (λ xs. codes "chunks " ++ commas (map decimal xs)) c.in_ok-line.line.now c.chunks_after.result c.chunks_after.ensures)
+    (c.ok_or.ensures.value ∙ ap (λ fault. ok_or c.chunks_after.result fault) c.refusal.ensures)

@@ -1,8 +1,8 @@
 use Rattle.std.proofs.Common.{◌≡◌, arith}
-use Rattle.command_words.proofs.Commas.{none_then}
-use Rattle.command_words.proofs.Drops.{numbers, parts, without_colon}
-use Rattle.command_words.proofs.items.DropAtListed.read.Goals as goal
-use Rattle.command_words.proofs.items.DropAtListed.read.Goals.{else-from-lt-MOST-via-then-from-lt-MOST+else-sector-lt-SECTORS_END, else-from-lt-MOST-via-else-from-lt-MOST}
+use Rattle.plan_text.proofs.Spellings.{none_then}
+use Rattle.plan_text.proofs.Drops.{numbers, parts, without_colon}
+use Rattle.plan_text.proofs.listed.DropAtSpelled.read.Goals as goal
+use Rattle.plan_text.proofs.listed.DropAtSpelled.read.Goals.{else-from-lt-MOST-via-then-from-lt-MOST+else-sector-lt-SECTORS_END, else-from-lt-MOST-via-else-from-lt-MOST}
 
 pub returns-in_err-image_text : goal.returns-in_err-image_text
 returns-in_err-image_text c = none_then _ _ c.from_residual.result c.from_residual.ensures (λ x is e. without_colon c.args.text.now c.in_err-image_text.ensures x e)

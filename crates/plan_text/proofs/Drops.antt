@@ -3,8 +3,8 @@ use Rattle.std.proofs.Common.{◌≡◌, ◌≢◌, ℕ, ◌<◌, ◌^◌, List,
 use Rattle.std.proofs.lemmas.Fmt.{decimal_injective}
 use Rattle.std.proofs.lemmas.List.Elements.{All-head, All-tail}
 use Rattle.search_plan.specs.declared.looking.DropAt.{DropAt}
-use Rattle.command_words.specs.Items.{IsDrop, drop_name}
-use Rattle.command_words.specs.ItemLaws.{cut_once, decimal_has_no_colon}
+use Rattle.plan_text.specs.DropLaws.{cut_once, decimal_has_no_colon}
+use Rattle.plan_text.specs.Spelling.{IsDrop, drop_name}
 
 has_colon : (a v : List ℕ) → All (λ x. x ≢ 58) (a ++ 58 ∷ v) → ⊥
 has_colon [] v h = All-head (λ x. x ≢ 58) 58 v h refl

@@ -1,0 +1,8 @@
+use Rattle.std.proofs.Common.{decimal, map}
+use Rattle.plan_text.specs.Parts.{AreChunks}
+use Rattle.plan_text.specs.Spelling.{commas}
+use Rattle.plan_text.proofs.Lists.{after_word}
+use Rattle.plan_text.proofs.lines.chunks_after.Goals as goal
+
+pub returns : goal.returns
+returns c = after_word (λ v. v.items) (λ ns. AreChunks ns) (λ ns. commas (map decimal ns)) c.args.line.now c.args.word.now c.in_ok-after.field-0.now c.read_chunks.result c.in_ok-after.ensures c.read_chunks.ensures

@@ -1,0 +1,8 @@
+use Rattle.std.proofs.Common.{decimal, map}
+use Rattle.plan_text.specs.Parts.{AreSectors}
+use Rattle.plan_text.specs.Spelling.{commas}
+use Rattle.plan_text.proofs.Lists.{after_word}
+use Rattle.plan_text.proofs.lines.sectors_after.Goals as goal
+
+pub returns : goal.returns
+returns g c = after_word (λ v. v.items) (λ ns. AreSectors g.row.CAP ns) (λ ns. commas (map decimal ns)) c.args.line.now c.args.word.now c.in_ok-after.field-0.now c.read_sectors.result c.in_ok-after.ensures c.read_sectors.ensures

@@ -1,3 +1,4 @@
 pub mod Runs
+pub mod Sectors
 pub mod Serving
 pub mod Statuses

@@ -7,6 +7,7 @@ ghost use Rattle.run_ends.specs.Jobs.{Ends, Leaves, Orders};
 ghost use Rattle.run_ends.specs.Source.{TakesFew};
 ghost use Rattle.command_words.specs.Commands.{EndsInNames, IsCommandLine, IsWithin, Reads, names_after};
 ghost use Rattle.command_words.specs.declared.command.Command.{Command as CommandOf};
+ghost use Rattle.virtual_volume.specs.Gained.{AppendsSectors};
 ghost use Rattle.reraid_cli.specs.Answers.{IsOwn, IsPlanned, MayRead, Reading, Says, output, refusal, streams};
 ghost use Rattle.reraid_cli.specs.Asked.{IsAsked, counts_of};
 
@@ -35,6 +36,8 @@ pub fn run<R: Threads + Sync, S: Source, I: Images, K: Sink, G: Gate + Sync>(
     requires named { All (λ name. IsTrue ((I.seen images.old).world.may_attach name)) (names_after words.now) }
     ensures ends { (reading : Reading) → Says words.now (S.left plan.old) reading →
         Ends (refusal reading (I.seen images.new).attached) (output reading (I.seen images.new).attached) (K.gained out.old) (K.gained out.new) result }
+    ensures whole { IsErrOf result Stop.ImageFault → (reading : Reading) → Says words.now (S.left plan.old) reading →
+        IfSome (output reading (I.seen images.new).attached) (λ text. AppendsSectors (K.gained out.old) (K.gained out.new) text) }
     ensures order { (reading : Reading) → Says words.now (S.left plan.old) reading → length (I.seen images.new).attached ≡ min (length (names_after words.now)) MOST_ATTACHED →
         Orders (refusal reading (I.seen images.new).attached) (I.seen images.old).sectors_read (I.seen images.new).sectors_read (K.gained out.old) (K.gained out.new) result }
     ensures takes { TakesFew (S.left plan.old) (S.left plan.new) }
@@ -98,6 +101,8 @@ fn serve<R: Threads + Sync, S: Source, I: Images, K: Sink, G: Gate + Sync>(
     requires within { IsWithin command }
     ensures ends { (reading : Reading) → IsAsked command names (S.left plan.old) reading →
         Ends (refusal reading (I.seen images.old).attached) (output reading (I.seen images.old).attached) (K.gained out.old) (K.gained out.new) result }
+    ensures whole { IsErrOf result Stop.ImageFault → (reading : Reading) → IsAsked command names (S.left plan.old) reading →
+        IfSome (output reading (I.seen images.old).attached) (λ text. AppendsSectors (K.gained out.old) (K.gained out.new) text) }
     ensures order { (reading : Reading) → IsAsked command names (S.left plan.old) reading →
         Orders (refusal reading (I.seen images.old).attached) (I.seen images.old).sectors_read (I.seen images.new).sectors_read (K.gained out.old) (K.gained out.new) result }
     ensures takes { TakesFew (S.left plan.old) (S.left plan.new) }

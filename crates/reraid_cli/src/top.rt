@@ -8,6 +8,7 @@ ghost use Rattle.image_source.specs.Attached.{AreImagesOf};
 ghost use Rattle.image_source.specs.Streams.{AppendsFront};
 ghost use Rattle.command_words.specs.Commands.{IsCommandLine, Reads, names_after};
 ghost use Rattle.command_words.specs.declared.command.Command.{Command};
+ghost use Rattle.virtual_volume.specs.Gained.{AppendsSectors};
 ghost use Rattle.reraid_cli.specs.Answers.{IsNoted, IsOrdered, IsOwn, IsPlanned, MayRead, Reading, Says, has_numbers, note_by, note_for, output, refusal, status_by, statuses, streams};
 
 use crate::running::run;
@@ -83,10 +84,12 @@ pub fn reraid<R: Threads + Sync, S: Source, I: Images, K: Sink, N: Sink, G: Gate
     ensures out_fault { result ≡ 12 → 0 < K.faults out.new }
 
     // At every other status `out` gained a front of the answer: nothing but at 12, and at 10 where
-    // the command puts as it reads.
+    // the command puts as it reads. At 10 it is a front of whole sectors.
     ensures front { result ≢ 0 → (reading : Reading) → Says words.now (S.left plan.old) reading →
         IfSome (output reading (I.seen images.new).attached) (λ text. AppendsFront (K.gained out.old) (K.gained out.new) text) }
     ensures nothing { result ≢ 0 → result ≢ 10 → result ≢ 12 → Keeps (K.gained out.old) (K.gained out.new) }
+    ensures whole { result ≡ 10 → (reading : Reading) → Says words.now (S.left plan.old) reading →
+        IfSome (output reading (I.seen images.new).attached) (λ text. AppendsSectors (K.gained out.old) (K.gained out.new) text) }
     ensures unput { result ≡ 10 → (command : Command) → IsCommandLine words.now command → streams (Ok command) ≡ false → Keeps (K.gained out.old) (K.gained out.new) }
 
     // Where an attachment failed nothing is taken from the source, nothing put, and no sector read.

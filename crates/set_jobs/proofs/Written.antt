@@ -12,6 +12,7 @@ use Rattle.raid_params.specs.declared.types.GeoFault.{GeoFault}
 use Rattle.raid_params.specs.declared.types.Geometry.{Geometry}
 use Rattle.raid_params.specs.Validity.{first_fault}
 use Rattle.plan_text.specs.SetText.{HasWord}
+use Rattle.virtual_volume.specs.Gained.{AppendsSectors}
 use Rattle.virtual_volume.specs.Served.{IsServed}
 use Rattle.virtual_volume.specs.declared.volume.VolumeFault.{VolumeFault}
 use Rattle.virtual_volume.specs.declared.volume.VolumeFault.TheVariants.{ReadFault as VolumeRead, WriteFault as VolumeWrite, Memory as VolumeMemory}
@@ -88,6 +89,17 @@ fault_ends refused told content old new VolumeMemory h = record { ends = inl tt;
 
 pub refused_ends : (refused : Option Stop) (printed old : Option (List ℕ)) (stop : Stop) → refused ≡ Some stop → Ends {T = Unit {0}} refused printed old old (Err stop)
 refused_ends refused printed old stop e = record { ends = inr e; passes = tt; puts = tt; front = front_if printed old }
+
+-- where the images failed, what was put is whole sectors
+pub fault_whole : (told : Option (List (List ℕ))) (content : List (List ℕ) → List ℕ) (old new : Option (List ℕ)) (fault : VolumeFault) →
+    (IsErrOf {T = Unit {0}} (Err fault) VolumeRead → IfSome told (λ bytes. AppendsSectors old new (content bytes))) →
+    IsErrOf {T = Unit {0}} (Err (stop_of_volume fault)) ImageFault → IfSome (option_map content told) (λ text. AppendsSectors old new text)
+fault_whole told content old new VolumeRead h e = told_map told content (λ text. AppendsSectors old new text) (h refl)
+fault_whole told content old new VolumeWrite h e = absurd (cc)
+fault_whole told content old new VolumeMemory h e = absurd (cc)
+
+pub refused_whole : (printed old : Option (List ℕ)) (stop : Stop) → IsRefusal stop → IsErrOf {T = Unit {0}} (Err stop) ImageFault → IfSome printed (λ text. AppendsSectors old old text)
+refused_whole printed old stop is e = absurd (let f = e in let g : stop ≡ ImageFault = cc in subst IsRefusal g is)
 
 -- what is left
 pub done_leaves : (old new : Seen) (n before after : ℕ) (gained now : Option (List ℕ)) → OnlyReads old new n → before ≤ after →

@@ -1,12 +1,13 @@
 //! The commands `write` and `rebuild`.
-ghost use Rattle.std.specs.Prelude.{◌≡◌, ◌≤◌, ◌<◌, ◌+◌, ◌*◌, ◌^◌, ◌&&◌, All, IfErr, IfOk, IfSome, None, OnOk, Some, is_none, length, min, nat_lt, slice_index_or, true};
+ghost use Rattle.std.specs.Prelude.{◌≡◌, ◌≤◌, ◌<◌, ◌+◌, ◌*◌, ◌^◌, ◌&&◌, All, IfErr, IfOk, IfSome, IsErrOf, None, OnOk, Some, is_none, length, min, nat_lt, slice_index_or, true};
 ghost use Rattle.image_source.specs.Attached.{told_all};
 ghost use Rattle.run_ends.specs.Agreement.{end_of};
 ghost use Rattle.run_ends.specs.Jobs.{Ends, Leaves, Orders};
 ghost use Rattle.set_jobs.specs.Mapping.{set_refusal};
 ghost use Rattle.run_ends.specs.Stops.{IsRefusal};
-ghost use Rattle.set_jobs.specs.Writing.{members_reads, rebuild_output, rebuild_refusal, slot_refusal, write_output};
+ghost use Rattle.set_jobs.specs.Writing.{members_reads, rebuild_output, rebuild_refusal, slot_refusal, volume_reads, write_output};
 ghost use Rattle.plan_text.specs.SetText.{HasWord};
+ghost use Rattle.virtual_volume.specs.Gained.{AppendsSectors};
 ghost use Rattle.virtual_volume.specs.Served.{IsServed};
 
 use crate::mapping::checked_end;
@@ -36,7 +37,9 @@ pub fn write<I: Images, K: Sink>(
         (record { images = (I.seen images.old).faults; plan = 0; out = K.faults out.old; sectors = (I.seen images.old).sectors_read })
         (record { images = (I.seen images.new).faults; plan = 0; out = K.faults out.new; sectors = (I.seen images.new).sectors_read })
         (K.gained out.old) (K.gained out.new) result }
-    ensures reads { (I.seen images.new).sectors_read ≤ (I.seen images.old).sectors_read + members_reads set.now end (I.seen images.old).attached }
+    ensures whole { IsErrOf result Stop.ImageFault → IfSome (write_output set.now end (I.seen images.old).attached (told_all (I.seen images.old).attached))
+        (λ text. AppendsSectors (K.gained out.old) (K.gained out.new) text) }
+    ensures reads { (I.seen images.new).sectors_read ≤ (I.seen images.old).sectors_read + volume_reads set.now end (I.seen images.old).attached }
     ensures world { (I.seen images.new).world ≡ (I.seen images.old).world }
     ensures kept { (I.seen images.new).attached ≡ (I.seen images.old).attached }
 {
@@ -69,6 +72,8 @@ pub fn rebuild<I: Images, K: Sink>(
         (record { images = (I.seen images.old).faults; plan = 0; out = K.faults out.old; sectors = (I.seen images.old).sectors_read })
         (record { images = (I.seen images.new).faults; plan = 0; out = K.faults out.new; sectors = (I.seen images.new).sectors_read })
         (K.gained out.old) (K.gained out.new) result }
+    ensures whole { IsErrOf result Stop.ImageFault → IfSome (rebuild_output set.now slot end (I.seen images.old).attached (told_all (I.seen images.old).attached))
+        (λ text. AppendsSectors (K.gained out.old) (K.gained out.new) text) }
     ensures reads { (I.seen images.new).sectors_read ≤ (I.seen images.old).sectors_read + members_reads set.now end (I.seen images.old).attached }
     ensures world { (I.seen images.new).world ≡ (I.seen images.old).world }
     ensures kept { (I.seen images.new).attached ≡ (I.seen images.old).attached }

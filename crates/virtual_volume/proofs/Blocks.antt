@@ -1,18 +1,20 @@
 -- Bytes in blocks of 512.
-use Rattle.std.proofs.Common.{◌≡◌, ℕ, zero, suc, ◌+◌, ◌*◌, ◌<◌, ◌≤◌, List, ◌++◌, length, get_or, take, drop, refl, sym, ap, ◌∙◌, arith, length-drop, slice_index_or, None, Some, Option, Result, Ok, Err, OnOk, IfSome, false}
+use Rattle.std.proofs.Common.{◌≡◌, ℕ, zero, suc, ◌+◌, ◌*◌, ◌/◌, ◌<◌, ◌≤◌, List, ◌++◌, length, get_or, take, drop, refl, sym, ap, ◌∙◌, arith, length-drop, slice_index_or, None, Some, Option, Result, Ok, Err, OnOk, IfSome, false, true}
 use Rattle.std.specs.List.{flat_map, range_with_len}
 use Rattle.std.proofs.lemmas.List.{get_or-take, get_or-drop, length-take, take-append-drop, drop-take}
 use Rattle.std.proofs.lemmas.List.FromFn.{get_or-map-range_with_len, length-map-range_with_len}
 use Rattle.std.proofs.lemmas.Grind.{same_number_lists}
+use Rattle.std.proofs.lemmas.Nat.{div-mul-add}
 use Rattle.raid_params.specs.declared.types.Geometry.{Geometry}
 use Rattle.std.specs.Option.{is_none}
 use Rattle.std.proofs.lemmas.List.{append-nil}
-use Rattle.raid_terms.specs.Parity.{member_byte}
+use Rattle.raid_terms.specs.Cells.{part_of}
+use Rattle.raid_terms.specs.Parity.{is_data, member_byte}
 use Rattle.raid_terms.specs.Volume.{byte_in, member_sector}
 use Rattle.member_regions.proofs.Solved.{held_byte}
 use Rattle.virtual_volume.specs.Parts.{chunk_of}
-use Rattle.member_regions.specs.Regions.{HoldRead}
-use Rattle.member_regions.specs.Regions.{HoldSlot}
+use Rattle.member_regions.specs.Needs.{HoldData, is_data_at}
+use Rattle.member_regions.specs.Regions.{HoldRead, HoldSlot}
 use Rattle.virtual_volume.proofs.Ranges.{flat_more, flat_same}
 
 -- one more block of a list
@@ -51,11 +53,12 @@ pub sector_long : (images : List (List ℕ)) (geo : Geometry) (slot t : ℕ) →
 unfolding member_sector
 sector_long images geo slot t = length-map-range_with_len (λ x. byte_in images geo t slot x (slice_index_or geo.slots.items slot None)) 0 512
 
--- sectors of a region are those of the member
-pub region_sectors : (images : List (List ℕ)) (geo : Geometry) (stride first count slot at n : ℕ) (sectors part : List ℕ) → HoldSlot images geo stride first count slot sectors →
-    at + n ≤ count → length part ≡ 512 * n → part ≡ take (512 * n) (drop (stride * slot + 512 * at) sectors) →
+-- sectors of a region, which holds those of the member there
+part_sectors : (images : List (List ℕ)) (geo : Geometry) (stride first slot at n : ℕ) (sectors part : List ℕ) →
+    ((j x : ℕ) → j < n → x < 512 → get_or sectors (stride * slot + (512 * (at + j) + x)) 0 ≡ byte_in images geo (first + (at + j)) slot x (slice_index_or geo.slots.items slot None)) →
+    length part ≡ 512 * n → part ≡ take (512 * n) (drop (stride * slot + 512 * at) sectors) →
     part ≡ flat_map (λ j. member_sector images geo slot (first + (at + j))) (range_with_len 0 n)
-region_sectors images geo stride first count slot at n sectors part hold few within is =
+part_sectors images geo stride first slot at n sectors part hold within is =
     let xs : List ℕ = take (512 * n) (drop (stride * slot + 512 * at) sectors) in
     let long : length (take (512 * n) (drop (stride * slot + 512 * at) sectors)) ≡ 512 * n
     = sym (ap (λ (l : List ℕ). length l) is) ∙ within in
@@ -68,18 +71,32 @@ region_sectors images geo stride first count slot at n sectors part hold few wit
     (λ j. sector_long images geo slot (first + (at + j)))
     (λ j x below inside. get_or-take (512 * n) (drop (stride * slot + 512 * at) sectors) (512 * j + x) 0 (omega arith) ∙ get_or-drop (stride * slot + 512 * at) sectors (512 * j + x) 0
     ∙ ap (λ (p : ℕ). get_or sectors p 0) (placed (stride * slot) at j x)
-    ∙ hold (at + j) x (omega arith) inside ∙ sym (sector_byte images geo slot (first + (at + j)) x inside))
+    ∙ hold j x below inside ∙ sym (sector_byte images geo slot (first + (at + j)) x inside))
   where
     placed : (p at j x : ℕ) → p + 512 * at + (512 * j + x) ≡ p + (512 * (at + j) + x)
     placed p at j x = omega arith
 
--- the chunk of a slot in a row
-pub region_chunk : (images : List (List ℕ)) (geo : Geometry) (stride first count slot row at : ℕ) (sectors part : List ℕ) → HoldSlot images geo stride first count slot sectors →
-    first + at ≡ row * geo.head.chunk → at + geo.head.chunk ≤ count → length part ≡ 512 * geo.head.chunk →
+-- sectors of a region that holds the member's
+pub region_sectors : (images : List (List ℕ)) (geo : Geometry) (stride first count slot at n : ℕ) (sectors part : List ℕ) → HoldSlot images geo stride first count slot sectors →
+    at + n ≤ count → length part ≡ 512 * n → part ≡ take (512 * n) (drop (stride * slot + 512 * at) sectors) →
+    part ≡ flat_map (λ j. member_sector images geo slot (first + (at + j))) (range_with_len 0 n)
+region_sectors images geo stride first count slot at n sectors part hold few within is =
+    part_sectors images geo stride first slot at n sectors part (λ j x below inside. hold (at + j) x (omega arith) inside) within is
+
+-- a sector of the chunk of a data slot is data
+chunk_data : (geo : Geometry) (row slot t j : ℕ) → is_data (part_of geo.head row slot) ≡ true → j < geo.head.chunk → t ≡ row * geo.head.chunk + j → is_data_at geo slot t ≡ true
+chunk_data geo row slot t j holds below e =
+    let here : t / geo.head.chunk ≡ row = ap (λ (n : ℕ). n / geo.head.chunk) e ∙ div-mul-add row geo.head.chunk j below in
+    ap (λ (r : ℕ). is_data (part_of geo.head r slot)) here ∙ holds
+
+-- the chunk of a data slot in a row
+pub region_chunk : (images : List (List ℕ)) (geo : Geometry) (stride first count slot row at : ℕ) (sectors part : List ℕ) → slot < length geo.slots.items → is_data (part_of geo.head row slot) ≡ true →
+    HoldData images geo stride first count sectors → first + at ≡ row * geo.head.chunk → at + geo.head.chunk ≤ count → length part ≡ 512 * geo.head.chunk →
     part ≡ take (512 * geo.head.chunk) (drop (stride * slot + 512 * at) sectors) → part ≡ chunk_of images geo row slot
 unfolding chunk_of
-region_chunk images geo stride first count slot row at sectors part hold place few within is =
-    region_sectors images geo stride first count slot at geo.head.chunk sectors part hold few within is
+region_chunk images geo stride first count slot row at sectors part there holds hold place few within is =
+    part_sectors images geo stride first slot at geo.head.chunk sectors part
+    (λ j x below inside. hold slot (at + j) x there (omega arith) inside (chunk_data geo row slot (first + (at + j)) j holds below (omega arith))) within is
     ∙ flat_same (λ j. member_sector images geo slot (first + (at + j))) (λ j. member_sector images geo slot (row * geo.head.chunk + j)) 0 geo.head.chunk
     (λ j low high. let e : first + (at + j) ≡ row * geo.head.chunk + j = omega arith in ap (λ (t : ℕ). member_sector images geo slot t) e)
 

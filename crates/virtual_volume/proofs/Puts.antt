@@ -1,16 +1,24 @@
 -- Rows that are put item by item.
-use Rattle.std.proofs.Common.{◌≡◌, ℕ, ◌+◌, ◌-◌, ◌*◌, ◌<◌, ◌≤◌, List, [], ◌++◌, length, take, drop, Option, Result, Ok, Err, refl, sym, ap, ◌∙◌, subst, arith, append_assoc}
+use Rattle.std.proofs.Common.{◌≡◌, ℕ, ◌+◌, ◌-◌, ◌*◌, ◌<◌, ◌≤◌, List, [], ◌++◌, length, take, drop, Option, Result, Ok, Err, refl, sym, ap, ◌∙◌, subst, arith, append_assoc, true}
 use Rattle.std.proofs.lemmas.Nat.{mul-le}
 use Rattle.image_source.specs.Streams.{AppendsFront, Puts}
 use Rattle.raid_params.specs.Size.{data_blocks, rows}
+use Rattle.raid_params.specs.Validity.{is_valid_head}
 use Rattle.raid_params.specs.declared.types.Geometry.{Geometry}
+use Rattle.raid_params.specs.declared.types.Head.{Head}
+use Rattle.raid_params.specs.declared.types.Part.{Part}
+use Rattle.raid_layouts.proofs.Parts.{part_data}
+use Rattle.raid_terms.specs.Cells.{part_of}
+use Rattle.raid_terms.specs.Parity.{is_data}
 use Rattle.raid_terms.specs.Role.{item_of}
 use Rattle.virtual_volume.specs.Parts.{chunk_of, items_of, rows_of}
-use Rattle.member_regions.specs.Regions.{HoldAll}
+use Rattle.member_regions.proofs.Sets.{testable_head}
+use Rattle.member_regions.specs.Members.{IsTestable}
+use Rattle.member_regions.specs.Needs.{HoldData}
 use Rattle.virtual_volume.specs.Waiting.{Passed, Passes}
 use Rattle.virtual_volume.proofs.Blocks.{region_chunk}
 use Rattle.std.specs.Io.KnownBytes.{Appends}
-use Rattle.std.specs.Prelude.{MatchResult, OnOk, slice_range}
+use Rattle.std.specs.Prelude.{IsTrue, MatchResult, OnOk, slice_range}
 use Rattle.std.specs.Result.{IsErrAnd}
 use Rattle.std.proofs.lemmas.List.{append-nil}
 use Rattle.raid_terms.specs.Volume.{volume}
@@ -24,13 +32,18 @@ row_inside r rows chunk h =
     let next : (r + 1) * chunk ≡ r * chunk + chunk = grind arith in
     omega arith
 
+-- an item's slot is data
+item_data : (head : Head) (row item slot : ℕ) → IsTrue (is_valid_head head) → item < data_blocks head → slot ≡ item_of head row item → is_data (part_of head row slot) ≡ true
+item_data head row item slot valid below is = ap (λ (p : Part). is_data p) (part_data head row slot valid (item, (below, is)))
+
 -- the part of the regions that is put for an item is the chunk of its slot
-pub item_part : (images : List (List ℕ)) (geo : Geometry) (stride first count row item slot at : ℕ) (sectors part : List ℕ) → slot ≡ item_of geo.head row item → slot < length geo.slots.items →
-    HoldAll images geo stride first count sectors → first + at ≡ row * geo.head.chunk → at + geo.head.chunk ≤ count → length part ≡ 512 * geo.head.chunk →
+pub item_part : (images : List (List ℕ)) (geo : Geometry) (stride first count row item slot at : ℕ) (sectors part : List ℕ) → IsTestable geo → item < data_blocks geo.head →
+    slot ≡ item_of geo.head row item → slot < length geo.slots.items →
+    HoldData images geo stride first count sectors → first + at ≡ row * geo.head.chunk → at + geo.head.chunk ≤ count → length part ≡ 512 * geo.head.chunk →
     part ≡ slice_range sectors (stride * slot + 512 * at) (stride * slot + 512 * at + 512 * geo.head.chunk) → part ≡ chunk_of images geo row (item_of geo.head row item)
-item_part images geo stride first count row item slot at sectors part is within hold place few long cut =
+item_part images geo stride first count row item slot at sectors part set below is within hold place few long cut =
     let size : stride * slot + 512 * at + 512 * geo.head.chunk - (stride * slot + 512 * at) ≡ 512 * geo.head.chunk = omega arith in
-    region_chunk images geo stride first count slot row at sectors part (hold slot within) place few long
+    region_chunk images geo stride first count slot row at sectors part within (item_data geo.head row item slot (testable_head geo set) below is) hold place few long
     (cut ∙ ap (λ (n : ℕ). take n (drop (stride * slot + 512 * at) sectors)) size)
     ∙ ap (λ (s : ℕ). chunk_of images geo row s) is
 

@@ -1,22 +1,26 @@
 -- What is known of sets whose volume is written.
-use Rattle.std.proofs.Common.{◌≡◌, ℕ, ◌+◌, ◌*◌, ◌/◌, ◌<◌, ◌≤◌, List, length, All, Option, None, Some, Bool, true, false, refl, arith}
+use Rattle.std.proofs.Common.{◌≡◌, ℕ, ◌+◌, ◌*◌, ◌/◌, ◌<◌, ◌≤◌, List, length, All, Option, None, Some, Bool, true, false, refl, ap, arith, ◌-◌}
 use Rattle.std.specs.Option.{is_none}
 use Rattle.std.specs.Prelude.{IsTrue, nat_eq, if◌then◌else◌}
 use Rattle.std.proofs.lemmas.Nat.{mul-le}
 use Rattle.std.proofs.lemmas.Bool.Decides.{nat_tests}
-use Rattle.image_source.specs.Seen.{Image}
+use Rattle.image_source.proofs.Reading.{reads_join, reads_up}
+use Rattle.image_source.specs.Seen.{Image, OnlyReads, Seen}
 use Rattle.address_map.proofs.Heads.{some_chunk}
 use Rattle.address_map.proofs.Lies.{inside_back, slot_in}
 use Rattle.raid_layouts.proofs.Levels.{at_most}
 use Rattle.raid_terms.specs.Address.{LiesAt}
-use Rattle.raid_params.specs.Size.{rows, volume_sectors}
+use Rattle.raid_params.specs.Size.{area, rows, volume_sectors}
 use Rattle.raid_params.specs.Validity.{is_shaped, is_valid_head, row_fault, shape_fault}
 use Rattle.raid_params.specs.declared.types.GeoFault.{GeoFault}
 use Rattle.raid_params.specs.declared.types.GeoFault.TheVariants.{NoRow}
 use Rattle.raid_params.specs.declared.types.Geometry.{Geometry}
 use Rattle.raid_layouts.proofs.Shapes.{shaped_head, shaped_slots}
+use Rattle.member_regions.proofs.NeededRows.{as_many_as_volume}
+use Rattle.member_regions.proofs.NeededSums.{needed_more}
 use Rattle.member_regions.proofs.Sets.{area_below, images_reach, reaches_less}
 use Rattle.member_regions.specs.Members.{IsTestable, Reaches}
+use Rattle.member_regions.specs.Needs.{needed_sectors}
 use Rattle.virtual_volume.specs.Served.{IsServed}
 
 ruled_shape : (r : Option GeoFault) (geo : Geometry) (end : ℕ) → row_fault geo end r ≡ None → is_none r ≡ true
@@ -78,6 +82,25 @@ pub batch_held : (attached now : List Image) (offset first count rows chunk : �
 batch_held attached now offset first count rows chunk slots same few all =
     let inside = batch_inside first count rows chunk few in
     rw same (reaches_less attached (offset + rows * chunk) (offset + (first * chunk + count * chunk)) slots all (omega arith))
+
+-- the readings so far and of one more batch
+pub needed_on : (old mid new : Seen) (geo : Geometry) (first count rows chunk : ℕ) → OnlyReads old mid (needed_sectors geo 0 (first * chunk)) →
+    OnlyReads mid new (needed_sectors geo (first * chunk) (count * chunk)) → first + count ≤ rows → OnlyReads old new (needed_sectors geo 0 (rows * chunk))
+needed_on old mid new geo first count rows chunk before batch few =
+    let inside = batch_inside first count rows chunk few in
+    let at : needed_sectors geo (0 + first * chunk) (count * chunk) ≡ needed_sectors geo (first * chunk) (count * chunk) =
+    let none : 0 + first * chunk ≡ first * chunk = omega arith in ap (λ (t : ℕ). needed_sectors geo t (count * chunk)) none in
+    let all : needed_sectors geo 0 (first * chunk + count * chunk + (rows * chunk - (first * chunk + count * chunk))) ≡ needed_sectors geo 0 (rows * chunk) =
+    let whole : first * chunk + count * chunk + (rows * chunk - (first * chunk + count * chunk)) ≡ rows * chunk = omega arith in ap (λ (t : ℕ). needed_sectors geo 0 t) whole in
+    reads_up old new (reads_join old mid new before batch)
+    (omega (arith, at, all, needed_more geo 0 (first * chunk) (count * chunk), needed_more geo 0 (first * chunk + count * chunk) (rows * chunk - (first * chunk + count * chunk))))
+
+-- those of all rows are as many sectors as the volume has
+pub needed_volume : (old new : Seen) (geo : Geometry) (end n : ℕ) (attached : List Image) → IsServed geo end attached → n ≡ rows geo.head end →
+    OnlyReads old new (needed_sectors geo 0 (n * geo.head.chunk)) → OnlyReads old new (volume_sectors geo.head end)
+needed_volume old new geo end n attached s all reads =
+    let same : needed_sectors geo 0 (n * geo.head.chunk) ≡ needed_sectors geo 0 (area geo.head end) = ap (λ (t : ℕ). needed_sectors geo 0 (t * geo.head.chunk)) all in
+    reads_up old new reads (omega (arith, same, as_many_as_volume geo (length attached) end (served_shape geo end attached s)))
 
 -- at least a sector
 pub some_sectors : (rows chunk : ℕ) → 1 ≤ rows → 0 < chunk → 1 ≤ rows * chunk

@@ -1,13 +1,15 @@
 //! The volume of an array, written out whole or read a sector at a time.
 //!
-//! [`write_volume`] reads the members in batches of whole rows, finds by parity what lost members held, and
-//! puts the data in the volume's order. `set_jobs` has it do `write`. The members stand in the regions of
-//! `member_regions`. The volume stands in `Volume` of `raid_terms`, what is asked of a set in `specs/Served`,
-//! its parts in `specs/Parts` and `Waiting`.
+//! [`write_volume`] reads of the members what the volume is found by, in batches of whole rows, finds the
+//! lost data by parity, and puts the data in the volume's order. `set_jobs` has it do `write`. The members
+//! stand in the regions of `member_regions`. The volume stands in `Volume` of `raid_terms`, what is asked of
+//! a set in `specs/Served`, its parts in `specs/Parts` and `Waiting`.
 #![tactic(auto)]
 
 mod batch;
 mod pending;
+#[cfg(test)]
+mod read_counts;
 mod sector;
 #[cfg(test)]
 mod tests;

@@ -1,4 +1,4 @@
-//! Small pieces are put many at once.
+//! Small pieces are put many at once, and large ones as they are.
 ghost use Rattle.std.specs.Prelude.{◌≡◌, [], ◌++◌, ◌+◌, ◌%◌, ◌≤◌, length, IfOk, OnOk};
 ghost use Rattle.image_source.specs.Causes.{HasCause};
 ghost use Rattle.virtual_volume.specs.Waiting.{Passed};
@@ -10,6 +10,10 @@ use std::marker::Model;
 
 /// The bytes that wait at most.
 const PENDING: usize = BLOCK * SECTOR;
+
+/// Pieces of so many bytes and more are put at once, after what waits, and never copied. The chunks of a
+/// volume are all of one length, so its puts are of no less than this but the last one.
+const LARGE: usize = 64 * SECTOR;
 
 /// Whole sectors that wait to be put. Contracts see their bytes.
 #[derive(Drop)]
@@ -70,11 +74,11 @@ impl Pending {
         self.filled = end;
     }
 
-    /// Makes room for so many more bytes, where there is room for them at all.
+    /// Makes room for a small piece of so many bytes.
     fn make_room<K: Sink>(&mut self, sink: &mut K, bytes: usize) -> Result<(), Failed>
+        requires small { bytes ≤ LARGE }
         ensures passed { Passed (K.gained sink.old) (K.gained sink.new) self.old self.new result [] }
-        ensures room { OnOk result (bytes ≤ PENDING → length self.new + bytes ≤ PENDING) }
-        ensures large { OnOk result (PENDING ≤ bytes → self.new ≡ []) }
+        ensures room { OnOk result (length self.new + bytes ≤ PENDING) }
         ensures cause { HasCause (K.faults sink.old) (K.faults sink.new) result }
     {
         if bytes <= self.left() {
@@ -89,10 +93,11 @@ impl Pending {
         ensures passed { Passed (K.gained sink.old) (K.gained sink.new) self.old self.new result bytes.now }
         ensures cause { HasCause (K.faults sink.old) (K.faults sink.new) result }
     {
-        self.make_room(sink, bytes.len())?;
-        if bytes.len() >= PENDING {
+        if bytes.len() >= LARGE {
+            self.flush(sink)?;
             return sink.put(bytes);
         }
+        self.make_room(sink, bytes.len())?;
         self.push(bytes);
         Ok(())
     }

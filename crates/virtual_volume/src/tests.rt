@@ -13,8 +13,8 @@ use std::test::Fail;
 // An empty slot.
 const NO: Option<u8> = None;
 
-fn reaches(images: &MemImages, image: u32, end: u64) -> bool
-    ensures { IsTrue result → IsSomeAnd (slice_get (seen_of images.now).attached image) (λ a. end ≤ a.sectors) }
+fn reaches<I: Images>(images: &I, image: u32, end: u64) -> bool
+    ensures { IsTrue result → IsSomeAnd (slice_get (I.seen images.now).attached image) (λ a. end ≤ a.sectors) }
 {
     match images.length(image) {
         Some(sectors) => end <= sectors,
@@ -23,8 +23,8 @@ fn reaches(images: &MemImages, image: u32, end: u64) -> bool
 }
 
 // Whether so many images are attached, and each reaches to the end.
-fn all_reach(images: &MemImages, count: u8, end: u64) -> bool
-    ensures { IsTrue result → (length (seen_of images.now).attached ≡ count) × All (λ a. end ≤ a.sectors) (seen_of images.now).attached }
+fn all_reach<I: Images>(images: &I, count: u8, end: u64) -> bool
+    ensures { IsTrue result → (length (I.seen images.now).attached ≡ count) × All (λ a. end ≤ a.sectors) (I.seen images.now).attached }
 {
     for i in 0..count {
         if !reaches(images, i as u32, end) {
@@ -36,10 +36,10 @@ fn all_reach(images: &MemImages, count: u8, end: u64) -> bool
 
 // Writes the volume, over so many images.
 #[tactic(auto, using(crate::proofs::TestSets::long_served))]
-fn write<R: Abort, K: Sink>(
+pub(crate) fn write<R: Abort, I: Images, K: Sink>(
     rt: &R,
     alloc: Global,
-    images: &mut MemImages,
+    images: &mut I,
     count: u8,
     geo: &Geometry,
     end: u64,
@@ -237,6 +237,24 @@ fn large_chunks_are_put_at_once(rt: HostRuntime) -> Result<(), Fail> {
     let mut sink = MemSink::new(alloc, 262_144)?;
     sink.fail_call(3, 100)?;
     assert!(rt; write(&rt, alloc, &mut images, 2, &striped(256), 256, &mut sink).is_ok());
+    assert_eq!(rt; sink.bytes(), ones.as_slice());
+    Ok(())
+}
+
+// Two chunks of 64 sectors go to the sink in two calls; four of 32 wait, and go in one.
+#[test]
+fn a_chunk_of_32_kib_is_put_at_once(rt: HostRuntime) -> Result<(), Fail> {
+    let alloc = rt.alloc();
+    let mut images = two_of_ones(alloc, 32_768)?;
+    let ones = vec![in alloc; 1u8; 65_536]?;
+    let mut sink = MemSink::new(alloc, 65_536)?;
+    sink.fail_call(2, 0)?;
+    let cut = write(&rt, alloc, &mut images, 2, &striped(64), 64, &mut sink);
+    assert!(rt; matches!(&cut, Err(VolumeFault::WriteFault)));
+    assert_eq!(rt; sink.bytes(), &ones[..32_768]);
+    let mut sink = MemSink::new(alloc, 65_536)?;
+    sink.fail_call(2, 0)?;
+    assert!(rt; write(&rt, alloc, &mut images, 2, &striped(32), 64, &mut sink).is_ok());
     assert_eq!(rt; sink.bytes(), ones.as_slice());
     Ok(())
 }

@@ -6,11 +6,12 @@ ghost use Rattle.image_source.specs.Attached.{told_all};
 ghost use Rattle.image_source.specs.Causes.{HasCause, Rose};
 ghost use Rattle.image_source.specs.Seen.{OnlyReads};
 ghost use Rattle.image_source.specs.Streams.{AppendsFront, Puts};
-ghost use Rattle.raid_params.specs.Size.{area, data_blocks as data_blocks_of};
+ghost use Rattle.raid_params.specs.Size.{data_blocks as data_blocks_of, volume_sectors};
 ghost use Rattle.raid_params.specs.Validity.{is_valid_head};
 ghost use Rattle.raid_terms.specs.Volume.{volume};
-ghost use Rattle.member_regions.specs.Members.{IsTestable, Reaches, held};
-ghost use Rattle.member_regions.specs.Regions.{HoldAll, IsRoomFor, KeepsRoom};
+ghost use Rattle.member_regions.specs.Members.{IsTestable, Reaches};
+ghost use Rattle.member_regions.specs.Needs.{HoldData, needed_sectors};
+ghost use Rattle.member_regions.specs.Regions.{IsRoomFor, KeepsRoom};
 ghost use Rattle.virtual_volume.specs.Gained.{AppendsSectors};
 ghost use Rattle.virtual_volume.specs.Parts.{items_of, rows_of};
 ghost use Rattle.virtual_volume.specs.Served.{Ends, IsServed};
@@ -63,7 +64,7 @@ fn put_row<K: Sink>(
     requires room { IsRoomFor (length geo.now.slots.items) (at + geo.now.head.chunk) regions.now }
     ensures passed { (images : List (List ℕ)) (first count : ℕ) →
         first + at ≡ row * geo.now.head.chunk → at + geo.now.head.chunk ≤ count →
-        HoldAll images geo.now regions.now.stride first count regions.now.bytes →
+        HoldData images geo.now regions.now.stride first count regions.now.bytes →
         Passed (K.gained sink.old) (K.gained sink.new) pending.old pending.new result
         (items_of images geo.now row (data_blocks_of geo.now.head)) }
     ensures cause { HasCause (K.faults sink.old) (K.faults sink.new) result }
@@ -91,7 +92,7 @@ fn put_rows<K: Sink>(
     requires short { rows * geo.now.head.chunk < 2 ^ 55 }
     requires first { first + rows < 2 ^ 55 }
     ensures passed { (images : List (List ℕ)) →
-        HoldAll images geo.now regions.now.stride (first * geo.now.head.chunk) (rows * geo.now.head.chunk) regions.now.bytes →
+        HoldData images geo.now regions.now.stride (first * geo.now.head.chunk) (rows * geo.now.head.chunk) regions.now.bytes →
         Passed (K.gained sink.old) (K.gained sink.new) pending.old pending.new result
         (rows_of images geo.now first rows) }
     ensures cause { HasCause (K.faults sink.old) (K.faults sink.new) result }
@@ -103,8 +104,8 @@ fn put_rows<K: Sink>(
     Ok(())
 }
 
-/// Writes the volume's part in `rows` rows from row `first` on: reads the members that are there,
-/// finds what the others held, and puts the data items.
+/// Writes the volume's part in `rows` rows from row `first` on: reads of the members what it is found by,
+/// finds the lost data, and puts the data items.
 fn write_batch<I: Images, K: Sink>(
     images: &mut I,
     pending: &mut Pending,
@@ -124,7 +125,7 @@ fn write_batch<I: Images, K: Sink>(
         Passed (K.gained sink.old) (K.gained sink.new) pending.old pending.new result (rows_of bytes geo.now first rows)) }
     ensures unput { IsErrOf result VolumeFault.ReadFault → K.gained sink.new ≡ K.gained sink.old }
     ensures reads { OnlyReads (I.seen images.old) (I.seen images.new)
-        (held geo.now.slots.items * (rows * geo.now.head.chunk)) }
+        (needed_sectors geo.now (first * geo.now.head.chunk) (rows * geo.now.head.chunk)) }
     ensures later { K.faults sink.old ≤ K.faults sink.new }
     ensures ends { IfErr result (Ends (I.seen images.old).faults (I.seen images.new).faults (K.faults sink.old) (K.faults sink.new)) }
     ensures room { KeepsRoom regions.old regions.new }
@@ -132,9 +133,9 @@ fn write_batch<I: Images, K: Sink>(
     let count = (rows * geo.head.chunk) as usize;
     let from = first * geo.head.chunk;
     regions
-        .read(images, geo, from, count)
+        .read_needed(images, geo, from, count)
         .map_err(|_| VolumeFault::ReadFault)?;
-    regions.solve(geo, from, count);
+    regions.solve_data(geo, from, count);
     put_rows(pending, sink, geo, regions, first, rows as usize).map_err(|_| VolumeFault::WriteFault)
 }
 
@@ -159,7 +160,7 @@ fn write_rows<I: Images, K: Sink>(
     ensures whole { IsErrOf result VolumeFault.ReadFault → IfSome (told_all (I.seen images.old).attached)
         (λ bytes. AppendsSectors (K.gained sink.old) (K.gained sink.new) (pending.old ++ rows_of bytes geo.now 0 rows)) }
     ensures reads { OnlyReads (I.seen images.old) (I.seen images.new)
-        (held geo.now.slots.items * (rows * geo.now.head.chunk)) }
+        (needed_sectors geo.now 0 (rows * geo.now.head.chunk)) }
     ensures later { K.faults sink.old ≤ K.faults sink.new }
     ensures ends { IfErr result (Ends (I.seen images.old).faults (I.seen images.new).faults (K.faults sink.old) (K.faults sink.new)) }
 {
@@ -191,7 +192,7 @@ fn write_all<I: Images, K: Sink>(
         (λ bytes. Puts (K.gained sink.old) (K.gained sink.new) result (volume bytes geo.now end)) }
     ensures whole { IsErrOf result VolumeFault.ReadFault → IfSome (told_all (I.seen images.old).attached)
         (λ bytes. AppendsSectors (K.gained sink.old) (K.gained sink.new) (volume bytes geo.now end)) }
-    ensures reads { OnlyReads (I.seen images.old) (I.seen images.new) (held geo.now.slots.items * area geo.now.head end) }
+    ensures reads { OnlyReads (I.seen images.old) (I.seen images.new) (volume_sectors geo.now.head end) }
     ensures later { K.faults sink.old ≤ K.faults sink.new }
     ensures ends { IfErr result (Ends (I.seen images.old).faults (I.seen images.new).faults (K.faults sink.old) (K.faults sink.new)) }
 {
@@ -205,8 +206,8 @@ fn write_all<I: Images, K: Sink>(
 ///
 /// It fails for want of memory before anything is read or written, and after that only by a fault
 /// of the images or of the sink: then a front of the volume was written, of whole sectors where the
-/// images failed. No more sectors are read
-/// than the members that are there hold in whole rows.
+/// images failed. No more sectors are read than the volume has: the data that are there, and for a lost
+/// block P, or Q where P alone does not tell it.
 #[tactic(auto, using(crate::proofs::Sets::served_head, crate::proofs::Sets::served_slots))]
 pub fn write_volume<I: Images, K: Sink>(
     alloc: Global,
@@ -227,7 +228,7 @@ pub fn write_volume<I: Images, K: Sink>(
     ensures read_fault { IsErrOf result VolumeFault.ReadFault →
         Rose (I.seen images.old).faults (I.seen images.new).faults }
     ensures write_fault { IsErrOf result VolumeFault.WriteFault → Rose (K.faults sink.old) (K.faults sink.new) }
-    ensures reads { OnlyReads (I.seen images.old) (I.seen images.new) (held geo.now.slots.items * area geo.now.head end) }
+    ensures reads { OnlyReads (I.seen images.old) (I.seen images.new) (volume_sectors geo.now.head end) }
     ensures later { K.faults sink.old ≤ K.faults sink.new }
 {
     let batch = batch_rows(&geo.head);

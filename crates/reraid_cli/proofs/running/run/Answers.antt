@@ -1,4 +1,4 @@
-use Rattle.std.proofs.Common.{◌≡◌, ℕ, ◌<◌, ◌^◌, ◌++◌, List, All, length, sym, ap, ◌∙◌, subst, refl, true, Ok, Err}
+use Rattle.std.proofs.Common.{◌≡◌, ℕ, ◌<◌, ◌^◌, ◌++◌, List, All, length, sym, ap, ◌∙◌, subst, refl, true, IfSome, Ok, Err}
 use Rattle.std.specs.Result.{is_err}
 use Rattle.command_words.specs.Commands.{names_after}
 use Rattle.image_source.specs.Seen.{Image}
@@ -7,6 +7,8 @@ use Rattle.run_ends.specs.Jobs.{Ends, Orders}
 use Rattle.run_ends.specs.declared.stop.Stop.TheVariants.{Word}
 use Rattle.reraid_cli.specs.Answers.{IsOwn, IsPlanned, MayRead, output, refusal, streams}
 use Rattle.reraid_cli.proofs.Runs.{asked_of, attach_reads, images_small, leaves_after, none_named, one_reading, unread, words_end}
+use Rattle.reraid_cli.proofs.Sectors.{unput_whole}
+use Rattle.virtual_volume.specs.Gained.{AppendsSectors}
 use Rattle.reraid_cli.proofs.running.run.Goals as goal
 
 pub serve-requires-clause-small : goal.serve-requires-clause-small
@@ -91,3 +93,15 @@ pub returns-in-Err-attach_front-clause-reads : goal.returns-in-Err-attach_front-
 returns-in-Err-attach_front-clause-reads g c reading says =
     let new = g.I.Images.seen c.attach_front.new.images in
     attach_reads reading (g.I.Images.seen c.args.images.now) new new.attached true c.attach_front.ensures.some.unread
+
+pub returns-in-Err-attach_front-clause-whole : goal.returns-in-Err-attach_front-clause-whole
+returns-in-Err-attach_front-clause-whole g c is reading says =
+    unput_whole (output reading (g.I.Images.seen c.attach_front.new.images).attached) (g.K.Sink.gained c.args.out.now)
+
+pub returns-in-Ok-attach_front-clause-whole : goal.returns-in-Ok-attach_front-clause-whole
+returns-in-Ok-attach_front-clause-whole g c is reading says =
+    let words = c.args.words.now in
+    let count : length c.names_of-names.result.now ≡ length (names_after words) = ap length c.names_of-names.ensures in
+    let P : List Image → Type 0 = λ attached. IfSome (output reading attached) (λ text. AppendsSectors (g.K.Sink.gained c.args.out.now) (g.K.Sink.gained c.serve.new.out) text) in
+    subst P (sym c.serve.ensures.kept)
+    (c.serve.ensures.whole is reading (asked_of words (g.S.Source.left c.args.plan.now) c.in-Ok.command _ reading c.in-Ok.ensures.reads count says))

@@ -1,10 +1,11 @@
 use Rattle.std.proofs.Common.{Ok, subst, sym}
 use Rattle.std.specs.Result.{is_err}
 use Rattle.run_ends.specs.Jobs.{Leaves}
-use Rattle.reraid_cli.specs.Answers.{streams}
+use Rattle.reraid_cli.specs.Answers.{output, streams}
 use Rattle.command_words.specs.declared.command.Command.{Command}
 use Rattle.reraid_cli.specs.Asked.{IsAsked, counts_of}
 use Rattle.reraid_cli.proofs.Runs.{unread}
+use Rattle.reraid_cli.proofs.Sectors.{quiet_whole, rebuild_whole, write_whole}
 use Rattle.reraid_cli.proofs.Serving.{survey_asked, survey_order, survey_read, sample_asked, sample_order, check_asked, check_order, check_read, list_asked, list_order, list_read, map_asked, map_order, rebuild_asked, rebuild_order, rebuild_reads, write_asked, write_order, write_reads}
 use Rattle.reraid_cli.proofs.running.serve.Goals as goal
 
@@ -158,3 +159,39 @@ pub returns-in-Map-clause-reads : goal.returns-in-Map-clause-reads
 returns-in-Map-clause-reads g c reading asked =
     let seen = g.I.Images.seen c.args.images.now in
     unread reading seen.attached (is_err c.map.result) seen.sectors_read
+
+pub returns-in-Survey-clause-whole : goal.returns-in-Survey-clause-whole
+returns-in-Survey-clause-whole g c is reading asked =
+    quiet_whole _ _ (output reading (g.I.Images.seen c.args.images.now).attached) (g.K.Sink.gained c.args.out.now) (g.K.Sink.gained c.survey.new.out) c.survey.result c.survey.ensures.leaves is
+
+pub returns-in-List-clause-whole : goal.returns-in-List-clause-whole
+returns-in-List-clause-whole g c is reading asked =
+    quiet_whole _ _ (output reading (g.I.Images.seen c.args.images.now).attached) (g.K.Sink.gained c.args.out.now) (g.K.Sink.gained c.list.new.out) c.list.result c.list.ensures.leaves is
+
+pub returns-in-Check-clause-whole : goal.returns-in-Check-clause-whole
+returns-in-Check-clause-whole g c is reading asked =
+    quiet_whole _ _ (output reading (g.I.Images.seen c.args.images.now).attached) (g.K.Sink.gained c.args.out.now) (g.K.Sink.gained c.check.new.out) c.check.result c.check.ensures.leaves is
+
+pub returns-in-Map-clause-whole : goal.returns-in-Map-clause-whole
+returns-in-Map-clause-whole g c is reading asked =
+    quiet_whole _ _ (output reading (g.I.Images.seen c.args.images.now).attached) (g.K.Sink.gained c.args.out.now) (g.K.Sink.gained c.map.new.out) c.map.result c.map.ensures.leaves is
+
+pub returns-in-Sample-clause-whole : goal.returns-in-Sample-clause-whole
+returns-in-Sample-clause-whole g c is reading asked =
+    let seen = g.I.Images.seen c.args.images.now in
+    quiet_whole _ _ (output reading seen.attached) (g.K.Sink.gained c.args.out.now) (g.K.Sink.gained c.sample.new.out) c.sample.result
+    (c.sample.ensures.leaves seen.faults 0 seen.sectors_read) is
+
+pub returns-in-Write-clause-whole : goal.returns-in-Write-clause-whole
+returns-in-Write-clause-whole g c is reading asked =
+    let left = g.S.Source.left c.args.plan.now in
+    let P : Command → Type 0 = λ k. IsAsked k c.args.names left reading in
+    write_whole c.in-Write.set c.in-Write.end c.in-Write.names c.args.names left reading (g.I.Images.seen c.args.images.now).attached (g.K.Sink.gained c.args.out.now) (g.K.Sink.gained c.write.new.out)
+    (subst P c.in-Write.is asked) (c.write.ensures.whole is)
+
+pub returns-in-Rebuild-clause-whole : goal.returns-in-Rebuild-clause-whole
+returns-in-Rebuild-clause-whole g c is reading asked =
+    let left = g.S.Source.left c.args.plan.now in
+    let P : Command → Type 0 = λ k. IsAsked k c.args.names left reading in
+    rebuild_whole c.in-Rebuild.set c.in-Rebuild.slot c.in-Rebuild.end c.in-Rebuild.names c.args.names left reading (g.I.Images.seen c.args.images.now).attached (g.K.Sink.gained c.args.out.now) (g.K.Sink.gained c.rebuild.new.out)
+    (subst P c.in-Rebuild.is asked) (c.rebuild.ensures.whole is)

@@ -4,6 +4,7 @@ use Rattle.run_ends.specs.Stops.{note_of, status_of}
 use Rattle.run_ends.specs.declared.stop.Stop.TheVariants.{ImageFault, Word}
 use Rattle.reraid_cli.specs.Answers.{IsNoted, MayRead, refusal, streams}
 use Rattle.reraid_cli.proofs.Runs.{one_reading}
+use Rattle.reraid_cli.proofs.Sectors.{ten_is}
 use Rattle.reraid_cli.proofs.Statuses.{status_known, by_refusal, noted, noted_for, noted_numbers, not_ten, not_twelve, put_before, put_nothing, read_no_memory, read_nothing, stop_failed}
 use Rattle.reraid_cli.proofs.top.reraid.Goals as goal
 
@@ -86,3 +87,8 @@ returns-in-Err-clause-reads g c reading says =
     let new = g.I.Images.seen c.run.new.images in
     let P : Bool → Type 0 = λ failed. MayRead reading new.attached failed (g.I.Images.seen c.args.images.now).sectors_read new.sectors_read in
     subst P (sym (stop_failed c.in-Err.stop c.status.result c.status.ensures)) (c.in-Err.ensures.reads reading says)
+
+pub returns-in-Err-clause-whole : goal.returns-in-Err-clause-whole
+returns-in-Err-clause-whole g c ten reading says =
+    let same : c.in-Err.stop ≡ ImageFault = ten_is c.in-Err.stop c.status.result c.status.ensures ten in
+    c.in-Err.ensures.whole (cc) reading says

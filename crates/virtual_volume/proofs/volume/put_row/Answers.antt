@@ -18,7 +18,7 @@ returns-in_err-put-clause-passed g c = λ images first count place few hold.
     let slots = testable_slots c.args.geo.now c.requires.set in
     let within : c.slot_of_item-slot.result < length c.args.geo.now.slots.items = omega arith in
     let last : c.loop-item.item < data_blocks c.args.geo.now.head = omega arith in
-    let part = item_part images c.args.geo.now c.args.regions.now.stride first count c.args.row c.loop-item.item c.slot_of_item-slot.result c.args.at c.args.regions.now.bytes c.region.result.now c.slot_of_item-slot.ensures.there within hold place few c.region.ensures.long c.region.ensures.sectors in
+    let part = item_part images c.args.geo.now c.args.regions.now.stride first count c.args.row c.loop-item.item c.slot_of_item-slot.result c.args.at c.args.regions.now.bytes c.region.result.now c.requires.set last c.slot_of_item-slot.ensures.there within hold place few c.region.ensures.long c.region.ensures.sectors in
     let p = err_from_is_err_and c.from_residual.result c.from_residual.ensures.1 in
     rw p.1 (
     items_cut images c.args.geo.now c.args.row c.loop-item.item (data_blocks c.args.geo.now.head) (g.K.Sink.gained c.args.sink.now) (g.K.Sink.gained c.loop-item.sink) (g.K.Sink.gained c.put.new.sink) c.args.pending.now c.loop-item.pending _
@@ -28,10 +28,11 @@ pub loop-item-preserved : goal.loop-item-preserved
 loop-item-preserved g c =
     let slots = testable_slots c.args.geo.now c.requires.set in
     let within : c.slot_of_item-slot.result < length c.args.geo.now.slots.items = omega arith in
+    let last : c.loop-item.item < data_blocks c.args.geo.now.head = omega arith in
     record {
       passes = λ images first count place few hold.
           items_on images c.args.geo.now c.args.row c.loop-item.item (g.K.Sink.gained c.args.sink.now) (g.K.Sink.gained c.loop-item.sink) (g.K.Sink.gained c.put.new.sink) c.args.pending.now c.loop-item.pending c.put.new.self _
-          (item_part images c.args.geo.now c.args.regions.now.stride first count c.args.row c.loop-item.item c.slot_of_item-slot.result c.args.at c.args.regions.now.bytes c.region.result.now c.slot_of_item-slot.ensures.there within hold place few c.region.ensures.long c.region.ensures.sectors)
+          (item_part images c.args.geo.now c.args.regions.now.stride first count c.args.row c.loop-item.item c.slot_of_item-slot.result c.args.at c.args.regions.now.bytes c.region.result.now c.requires.set last c.slot_of_item-slot.ensures.there within hold place few c.region.ensures.long c.region.ensures.sectors)
           (c.loop-item.invariant.passes images first count place few hold) c.in_ok-put.ensures.passed;
       later = omega (arith, c.put.ensures.cause.later);
     }

@@ -1,13 +1,13 @@
 use Rattle.std.proofs.Common.{◌≡◌, ℕ, ◌+◌, ◌*◌, ◌≤◌, List}
 use Rattle.virtual_volume.specs.Parts.{items_of}
-use Rattle.member_regions.specs.Regions.{HoldAll}
+use Rattle.member_regions.specs.Needs.{HoldData}
 use Rattle.virtual_volume.specs.Waiting.{Passes}
 use Rattle.virtual_volume.proofs.volume.put_row.Given as goal
 
 abbrev pub invariant-loop-item : goal.invariant-loop-item
 invariant-loop-item g l = record {
   passes : (images : List (List ℕ)) (first count : ℕ) → first + l.at ≡ l.row * l.geo.head.chunk → l.at + l.geo.head.chunk ≤ count →
-      HoldAll images l.geo l.regions.stride first count l.regions.bytes →
+      HoldData images l.geo l.regions.stride first count l.regions.bytes →
       Passes (g.K.Sink.gained l.fn.sink) (g.K.Sink.gained l.sink) l.fn.pending l.pending (items_of images l.geo l.row l.item);
   later : g.K.Sink.faults l.fn.sink ≤ g.K.Sink.faults l.sink;
 }

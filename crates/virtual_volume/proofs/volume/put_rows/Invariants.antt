@@ -1,12 +1,12 @@
 use Rattle.std.proofs.Common.{ℕ, ◌*◌, ◌≤◌, List}
 use Rattle.virtual_volume.specs.Parts.{rows_of}
-use Rattle.member_regions.specs.Regions.{HoldAll}
+use Rattle.member_regions.specs.Needs.{HoldData}
 use Rattle.virtual_volume.specs.Waiting.{Passes}
 use Rattle.virtual_volume.proofs.volume.put_rows.Given as goal
 
 abbrev pub invariant-loop-r : goal.invariant-loop-r
 invariant-loop-r g l = record {
-  passes : (images : List (List ℕ)) → HoldAll images l.geo l.regions.stride (l.first * l.geo.head.chunk) (l.rows * l.geo.head.chunk) l.regions.bytes →
+  passes : (images : List (List ℕ)) → HoldData images l.geo l.regions.stride (l.first * l.geo.head.chunk) (l.rows * l.geo.head.chunk) l.regions.bytes →
       Passes (g.K.Sink.gained l.fn.sink) (g.K.Sink.gained l.sink) l.fn.pending l.pending (rows_of images l.geo l.first l.r);
   later : g.K.Sink.faults l.fn.sink ≤ g.K.Sink.faults l.sink;
 }

@@ -10,7 +10,7 @@ use Rattle.virtual_volume.specs.Waiting.{Passes}
 use Rattle.virtual_volume.proofs.Fronts.{puts_err}
 use Rattle.member_regions.proofs.IfTold.{if_told}
 use Rattle.virtual_volume.proofs.Puts.{rows_flushed, rows_whole}
-use Rattle.virtual_volume.proofs.Sets.{served_end, served_held, served_testable}
+use Rattle.virtual_volume.proofs.Sets.{needed_volume, served_end, served_held, served_testable}
 use Rattle.virtual_volume.proofs.volume.write_all.Goals as goal
 
 pub write_rows-requires-clause-held : goal.write_rows-requires-clause-held
@@ -50,3 +50,11 @@ returns-clause-put g c =
     rows_flushed _ bytes c.args.geo.now c.args.end c.rows-rows.result (g.K.Sink.gained c.args.sink.now) (g.K.Sink.gained c.write_rows.new.sink) (g.K.Sink.gained c.flush.new.sink) c.args.pending.now c.write_rows.new.pending c.flush.new.self
     c.flush.result c.map_err.result c.requires.empty c.rows-rows.ensures c.flush.ensures.none c.map_err.ensures.cases p c.flush.ensures.passed)
     c.in_ok-write_rows.ensures.passed
+
+pub returns-in_err-write_rows-clause-reads : goal.returns-in_err-write_rows-clause-reads
+returns-in_err-write_rows-clause-reads g c =
+    needed_volume (g.I.Images.seen c.args.images.now) (g.I.Images.seen c.write_rows.new.images) c.args.geo.now c.args.end c.rows-rows.result (g.I.Images.seen c.args.images.now).attached c.requires.set c.rows-rows.ensures c.write_rows.ensures.reads
+
+pub returns-clause-reads : goal.returns-clause-reads
+returns-clause-reads g c =
+    needed_volume (g.I.Images.seen c.args.images.now) (g.I.Images.seen c.write_rows.new.images) c.args.geo.now c.args.end c.rows-rows.result (g.I.Images.seen c.args.images.now).attached c.requires.set c.rows-rows.ensures c.write_rows.ensures.reads

@@ -2,15 +2,15 @@ use Rattle.std.proofs.Common.{◌*◌, ◌++◌, length, IfSome, rules, arith}
 use Rattle.image_source.specs.Attached.{told_all}
 use Rattle.member_regions.proofs.Sets.{testable_chunk}
 use Rattle.virtual_volume.specs.Parts.{rows_of}
-use Rattle.member_regions.specs.Regions.{HoldRead}
+use Rattle.member_regions.specs.Needs.{HoldNeeded}
 use Rattle.virtual_volume.specs.Waiting.{Passed}
 use Rattle.virtual_volume.proofs.Fronts.{front_none, passed_as, passed_err}
 use Rattle.member_regions.proofs.IfTold.{if_any, if_told}
 use Rattle.virtual_volume.proofs.Sets.{few_rows, some_sectors}
 use Rattle.virtual_volume.proofs.volume.write_batch.Goals as goal
 
-pub read-requires-clause-some : goal.read-requires-clause-some
-read-requires-clause-some g c = some_sectors c.args.rows c.args.geo.now.head.chunk c.requires.some (testable_chunk c.args.geo.now c.requires.set)
+pub read_needed-requires-clause-some : goal.read_needed-requires-clause-some
+read_needed-requires-clause-some g c = some_sectors c.args.rows c.args.geo.now.head.chunk c.requires.some (testable_chunk c.args.geo.now c.requires.set)
 
 pub put_rows-requires-clause-first : goal.put_rows-requires-clause-first
 put_rows-requires-clause-first g c =
@@ -27,12 +27,12 @@ returns-in_err-map_err-clause-passed g c =
 pub returns-clause-passed : goal.returns-clause-passed
 returns-clause-passed g c =
     let held : IfSome (told_all (g.I.Images.seen c.args.images.now).attached)
-    (λ bytes. HoldRead bytes c.args.geo.now c.read.new.self.stride (c.args.first * c.args.geo.now.head.chunk) (512 * (c.args.rows * c.args.geo.now.head.chunk)) (length c.args.geo.now.slots.items) c.read.new.self.bytes) = search rules in
+    (λ bytes. HoldNeeded bytes c.args.geo.now c.read_needed.new.self.stride (c.args.first * c.args.geo.now.head.chunk) (c.args.rows * c.args.geo.now.head.chunk) c.read_needed.new.self.bytes) = search rules in
     if_told (told_all (g.I.Images.seen c.args.images.now).attached)
-    (λ bytes. HoldRead bytes c.args.geo.now c.read.new.self.stride (c.args.first * c.args.geo.now.head.chunk) (512 * (c.args.rows * c.args.geo.now.head.chunk)) (length c.args.geo.now.slots.items) c.read.new.self.bytes)
+    (λ bytes. HoldNeeded bytes c.args.geo.now c.read_needed.new.self.stride (c.args.first * c.args.geo.now.head.chunk) (c.args.rows * c.args.geo.now.head.chunk) c.read_needed.new.self.bytes)
     (λ bytes. Passed (g.K.Sink.gained c.args.sink.now) (g.K.Sink.gained c.put_rows.new.sink) c.args.pending.now c.put_rows.new.pending c.map_err-2.result (rows_of bytes c.args.geo.now c.args.first c.args.rows))
     (λ bytes hold.
     passed_as _ (g.K.Sink.gained c.args.sink.now) (g.K.Sink.gained c.put_rows.new.sink) c.args.pending.now c.put_rows.new.pending (rows_of bytes c.args.geo.now c.args.first c.args.rows) c.put_rows.result c.map_err-2.result
     c.map_err-2.ensures.cases
-    (c.put_rows.ensures.passed bytes (c.solve.ensures.found bytes hold)))
+    (c.put_rows.ensures.passed bytes (c.solve_data.ensures.found bytes hold)))
     held

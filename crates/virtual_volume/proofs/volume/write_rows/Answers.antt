@@ -2,15 +2,13 @@ use Rattle.std.proofs.Common.{ℕ, ◌≡◌, ◌+◌, ◌-◌, ◌*◌, ◌≤�
 use Rattle.image_source.specs.Attached.{told_all}
 use Rattle.image_source.specs.Streams.{AppendsFront}
 use Rattle.image_source.proofs.Reading.{reads_none, reads_up}
-use Rattle.member_regions.proofs.Held.{reads_on}
-use Rattle.member_regions.specs.Members.{held}
 use Rattle.virtual_volume.specs.Gained.{AppendsSectors}
 use Rattle.virtual_volume.specs.Parts.{rows_of}
 use Rattle.virtual_volume.specs.Waiting.{Passed, Passes}
 use Rattle.virtual_volume.proofs.Fronts.{passed_err, passes_join, passes_sectors}
 use Rattle.member_regions.proofs.IfTold.{if_any, if_both, if_told}
 use Rattle.virtual_volume.proofs.Puts.{rows_cut, rows_start}
-use Rattle.virtual_volume.proofs.Sets.{batch_held, batch_inside}
+use Rattle.virtual_volume.proofs.Sets.{batch_held, batch_inside, needed_on}
 use Rattle.virtual_volume.proofs.Whole.{rows_join}
 use Rattle.virtual_volume.proofs.volume.write_rows.Goals as goal
 
@@ -69,10 +67,8 @@ returns-in_err-write_batch-clause-whole g c = λ is.
 
 pub returns-in_err-write_batch-clause-reads : goal.returns-in_err-write_batch-clause-reads
 returns-in_err-write_batch-clause-reads g c =
-    let few : c.loop-first.first + c.min-count.result ≤ c.args.rows = omega arith in
-    reads_on (g.I.Images.seen c.args.images.now) (g.I.Images.seen c.loop-first.images) (g.I.Images.seen c.write_batch.new.images) (held c.args.geo.now.slots.items)
-    (c.loop-first.first * c.args.geo.now.head.chunk) (c.min-count.result * c.args.geo.now.head.chunk) (c.args.rows * c.args.geo.now.head.chunk) c.loop-first.invariant.reads c.write_batch.ensures.reads
-    (batch_inside c.loop-first.first c.min-count.result c.args.rows c.args.geo.now.head.chunk few)
+    needed_on (g.I.Images.seen c.args.images.now) (g.I.Images.seen c.loop-first.images) (g.I.Images.seen c.write_batch.new.images) c.args.geo.now c.loop-first.first c.min-count.result c.args.rows c.args.geo.now.head.chunk
+    c.loop-first.invariant.reads c.write_batch.ensures.reads (omega arith)
 
 pub loop-first-preserved : goal.loop-first-preserved
 loop-first-preserved g c = record {
@@ -88,9 +84,8 @@ loop-first-preserved g c = record {
       c.loop-first.invariant.passes
       (rw (← c.loop-first.invariant.reads.attached) c.in_ok-write_batch.ensures.passed);
   reads =
-      reads_on (g.I.Images.seen c.args.images.now) (g.I.Images.seen c.loop-first.images) (g.I.Images.seen c.write_batch.new.images) (held c.args.geo.now.slots.items)
-      (c.loop-first.first * c.args.geo.now.head.chunk) (c.min-count.result * c.args.geo.now.head.chunk) ((c.loop-first.first + c.min-count.result) * c.args.geo.now.head.chunk) c.loop-first.invariant.reads c.write_batch.ensures.reads
-      (batch_inside c.loop-first.first c.min-count.result (c.loop-first.first + c.min-count.result) c.args.geo.now.head.chunk (omega arith));
+      needed_on (g.I.Images.seen c.args.images.now) (g.I.Images.seen c.loop-first.images) (g.I.Images.seen c.write_batch.new.images) c.args.geo.now c.loop-first.first c.min-count.result (c.loop-first.first + c.min-count.result) c.args.geo.now.head.chunk
+      c.loop-first.invariant.reads c.write_batch.ensures.reads (omega arith);
   later = omega (arith, c.write_batch.ensures.later);
   within = omega arith;
   room = record { members = c.write_batch.ensures.room.members ∙ c.loop-first.invariant.room.members; stride = c.write_batch.ensures.room.stride ∙ c.loop-first.invariant.room.stride };

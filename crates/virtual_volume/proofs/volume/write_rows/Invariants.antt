@@ -1,7 +1,7 @@
 use Rattle.std.proofs.Common.{◌-◌, ◌*◌, ◌≤◌, IfSome}
 use Rattle.image_source.specs.Attached.{told_all}
 use Rattle.image_source.specs.Seen.{OnlyReads}
-use Rattle.member_regions.specs.Members.{held}
+use Rattle.member_regions.specs.Needs.{needed_sectors}
 use Rattle.virtual_volume.specs.Parts.{rows_of}
 use Rattle.member_regions.specs.Regions.{KeepsRoom}
 use Rattle.virtual_volume.specs.Waiting.{Passes}
@@ -10,7 +10,7 @@ use Rattle.virtual_volume.proofs.volume.write_rows.Given as goal
 abbrev pub invariant-loop-first : goal.invariant-loop-first
 invariant-loop-first g l = record {
   passes : IfSome (told_all (g.I.Images.seen l.fn.images).attached) (λ bytes. Passes (g.K.Sink.gained l.fn.sink) (g.K.Sink.gained l.sink) l.fn.pending l.pending (rows_of bytes l.geo 0 l.first));
-  reads : OnlyReads (g.I.Images.seen l.fn.images) (g.I.Images.seen l.images) (held l.geo.slots.items * (l.first * l.geo.head.chunk));
+  reads : OnlyReads (g.I.Images.seen l.fn.images) (g.I.Images.seen l.images) (needed_sectors l.geo 0 (l.first * l.geo.head.chunk));
   later : g.K.Sink.faults l.fn.sink ≤ g.K.Sink.faults l.sink;
   within : l.first ≤ l.rows;
   room : KeepsRoom l.fn.regions l.regions;

@@ -16,6 +16,16 @@ use landmark_rules::{Group, MarkCount};
 use raid_params::{Head, MOST};
 use search_plan::Plan;
 
+/// How slot lists of a head of a plan begin.
+#[derive(Drop)]
+struct Beginning<'a> {
+    plan: &'a Plan,
+    head: &'a Head,
+    prefix: &'a [Option<u8>],
+    /// Which images stand in the prefix.
+    standing: [bool; MOST],
+}
+
 /// Whether each group may still hold at one of its origins, where the slots begin with a prefix.
 pub(crate) fn groups_may_hold(
     table: &MarkTable,
@@ -30,9 +40,15 @@ pub(crate) fn groups_may_hold(
     ensures { result ≡ all_may_hold plan.now head.now prefix.now }
 {
     let standing = standing_images(prefix);
+    let beginning = Beginning {
+        plan,
+        head,
+        prefix,
+        standing,
+    };
     for (place, group) in plan.groups.as_slice().iter().enumerate() {
         let tables = &table.groups[place].origins;
-        if !may_hold(tables, plan, head, group, prefix, &standing) {
+        if !may_hold(&beginning, tables, group) {
             return false;
         }
     }
@@ -54,23 +70,16 @@ fn standing_images(prefix: &[Option<u8>]) -> [bool; MOST]
 }
 
 /// Whether a group may still hold at one of its origins, each of which has its table.
-fn may_hold(
-    tables: &[OriginTable],
-    plan: &Plan,
-    head: &Head,
-    group: &Group,
-    prefix: &[Option<u8>],
-    standing: &[bool; MOST],
-) -> bool
-    requires plan { IsPlan plan.now }
-    requires head { IsTrue (is_valid_head head.now) }
-    requires tables { IsGroupTable head.now plan.now.end plan.now.tests group.now tables.now }
-    requires prefix { IsPrefix plan.now head.now prefix.now }
-    requires standing { AreStanding prefix.now standing.now }
-    ensures { result ≡ group_may_hold plan.now head.now prefix.now group.now }
+fn may_hold(beginning: &Beginning, tables: &[OriginTable], group: &Group) -> bool
+    requires plan { IsPlan beginning.now.plan.now }
+    requires head { IsTrue (is_valid_head beginning.now.head.now) }
+    requires tables { IsGroupTable beginning.now.head.now beginning.now.plan.now.end beginning.now.plan.now.tests group.now tables.now }
+    requires prefix { IsPrefix beginning.now.plan.now beginning.now.head.now beginning.now.prefix.now }
+    requires standing { AreStanding beginning.now.prefix.now beginning.now.standing }
+    ensures { result ≡ group_may_hold beginning.now.plan.now beginning.now.head.now beginning.now.prefix.now group.now }
 {
     for table in tables {
-        if may_hold_from(table, plan, head, group, prefix, standing) {
+        if may_hold_from(beginning, table, group) {
             return true;
         }
     }
@@ -78,31 +87,28 @@ fn may_hold(
 }
 
 /// Whether a group may still hold at the origin whose table this is.
-fn may_hold_from(
-    table: &OriginTable,
-    plan: &Plan,
-    head: &Head,
-    group: &Group,
-    prefix: &[Option<u8>],
-    standing: &[bool; MOST],
-) -> bool
-    requires plan { IsPlan plan.now }
-    requires head { IsTrue (is_valid_head head.now) }
-    requires prefix { IsPrefix plan.now head.now prefix.now }
-    requires standing { AreStanding prefix.now standing.now }
-    ensures { (origin : ℕ) → IsOriginTable head.now plan.now.end group.now.marks origin table.now →
-        result ≡ may_hold_at plan.now head.now prefix.now group.now origin }
+fn may_hold_from(beginning: &Beginning, table: &OriginTable, group: &Group) -> bool
+    requires plan { IsPlan beginning.now.plan.now }
+    requires head { IsTrue (is_valid_head beginning.now.head.now) }
+    requires prefix { IsPrefix beginning.now.plan.now beginning.now.head.now beginning.now.prefix.now }
+    requires standing { AreStanding beginning.now.prefix.now beginning.now.standing }
+    ensures { (origin : ℕ) → IsOriginTable beginning.now.head.now beginning.now.plan.now.end group.now.marks origin table.now →
+        result ≡ may_hold_at beginning.now.plan.now beginning.now.head.now beginning.now.prefix.now group.now origin }
 {
-    let count = count_placed(table, prefix);
-    let asked = plan.tests.least.min(group.marks.as_slice().len() as u64);
+    let count = count_placed(table, beginning.prefix);
+    let asked = beginning
+        .plan
+        .tests
+        .least
+        .min(group.marks.as_slice().len() as u64);
     let reserves = reserves(
         table,
-        prefix.len(),
-        head.members,
-        plan.lengths.len(),
-        standing,
+        beginning.prefix.len(),
+        beginning.head.members,
+        beginning.plan.lengths.len(),
+        &beginning.standing,
     );
-    count.misfits <= plan.tests.misfits && asked <= count.fits + reserves
+    count.misfits <= beginning.plan.tests.misfits && asked <= count.fits + reserves
 }
 
 /// The marks that fit where the prefix puts their images, and those that misfit.

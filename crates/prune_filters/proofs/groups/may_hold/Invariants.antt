@@ -5,4 +5,4 @@ use Rattle.prune_filters.specs.Marks.{may_hold_at}
 use Rattle.prune_filters.proofs.groups.may_hold.Given as goal
 
 abbrev pub invariant-loop-table : goal.invariant-loop-table
-invariant-loop-table l = list_any (may_hold_at l.plan l.head l.prefix l.group) (take l.table-index (origins_for l.plan.tests l.group.kind)) ≡ false
+invariant-loop-table l = list_any (may_hold_at l.beginning.plan.now l.beginning.head.now l.beginning.prefix.now l.group) (take l.table-index (origins_for l.beginning.plan.now.tests l.group.kind)) ≡ false

@@ -1,4 +1,4 @@
--- What a table of rows tells of the prefixes and sets that it admits.
+-- What is known by a table of rows of the prefixes and sets that it admits.
 use Rattle.std.proofs.Common.{◌≡◌, ℕ, length, List, ap, sym, ◌∙◌, arith, Bool, true, false, not, ◌&&◌, ◌||◌, nat_le, IsTrue, Option, Some, None, refl, slice_get}
 use Rattle.std.specs.List.{Contains}
 use Rattle.std.specs.Option.{option_map_or}
@@ -29,7 +29,7 @@ told_as bytes plan head (Some table) prefix true is_plan valid there are is e =
     ap (λ (b : Bool). not b || nat_le (broken_in table head.level head prefix) plan.limits.badrows) e
     ∙ rows_known bytes plan head prefix table valid is_plan is e there (are e)
 
--- what the table tells of the rows is so
+-- what the table says of the rows is so
 pub rows_told : (bytes : List (List ℕ)) (plan : Plan) (head : Head) (xors : Option RowTable) (prefix : List (Option ℕ)) → IsPlan plan → IsTrue (is_valid_head head) →
     Contains plan.bounds.levels.items head.level → AreXors bytes plan head xors → IsPrefix plan head prefix → rows_hold_by xors plan head prefix ≡ rows_may_hold bytes plan head prefix
 rows_told bytes plan head xors prefix is_plan valid there are is = told_as bytes plan head xors prefix (needs_table plan head) is_plan valid there are is refl
@@ -40,7 +40,7 @@ pub admitted_is_hopeful : (bytes : List (List ℕ)) (plan : Plan) (head : Head) 
 admitted_is_hopeful bytes plan head xors prefix is_plan valid there are is =
     ap (λ (b : Bool). nat_le 1 (rows head plan.end) && (groups_may_hold plan head prefix && b)) (rows_told bytes plan head xors prefix is_plan valid there are is)
 
--- where the rows decide, the parity test of a set is what the table tells
+-- where the rows decide, the parity test of a set is what the table says
 pub parity_told : (bytes : List (List ℕ)) (plan : Plan) (rank : ℕ) (geo : Geometry) (xors : Option RowTable) → IsPlan plan → slice_get (sets_of plan) rank ≡ Some geo →
     Contains plan.bounds.levels.items geo.head.level → AreXors bytes plan geo.head xors → rows_decide plan geo.head ≡ true →
     rows_hold_by xors plan geo.head geo.slots.items ≡ passes_parity bytes geo plan.end plan.limits.window plan.limits.badrows

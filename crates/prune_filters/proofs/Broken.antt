@@ -26,7 +26,7 @@ use Rattle.prune_filters.proofs.Sets.{IsSetOf}
 use Rattle.prune_filters.proofs.Standing.{each_stands, held_once, one_each}
 use Rattle.prune_filters.proofs.Totals.{by_image, placed, placed_same, total, total_same, where_it_stands}
 
--- a set in whose slots each of so many images stands
+-- a set in whose slots each of the first `images` images stands
 pub record IsFull (images : ℕ) (geo : Geometry) : Type 0 where
   pub valid : is_valid_head geo.head ≡ true
   pub members : length geo.slots.items ≡ geo.head.members

@@ -164,7 +164,7 @@ mapped_at f [] i x d lt is = absurd (omega arith)
 mapped_at f (y ∷ ys) zero x d lt is = ap f (sym is)
 mapped_at f (y ∷ ys) (suc i) x d lt is = mapped_at f ys i x d (omega arith) is
 
--- none of so many
+-- none of n
 pub none_stands : (places : List (Option ℕ)) (n : ℕ) → AreStanding [] (replicate n false)
 unfolding stands
 none_stands places n image below = all_false n image

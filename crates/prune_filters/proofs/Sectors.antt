@@ -43,7 +43,7 @@ each_fails f n x none lt = by_case (f x) refl
     by_case false e = e
     by_case true e = let bad : true ≡ false = sym (some_of f 0 n x (omega arith) (omega arith) e) ∙ none in (cc)
 
--- a flag that tells of bytes whether they are zeros tells whether one is not
+-- a flag that says of bytes whether they are zeros says whether one is not
 tells_other : (flag : Bool) (f : ℕ → ℕ) → Decides flag ((x : ℕ) → x < 512 → f x ≡ 0) → not flag ≡ list_any (λ x. not (nat_eq (f x) 0)) (range_with_len 0 512)
 tells_other true f decides = sym (none_of (λ x. not (nat_eq (f x) 0)) 0 512 (λ x low high. ap not (eq-eqb (f x) 0 (decides.0 refl x (omega arith)))))
 tells_other false f decides = by_case (list_any (λ x. not (nat_eq (f x) 0)) (range_with_len 0 512)) refl

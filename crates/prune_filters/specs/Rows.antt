@@ -1,4 +1,4 @@
--- What the exclusive or of whole images tells of a prefix, where every slot list holds every image.
+-- What is known of a prefix by the exclusive or of whole images, where every slot list holds every image.
 use Rattle.std.specs.Prelude.{ℕ, ◌+◌, ◌*◌, ◌/◌, min, Bool, true, false, not, ◌==◌, ◌&&◌, ◌||◌, nat_eq, nat_le, List, [], length, map, filter, count_by, slice_index, slice_index_or}
 use Rattle.std.specs.List.{list_any, range_with_len}
 use Rattle.std.specs.Option.{option_map_or, option_and_then}
@@ -20,7 +20,7 @@ xor_byte images numbers at = xor_all (map (λ i. slice_index (slice_index_or ima
 unfoldable pub differ : List (List ℕ) → List ℕ → ℕ → Bool
 differ images numbers sector = list_any (λ x. not (nat_eq (xor_byte images numbers (512 * sector + x)) 0)) (range_with_len 0 512)
 
--- all of so many images, and all but one
+-- all of `count` images, and all but one
 abbrev pub every : ℕ → List ℕ
 every count = range_with_len 0 count
 

@@ -75,11 +75,11 @@ broken_in table Raid6 head prefix = min (sum_by (beside_q table head prefix) (ra
 abbrev pub rows_hold_by : Option RowTable → Plan → Head → List (Option ℕ) → Bool
 rows_hold_by xors plan head prefix = not (needs_table plan head) || option_map_or (λ table. nat_le (broken_in table head.level head prefix) plan.limits.badrows) xors false
 
--- the sectors number j of the regions are those of as many images at this sector
+-- the sectors number j of the first `count` regions are those of the images at this sector
 abbrev pub HoldRow : List (List ℕ) → ℕ → ℕ → ℕ → Room → Type 0
 HoldRow images count sector j room = (i x : ℕ) → i < count → x < 512 → room_byte room (512 * j + x) i ≡ slice_index (slice_index_or images i []) (512 * sector + x)
 
--- so are all of so many, from this sector on
+-- so are the first `rows` of each region, from this sector on
 abbrev pub HoldRows : List (List ℕ) → ℕ → ℕ → ℕ → Room → Type 0
 HoldRows images count sector rows room = (j : ℕ) → j < rows → HoldRow images count (sector + j) j room
 
@@ -93,12 +93,12 @@ pub record IsSumOf (images : List (List ℕ)) (count sector : ℕ) (sum : ImageS
 abbrev pub AreSumsOf : List (List ℕ) → ℕ → ℕ → ℕ → List ImageSum → Type 0
 AreSumsOf images count sector rows sums = (j : ℕ) (none : ImageSum) → j < rows → IsSumOf images count (sector + j) (slice_index_or sums j none)
 
--- each table counts the tested rows of its chunk among so many
+-- each table counts those of the tested rows of its chunk that lie before row `first`
 abbrev pub CountFirst : List (List ℕ) → Plan → List ℕ → ℕ → ℕ → List RowTable → Type 0
 CountFirst images plan chunks offset first tables = (c : ℕ) (none : RowTable) → c < length chunks →
     CountRows images (length plan.lengths.items) (slice_index chunks c) offset (min first (tested_with plan (slice_index chunks c) offset)) (slice_index_or tables c none)
 
--- after so many rows, each table counts all that are tested, or is settled
+-- after `first` rows, each table counts all that are tested, or is settled
 abbrev pub AreKnown : Plan → List ℕ → ℕ → ℕ → List RowTable → Type 0
 AreKnown plan chunks offset first tables = (c : ℕ) (none : RowTable) → c < length chunks →
     (tested_with plan (slice_index chunks c) offset ≤ first) ⊎ IsSettled plan (slice_index chunks c) offset (slice_index_or tables c none)

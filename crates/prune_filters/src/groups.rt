@@ -140,7 +140,7 @@ fn count_held(row: &ImageCounts, held: Option<u8>) -> SlotCount
     }
 }
 
-/// The most that the images which do not stand in a prefix of so many places can add.
+/// The most that the images which do not stand in a prefix of `slot` places can add.
 fn reserves(
     table: &OriginTable,
     slot: usize,

@@ -1,4 +1,4 @@
-//! How many rows of sectors tell that the images differ.
+//! In how many rows of sectors the images differ.
 ghost use Rattle.std.specs.Prelude.{◌≡◌, ◌+◌, ◌<◌, ◌≤◌, ◌^◌, ℕ, false, not, slice_index, slice_index_or, if◌then◌else◌};
 ghost use Rattle.raid_params.specs.declared.limits.TheConstants.{MOST};
 

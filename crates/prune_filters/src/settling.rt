@@ -33,7 +33,7 @@ pub(crate) fn most_rows(plan: &Plan, chunks: &[u64], offset: u64) -> u64
     most
 }
 
-/// Whether each table, with the first so many rows, counts all that are tested or is settled.
+/// Whether each table, with the rows before row `first`, counts all that are tested or is settled.
 pub(crate) fn are_known(
     tables: &[XorTable],
     plan: &Plan,
@@ -55,7 +55,7 @@ pub(crate) fn are_known(
 }
 
 impl XorTable {
-    /// Whether the table, with the first so many rows, counts all that are tested or is settled.
+    /// Whether the table, with the rows before row `first`, counts all that are tested or is settled.
     fn is_known(&self, plan: &Plan, chunk: u64, offset: u64, first: u64) -> bool
         requires plan { IsPlan plan.now }
         requires chunk { IsTrue (is_chunk chunk) }
@@ -68,7 +68,7 @@ impl XorTable {
         self.is_settled(plan, chunk, rows)
     }
 
-    /// Whether the table is settled for each level of the plan, where so many rows are tested.
+    /// Whether the table is settled for each level of the plan, where `rows` rows are tested.
     fn is_settled(&self, plan: &Plan, chunk: u64, rows: u64) -> bool
         requires plan { IsPlan plan.now }
         requires chunk { IsTrue (is_chunk chunk) }
@@ -115,7 +115,7 @@ impl XorTable {
     }
 }
 
-/// Whether so many counts are above a number.
+/// Whether the counts of the first `images` images are above a number.
 fn are_above(counts: &RowCounts, images: usize, most: u64) -> bool
     requires { images ≤ MOST }
     ensures { result ≡ true → (i : ℕ) → i < images → most < slice_index counts.now i }

@@ -63,7 +63,7 @@ fn three_of_two(alloc: Global) -> Plan
     }
 }
 
-// The plan, with so many rows that may be unsound.
+// The plan, with this number of rows that may be unsound.
 fn allowing(plan: Plan, badrows: u64) -> Plan
     requires plan { IsPlan plan }
     requires few { badrows < 2 ^ 55 }

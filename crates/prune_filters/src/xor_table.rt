@@ -23,7 +23,7 @@ use std::alloc::Global;
 use std::marker::Model;
 use thiserror::Error;
 
-/// The sectors of each image that are read first: where images do not belong together, the first rows tell it.
+/// The sectors of each image that are read first: where images do not belong together, the first rows show it.
 const FIRST_BLOCK: usize = 8;
 
 /// In how many rows of sectors the images of a plan differ, for one chunk and one offset: of all rows that are
@@ -198,7 +198,7 @@ impl XorTable {
     }
 }
 
-/// So many tables of no rows.
+/// `count` tables of no rows.
 fn no_rows(alloc: Global, count: usize) -> Result<Vec<XorTable>, TableFault>
     ensures long { IfOk result (λ tables. length tables.items ≡ count) }
     ensures counts { IfOk result (λ tables. (images : List (List ℕ)) (members chunk offset : ℕ) → All (CountRows images members chunk offset 0) tables.items) }
@@ -282,7 +282,7 @@ fn add_block(
     }
 }
 
-/// So many images as members, each in the slot of its number.
+/// `count` images as members, each in the slot of its number.
 fn all_images(count: usize, offset: u64) -> Geometry
     requires { count ≤ MOST }
     ensures slots { result.slots.items ≡ map (λ i. Some i) (range_with_len 0 count) }

@@ -60,7 +60,7 @@ reads_wanted old new slots images count few reads =
     let le : held slots ≤ images = omega (arith, count_by-le-length is_some slots) in
     reads_up old new reads (mul-le-mul_right count le)
 
--- what follows where a call succeeded and all bytes are told
+-- what follows where a call succeeded and all bytes are known
 pub ok_then : {T E : Type 0} (result : Result T E) (told : Option (List (List ℕ))) (P Q : List (List ℕ) → Type 0) → ((bytes : List (List ℕ)) → P bytes → Q bytes) →
     OnOk result (IfSome told P) → OnOk result (IfSome told Q)
 ok_then (Ok x) told P Q then is = if_told told P Q then is

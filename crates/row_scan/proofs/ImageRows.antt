@@ -1,6 +1,6 @@
 -- The rows of a set over a block of image sectors.
-use Rattle.std.proofs.Common.{◌≡◌, ℕ, ◌+◌, ◌-◌, ◌*◌, ◌/◌, ◌<◌, ◌≤◌, Bool, true, false, not, cond, List, [], length, get_or, take, drop, refl, sym, ap, ◌∙◌, arith, add-one, Option, Some, None, slice_range}
-use Rattle.std.proofs.lemmas.List.{get_or-drop, get_or-take}
+use Rattle.std.proofs.Common.{◌≡◌, ℕ, ◌+◌, ◌*◌, ◌/◌, ◌<◌, ◌≤◌, Bool, true, false, not, cond, List, [], length, get_or, take, refl, sym, ap, ◌∙◌, arith, add-one, Option, Some, None}
+use Rattle.std.proofs.lemmas.List.{get_or-take}
 use Rattle.std.specs.Option.{is_none}
 use Rattle.raid_params.specs.declared.types.Cell.{Cell}
 use Rattle.raid_params.specs.declared.types.Geometry.{Geometry}
@@ -13,10 +13,6 @@ use Rattle.member_regions.proofs.Sets.{row_length}
 use Rattle.row_scan.specs.ImageRows.{HoldsSet, IsLeftAfter}
 use Rattle.row_scan.specs.declared.runs.Run.{Run}
 use Rattle.row_scan.proofs.Columns.{sound_alike}
-
--- a byte of a part of a list
-pub part_at : (xs : List ℕ) (a b k : ℕ) → a + k < b → get_or (slice_range xs a b) k 0 ≡ get_or xs (a + k) 0
-part_at xs a b k inside = get_or-take (b - a) (drop a xs) k 0 (omega arith) ∙ get_or-drop a xs k 0
 
 -- the sectors of a set's images were copied into a row
 abbrev pub IsCopied : Geometry → Room → ℕ → ℕ → List ℕ → Type 0
@@ -66,7 +62,7 @@ next_unsound images geo t sound is fails =
     let p : is_sound_row images geo t ≡ false = sym is ∙ fails in
     rw p at (unsound_next images geo t)
 
--- the front of a row
+-- the prefix of a row
 pub copied_front : (geo : Geometry) (room : Room) (place n : ℕ) (row : List ℕ) → IsCopied geo room place n row → IsCopied geo room place n (take (512 * n) row)
 copied_front geo room place n row copied = λ slot image x within is inside. get_or-take (512 * n) row (512 * slot + x) 0 (omega arith) ∙ copied slot image x within is inside
 

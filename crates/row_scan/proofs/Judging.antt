@@ -74,7 +74,7 @@ are_verdicts images plan (geo ∷ sets) tallies passed bytes scanned all long is
     (same ∙ long ∙ sym (length-map (geo ∷ sets) (λ (geo' : Geometry). passes_parity images geo' plan.end plan.limits.window plan.limits.badrows)))
     (λ i less. verdicts_at images plan geo (geo ∷ sets) tallies i bytes scanned all long (omega arith))
 
--- so they are where all bytes are told
+-- so they are where all bytes are known
 pub told_verdicts : (attached : List Image) (plan : Plan) (sets : List Geometry) (tallies : List (Option ℕ)) (passed : List Bool) → All TellsBytes attached → All (IsScanned plan) sets → length tallies ≡ length sets →
     passed ≡ map is_some tallies → IfSome (told_all attached) (λ bytes. AllTallies (IsDecided bytes plan) sets tallies) → IfSome (told_all attached) (λ bytes. passed ≡ verdicts_of bytes plan sets)
 told_verdicts attached plan sets tallies passed tells scanned long is decided = by_told (told_all attached) refl decided
@@ -98,7 +98,7 @@ decided_from None plan sets sampled anew swept long begin settles goes = tt
 decided_from (Some bytes) plan sets sampled anew swept long begin settles goes =
     goes (λ i d e below. anew_at bytes plan (get_or sets i e) (get_or sampled i d) (get_or anew i d) (begin i d (omega arith)) (settles i d e below))
 
--- a list is told by its elements
+-- a list is known by its elements
 pub some_of : (passed : List Bool) (tallies : List (Option ℕ)) → length passed ≡ length tallies → ((i : ℕ) (d : Bool) (e : Option ℕ) → i < length tallies → get_or passed i d ≡ is_some (get_or tallies i e)) → passed ≡ map is_some tallies
 some_of passed tallies long told =
     ext_get_or false passed (map is_some tallies) (long ∙ sym (length-map tallies is_some))

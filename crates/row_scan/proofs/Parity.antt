@@ -39,7 +39,7 @@ unsound_after images geo first count room (suc n) hold le =
     let block' = rw one at block in
     rw on (omega (arith, whole, block', same, before))
 
--- after a block, where its bytes are told
+-- after a block, where its bytes are known
 pub told_after : (told : Option (List (List ℕ))) (geo : Geometry) (first count n : ℕ) (room : Room) →
     IfSome told (λ bytes. HoldRead bytes geo room.stride first (512 * count) (length geo.slots.items) room.bytes) → n ≡ unsound_in geo room first count →
     IfSome told (λ bytes. unsound_rows bytes geo (first + count) ≡ unsound_rows bytes geo first + n)

@@ -78,7 +78,7 @@ windows_join old mid new plan sets from between to first second =
       within = omega (arith, first.within, second.within);
     }
 
--- the tallies go on, where all bytes are told
+-- the tallies go on, where all bytes are known
 pub swept_on : (old mid : List Image) (plan : Plan) (sets : List Geometry) (from at : ℕ) (next : Option ℕ) (first tallies new : List (Option ℕ)) → mid ≡ old →
     IfSome (told_all old) (λ bytes. AllTallies (TalliesTo bytes plan from) sets first → AllTallies (TalliesTo bytes plan at) sets tallies) →
     IfSome (told_all mid) (λ bytes. AllTallies (TalliesTo bytes plan at) sets tallies → SweptTo bytes plan sets next new) →

@@ -77,7 +77,7 @@ by_p true false q P Q p both free = absurd (let h = p.1 (both.0 refl).0 in cc)
 by_p false true false P Q p both free = absurd (let h = both.1 (p.0 refl, λ e. absurd cc) in cc)
 by_p false true true P Q p both free = absurd cc
 
--- so it is told by P's test, where P's equation fails or there is no Q
+-- so P's test decides it, where P's equation fails or there is no Q
 pub told_by_p : (cells : List Cell) (slots : List (Option ℕ)) (n place : ℕ) (room : Room) (holds : Bool) → IsRow cells → length cells ≡ length slots → IsWhole cells slots n → HasBytesAt room n place →
     Decides holds (Cancel in_p cells (slots_column room slots place)) → (holds && has_q cells) ≡ false → holds ≡ is_sound cells (slots_column room slots place)
 told_by_p cells slots n place room holds row long whole bytes p free =

@@ -28,7 +28,7 @@ HoldsImage images run room image =
 abbrev pub HoldsSet : List (List ℕ) → Run → Room → Geometry → Type 0
 HoldsSet images run room geo = (slot image : ℕ) → slice_index_or geo.slots.items slot None ≡ Some image → HoldsImage images run room image
 
--- of the rows from one up to another no more are unsound than may be, and so many may be still; or more are
+-- of the rows from one up to another no more are unsound than may be, and k may be still; or more are
 abbrev pub IsLeftAfter : List (List ℕ) → Geometry → ℕ → ℕ → ℕ → Option ℕ → Type 0
 IsLeftAfter images geo from to left rest = MatchOption rest
     (unsound_rows images geo from + left < unsound_rows images geo to)

@@ -31,7 +31,7 @@ held_byte f (Some image) = f image
 abbrev pub slots_column : Room → List (Option ℕ) → ℕ → ℕ → List ℕ
 slots_column room slots place x = map (held_byte (room_byte room (512 * place + x))) slots
 
--- at so many places it is known of so many images what their sum is
+-- at the first `places` places it is known what the exclusive or of the first `images` images is
 pub record AreImageSums (room : Room) (known : ImageSums) : Type 0 where
   pub few : known.images ≤ MOST
   pub short : known.places ≤ BLOCK

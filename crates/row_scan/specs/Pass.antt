@@ -109,7 +109,7 @@ pub record ReadsWindows (old new : Seen) (plan : Plan) (sets : List Geometry) (f
   pub reads : OnlyReads old new (length old.attached * each)
   pub within : windows_before plan sets from + each ≤ windows_before plan sets to
 
--- a tally that is settled stays so, and each other begins with so many rows that may be unsound
+-- a tally that is settled stays so, and each other begins with `left` rows that may be unsound
 abbrev pub BeginAnew : ℕ → List (Option ℕ) → List (Option ℕ) → Type 0
 BeginAnew left old new = (i : ℕ) (d : Option ℕ) → i < length old →
     MatchOption (slice_index_or old i d) (slice_index_or new i d ≡ None) (λ k. slice_index_or new i d ≡ Some left)

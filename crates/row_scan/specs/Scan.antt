@@ -25,7 +25,7 @@ is_unbreakable geo = empties geo.slots.items == redundancy geo.head.level
 abbrev pub read_rows : Geometry → ℕ → ℕ → ℕ
 read_rows geo end window = if is_unbreakable geo then 0 else tested_rows geo end window
 
--- the images failed, or memory is wanting and nothing was read
+-- the images failed, or it is out of memory and nothing was read
 abbrev pub EndsScan : Seen → Seen → ScanFault → Type 0
 EndsScan old new ReadFault = Rose old.faults new.faults
 EndsScan old new Memory = new ≡ old

@@ -15,6 +15,6 @@ sectors_below end window offsets below = count_by (λ sector. list_any (is_in_wi
 abbrev pub window_sectors : ℕ → ℕ → List ℕ → ℕ
 window_sectors end window offsets = sectors_below end window offsets end
 
--- the most sectors that a scan of sets with these offsets reads of so many images: the samples, and each sector of a window once
+-- the most sectors that a scan of sets with these offsets reads of the images: the samples, and each sector of a window once
 abbrev pub scan_reads : ℕ → ℕ → ℕ → List ℕ → ℕ
 scan_reads images end window offsets = images * (SAMPLES + window_sectors end window offsets)

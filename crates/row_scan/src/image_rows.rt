@@ -150,7 +150,7 @@ fn is_sound_at(
     is_row_sound(geo, &row.cells, regions, place, room)
 }
 
-/// Whether a row at a place is sound, where the sums tell it: all is zeros, or P's equation does not hold, or there is no
+/// Whether a row at a place is sound, where the sums decide it: all is zeros, or P's equation does not hold, or there is no
 /// other.
 fn told_sound(row: &ChunkRow, sums: &ImageSums, place: usize) -> Option<bool>
     requires { sums.now.places ≤ BLOCK }

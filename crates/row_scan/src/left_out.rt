@@ -11,7 +11,7 @@ use arrayvec::ArrayVec;
 use raid_layouts::row_cells;
 use raid_params::{Cell, Geometry, MOST, Part};
 
-/// Of so many images P's equation adds up all but one, or all.
+/// Which of the images P's equation adds up: all, or all but one.
 #[derive(Clone, Copy)]
 pub enum LeftOut {
     /// All.
@@ -30,7 +30,7 @@ pub struct ChunkRow {
     pub out: Option<LeftOut>,
 }
 
-/// A chunk row of a set over so many images.
+/// A chunk row of a set over the first `images` images.
 #[tactic(auto, using(member_regions::proofs::Sets::testable_head, member_regions::proofs::Sets::testable_slots, member_regions::proofs::Sets::row_length))]
 pub fn chunk_row(geo: &Geometry, at: u64, images: usize) -> ChunkRow
     requires set { IsTestable geo.now }
@@ -48,14 +48,14 @@ pub fn chunk_row(geo: &Geometry, at: u64, images: usize) -> ChunkRow
     }
 }
 
-/// Whether slots hold none but so many images.
+/// Whether slots hold none but the first `images` images.
 fn are_within(slots: &[Option<u8>], images: usize) -> bool
     ensures { IsTrue result → All (λ slot. IfSome slot (λ image. image < images)) slots.now }
 {
     slots.iter().all(|held| is_within(*held, images))
 }
 
-/// Whether a slot holds none but so many images.
+/// Whether a slot holds none but the first `images` images.
 fn is_within(held: Option<u8>, images: usize) -> bool
     ensures { IsTrue result → IfSome held (λ image. image < images) }
 {
@@ -77,7 +77,7 @@ pub fn turn_row(geo: &Geometry, row: &mut ChunkRow, at: u64, images: usize)
     }
 }
 
-/// Which of so many images P's equation leaves out in a row. None where it leaves out more, where a cell is missing
+/// Which of the first `images` images P's equation leaves out in a row. None where it leaves out more, where a cell is missing
 /// and where there is no P.
 fn left_out(cells: &[Cell], slots: &[Option<u8>], images: usize) -> Option<LeftOut>
     requires slots { length cells.now ≡ length slots.now }
@@ -106,7 +106,7 @@ fn missing_part(cells: &[Cell]) -> Option<Part>
     cells.iter().find(|cell| cell.missing).map(|cell| cell.part)
 }
 
-/// Marks the images that P's equation adds up, of so many. None where a slot is empty or holds another.
+/// Marks those of the first `images` images that P's equation adds up. None where a slot is empty or holds another.
 fn added_images(cells: &[Cell], slots: &[Option<u8>], images: usize) -> Option<[bool; MOST]>
     requires slots { length cells.now ≡ length slots.now }
     requires images { images ≤ MOST }
@@ -148,7 +148,7 @@ fn is_added(cell: Cell) -> bool
     }
 }
 
-/// Which of so many images alone is not marked. None where there are more.
+/// Which of the first `images` images alone is not marked. None where there are more.
 fn unmarked(marks: &[bool], images: usize) -> Option<LeftOut>
     requires marks { images ≤ length marks.now }
     requires images { images ≤ MOST }

@@ -7,10 +7,10 @@
 //! its first run. No more sectors are read of an image than the samples and those in the windows of the sets.
 //!
 //! Where many tallies are open, the exclusive or of the sectors of all images is formed once for each place of a run: it
-//! tells whether P's equation holds in the rows of every set whose P counts all images, or all but one.
+//! decides whether P's equation holds in the rows of every set whose P counts all images, or all but one.
 //!
 //! [`unsound`] counts the unsound rows of one set: its members' sectors are read into the regions of `member_regions`, up
-//! to 128 KiB a call. [`nothing_can_break`] tells the sets that pass whatever the bytes.
+//! to 128 KiB a call. [`nothing_can_break`] finds the sets that pass whatever the bytes.
 //!
 //! Which rows are tested stands in `Parity` of `raid_terms`, what is asked of a set in `specs/Scan`, the verdicts in
 //! `specs/Verdicts`, the sectors that a scan may read in `specs/Windows`, the rows of a run in `specs/ImageRows`,

@@ -121,7 +121,7 @@ fn count_anew(plan: &Plan, tallies: &mut [Option<u64>])
     }
 }
 
-/// Tells of each set whether it passes: where rows may be unsound still.
+/// Writes for each set whether it passes: where rows may be unsound still.
 fn tell_verdicts(tallies: &[Option<u64>], passed: &mut [bool])
     requires { length passed.old ≡ length tallies.now }
     ensures { passed.new ≡ map is_some tallies.now }

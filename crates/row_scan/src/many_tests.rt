@@ -132,7 +132,7 @@ fn alone<R: Threads + Sync + Abort + AllocGlobal>(rt: &R, k: usize) -> Result<bo
     Ok(found.as_slice().contains(&true))
 }
 
-// Each verdict of a scan of so many sets is that of a scan of the set alone: against those that begin at sector 0.
+// Each verdict of a scan of `count` sets is that of a scan of the set alone: against those that begin at sector 0.
 fn scan_of<R: Threads + Sync + Abort + AllocGlobal>(rt: &R, count: usize) -> Result<(), Fail>
     requires some { 1 ≤ count }
     requires most { count ≤ MOST_SETS }

@@ -23,7 +23,7 @@ pub enum ScanFault {
     /// The images failed.
     #[error("an image cannot be read")]
     ReadFault,
-    /// Want of memory.
+    /// Out of memory.
     #[error("not enough memory")]
     Memory,
 }

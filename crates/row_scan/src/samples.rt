@@ -46,7 +46,7 @@ pub fn test_samples<I: Images>(
     Ok(())
 }
 
-/// Tests the rows at an image sector, where it is not before `at`: up to there samples were taken. Ok tells up to
+/// Tests the rows at an image sector, where it is not before `at`: up to there samples were taken. Ok says up to
 /// where they are now.
 fn test_sample<I: Images>(
     scanned: &Scanned,

@@ -65,7 +65,7 @@ fn sweep_on<R: Threads + Sync, I: Images>(
     Ok(())
 }
 
-/// Tests the next rows of all open sets from an image sector on. Ok tells up to where, and None where no rows are
+/// Tests the next rows of all open sets from an image sector on. Ok says up to where, and None where no rows are
 /// left. Each piece of the sets passes the gate first, where there is one.
 fn sweep_run<R: Threads + Sync, I: Images, G: Gate + Sync>(
     threads: &Threading<R, G>,

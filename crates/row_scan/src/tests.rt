@@ -62,7 +62,7 @@ fn count<R: Abort>(
     count_unsound(images, regions, geo, end, window).ok()
 }
 
-// Room for a scan of so many members.
+// Room for a scan of `members` members.
 fn room(alloc: Global, members: usize) -> Result<Regions, Fail>
     ensures { IfOk result (λ regions. IsRoomFor members BLOCK regions) }
 {

@@ -29,7 +29,7 @@ impl Verdicts {
         }
     }
 
-    /// So many verdicts, all against.
+    /// `count` verdicts, all against.
     pub(crate) fn against(alloc: Global, count: usize) -> Result<Verdicts, Memory>
         ensures against { IfOk result (λ v. v ≡ replicate count false) }
         ensures length { IfOk result (λ v. length v ≡ count) }

@@ -48,8 +48,8 @@ pub fn read_members<I: Images>(
 #[tactic(auto, using(pq_parity::proofs::Regions::region_inside))]
 pub(crate) fn read_needed<I: Images>(
     images: &mut I,
-    sectors: &mut [u8],
     geo: &Geometry,
+    sectors: &mut [u8],
     stride: usize,
     first: u64,
     count: usize,

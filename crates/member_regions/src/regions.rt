@@ -88,8 +88,8 @@ impl Regions {
     #[tactic(auto, using(crate::proofs::Room::room_inside))]
     pub fn read_needed<I: Images>(
         &mut self,
-        images: &mut I,
         geo: &Geometry,
+        images: &mut I,
         first: u64,
         count: usize,
     ) -> Result<(), Failed>
@@ -105,7 +105,7 @@ impl Regions {
         ensures reads { OnlyReads (I.seen images.old) (I.seen images.new) (needed_sectors geo.now first count) }
         ensures cause { HasCause (I.seen images.old).faults (I.seen images.new).faults result }
     {
-        read_needed(images, &mut self.sectors, geo, self.stride, first, count)
+        read_needed(images, geo, &mut self.sectors, self.stride, first, count)
     }
 
     /// Whether the sectors number `j` of the regions are a sound row of these cells.

@@ -25,12 +25,12 @@ use survey_job::survey;
 /// Does the work in its order: words, images, and the command's job.
 pub fn run<R: Threads + Sync, S: Source, I: Images, K: Sink, G: Gate + Sync>(
     rt: &R,
+    gate: &G,
     alloc: Global,
     words: &[Word],
     plan: &mut S,
     images: &mut I,
     out: &mut K,
-    gate: &G,
 ) -> Result<(), Stop>
     requires fresh { (I.seen images.old).attached ≡ [] }
     requires named { All (λ name. IsTrue ((I.seen images.old).world.may_attach name)) (names_after words.now) }

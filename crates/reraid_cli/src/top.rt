@@ -118,7 +118,7 @@ pub fn reraid<R: Threads + Sync, S: Source, I: Images, K: Sink, N: Sink, G: Gate
     ensures reads { (reading : Reading) → Says words.now (S.left plan.old) reading →
         MayRead reading (I.seen images.new).attached (not (result == 0)) (I.seen images.old).sectors_read (I.seen images.new).sectors_read }
 {
-    match run(rt, alloc, words, plan, images, out, gate) {
+    match run(rt, gate, alloc, words, plan, images, out) {
         Ok(()) => 0,
         Err(stop) => {
             let _ = notes.put(stop.line().as_bytes());

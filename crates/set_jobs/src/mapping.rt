@@ -43,7 +43,7 @@ pub fn map<I: Images, K: Sink>(
         (record { images = (I.seen images.now).faults; plan = 0; out = K.faults out.new; sectors = (I.seen images.now).sectors_read })
         (K.gained out.old) (K.gained out.new) result }
 {
-    print(out, answer(alloc, images, names, set, sector, end))
+    print(out, answer(alloc, images, names, set, end, sector))
 }
 
 /// The text of `map`, or why there is none.
@@ -53,8 +53,8 @@ fn answer<I: Images>(
     images: &I,
     names: usize,
     set: &Geometry,
-    sector: u64,
     end: Option<u64>,
+    sector: u64,
 ) -> Result<Text, Stop>
     requires attached { length (I.seen images.now).attached ≡ min names MOST_ATTACHED }
     requires small { All (λ image. image.sectors < 2 ^ 55) (I.seen images.now).attached }

@@ -65,15 +65,15 @@ fn read_sector<I: Images>(
     let held = geo.slots[slot];
     match held {
         Some(_) => read_member(images, held, geo.head.offset, sector, to),
-        None => find_sector(images, geo, slot, sector, to),
+        None => find_sector(geo, images, slot, sector, to),
     }
 }
 
 /// Finds a sector of the missing member of a slot.
 #[tactic(auto, using(crate::proofs::Sets::few_slots))]
 fn find_sector<I: Images>(
-    images: &mut I,
     geo: &Geometry,
+    images: &mut I,
     slot: usize,
     sector: u64,
     to: &mut [u8],

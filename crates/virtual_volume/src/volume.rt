@@ -133,7 +133,7 @@ fn write_batch<I: Images, K: Sink>(
     let count = (rows * geo.head.chunk) as usize;
     let from = first * geo.head.chunk;
     regions
-        .read_needed(images, geo, from, count)
+        .read_needed(geo, images, from, count)
         .map_err(|_| VolumeFault::ReadFault)?;
     regions.solve_data(geo, from, count);
     put_rows(pending, sink, geo, regions, first, rows as usize).map_err(|_| VolumeFault::WriteFault)

@@ -38,7 +38,7 @@ pub sectors_join : (images : List (List ℕ)) (geo : Geometry) (slot first n m k
 unfolding sectors_of
 sectors_join images geo slot first n m k next e f = flat_split (member_sector images geo slot) first n m k next e f
 
--- the bytes of so many sectors
+-- the bytes of n sectors
 sectors_long : (images : List (List ℕ)) (geo : Geometry) (slot first n : ℕ) → length (sectors_of images geo slot first n) ≡ 512 * n
 unfolding sectors_of
 sectors_long images geo slot first zero = refl

@@ -90,10 +90,9 @@ fn write_sectors<I: Images, K: Sink>(
 /// Writes a missing member of a set of parameters over the attached images: the member of an empty
 /// slot, from its data offset on, to the end of the whole rows before the image sector `end`.
 ///
-/// It fails for want of memory before anything is read or written, and after that only by a fault
-/// of the images or of the sink: then a front of the member was written, of whole sectors where the
-/// images failed. No more sectors are read
-/// than the members that are there hold in whole rows.
+/// Memory may run out only before anything is read or written. After that only a fault of the images or
+/// of the sink ends the work: then a prefix of the member was written, of whole sectors where the images
+/// failed. No more sectors are read than the present members hold in whole rows.
 #[tactic(auto, using(virtual_volume::proofs::Sets::served_head, virtual_volume::proofs::Sets::served_slots, virtual_volume::proofs::Sets::served_testable))]
 pub fn rebuild<I: Images, K: Sink>(
     alloc: Global,

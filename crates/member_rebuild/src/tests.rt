@@ -136,7 +136,7 @@ impl Sink for Looker {
     }
 }
 
-// Two images of so many bytes that are 1.
+// Two images of `bytes` bytes that are 1.
 fn two_of_ones(alloc: Global, bytes: usize) -> Result<MemImages, Fail> {
     let ones = vec![in alloc; 1u8; bytes]?;
     let mut images = MemImages::new(alloc)?;

@@ -1,4 +1,4 @@
--- What holds where all bytes are told.
+-- What holds where all bytes are known.
 use Rattle.std.proofs.Common.{Option, None, Some, IfSome}
 
 pub if_told : {A : Type 0} (told : Option A) (P Q : A → Type 0) → ((a : A) → P a → Q a) → IfSome told P → IfSome told Q

@@ -24,7 +24,7 @@ part_byte bs to a y e below =
     ∙ get_or-take (a + length to - a) (drop a bs) y 0 (omega arith)
     ∙ get_or-drop a bs y 0
 
--- the bytes of an image that is told
+-- the bytes of an image that is known
 told_bytes : (attached : List Image) (all : List (List ℕ)) (i sector : ℕ) (to : List ℕ) → told_all attached ≡ Some all → i < length attached →
     AreTold attached i sector to → to ≡ slice_range (get_or all i []) (512 * sector) (512 * sector + length to)
 told_bytes attached all i sector to e below told =
@@ -45,7 +45,7 @@ there : (told : Option (List (List ℕ))) (i offset first : ℕ) (held : Option 
 there None i offset first held to is are = tt
 there (Some bytes) i offset first held to is are = λ y below some. are y below ∙ ap (λ (o : Option ℕ). member_byte bytes offset first y o) (sym is)
 
--- the bytes read of a member are its own, where they are told
+-- the bytes read of a member are its own, where they are known
 pub member_read : {E : Type 0} (attached : List Image) (i m offset first : ℕ) (held : Option ℕ) (result : Result (Unit {0}) E) (to : List ℕ) →
     held ≡ Some i → Reaches attached m held → OnOk result (AreTold attached i (offset + first) to) →
     OnOk result (IfSome (told_all attached) (λ bytes. (y : ℕ) → y < length to → is_none held ≡ false → get_or to y 0 ≡ member_byte bytes offset first y held))

@@ -10,7 +10,7 @@ use Rattle.raid_params.specs.declared.types.Geometry.{Geometry}
 unfoldable pub held : List (Option ℕ) → ℕ
 held slots = count_by is_some slots
 
--- a set of a sensible shape, over so many images
+-- a set of a sensible shape, over `images` images
 pub record IsTestable (geo : Geometry) : Type 0 where
   pub images : ℕ
   pub shaped : is_shaped geo images ≡ true

@@ -12,7 +12,7 @@ pub record Room : Type 0 where
   pub stride : ℕ
   pub bytes : List ℕ
 
--- there is room for so many sectors of each of so many members
+-- there is room for `sectors` sectors of each of `members` members
 pub record IsRoomFor (members sectors : ℕ) (room : Room) : Type 0 where
   pub many : members ≤ room.members
   pub long : 512 * sectors ≤ room.stride
@@ -22,13 +22,13 @@ pub record KeepsRoom (old new : Room) : Type 0 where
   pub members : new.members ≡ old.members
   pub stride : new.stride ≡ old.stride
 
--- the regions of those of the first n slots that hold an image hold so many bytes of their members from sector `first` on
+-- the regions of those of the first n slots that hold an image hold the first `bytes` bytes of their members from sector `first` on
 abbrev pub HoldRead : List (List ℕ) → Geometry → ℕ → ℕ → ℕ → ℕ → List ℕ → Type 0
 HoldRead images geo stride first bytes n sectors =
     (i y : ℕ) → i < n → y < bytes → is_none (slice_index_or geo.slots.items i None) ≡ false →
     slice_index sectors (stride * i + y) ≡ member_byte images geo.head.offset first y (slice_index_or geo.slots.items i None)
 
--- the region of a slot holds so many of its member sectors from sector `first` on, those of its image or the lost ones
+-- the region of a slot holds `count` of its member sectors from sector `first` on, those of its image or the lost ones
 abbrev pub HoldSlot : List (List ℕ) → Geometry → ℕ → ℕ → ℕ → ℕ → List ℕ → Type 0
 HoldSlot images geo stride first count slot sectors =
     (j x : ℕ) → j < count → x < 512 →

@@ -44,7 +44,7 @@ impl Model for Regions {
 }
 
 impl Regions {
-    /// Room for so many sectors of each of so many members.
+    /// Room for `sectors` sectors of each of `members` members.
     pub fn new(alloc: Global, members: usize, sectors: usize) -> Result<Regions, Memory>
         ensures room { IfOk result (λ r. (r.members ≡ members) × (r.stride ≡ 512 * sectors)) }
         ensures zeros { IfOk result (λ r. r.bytes ≡ replicate (512 * sectors * members) 0) }

@@ -11,7 +11,7 @@ use Rattle.raid_params.specs.declared.types.Cell.{Cell}
 use Rattle.raid_terms.specs.Parity.{column_of}
 use Rattle.pq_parity.specs.Regions.{region_column, HoldsLost, HoldLost}
 
--- a region lies within so many
+-- a region lies within those of n members
 pub region_inside : (stride slot n : ℕ) → slot < n → stride * slot + stride ≤ stride * n
 region_inside stride slot n h =
     let most : stride * (slot + 1) ≤ stride * n = mul-le stride (slot + 1) stride n (omega arith) (omega arith) in

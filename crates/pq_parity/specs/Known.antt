@@ -41,7 +41,7 @@ pub record ArePlaces (cells : List Cell) (n : ℕ) (known : Known) : Type 0 wher
   pub p_at : IsPlaceOf known_p cells n known.p
   pub q_at : IsPlaceOf known_q cells n known.q
 
--- the places are below so many members
+-- the places are below `members`
 pub record ArePlaced (members : ℕ) (known : Known) : Type 0 where
   pub data_at : (k : ℕ) → k < 256 → IfSome (slice_index_or known.data_places k None) (λ place. place < members)
   pub end_at : known.end ≤ 256

@@ -8,7 +8,7 @@ use Rattle.raid_terms.specs.Solving.{lost_byte}
 abbrev pub region_byte : List ℕ → ℕ → ℕ → ℕ → ℕ
 region_byte sectors stride y place = slice_index sectors (stride * place + y)
 
--- column x of the sectors number j of so many regions
+-- column x of the sectors number j of the first `members` regions
 abbrev pub region_column : ℕ → ℕ → List ℕ → ℕ → ℕ → List ℕ
 region_column members stride sectors j x = map (λ i. slice_index sectors (stride * i + (512 * j + x))) (range_with_len 0 members)
 

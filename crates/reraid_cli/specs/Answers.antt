@@ -67,7 +67,7 @@ command_refusal (Ok (SampleCommand number set rows xfs)) reading attached = samp
 unfoldable pub refusal : Reading → List Image → Option Stop
 refusal reading attached = command_refusal reading.words reading attached
 
--- what a command prints, where what it depends on is told
+-- what a command prints, where what it depends on is known
 abbrev pub command_output : Result Command ℕ → Reading → List Image → Option (List ℕ)
 command_output (Err word) reading attached = None
 command_output (Ok (SurveyCommand asked)) reading attached = survey_output asked reading.names attached (told_all attached)

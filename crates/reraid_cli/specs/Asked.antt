@@ -8,7 +8,7 @@ use Rattle.plan_jobs.specs.Plans.{IsTextOf}
 use Rattle.command_words.specs.declared.command.Command.{Command}
 use Rattle.reraid_cli.specs.Answers.{IsPlanned, Reading}
 
--- the reading is of this command, over so many images, and of what the source had left
+-- the reading is of this command, over `names` images, and of what the source had left
 pub record IsAsked (command : Command) (names : ℕ) (left : Option (List ℕ)) (reading : Reading) : Type 0 where
   pub command_is : reading.words ≡ Ok command
   pub names_are : reading.names ≡ names

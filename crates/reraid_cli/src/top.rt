@@ -53,8 +53,8 @@ pub fn reraid<R: Threads + Sync, S: Source, I: Images, K: Sink, N: Sink, G: Gate
     ensures exact { result ≢ 10 → result ≢ 11 → result ≢ 12 → result ≢ 20 →
         (reading : Reading) → Says words.now (S.left plan.old) reading → result ≡ status_by (refusal reading (I.seen images.new).attached) }
 
-    // What is refused comes before the work itself: nothing is read or put, and no fault of the images
-    // or of the output is told for it.
+    // A refusal comes before the work itself: nothing is read or put, and no fault of the images or of the
+    // output is answered in its place.
     ensures order { (reading : Reading) → Says words.now (S.left plan.old) reading → (stop : Stop) →
         refusal reading (I.seen images.new).attached ≡ Some stop → length (I.seen images.new).attached ≡ min (length (names_after words.now)) MOST_ATTACHED →
         IsOrdered (I.seen images.old).sectors_read (I.seen images.new).sectors_read (K.gained out.old) (K.gained out.new) result }
@@ -104,12 +104,12 @@ pub fn reraid<R: Threads + Sync, S: Source, I: Images, K: Sink, N: Sink, G: Gate
         IsNoted (N.faults notes.new) (N.gained notes.old) (N.gained notes.new) (note_by (refusal reading (I.seen images.new).attached)) }
     ensures line { result ≢ 0 → (stop : Stop) × (status_of stop ≡ result) × IsNoted (N.faults notes.new) (N.gained notes.old) (N.gained notes.new) (note_of stop) }
 
-    // The images attached are those of the words after `--`, in their order, and all of them (of
-    // more than 65,536 the first so many) unless an attachment failed. Nothing else is attached.
+    // The images attached are those of the words after `--`, in their order, and all of them (the
+    // first 65,536 of more) unless an attachment failed. Nothing else is attached.
     ensures attached { AreImagesOf (I.seen images.old).world (names_after words.now) (I.seen images.new).attached }
     ensures all { (command : Command) → IsCommandLine words.now command → result ≢ 10 → length (I.seen images.new).attached ≡ min (length (names_after words.now)) MOST_ATTACHED }
 
-    // Images are only attached and read; a refusal reads none, and want of memory neither where the
+    // Images are only attached and read. A refusal reads none, and neither does a run out of memory whose
     // command puts as it reads. What a command reads is bounded; only at another status than 0 may a
     // listing have a page that could not be made.
     ensures world { (I.seen images.new).world ≡ (I.seen images.old).world }

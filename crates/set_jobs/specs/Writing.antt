@@ -14,7 +14,7 @@ use Rattle.run_ends.specs.Stops.{first_of}
 use Rattle.run_ends.specs.declared.stop.Stop.{Stop}
 use Rattle.run_ends.specs.declared.stop.Stop.TheVariants.{Slot}
 
--- what `write` prints: the volume, over the bytes of the images where they are told
+-- what `write` prints: the volume, over the bytes of the images where they are known
 abbrev pub write_output : Geometry → Option ℕ → List Image → Option (List (List ℕ)) → Option (List ℕ)
 write_output set end attached told = option_map (λ images. volume images set (end_of end attached)) told
 

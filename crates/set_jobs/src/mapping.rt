@@ -86,8 +86,7 @@ fn located(alloc: Global, set: &Geometry, sector: u64, end: u64) -> Result<Text,
     }
 }
 
-/// The end of the members, where so many images and the set are such that a command over the set
-/// goes on.
+/// The end of the members, where `names` images and the set are such that a command over the set goes on.
 #[tactic(auto, using(run_ends::proofs::Lengths::end_near, crate::proofs::SetRefusals::images_refused, crate::proofs::SetRefusals::rule_refused, crate::proofs::SetRefusals::set_allowed))]
 pub fn checked_end<I: Images>(
     images: &I,

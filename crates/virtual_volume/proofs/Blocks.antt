@@ -120,7 +120,7 @@ sector_found images geo slot t k sectors hold within long =
     ∙ append-nil (member_sector images geo slot (t + (0 + 0)))
     ∙ ap (λ (s : ℕ). member_sector images geo slot s) at
 
--- where it is told
+-- where it is known
 pub read_told : {T E : Type 0} (told : Option (List (List ℕ))) (geo : Geometry) (slot t : ℕ) (held : Option ℕ) (result : Result T E) (to : List ℕ) →
     held ≡ slice_index_or geo.slots.items slot None → is_none held ≡ false → length to ≡ 512 →
     OnOk result (IfSome told (λ bytes. (y : ℕ) → y < length to → is_none held ≡ false → get_or to y 0 ≡ member_byte bytes geo.head.offset t y held)) →

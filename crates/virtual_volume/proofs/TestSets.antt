@@ -16,7 +16,7 @@ pub absent : (image : Option Image) (sectors : Option ℕ) (none : Bool) → sec
 absent None sectors none is some e = refl
 absent (Some image) sectors none is some e = absurd (cc (ap (λ (b : Bool). not b) e))
 
--- so many images are there, and each reaches to the end
+-- n images are attached, and each reaches to the end
 pub all_long : (attached : List Image) (end n : ℕ) → ((k : ℕ) → k < n → IsLong attached end k) → slice_get attached n ≡ None → (length attached ≡ n) × All (λ image. end ≤ image.sectors) attached
 all_long [] end zero each none = let P : Image → Type 0 = λ image. end ≤ image.sectors in (refl, All-nil P)
 all_long [] end (suc n) each none = absurd (each 0 (omega arith))

@@ -14,6 +14,6 @@ chunk_of images geo row slot = flat_map (λ at. member_sector images geo slot (r
 unfoldable pub items_of : List (List ℕ) → Geometry → ℕ → ℕ → List ℕ
 items_of images geo row n = flat_map (λ item. chunk_of images geo row (item_of geo.head row item)) (range_with_len 0 n)
 
--- so many rows of the volume from a row on
+-- n rows of the volume from a row on
 unfoldable pub rows_of : List (List ℕ) → Geometry → ℕ → ℕ → List ℕ
 rows_of images geo first n = flat_map (λ row. items_of images geo row (data_blocks geo.head)) (range_with_len first n)

@@ -11,7 +11,7 @@ use std::marker::Model;
 /// The bytes that wait at most.
 const PENDING: usize = BLOCK * SECTOR;
 
-/// Pieces of so many bytes and more are put at once, after what waits, and never copied. The chunks of a
+/// Pieces of this many bytes and more are put at once, after what waits, and never copied. The chunks of a
 /// volume are all of one length, so its puts are of no less than this but the last one.
 const LARGE: usize = 64 * SECTOR;
 
@@ -74,7 +74,7 @@ impl Pending {
         self.filled = end;
     }
 
-    /// Makes room for a small piece of so many bytes.
+    /// Makes room for a small piece of `bytes` bytes.
     fn make_room<K: Sink>(&mut self, sink: &mut K, bytes: usize) -> Result<(), Failed>
         requires small { bytes ≤ LARGE }
         ensures passed { Passed (K.gained sink.old) (K.gained sink.new) self.old self.new result [] }

@@ -22,7 +22,7 @@ fn reaches<I: Images>(images: &I, image: u32, end: u64) -> bool
     }
 }
 
-// Whether so many images are attached, and each reaches to the end.
+// Whether `count` images are attached, and each reaches to the end.
 fn all_reach<I: Images>(images: &I, count: u8, end: u64) -> bool
     ensures { IsTrue result → (length (I.seen images.now).attached ≡ count) × All (λ a. end ≤ a.sectors) (I.seen images.now).attached }
 {
@@ -34,7 +34,7 @@ fn all_reach<I: Images>(images: &I, count: u8, end: u64) -> bool
     images.length(count as u32).is_none()
 }
 
-// Writes the volume, over so many images.
+// Writes the volume, over `count` images.
 #[tactic(auto, using(crate::proofs::TestSets::long_served))]
 pub(crate) fn write<R: Abort, I: Images, K: Sink>(
     rt: &R,
@@ -53,7 +53,7 @@ pub(crate) fn write<R: Abort, I: Images, K: Sink>(
     write_volume(alloc, images, geo, end, sink)
 }
 
-// Reads a sector of the volume, over so many images.
+// Reads a sector of the volume, over `count` images.
 #[tactic(auto, using(crate::proofs::TestSets::long_served))]
 fn read<R: Abort>(
     rt: &R,
@@ -200,7 +200,7 @@ fn faults(rt: HostRuntime) -> Result<(), Fail> {
     Ok(())
 }
 
-// Two members, striped in chunks of so many sectors.
+// Two members, striped in chunks of `chunk` sectors.
 fn striped(chunk: u64) -> Geometry
     ensures { result.head.offset ≡ 0 }
 {
@@ -293,7 +293,7 @@ impl Sink for Looker {
     }
 }
 
-// Two images of so many bytes that are 1.
+// Two images of `bytes` bytes that are 1.
 fn two_of_ones(alloc: Global, bytes: usize) -> Result<MemImages, Fail> {
     let ones = vec![in alloc; 1u8; bytes]?;
     let mut images = MemImages::new(alloc)?;
@@ -374,7 +374,7 @@ fn sixteen() -> Geometry
     Geometry { head, slots }
 }
 
-// Attaches an image of this name so many times.
+// Attaches an image of this name `count` times.
 fn attach_times(images: &mut MemImages, name: &str, count: u8) -> Result<(), Fail>
     requires room { length (seen_of images.old).attached ≤ 16 }
     requires named { IsTrue ((seen_of images.old).world.may_attach name.now) }

@@ -204,10 +204,10 @@ fn write_all<I: Images, K: Sink>(
 /// Writes the volume of a set of parameters over the attached images: `volume_sectors` sectors, in
 /// their order. Only whole rows before the image sector `end` count.
 ///
-/// It fails for want of memory before anything is read or written, and after that only by a fault
-/// of the images or of the sink: then a front of the volume was written, of whole sectors where the
-/// images failed. No more sectors are read than the volume has: the data that are there, and for a lost
-/// block P, or Q where P alone does not tell it.
+/// Memory may run out only before anything is read or written. After that only a fault of the images or
+/// of the sink ends the work: then a prefix of the volume was written, of whole sectors where the images
+/// failed. No more sectors are read than the volume has: the present data, and for a lost block P, or Q
+/// where P alone does not tell it.
 #[tactic(auto, using(crate::proofs::Sets::served_head, crate::proofs::Sets::served_slots))]
 pub fn write_volume<I: Images, K: Sink>(
     alloc: Global,

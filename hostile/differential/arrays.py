@@ -195,6 +195,8 @@ class Sums:
 
     def __init__(self, images):
         self.images, self.known = images, {}
+        # so many sectors of zeros has each image at its start: they add up to zero by all equations
+        self.zeros = min((len(image) - len(image.lstrip(b"\0"))) // SECTOR for image in images)
 
     def first_unsound(self, equation, start, stop):
         """The first sector of the images from this one on where the sum is not zero, or the stop."""
@@ -224,7 +226,7 @@ def unsound_rows(found, sums, tested, most=None):
         return 0
     alike = found.level == 5 or turns(found.pattern, found.members) == 1
     wide, count = tested if alike else found.chunk, 0
-    for first in range(0, tested, wide):
+    for first in range(max(0, sums.zeros - found.offset) // wide * wide, tested, wide):
         at, end, told = found.offset + first, found.offset + min(first + wide, tested), equations(found, first // found.chunk)
         while at < end:
             bad = end

@@ -1,6 +1,6 @@
 """A reference of the commands of reraid, independent of the program: written from docs/FORMATS.md and docs/LAYOUTS.md, and
-slow and plain where the program is quick. It holds all images and whole answers in memory, and goes through every set of a
-range one by one.
+plain where the program is quick. It holds all images and whole answers in memory, and goes through every set of a range one by
+one.
 
 `answer(words, text, files)` gives status, standard output and standard error of a run with these words over a plan text, where
 `files` has the bytes of each image by its name, and None for a name that is no regular file.

@@ -453,6 +453,9 @@ def small_sample(rng):
 
 def marked_sample(rng):
     """Somewhat more sectors than a file system takes, or fewer, or such that its groups become larger."""
+    if rng.random() < 0.03:
+        # 511 sectors, which fewer members do not have
+        return Set(0, "plain", "none", 1, rng.choice([0, 1]), rng.sample(range(7), 7)), 73, ["marks=xfs"]
     found = sample_set(rng, rng.choice([4] * 30 + [5]), [1, 2, 4, 8, 8, 16, 32], [0, 0, 0, 1, 2048])
     row = found.chunk * found.data
     edge = 512 * rng.choice([1, 1, 1, 1, 2, 3, 4, 7, 40])
@@ -506,6 +509,9 @@ def limit_sample(rng):
 def changed_sample(rng, found, rows):
     """The set changed somewhat, where its listing still does not go through too many sets, and rows of it."""
     made = changed_set(rng, found, [bytes(SECTOR)] * (found.members - found.lost))
+    if rng.random() < 0.15:
+        choices = rng.choice([range(found.members), range(found.members + 2), [None, *range(found.members)]])
+        made.slots = tuple(rng.choice(choices) for _ in found.slots)
     made = Set(made.level, made.pattern, made.syndrome, made.chunk, made.offset, made.slots)
     if made.members > 4 and not all_pass(made):
         return found, rows

@@ -10,9 +10,21 @@ from texts import FEWEST, FIVE, PATTERNS, REDUNDANCY, SECTOR, SIX, Set
 
 # Layouts, as docs/LAYOUTS.md draws them
 
-@functools.lru_cache(None)
+def turns(pattern, members):
+    """After how many rows a layout repeats."""
+    if pattern == "plain" or pattern.startswith("parity-"):
+        return 1
+    return members - 1 if pattern.endswith("-6") else members
+
+
 def cells(level, pattern, members, row):
     """What stands in each slot of a row: "P", "Q" or the number of an item."""
+    return turned_cells(level, pattern, members, row % turns(pattern, members))
+
+
+@functools.lru_cache(None)
+def turned_cells(level, pattern, members, row):
+    """What stands in each slot of one of the rows until the layout repeats."""
     if level == 0:
         return tuple(range(members))
     if level == 6 and pattern.endswith("-6"):
@@ -37,9 +49,14 @@ def cells(level, pattern, members, row):
     return tuple(made)
 
 
-@functools.lru_cache(None)
 def exponents(pattern, syndrome, members, row):
     """The exponent of each slot that holds data, and None for the others, at level 6."""
+    return turned_exponents(pattern, syndrome, members, row % turns(pattern, members))
+
+
+@functools.lru_cache(None)
+def turned_exponents(pattern, syndrome, members, row):
+    """The exponents of one of the rows until the layout repeats."""
     made = cells(6, pattern, members, row)
     q = made.index("Q")
     walk = [slot for slot in ((q + 1 + step) % members for step in range(members)) if isinstance(made[slot], int)]
@@ -78,14 +95,19 @@ def scaled(log):
 
 
 def times(block, log):
-    return block.translate(scaled(log % 255))
+    return block.translate(scaled(log % 255)) if log % 255 else block
+
+
+def product(a, b):
+    return POWERS[(LOGS[a] + LOGS[b]) % 255] if a and b else 0
 
 
 def added(blocks):
+    """The sum of blocks of one size."""
     total = 0
     for block in blocks:
         total ^= int.from_bytes(block, "little")
-    return total.to_bytes(SECTOR, "little")
+    return total.to_bytes(len(blocks[0]), "little")
 
 
 NOTHING = bytes(SECTOR)
@@ -112,21 +134,6 @@ class Row:
         weighed = [times(self.blocks[slot], self.logs[slot]) for slot in there if isinstance(self.cells[slot], int)]
         return p, added(weighed + [self.blocks[slot] for slot in there if self.cells[slot] == "Q"])
 
-    def sound(self):
-        if self.found.level == 0 or len(self.lost) >= REDUNDANCY[self.found.level]:
-            return True
-        if self.found.level == 5:
-            return added(self.blocks) == NOTHING
-        p, q = self.sums()
-        if not self.lost:
-            return p == NOTHING and q == NOTHING
-        kind = self.cells[self.lost[0]]
-        if kind == "P":
-            return q == NOTHING
-        if kind == "Q":
-            return p == NOTHING
-        return times(p, self.logs[self.lost[0]]) == q
-
     def whole(self):
         """The blocks with the lost ones found."""
         blocks = list(self.blocks)
@@ -151,24 +158,98 @@ class Row:
         return blocks
 
 
-def unsound_rows(found, images, tested, most=None):
+@functools.lru_cache(None)
+def slot_equations(level, pattern, syndrome, members, row, lost):
+    """The equations that tell of a row, where no slot is lost, or one at level 6: of each the factor of the byte in each slot. The row is
+    sound where all add up to zero. A byte that is lost can be any: with p and q as its factors in P's equation and in Q's, it goes out of
+    q times P's and p times Q's together, and this is all that is left."""
+    made = cells(level, pattern, members, row)
+    p = [int(cell != "Q") for cell in made]
+    if level == 5:
+        return (tuple(p),)
+    logs = exponents(pattern, syndrome, members, row)
+    q = [int(cell == "Q") if log is None else POWERS[log % 255] for cell, log in zip(made, logs)]
+    if not lost:
+        return tuple(p), tuple(q)
+    return (tuple(product(q[lost[0]], a) ^ product(p[lost[0]], b) for a, b in zip(p, q)),)
+
+
+@functools.lru_cache(65536)
+def image_equation(factors, slots):
+    """An equation over slots as one over the images in them: the factor of each that has one, the first of which is 1."""
+    terms = sorted((image, factor) for image, factor in zip(slots, factors) if image is not None and factor)
+    first = LOGS[terms[0][1]]
+    return tuple((image, POWERS[(LOGS[factor] - first) % 255]) for image, factor in terms)
+
+
+def equations(found, row):
+    """The equations over images that tell of a row of a set."""
+    turn = row % turns(found.pattern, found.members)
+    lost = (found.slots.index(None),) if found.lost else ()
+    return [image_equation(factors, found.slots)
+            for factors in slot_equations(found.level, found.pattern, found.syndrome, found.members, turn, lost)]
+
+
+class Sums:
+    """What the bytes of images add up to by equations. Many sets ask the same of the same sectors, which are added up once."""
+
+    def __init__(self, images):
+        self.images, self.known = images, {}
+        # so many sectors of zeros has each image at its start: they add up to zero by all equations
+        self.zeros = min((len(image) - len(image.lstrip(b"\0"))) // SECTOR for image in images)
+
+    def first_unsound(self, equation, start, stop):
+        """The first sector of the images from this one on where the sum is not zero, or the stop."""
+        seen, ended = self.known.get((equation, start), (start, False))
+        if seen < stop and not ended:
+            seen, ended = self.looked(equation, seen, stop)
+            self.known[equation, start] = seen, ended
+        return min(seen, stop)
+
+    def looked(self, equation, seen, stop):
+        """How far the sums are zero, and whether they are not from there on."""
+        size = 1
+        while seen < stop:
+            size, last = min(2 * size, 1024), min(seen + size, stop)
+            total = 0
+            for image, factor in equation:
+                total ^= int.from_bytes(times(self.images[image][seen * SECTOR:last * SECTOR], LOGS[factor]), "little")
+            if total:
+                return seen + ((total & -total).bit_length() - 1) // (8 * SECTOR), True
+            seen = last
+        return seen, False
+
+
+def unsound_rows(found, sums, tested, most=None):
     """How many of the first rows are unsound, or one more than `most` once there are so many."""
-    if found.level == 0 or found.lost >= REDUNDANCY[found.level]:
+    if found.lost >= REDUNDANCY[found.level]:
         return 0
-    count = 0
-    for sector in range(tested):
-        if not Row(found, images, sector).sound():
-            count += 1
-            if most is not None and count > most:
+    alike = found.level == 5 or turns(found.pattern, found.members) == 1
+    wide, count = tested if alike else found.chunk, 0
+    for first in range(max(0, sums.zeros - found.offset) // wide * wide, tested, wide):
+        at, end, told = found.offset + first, found.offset + min(first + wide, tested), equations(found, first // found.chunk)
+        while at < end:
+            bad = end
+            for equation in told:
+                bad = sums.first_unsound(equation, at, bad)
+            if bad == end:
                 break
+            at, count = bad + 1, count + 1
+            if most is not None and count > most:
+                return count
     return count
 
 
 # Landmarks
 
-def fits(rule, distance):
+@functools.lru_cache(65536)
+def rule_parts(rule):
     name, *rest = rule.split(":")
-    values = [int(part) for part in rest]
+    return name, [int(part) for part in rest]
+
+
+def fits(rule, distance):
+    name, values = rule_parts(rule)
     if distance < 0:
         return False
     if name in ("at", "either"):
@@ -191,16 +272,21 @@ def volume_sector(found, slot, sector, end):
 def held(plan, found, group):
     """The first origin at which a group holds, with its fits and misfits, or None."""
     kind, marks = group
-    places = []
+    origins = [0] if kind == "gpt" else plan.origins
+    fit, misfit = [0] * len(origins), [0] * len(origins)
     for _, image, sector, rule in marks:
         if image in found.slots:
             place = volume_sector(found, found.slots.index(image), sector - found.offset, plan.end)
             if place is not None:
-                places.append((place, rule))
-    for origin in [0] if kind == "gpt" else plan.origins:
-        good = sum(fits(rule, place - origin) for place, rule in places)
-        if len(places) - good <= plan.misfits and good >= min(plan.least, len(marks)):
-            return origin, good, len(places) - good
+                for which, origin in enumerate(origins):
+                    good = fits(rule, place - origin)
+                    fit[which] += good
+                    misfit[which] += not good
+                if min(misfit) > plan.misfits:
+                    return None
+    for which, origin in enumerate(origins):
+        if misfit[which] <= plan.misfits and fit[which] >= min(plan.least, len(marks)):
+            return origin, fit[which], misfit[which]
     return None
 
 
@@ -212,7 +298,7 @@ class Product:
     def __init__(self, plan):
         self.plan = plan
         self.images = len(plan.lengths)
-        self.heads, self.counts, self.known = [], [], {}
+        self.heads, self.counts, self.known, self.lists = [], [], {}, {}
         shapes = itertools.product(plan.levels, plan.members, plan.patterns, plan.syndromes, plan.chunks, plan.offsets)
         for level, members, pattern, syndrome, chunk, offset in shapes:
             patterns = {0: PATTERNS[:1], 5: FIVE, 6: SIX}[level]
@@ -241,7 +327,13 @@ class Product:
     def set_at(self, rank):
         place = bisect.bisect_right(self.firsts, rank) - 1
         level, members, *rest = self.heads[place]
-        rank -= self.firsts[place]
+        key = level, members, rank - self.firsts[place]
+        if key not in self.lists:
+            self.lists[key] = self.slots_at(*key)
+        return Set(level, *rest, self.lists[key])
+
+    def slots_at(self, level, members, rank):
+        """The slots of that place in the order of all of a level and so many members."""
         slots = []
         while len(slots) < members:
             for choice in [image for image in range(self.images) if image not in slots] + [None]:
@@ -251,7 +343,7 @@ class Product:
                     slots.append(choice)
                     break
                 rank -= count
-        return Set(level, *rest, slots)
+        return tuple(slots)
 
     def rank_of(self, found):
         if found.head() not in self.heads:
@@ -272,15 +364,15 @@ class Product:
         return rank if self.ways(found.level, found.members, found.members - found.lost, found.lost) else None
 
 
-def passes(plan, found, images):
+def passes(plan, found, sums):
     if found.rows(plan.end) == 0:
         return False
     if any(held(plan, found, group) is None for group in plan.groups):
         return False
-    return unsound_rows(found, images, min(found.area(plan.end), plan.window), plan.badrows) <= plan.badrows
+    return unsound_rows(found, sums, min(found.area(plan.end), plan.window), plan.badrows) <= plan.badrows
 
 
-def page(plan, product, images, first, size, span):
+def page(plan, product, sums, first, size, span):
     """The sets of a page with their ranks, and where the next begins."""
     stop, lines, rank = min(product.total, first + span), [], first - 1
     while rank + 1 < stop:
@@ -292,7 +384,7 @@ def page(plan, product, images, first, size, span):
             rank = product.firsts[place + 1] - 1
             continue
         found = product.set_at(rank)
-        if passes(plan, found, images):
+        if passes(plan, found, sums):
             lines.append((rank, found))
             if len(lines) == size:
                 return lines, rank + 1

@@ -1,50 +1,61 @@
 """Arrays made from a volume, and the volume of a number."""
 
 import struct
+from array import array
 
 from arrays import added, cells, exponents, times
 from texts import RANKS, SECTOR
 
 
-def words_of(seed):
-    """The words of SplitMix64 from a number."""
-    mask = RANKS - 1
-    while True:
-        seed = (seed + 0x9E3779B97F4A7C15) & mask
-        word = seed
-        word = (word ^ (word >> 30)) * 0xBF58476D1CE4E5B9 & mask
-        word = (word ^ (word >> 27)) * 0x94D049BB133111EB & mask
-        yield word ^ (word >> 31)
+# Words are made side by side in one large number: each has sixteen bytes of it, so that a product does not reach the next, and after each
+# step the lower eight are kept.
+MANY = 4096
+ONES = int.from_bytes((1).to_bytes(16, "little") * MANY, "little")
+LOW = ONES * (RANKS - 1)
+STEP = 0x9E3779B97F4A7C15
+STEPS = int.from_bytes(b"".join((STEP * (place + 1) % RANKS).to_bytes(16, "little") for place in range(MANY)), "little")
+
+
+def many_words(state):
+    """The next words of SplitMix64 from a state, as bytes."""
+    words = (STEPS + ONES * state) & LOW
+    words = (words ^ (words >> 30) & LOW) * 0xBF58476D1CE4E5B9 & LOW
+    words = (words ^ (words >> 27) & LOW) * 0x94D049BB133111EB & LOW
+    words ^= (words >> 31) & LOW
+    return array("Q", words.to_bytes(16 * MANY, "little"))[::2].tobytes()
+
+
+def volume_of(number, size):
+    """So many bytes of the words of SplitMix64 whose state begins as the number."""
+    volume = bytearray(size)
+    for at in range(0, size, 8 * MANY):
+        volume[at:at + 8 * MANY] = many_words((number + STEP * (at // 8)) % RANKS)[:size - at]
+    return volume
 
 
 def array_images(found, rows, volume):
     """The images of an array that holds a volume."""
-    images = {}
-    for slot, image in enumerate(found.slots):
-        if image is not None:
-            images[image] = bytearray((found.offset + rows * found.chunk) * SECTOR)
-    for sector in range(rows * found.chunk):
-        blocks = row_of_volume(found, volume, sector)
+    images = {image: [bytes(found.offset * SECTOR)] for image in found.slots if image is not None}
+    for row in range(rows):
+        chunks = chunks_of_volume(found, volume, row)
         for slot, image in enumerate(found.slots):
             if image is not None:
-                images[image][(found.offset + sector) * SECTOR:(found.offset + sector + 1) * SECTOR] = blocks[slot]
-    return [bytes(images[image]) for image in sorted(images)]
+                images[image].append(chunks[slot])
+    return [b"".join(images.pop(image)) for image in sorted(images)]
 
 
-def row_of_volume(found, volume, sector):
-    """The blocks of a sector row of an array that holds a volume, by their slots."""
-    row, inner = divmod(sector, found.chunk)
-    made = cells(found.level, found.pattern, found.members, row)
-    starts = {slot: ((row * found.data + item) * found.chunk + inner) * SECTOR
-              for slot, item in enumerate(made) if isinstance(item, int)}
-    blocks = {slot: volume[start:start + SECTOR] for slot, start in starts.items()}
-    items = list(blocks)
+def chunks_of_volume(found, volume, row):
+    """The chunks of a row of an array that holds a volume, by their slots."""
+    made, wide = cells(found.level, found.pattern, found.members, row), found.chunk * SECTOR
+    starts = {slot: (row * found.data + item) * wide for slot, item in enumerate(made) if isinstance(item, int)}
+    chunks = {slot: volume[start:start + wide] for slot, start in starts.items()}
+    items = list(chunks)
     if "P" in made:
-        blocks[made.index("P")] = added([blocks[slot] for slot in items])
+        chunks[made.index("P")] = added([chunks[slot] for slot in items])
     if "Q" in made:
         logs = exponents(found.pattern, found.syndrome, found.members, row)
-        blocks[made.index("Q")] = added([times(blocks[slot], logs[slot]) for slot in items])
-    return blocks
+        chunks[made.index("Q")] = added([times(chunks[slot], logs[slot]) for slot in items])
+    return chunks
 
 
 def put_file_system(volume, data):

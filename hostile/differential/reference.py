@@ -1,17 +1,15 @@
 """A reference of the commands of reraid, independent of the program: written from docs/FORMATS.md and docs/LAYOUTS.md, and
-slow and plain where the program is quick. It holds all images and whole answers in memory, and goes through every set of a
-range one by one.
+plain where the program is quick. It holds all images and whole answers in memory, and goes through every set of a range one by
+one.
 
 `answer(words, text, files)` gives status, standard output and standard error of a run with these words over a plan text, where
 `files` has the bytes of each image by its name, and None for a name that is no regular file.
 """
 
-import itertools
 import json
-import struct
 
-from arrays import Product, Row, cells, held, layout_name, page, unsound_rows, volume_sector
-from generated import array_images, put_file_system, words_of
+from arrays import Product, Row, Sums, cells, held, layout_name, page, unsound_rows, volume_sector
+from generated import array_images, put_file_system, volume_of
 from landmarks import first_blocks, groups_of, sightings
 from texts import KINDS, LEVELS, LISTS, PATTERNS, RANKS, SECTOR, SYNDROMES, Plan, Stop, broken_rule, read_plan, read_words
 
@@ -58,9 +56,9 @@ def list_sets(given, text, images):
     first = given.get("from", 0)
     if first > product.total:
         raise Stop(6, f"reraid: cursor {first} is past {product.total}")
-    out = []
+    out, sums = [], Sums(images)
     for _ in range(given.get("pages", 1)):
-        lines, first = page(plan, product, images, first, given.get("size", 100), given.get("span", RANKS - 1))
+        lines, first = page(plan, product, sums, first, given.get("size", 100), given.get("span", RANKS - 1))
         if given.get("form") == "json":
             for rank, found in lines:
                 shown = {"chunk": found.chunk, "level": found.level, "name": layout_name(found), "offset": found.offset,
@@ -79,7 +77,7 @@ def check(given, text, images):
     found = given["set"]
     follow_rules(found, len(images), plan.end)
     tested = min(found.area(plan.end), plan.window)
-    rank, unsound = product.rank_of(found), unsound_rows(found, images, tested)
+    rank, unsound = product.rank_of(found), unsound_rows(found, Sums(images), tested)
     out, good = [f"rank {'-' if rank is None else rank}", f"unsound {unsound} of {tested}"], unsound <= plan.badrows
     for place, group in enumerate(plan.groups):
         at = held(plan, found, group)
@@ -147,16 +145,16 @@ def sample(given):
     size = rows * found.chunk * found.data
     if given.get("marks") == "xfs" and size < 512:
         raise Stop(7, f"reraid: set rule 11 value {size}")
-    words = itertools.islice(words_of(given["number"]), size * SECTOR // 8)
-    volume = bytearray(b"".join(struct.pack("<Q", word) for word in words))
+    volume = volume_of(given["number"], size * SECTOR)
     if given.get("marks") == "xfs":
         put_file_system(volume, found.data)
-    made = array_images(found, rows, bytes(volume))
+    made = array_images(found, rows, volume)
+    del volume
     plan = survey_plan({"levels": [found.level], "missing": found.lost, "members": [found.members]}, made)
     product = Product(plan)
     if product.total >= RANKS:
         raise Stop(5, "reraid: the product has more than 18446744073709551615 sets")
-    lines, after = page(plan, product, made, 0, 1000, RANKS - 1)
+    lines, after = page(plan, product, Sums(made), 0, 1000, RANKS - 1)
     there = "yes" if any(line.word() == found.word() for _, line in lines) else "no"
     marks = sum(len(group[1]) for group in plan.groups)
     return (f"images {images}\nsectors {end}\nmarks {marks}\ntotal {product.total}\nfound {there}\n"

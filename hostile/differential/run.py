@@ -19,13 +19,19 @@ import cases
 import reference
 
 
+SECONDS = 120
+
+
 def run_program(program, case, folder):
-    """What the program answers over real files in this folder."""
+    """What the program answers over real files in this folder; no status, where it has not ended in time."""
     for name, data in case.files.items():
         with open(os.path.join(folder, name), "wb") as file:
             file.write(data)
-    run = subprocess.run([program, *(word.encode("utf-8", "surrogateescape") for word in case.words)], input=case.text, cwd=folder,
-                         capture_output=True, timeout=120, check=False)
+    try:
+        run = subprocess.run([program, *(word.encode("utf-8", "surrogateescape") for word in case.words)], input=case.text, cwd=folder,
+                             capture_output=True, timeout=SECONDS, check=False)
+    except subprocess.TimeoutExpired:
+        return None, b"", f"no end in {SECONDS} seconds\n".encode()
     return run.returncode, run.stdout, run.stderr
 
 

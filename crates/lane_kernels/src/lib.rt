@@ -2,9 +2,9 @@
 //!
 //! Each kernel goes by vectors of 32 lanes, and by a plain loop over the rest that fills no vector. Its
 //! clause gives the whole list of its formula, for every length. The tables of a factor are made once, as a
-//! [`Multiplier`], where many lists take it. `pq_parity` finds lost sectors with them,
-//! `prune_filters` the rows in which images differ, and `bench_kernels` times them. The formulas stand in `specs/Formulas`, the tables of products in
-//! `specs/Tables`.
+//! [`Multiplier`], where many lists take it. `pq_parity` finds lost sectors with them, `member_regions` the
+//! sums of the sectors of all images, and `bench_kernels` times them. The formulas stand in
+//! `specs/Formulas`, the tables of products in `specs/Tables`.
 #![tactic(auto)]
 
 mod blocks;

@@ -26,7 +26,7 @@ mod row_tables;
 mod scanning;
 mod walking;
 
-pub use page_parts::{CursorFault, Line, Lines, ListPage, PageFault, PageList, PageRange};
+pub use page_parts::{CursorFault, Line, Lines, ListPage, PageFault, PageList};
 pub use paging::{page, pages};
 
 #[cfg(test)]

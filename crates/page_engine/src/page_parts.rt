@@ -20,19 +20,6 @@ pub(crate) struct Paging<'a, R, G> {
     pub gate: &'a G,
 }
 
-/// Which pages are asked for.
-#[derive(Clone, Copy)]
-pub struct PageRange {
-    /// The first rank of the first page.
-    pub from: u64,
-    /// The most lines of a page.
-    pub size: u64,
-    /// The most ranks that a page goes through.
-    pub span: u64,
-    /// The most pages.
-    pub count: u64,
-}
-
 /// A parameter set that passes, with its rank.
 #[derive(Drop)]
 pub struct Line {

@@ -11,7 +11,7 @@ ghost use Rattle.page_engine.specs.Pages.{AgreeWith, ArePagesFrom, EndsPage, Hol
 ghost use Rattle.page_engine.specs.Walk.{IsKept, left_after, left_reads, Scans};
 ghost use Rattle.page_engine.specs.declared.page_parts.PageFault.TheVariants.{Cursor, Many};
 
-use crate::page_parts::{CursorFault, ListPage, PageFault, PageList, PageRange, Paging};
+use crate::page_parts::{CursorFault, ListPage, PageFault, PageList, Paging};
 use crate::row_tables::KeptTables;
 use crate::walking::walk;
 use image_source::Images;
@@ -92,38 +92,41 @@ fn next_page<R: Threads + Sync, I: Images, G: Gate + Sync>(
     walk(paging, images, kept, total, from, span)
 }
 
-/// The pages of a plan from a rank on: the page there, then the page where it goes on, until `range.count` are
+/// The pages of a plan from a rank on: the page there, then the page where it goes on, until `count` are
 /// made or one goes on at the total. The tables are made once for all pages.
 pub fn pages<R: Threads + Sync, I: Images, G: Gate + Sync>(
     rt: &R,
     alloc: Global,
     images: &mut I,
     plan: &Plan,
-    range: &PageRange,
+    from: u64,
+    size: u64,
+    span: u64,
+    count: u64,
     gate: &G,
 ) -> Result<PageList, PageFault>
     requires plan { IsPlan plan.now }
     requires lengths { AgreeWith plan.now (I.seen images.old).attached }
-    requires size { 1 ≤ range.now.size }
-    requires count { 1 ≤ range.now.count }
-    ensures pages { IfOk result (ArePagesFrom (told_all (I.seen images.old).attached) plan.now range.now.size range.now.span range.now.count range.now.from) }
+    requires size { 1 ≤ size }
+    requires count { 1 ≤ count }
+    ensures pages { IfOk result (ArePagesFrom (told_all (I.seen images.old).attached) plan.now size span count from) }
     ensures many { 2 ^ 64 ≤ total_of plan.now → IsErrOf result Many }
-    ensures cursor { total_of plan.now < 2 ^ 64 → total_of plan.now < range.now.from → IsErrOf result (Cursor (record { from = range.now.from; total = total_of plan.now })) }
-    ensures ends { IfErr result (EndsPage plan.now range.now.from (I.seen images.old) (I.seen images.new)) }
-    ensures reads { ReadsPages (told_all (I.seen images.old).attached) plan.now range.now.size range.now.span (is_err result) range.now.count range.now.from (I.seen images.old) (I.seen images.new) }
+    ensures cursor { total_of plan.now < 2 ^ 64 → total_of plan.now < from → IsErrOf result (Cursor (record { from = from; total = total_of plan.now })) }
+    ensures ends { IfErr result (EndsPage plan.now from (I.seen images.old) (I.seen images.new)) }
+    ensures reads { ReadsPages (told_all (I.seen images.old).attached) plan.now size span (is_err result) count from (I.seen images.old) (I.seen images.new) }
 {
     let mut kept = KeptTables::new(alloc);
     let mut made = PageList::new(alloc);
-    let mut at = range.from;
+    let mut at = from;
     let paging = Paging {
         rt,
         alloc,
         plan,
-        size: range.size,
+        size,
         gate,
     };
-    for _ in 0..range.count {
-        let found = next_page(&paging, images, &mut kept, at, range.span)?;
+    for _ in 0..count {
+        let found = next_page(&paging, images, &mut kept, at, span)?;
         let (next, total) = (found.next, found.total);
         made.push(found).map_err(|_| PageFault::Memory)?;
         if next == total {

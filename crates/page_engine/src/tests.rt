@@ -4,7 +4,7 @@ ghost use Rattle.image_source.specs.Memory.{seen_of};
 ghost use Rattle.search_plan.specs.Plans.{IsPlan};
 ghost use Rattle.page_engine.specs.Pages.{AgreeWith};
 
-use crate::{ListPage, PageRange, page, pages};
+use crate::{ListPage, page, pages};
 use arrayvec::ArrayVec;
 use image_source::{Images, MemImages};
 use landmark_rules::{Groups, MarkTests};
@@ -119,13 +119,9 @@ fn three_pages(rt: HostRuntime) -> Result<(), Fail> {
     let plan = two_levels(rt.alloc());
     let mut images = three_images(&rt, [&[1; 1024], &[3; 1024], &[7; 1024]])?;
     assert!(rt; agree(&images, &plan));
-    let range = PageRange {
-        from: 3,
-        size: 7,
-        span: 7,
-        count: 5,
-    };
-    let made = pages(&rt, rt.alloc(), &mut images, &plan, &range, &OpenGate).expect(&rt, "pages");
+    let made = pages(&rt, rt.alloc(), &mut images, &plan, 3, 7, 7, 5, &OpenGate).expect(
+        &rt, "pages",
+    );
     let made = made.as_slice();
     assert_eq!(rt; made.len(), 3);
     assert_eq!(rt; (made[0].lines.as_slice().len(), made[0].next), (7, 10));

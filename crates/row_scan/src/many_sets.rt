@@ -81,8 +81,8 @@ fn image_regions(alloc: Global, plan: &Plan) -> Result<Regions, Memory>
     Regions::new(alloc, plan.lengths.len(), BLOCK)
 }
 
-/// The same with the room that it takes: the tallies as they begin, and a place for each verdict. The tallies become
-/// those of all tested rows of the sets: how many more may be unsound, and None where more are than may be.
+/// A scan with the room that it takes: a region for each image, the tallies as they begin, and a place for each verdict.
+/// The tallies become those of all tested rows: how many more may be unsound, and None where more are than may be.
 fn judge<R: Threads + Sync, I: Images, G: Gate + Sync>(
     threads: &Threading<R, G>,
     scanned: &Scanned,

@@ -19,11 +19,12 @@ pub struct ImageSum {
     pub is_zero: bool,
     /// All of the sectors are zeros.
     pub is_blank: bool,
-    /// It is the sector of this image.
+    /// It is the sector of this image, of the first images alone.
     pub is_image: [bool; MOST],
 }
 
-/// What it is at each of the first `places` places of the regions of the first `images` images.
+/// What it is at each of the first `places` places of the regions of the first `images` images. Of other places and
+/// images nothing is said.
 pub fn sum_images(regions: &Regions, images: usize, places: usize) -> [ImageSum; BLOCK]
     requires images { images ≤ MOST }
     requires places { places ≤ BLOCK }

@@ -134,7 +134,7 @@ impl Regions {
     }
 
     /// Finds the lost data among the `count` sectors of each missing member, from member sector `first`
-    /// on, by the needed ones.
+    /// on, by the needed ones. What else the regions hold may change.
     #[tactic(auto, using(crate::proofs::Room::room_inside))]
     pub fn solve_data(&mut self, geo: &Geometry, first: u64, count: usize)
         requires room { IsRoomFor (length geo.now.slots.items) count self.old }

@@ -16,8 +16,8 @@ lost_data cells = count_by (λ c. c.missing && is_data c.part) cells
 abbrev pub is_p_lost : List Cell → Bool
 is_p_lost cells = list_any (λ c. c.missing && is_p c.part) cells
 
--- what the data of a row are found by: the data that are there, P where one of them is missing, and Q where P alone does
--- not tell it
+-- what the data of a row are found by: the present data, P where a data block is missing, and Q where P alone does not
+-- tell it
 abbrev pub needs : List Cell → Part → Bool
 needs cells (Block k) = true
 needs cells P = nat_le 1 (lost_data cells)
@@ -28,7 +28,7 @@ abbrev pub AgreeInNeeded : List Cell → List ℕ → List ℕ → Type 0
 AgreeInNeeded cells bytes others =
     (place : ℕ) → IfSome (slice_get cells place) (λ cell. cell.missing ≡ false → needs cells cell.part ≡ true → slice_index bytes place ≡ slice_index others place)
 
--- the sectors number `from` to `from + count` of the regions agree so with these columns
+-- `count` sectors of the regions, from number `from` on, agree so with these columns
 abbrev pub AgreeInRows : List Cell → ℕ → ℕ → ℕ → List ℕ → (ℕ → ℕ → List ℕ) → Type 0
 AgreeInRows cells stride from count sectors column =
     (j x : ℕ) → from ≤ j → j < from + count → x < 512 → AgreeInNeeded cells (region_column (length cells) stride sectors j x) (column j x)

@@ -17,10 +17,10 @@ use image_source::SECTOR;
 use lane_kernels::weigh;
 use raid_params::Cell;
 
-/// Finds the lost sectors of the missing data cells, number `from` to `from + count`, and writes them
-/// into their regions. The regions lie one after the other, each of `stride` bytes.
+/// Finds `count` lost sectors of each missing data cell, from number `from` on, and writes them into its
+/// region. The regions lie one after the other, each of `stride` bytes.
 ///
-/// The regions need hold no more than what the lost data are found by: the data that are there, P where
+/// The regions need hold no more than what the lost data are found by: the present data, P where
 /// a data block is missing, and Q where P alone does not tell. What lies in the region of another parity
 /// block counts for nothing.
 pub fn solve_data(cells: &[Cell], sectors: &mut [u8], stride: usize, from: usize, count: usize)

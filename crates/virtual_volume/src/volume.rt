@@ -206,8 +206,8 @@ fn write_all<I: Images, K: Sink>(
 ///
 /// Memory may run out only before anything is read or written. After that only a fault of the images or
 /// of the sink ends the work: then a prefix of the volume was written, of whole sectors where the images
-/// failed. No more sectors are read than the volume has: the present data, and for a lost block P, or Q
-/// where P alone does not tell it.
+/// failed. No more sectors are read than the volume has: the present data, and for a lost data block
+/// P, or Q where P alone does not tell it.
 #[tactic(auto, using(crate::proofs::Sets::served_head, crate::proofs::Sets::served_slots))]
 pub fn write_volume<I: Images, K: Sink>(
     alloc: Global,

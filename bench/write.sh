@@ -1,5 +1,5 @@
 #!/bin/sh
-# Times `write` and `rebuild` beside cat of the same bytes, best of three runs each. Four members of level 6, left-symmetric with
+# Times `write` and `rebuild` beside cat of the present images, best of three runs each. Four members of level 6, left-symmetric with
 # the order after Q: zeros for data, P and Q, which agree in every row, so members can be lost and found.
 # Usage: bench/write.sh [MEGABYTES] [FOLDER]
 set -eu
@@ -21,7 +21,7 @@ against() {
     { echo "the volume differs" >&2; exit 1; }
 uname -srm
 sed -n 's/^model name[^:]*: //p' /proc/cpuinfo | head -n 1
-echo "4 members of $megabytes MiB, chunks of 64 KiB, from the page cache; cat reads the images that are there"
+echo "4 members of $megabytes MiB, chunks of 64 KiB, from the page cache; cat reads the present images"
 against "write, nothing lost" "a b c d" "$program" write set=6:ls:after-q:128:0:0,1,2,3 -- a b c d
 against "write, one lost" "a b c" "$program" write set=6:ls:after-q:128:0:-,0,1,2 -- a b c
 against "write, two lost" "a b" "$program" write set=6:ls:after-q:128:0:-,-,0,1 -- a b

@@ -17,8 +17,6 @@ mod laws;
 mod operands;
 mod reading;
 mod table;
-#[cfg(test)]
-mod tests;
 mod values;
 mod word;
 

@@ -5,7 +5,5 @@
 #![tactic(auto)]
 
 mod objects;
-#[cfg(test)]
-mod tests;
 
 pub use objects::{json_line, json_next};

@@ -16,11 +16,11 @@ use Rattle.prune_filters.proofs.Law.{decide}
 use Rattle.prune_filters.specs.Hopeful.{is_hopeful}
 use Rattle.prune_filters.specs.Marks.{groups_may_hold}
 use Rattle.prune_filters.specs.Rows.{rows_decide, rows_may_hold}
-use Rattle.search_plan.specs.Plans.{IsPlan}
+use Rattle.search_plan.specs.Plans.{IsPlan, AgreeWith}
 use Rattle.search_plan.specs.Sets.{passes_at, sets_of, total_of}
 use Rattle.std.proofs.lemmas.Option.{slice_get_within}
 use Rattle.search_plan.specs.declared.plan.Plan.{Plan}
-use Rattle.page_engine.specs.Pages.{is_decided, is_hopeful_at, most_scanned, AgreeWith}
+use Rattle.page_engine.specs.Pages.{is_decided, is_hopeful_at, most_scanned}
 use Rattle.page_engine.specs.Walk.{AddsAll, BeginBefore, BeginOpen, ended_at, FillsPage, Finishes, Gathers, GoesOn, IsCandidate, Scans, spared_by, StandsAt, tested_by, Wait}
 use Rattle.page_engine.specs.declared.gathering.Gathered.{Gathered}
 use Rattle.page_engine.specs.declared.page_parts.Line.{Line}

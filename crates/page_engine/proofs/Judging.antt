@@ -15,9 +15,9 @@ use Rattle.row_scan.specs.Scan.{IsScannable}
 use Rattle.row_scan.specs.Verdicts.{offsets_of}
 use Rattle.row_scan.specs.Windows.{is_in_window, scan_reads, sectors_below, window_sectors}
 use Rattle.row_scan.specs.declared.samples.TheConstants.{SAMPLES}
-use Rattle.search_plan.specs.Plans.{IsPlan}
+use Rattle.search_plan.specs.Plans.{IsPlan, AgreeWith}
 use Rattle.search_plan.specs.declared.plan.Plan.{Plan}
-use Rattle.page_engine.specs.Pages.{AgreeWith, HoldsSet, most_scanned}
+use Rattle.page_engine.specs.Pages.{HoldsSet, most_scanned}
 use Rattle.page_engine.specs.declared.page_parts.Line.{Line}
 use Rattle.page_engine.proofs.SetTests.{few_slots, scannable}
 

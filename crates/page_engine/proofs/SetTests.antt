@@ -11,10 +11,9 @@ use Rattle.raid_params.specs.Validity.{fewest, has_members, has_pattern, has_syn
 use Rattle.raid_terms.specs.Parity.{passes_parity}
 use Rattle.landmark_rules.specs.Groups.{groups_hold}
 use Rattle.row_scan.specs.Scan.{IsScannable}
-use Rattle.search_plan.specs.Plans.{IsPlan}
+use Rattle.search_plan.specs.Plans.{IsPlan, AgreeWith}
 use Rattle.search_plan.specs.declared.plan.Plan.{Plan}
 use Rattle.search_plan.specs.Sets.{passes, passes_at, sets_of}
-use Rattle.page_engine.specs.Pages.{AgreeWith}
 use Rattle.page_engine.specs.Walk.{IsCandidate}
 use Rattle.page_engine.specs.declared.page_parts.Line.{Line}
 use Rattle.set_product.proofs.Shaped.{set_at, shaped_set}

@@ -5,7 +5,7 @@ use Rattle.std.specs.Option.{option_map_or}
 use Rattle.std.specs.declared.option.Option.{Option}
 use Rattle.std.specs.declared.option.Option.TheVariants.{None, Some}
 use Rattle.image_source.specs.Causes.{Rose}
-use Rattle.image_source.specs.Seen.{Image, OnlyReads, Seen}
+use Rattle.image_source.specs.Seen.{OnlyReads, Seen}
 use Rattle.raid_params.specs.declared.types.Geometry.{Geometry}
 use Rattle.raid_terms.specs.Page.{page_next, stop_of, IsPage}
 use Rattle.candidate_enum.specs.Survivors.{all_admitted}
@@ -131,7 +131,3 @@ pub record ReadsPages (told : Option (List (List ℕ))) (plan : Plan) (size span
   pub ends : List ℕ
   pub are : ArePageEnds told plan size span failed count from ends
   pub reads : OnlyReads old new (table_reads plan + scans_to told plan from ends * most_scanned plan)
-
--- the attached images have the planned lengths, and there are no others
-abbrev pub AgreeWith : Plan → List Image → Type 0
-AgreeWith plan attached = map (λ image. image.sectors) attached ≡ plan.lengths.items

@@ -1,9 +1,9 @@
 //! The sets of a page that a walk admits, until they are tested.
 ghost use Rattle.std.specs.Prelude.{◌≡◌, ◌+◌, ◌<◌, ◌≤◌, ◌^◌, IfErr, IfOk, length};
 ghost use Rattle.image_source.specs.Attached.{told_all};
-ghost use Rattle.search_plan.specs.Plans.{IsPlan};
+ghost use Rattle.search_plan.specs.Plans.{IsPlan, AgreeWith};
 ghost use Rattle.search_plan.specs.Sets.{total_of};
-ghost use Rattle.page_engine.specs.Pages.{AgreeWith, EndsTest, is_decided as is_decided_set};
+ghost use Rattle.page_engine.specs.Pages.{EndsTest, is_decided as is_decided_set};
 ghost use Rattle.page_engine.specs.Walk.{AdmitsHopeful, Gathers, IsCandidate, IsHeadOf, IsPart, Scans, spared_by, StandsAt, tested_by};
 
 use crate::page_parts::{Line, Lines, PageFault, Paging};

@@ -28,6 +28,3 @@ mod walking;
 
 pub use page_parts::{CursorFault, Line, Lines, ListPage, PageFault, PageList};
 pub use paging::{page, pages};
-
-#[cfg(test)]
-mod tests;

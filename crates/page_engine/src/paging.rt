@@ -5,9 +5,9 @@ ghost use Rattle.image_source.specs.Attached.{told_all};
 ghost use Rattle.image_source.specs.Seen.{OnlyReads};
 ghost use Rattle.raid_terms.specs.Page.{stop_of};
 ghost use Rattle.row_scan.specs.declared.many_sets.TheConstants.{MOST_SETS};
-ghost use Rattle.search_plan.specs.Plans.{IsPlan};
+ghost use Rattle.search_plan.specs.Plans.{IsPlan, AgreeWith};
 ghost use Rattle.search_plan.specs.Sets.{total_of};
-ghost use Rattle.page_engine.specs.Pages.{AgreeWith, ArePagesFrom, EndsPage, HoldsSet, IsPageOf, page_reads, ReadsPages, tested_to};
+ghost use Rattle.page_engine.specs.Pages.{ArePagesFrom, EndsPage, HoldsSet, IsPageOf, page_reads, ReadsPages, tested_to};
 ghost use Rattle.page_engine.specs.Walk.{IsKept, left_after, left_reads, Scans};
 ghost use Rattle.page_engine.specs.declared.page_parts.PageFault.TheVariants.{Cursor, Many};
 

@@ -2,8 +2,8 @@
 ghost use Rattle.std.specs.Prelude.{◌≡◌, ◌<◌, ◌==◌, All, Contains, IfErr, IfOk, ℕ, Some, length, position, slice_get, slice_index, slice_index_or};
 ghost use Rattle.image_source.specs.Attached.{told_all};
 ghost use Rattle.prune_filters.specs.Xors.{RowTable};
-ghost use Rattle.search_plan.specs.Plans.{IsPlan};
-ghost use Rattle.page_engine.specs.Pages.{AgreeWith, EndsTest};
+ghost use Rattle.search_plan.specs.Plans.{IsPlan, AgreeWith};
+ghost use Rattle.page_engine.specs.Pages.{EndsTest};
 ghost use Rattle.page_engine.specs.declared.row_tables.OffsetTables.{OffsetTables as OffsetTablesOf};
 ghost use Rattle.page_engine.specs.Walk.{IsHeadOf, IsKept, left_after, left_reads, Spends, StandsFor};
 

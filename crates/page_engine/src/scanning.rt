@@ -5,10 +5,10 @@ ghost use Rattle.image_source.specs.Attached.{told_all};
 ghost use Rattle.image_source.specs.Seen.{OnlyReads};
 ghost use Rattle.raid_params.specs.declared.limits.TheConstants.{MOST};
 ghost use Rattle.row_scan.specs.Verdicts.{verdicts_of};
-ghost use Rattle.search_plan.specs.Plans.{IsPlan};
+ghost use Rattle.search_plan.specs.Plans.{IsPlan, AgreeWith};
 ghost use Rattle.search_plan.specs.Sets.{total_of};
 ghost use Rattle.search_plan.specs.declared.plan.Plan.{Plan as PlanOf};
-ghost use Rattle.page_engine.specs.Pages.{AgreeWith, EndsTest, HoldsSet, most_scanned};
+ghost use Rattle.page_engine.specs.Pages.{EndsTest, HoldsSet, most_scanned};
 ghost use Rattle.page_engine.specs.Walk.{AddsWaiting, BeginBefore, BeginOpen, ended_at, Finishes, Gathers, Scans, spared_by, StandsAt, Wait};
 
 use crate::gathering::Gathered;

@@ -3,12 +3,12 @@ ghost use Rattle.std.specs.Prelude.{◌≡◌, ◌-◌, ◌<◌, ◌≤◌, ◌^
 ghost use Rattle.std.specs.Option.{option_map};
 ghost use Rattle.image_source.specs.Attached.{told_all};
 ghost use Rattle.raid_terms.specs.Page.{stop_of};
-ghost use Rattle.search_plan.specs.Plans.{IsPlan};
+ghost use Rattle.search_plan.specs.Plans.{IsPlan, AgreeWith};
 ghost use Rattle.search_plan.specs.Sets.{total_of};
 ghost use Rattle.prune_filters.specs.Rows.{needs_table as head_needs_table};
 ghost use Rattle.prune_filters.specs.Xors.{AreXors};
 ghost use Rattle.row_scan.specs.declared.many_sets.TheConstants.{MOST_SETS};
-ghost use Rattle.page_engine.specs.Pages.{AgreeWith, EndsTest, HoldsSet, IsPageOf, tested_to};
+ghost use Rattle.page_engine.specs.Pages.{EndsTest, HoldsSet, IsPageOf, tested_to};
 ghost use Rattle.page_engine.specs.Walk.{ended_at, Finishes, Gathers, IsHeadOf, IsKept, IsPart, left_after, left_reads, Scans, spared_by, StandsAt, tested_by};
 
 use crate::gathering::{Gathered, gather_admitted};

@@ -1,7 +1,7 @@
 -- A set that is tested against a plan: its rows can be tested, and how the command ends.
 use Rattle.std.proofs.Common.{◌≡◌, ℕ, ◌≤◌, ◌^◌, min, Bool, if◌then◌else◌, List, [], ◌∷◌, length, None, Some, Option, Result, Ok, Err, All, IfOk, IfSome, sym, ap, ◌∙◌, subst, arith}
 use Rattle.std.proofs.lemmas.Bool.{le-leb}
-use Rattle.image_source.specs.Seen.{Image}
+use Rattle.image_source.specs.Seen.{Image, lengths_of}
 use Rattle.page_engine.proofs.SetTests.{all_reach, end_near}
 use Rattle.search_plan.specs.Sets.{total_of}
 use Rattle.search_plan.specs.Plans.{IsPlan}
@@ -13,7 +13,7 @@ use Rattle.row_scan.specs.Scan.{IsScannable}
 use Rattle.plan_jobs.proofs.Prepared.{SaysPlan, if_some, images_agree, names_agree}
 use Rattle.run_ends.proofs.Printed.{ends_printed}
 use Rattle.run_ends.proofs.Refusals.{ruled_shape}
-use Rattle.run_ends.specs.Agreement.{lengths_of, plan_fault}
+use Rattle.run_ends.specs.Agreement.{plan_fault}
 use Rattle.plan_jobs.specs.Checking.{check_output, check_refusal, check_text}
 use Rattle.run_ends.specs.Jobs.{Ends, IsPrinted, Refuses}
 use Rattle.plan_jobs.specs.Preparing.{IsPrepared}

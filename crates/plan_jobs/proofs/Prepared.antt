@@ -6,11 +6,10 @@ use Rattle.std.proofs.lemmas.Bool.{eqb-true}
 use Rattle.std.proofs.lemmas.Grind.{same_number_lists}
 use Rattle.std.proofs.lemmas.List.{length-map}
 use Rattle.image_source.specs.Causes.{Rose}
-use Rattle.image_source.specs.Seen.{Image, Seen}
-use Rattle.page_engine.specs.Pages.{AgreeWith}
-use Rattle.search_plan.specs.Plans.{IsPlan}
+use Rattle.image_source.specs.Seen.{Image, Seen, lengths_of}
+use Rattle.search_plan.specs.Plans.{IsPlan, AgreeWith}
 use Rattle.search_plan.specs.declared.plan.Plan.{Plan}
-use Rattle.run_ends.specs.Agreement.{count_fault, length_fault, lengths_of, other_length, plan_fault}
+use Rattle.run_ends.specs.Agreement.{count_fault, length_fault, other_length, plan_fault}
 use Rattle.run_ends.specs.Jobs.{Counts, HasCauses, Orders, Refuses}
 use Rattle.plan_jobs.specs.Preparing.{EndsPreparing, IsPrepared}
 use Rattle.plan_jobs.specs.Plans.{IsTextOf, PlanReading, Reads, plan_refusal}

@@ -6,12 +6,13 @@ use Rattle.std.specs.declared.option.Option.TheVariants.{None, Some}
 use Rattle.image_source.specs.Seen.{Image}
 use Rattle.raid_params.specs.declared.types.Geometry.{Geometry}
 use Rattle.raid_params.specs.Validity.{first_fault}
-use Rattle.raid_terms.specs.Parity.{tested_rows, unsound_rows}
+use Rattle.raid_terms.specs.Parity.{unsound_rows}
 use Rattle.landmark_rules.specs.Groups.{fits_of, groups_hold, held_origin, misfits_of}
 use Rattle.landmark_rules.specs.declared.marks.Group.{Group}
 use Rattle.search_plan.specs.Sets.{rank_of}
 use Rattle.search_plan.specs.declared.plan.Plan.{Plan}
 use Rattle.plan_text.specs.Spelling.{group_name, line}
+use Rattle.row_scan.specs.ImageRows.{rows_of}
 use Rattle.row_scan.specs.Scan.{read_rows}
 use Rattle.plan_jobs.specs.Plans.{PlanReading, Reads, plan_refusal}
 use Rattle.run_ends.specs.Printing.{or_dash, share_line}
@@ -25,10 +26,6 @@ rule_refusal set names plan = option_map (λ fault. Set fault) (first_fault set 
 -- the first refusal of `check`
 abbrev pub check_refusal : Geometry → List ℕ → PlanReading → ℕ → List Image → Option Stop
 check_refusal set text reading names attached = plan_refusal text reading names attached (rule_refusal set names)
-
--- how many rows of the set are tested under a plan
-abbrev pub rows_tested : Plan → Geometry → ℕ
-rows_tested plan set = tested_rows set plan.end plan.limits.window
 
 -- the most sectors that `check` reads over a plan: the tested rows of the set on each image, and none where nothing
 -- can break a row
@@ -72,12 +69,12 @@ tests_hold plan set unsound = nat_le unsound plan.limits.badrows && groups_hold 
 -- what `check` prints where `unsound` rows are unsound
 unfoldable pub report : Plan → Geometry → ℕ → List ℕ
 report plan set unsound =
-    rank_line (rank_of plan set) ++ unsound_line unsound (rows_tested plan set)
+    rank_line (rank_of plan set) ++ unsound_line unsound (rows_of plan set)
     ++ group_lines plan set 0 plan.groups ++ verdict_line (tests_hold plan set unsound)
 
 -- what `check` prints
 abbrev pub check_text : List (List ℕ) → Plan → Geometry → List ℕ
-check_text images plan set = report plan set (unsound_rows images set (rows_tested plan set))
+check_text images plan set = report plan set (unsound_rows images set (rows_of plan set))
 
 -- over what the plan's text says, where the bytes of the images are known
 abbrev pub check_output : Geometry → PlanReading → Option (List (List ℕ)) → Option (List ℕ)

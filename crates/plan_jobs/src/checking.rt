@@ -1,7 +1,8 @@
 //! The command `check`.
 ghost use Rattle.std.specs.Prelude.{[], ◌∷◌, ◌≡◌, ◌<◌, ◌≤◌, ◌*◌, ◌+◌, ◌++◌, ◌^◌, ◌⊎◌, IfErr, IfOk, IfSome, IsTrue, None, OnOk, Option, Some, false, length, min};
 ghost use Rattle.run_ends.specs.Agreement.{plan_fault as plan_fault_of};
-ghost use Rattle.plan_jobs.specs.Checking.{check_output, check_reads, check_refusal, check_text as check_text_of, rank_line, rows_tested, rule_refusal, unsound_line, verdict_line};
+ghost use Rattle.plan_jobs.specs.Checking.{check_output, check_reads, check_refusal, check_text as check_text_of, rank_line, rule_refusal, unsound_line, verdict_line};
+ghost use Rattle.row_scan.specs.ImageRows.{rows_of};
 ghost use Rattle.run_ends.specs.Jobs.{Ends, HasCauses, Leaves, Orders, Refuses};
 ghost use Rattle.run_ends.specs.Source.{TakesFew};
 ghost use Rattle.std.specs.Io.KnownBytes.{IsAtEnd};
@@ -165,7 +166,7 @@ fn unsound_rows<I: Images>(
     plan: &Plan,
 ) -> Result<u64, Stop>
     requires set { IsScannable set.now plan.now.end (I.seen images.old).attached }
-    ensures told { IfOk result (λ n. IfSome (told_all (I.seen images.old).attached) (λ bytes. n ≡ unsound_rows_of bytes set.now (rows_tested plan.now set.now))) }
+    ensures told { IfOk result (λ n. IfSome (told_all (I.seen images.old).attached) (λ bytes. n ≡ unsound_rows_of bytes set.now (rows_of plan.now set.now))) }
     ensures reads { OnlyReads (I.seen images.old) (I.seen images.new) (check_reads set.now (I.seen images.old).attached plan.now) }
     ensures ends { IfErr result (λ stop. ((stop ≡ ImageFaultOf) × Rose (I.seen images.old).faults (I.seen images.new).faults) ⊎ (stop ≡ OutOfMemoryOf)) }
 {

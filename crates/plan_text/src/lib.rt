@@ -33,8 +33,6 @@ mod sections;
 mod set;
 mod set_word;
 mod spelled;
-#[cfg(test)]
-mod tests;
 mod text;
 mod writer;
 

@@ -16,5 +16,4 @@ pub mod Ordered
 pub mod Turns
 pub mod Decided
 pub mod Admitted
-pub mod TestPlans
 mod Settled

@@ -12,9 +12,8 @@ use Rattle.raid_params.specs.declared.types.Geometry.{Geometry}
 use Rattle.raid_terms.specs.Parity.{member_byte}
 use Rattle.member_regions.specs.Members.{held, Reaches}
 use Rattle.member_regions.specs.Regions.{HoldRead, Room}
-use Rattle.search_plan.specs.Plans.{IsPlan}
+use Rattle.search_plan.specs.Plans.{IsPlan, AgreeWith}
 use Rattle.search_plan.specs.declared.plan.Plan.{Plan}
-use Rattle.prune_filters.specs.Reading.{AreOfPlan}
 use Rattle.prune_filters.specs.Xors.{tested_with, HoldRows}
 
 -- the images in the slots of their numbers
@@ -53,7 +52,7 @@ length_mapped [] = refl
 length_mapped (image ∷ attached) = ap (λ n. suc n) (length_mapped attached)
 
 -- so each slot's reaches to the end of the plan
-pub order_reaches : (plan : Plan) (attached : List Image) (slots : List (Option ℕ)) (to k : ℕ) (d : Option ℕ) → IsPlan plan → AreOfPlan plan attached → slots ≡ in_order (length plan.lengths.items) →
+pub order_reaches : (plan : Plan) (attached : List Image) (slots : List (Option ℕ)) (to k : ℕ) (d : Option ℕ) → IsPlan plan → AgreeWith plan attached → slots ≡ in_order (length plan.lengths.items) →
     to ≤ plan.end → k < length slots → Reaches attached to (get_or slots k d)
 order_reaches plan attached slots to k d is_plan are e within lt =
     let count : length slots ≡ length plan.lengths.items = ap length e ∙ order_length (length plan.lengths.items) in

@@ -22,8 +22,6 @@ mod prefix;
 mod row_counts;
 mod rows;
 mod settling;
-#[cfg(test)]
-mod tests;
 mod xor_table;
 
 pub use laws::{

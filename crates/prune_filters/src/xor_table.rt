@@ -8,9 +8,9 @@ ghost use Rattle.raid_params.specs.Validity.{is_chunk};
 ghost use Rattle.raid_params.specs.declared.limits.TheConstants.{MOST};
 ghost use Rattle.member_regions.specs.Regions.{IsRoomFor};
 ghost use Rattle.member_regions.specs.declared.regions.TheConstants.{BLOCK};
-ghost use Rattle.search_plan.specs.Plans.{IsPlan};
+ghost use Rattle.search_plan.specs.Plans.{IsPlan, AgreeWith};
 ghost use Rattle.prune_filters.specs.Xors.{most_tested, tested_with, AreAllFew, AreFew, AreSumsOf, AreXorTables, CountFirst, CountRows, HoldRows, IsSumOf, IsXorTable};
-ghost use Rattle.prune_filters.specs.Reading.{AreOfPlan, EndsTable};
+ghost use Rattle.prune_filters.specs.Reading.{EndsTable};
 ghost use Rattle.prune_filters.specs.declared.xor_table.TableFault.TheVariants.{Memory};
 
 use crate::row_counts::{RowCounts, count_row, one_if};
@@ -76,7 +76,7 @@ impl XorTable {
         requires plan { IsPlan plan.now }
         requires chunks { All (λ chunk. IsTrue (is_chunk chunk)) chunks.now }
         requires offset { offset < 2 ^ 55 }
-        requires images { AreOfPlan plan.now (I.seen images.old).attached }
+        requires images { AgreeWith plan.now (I.seen images.old).attached }
         ensures long { IfOk result (λ tables. length tables.items ≡ length chunks.now) }
         ensures told { IfOk result (λ tables. IfSome (told_all (I.seen images.old).attached)
             (λ bytes. AreXorTables bytes plan.now chunks.now offset tables.items)) }
@@ -105,7 +105,7 @@ impl XorTable {
         requires plan { IsPlan plan.now }
         requires chunk { IsTrue (is_chunk chunk) }
         requires offset { offset < 2 ^ 55 }
-        requires images { AreOfPlan plan.now (I.seen images.old).attached }
+        requires images { AgreeWith plan.now (I.seen images.old).attached }
         ensures told { IfOk result (λ table. IfSome (told_all (I.seen images.old).attached)
             (λ bytes. IsXorTable bytes plan.now chunk offset table)) }
         ensures reads { OnlyReads (I.seen images.old) (I.seen images.new)
@@ -226,7 +226,7 @@ fn count_rows<I: Images>(
     requires plan { IsPlan plan.now }
     requires chunks { All (λ chunk. IsTrue (is_chunk chunk)) chunks.now }
     requires offset { offset < 2 ^ 55 }
-    requires images { AreOfPlan plan.now (I.seen images.old).attached }
+    requires images { AgreeWith plan.now (I.seen images.old).attached }
     requires room { IsRoomFor (length plan.now.lengths.items) BLOCK regions.old }
     requires tables { length tables.old.items ≡ length chunks.now }
     requires none { (bytes : List (List ℕ)) (members chunk offset : ℕ) → All (CountRows bytes members chunk offset 0) tables.old.items }

@@ -2,7 +2,6 @@ pub mod Sets
 pub mod Columns
 pub mod Parity
 pub mod Unbroken
-pub mod TestSets
 pub mod ImageRows
 pub mod Adding
 pub mod NextRun

@@ -22,8 +22,6 @@ mod image_rows;
 mod image_sums;
 mod left_out;
 mod many_sets;
-#[cfg(test)]
-mod many_tests;
 mod one_set;
 mod reading;
 mod rows;
@@ -32,8 +30,6 @@ mod samples;
 mod scan_parts;
 mod sweeping;
 mod tallies;
-#[cfg(test)]
-mod tests;
 mod verdict_list;
 mod wanted;
 

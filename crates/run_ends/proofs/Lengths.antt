@@ -4,8 +4,8 @@ use Rattle.std.specs.Option.{option_map}
 use Rattle.std.proofs.lemmas.List.{take_more}
 use Rattle.std.proofs.lemmas.List.Sums.{fold-append}
 use Rattle.std.proofs.lemmas.List.Elements.{All-head, All-tail}
-use Rattle.image_source.specs.Seen.{Image}
-use Rattle.run_ends.specs.Agreement.{end_of, lengths_of, shortest}
+use Rattle.image_source.specs.Seen.{Image, lengths_of}
+use Rattle.run_ends.specs.Agreement.{end_of, shortest}
 
 -- the length of an image, 0 where there is none
 pub sectors_at : (images : List Image) (i : ℕ) → unwrap_or (option_map (λ image. image.sectors) (slice_get images i)) 0 ≡ slice_index (lengths_of images) i

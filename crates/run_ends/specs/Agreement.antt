@@ -4,15 +4,11 @@ use Rattle.std.specs.List.{find, range_with_len}
 use Rattle.std.specs.Option.{option_map}
 use Rattle.std.specs.declared.option.Option.{Option}
 use Rattle.std.specs.declared.option.Option.TheVariants.{None, Some}
-use Rattle.image_source.specs.Seen.{Image}
+use Rattle.image_source.specs.Seen.{Image, lengths_of}
 use Rattle.raid_params.specs.declared.limits.TheConstants.{MOST}
 use Rattle.search_plan.specs.declared.plan.Plan.{Plan}
 use Rattle.run_ends.specs.declared.agreement.Disagreement.{Disagreement}
 use Rattle.run_ends.specs.declared.agreement.Kind.TheVariants.{Count, Length, End}
-
--- the lengths of images in sectors
-abbrev pub lengths_of : List Image → List ℕ
-lengths_of attached = map (λ image. image.sectors) attached
 
 -- the number of images differs
 abbrev pub count_fault : ℕ → ℕ → Disagreement

@@ -19,7 +19,8 @@ use Rattle.image_source.specs.Seen.{Image, whole_sectors}
 use Rattle.member_regions.specs.Members.{held}
 use Rattle.raid_params.specs.declared.types.Geometry.{Geometry}
 use Rattle.sample_arrays.specs.Arrays.{end_of, sampled, sampled_image, IsFile}
-use Rattle.sample_job.specs.Sampling.{sampled_bytes, sampled_images}
+use Rattle.sample_arrays.specs.Laws.{sampled_bytes}
+use Rattle.sample_job.specs.Sampling.{sampled_images}
 
 -- images that reach to an end are known whole
 whole : (bytes : List ℕ) (end : ℕ) → length bytes ≡ 512 * end → whole_sectors bytes ≡ bytes
@@ -39,7 +40,7 @@ told_files (file ∷ files) end all =
 
 pub all_told : (number : ℕ) (set : Geometry) (rows : ℕ) (xfs : Bool) → All (IsFile (end_of set.head rows)) (sampled number set rows xfs) →
     told_all (sampled_images number set rows xfs) ≡ Some (sampled_bytes number set rows xfs)
-unfolding sampled_images sampled_bytes
+unfolding sampled_images
 all_told number set rows xfs all = told_files (sampled number set rows xfs) (end_of set.head rows) all
 
 -- and have `end` sectors

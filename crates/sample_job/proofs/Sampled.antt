@@ -19,7 +19,8 @@ use Rattle.search_plan.specs.Sets.{rank_of, total_of}
 use Rattle.search_plan.specs.declared.plan.Plan.{Plan}
 use Rattle.survey_job.specs.Surveying.{survey_plan}
 use Rattle.sample_job.proofs.Attached.{all_told}
-use Rattle.sample_job.specs.Sampling.{array_refusals, found_text, is_among, sample_ask, sample_output, sample_plan, sample_refusal, sample_text, sampled_bytes, sampled_images}
+use Rattle.sample_arrays.specs.Laws.{sampled_bytes}
+use Rattle.sample_job.specs.Sampling.{array_refusals, found_text, is_among, sample_ask, sample_output, sample_plan, sample_refusal, sample_text, sampled_images}
 
 -- the images that are attached are known whole
 pub told : (number : ℕ) (set : Geometry) (rows : ℕ) (xfs : Bool) (attached : List Image) → All (IsFile (end_of set.head rows)) (sampled number set rows xfs) →

@@ -20,6 +20,7 @@ use Rattle.command_words.specs.Commands.{plain_survey}
 use Rattle.survey_engine.specs.declared.ask.Ask.{Ask}
 use Rattle.survey_job.specs.Surveying.{ask_of, survey_plan}
 use Rattle.sample_arrays.specs.Arrays.{end_of, sampled}
+use Rattle.sample_arrays.specs.Laws.{sampled_bytes}
 use Rattle.sample_arrays.specs.declared.arrays.TheConstants.{LEAST_MARKED, MOST_SAMPLED}
 use Rattle.sample_job.specs.declared.sampling.TheConstants.{FIRST_PAGE}
 use Rattle.run_ends.specs.Printing.{share_line}
@@ -27,12 +28,9 @@ use Rattle.run_ends.specs.Stops.{first_of, many_refusal}
 use Rattle.run_ends.specs.declared.stop.Stop.{Stop}
 use Rattle.run_ends.specs.declared.stop.Stop.TheVariants.{Set, ArraySectors, VolumeSectors}
 
--- the images of the array as they are attached, and their bytes
+-- the images of the array as they are attached
 unfoldable pub sampled_images : ℕ → Geometry → ℕ → Bool → List Image
 sampled_images number set rows xfs = map (λ file. image_of file.1) (sampled number set rows xfs)
-
-unfoldable pub sampled_bytes : ℕ → Geometry → ℕ → Bool → List (List ℕ)
-sampled_bytes number set rows xfs = map (λ file. file.1) (sampled number set rows xfs)
 
 -- what the survey is asked for: what `survey` asks for without operands, but for the level, the number of members
 -- and the number of those that are missing

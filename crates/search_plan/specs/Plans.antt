@@ -1,6 +1,7 @@
 -- Which plans there are: their numbers are within the limits of the tool, and their lists rise.
-use Rattle.std.specs.Prelude.{ℕ, ◌≤◌, ◌<◌, ◌^◌, IsTrue, List, length, map, All}
+use Rattle.std.specs.Prelude.{ℕ, ◌≡◌, ◌≤◌, ◌<◌, ◌^◌, IsTrue, List, length, map, All}
 use Rattle.std.specs.List.Sorted.{IsStrictlyIncreasing}
+use Rattle.image_source.specs.Seen.{Image, lengths_of}
 use Rattle.raid_params.specs.declared.limits.TheConstants.{MOST, MOST_MISSING, MOST_OFFSETS, MOST_ORIGINS}
 use Rattle.raid_params.specs.declared.types.Bounds.{Bounds}
 use Rattle.raid_params.specs.Validity.{is_chunk}
@@ -59,3 +60,7 @@ pub record IsPlan (plan : Plan) : Type 0 where
   pub limits : AreLimits plan.limits
   pub tests : AreTests plan.tests
   pub groups : AreGroups plan.lengths.items plan.groups
+
+-- the attached images have the planned lengths, and there are no others
+abbrev pub AgreeWith : Plan → List Image → Type 0
+AgreeWith plan attached = lengths_of attached ≡ plan.lengths.items

@@ -5,7 +5,7 @@ use Rattle.std.specs.Io.KnownBytes.{Appends, Keeps}
 use Rattle.std.proofs.lemmas.Bool.{cases_lt, lt-ltb}
 use Rattle.std.proofs.lemmas.List.Elements.{All-cons, All-nil}
 use Rattle.image_source.specs.Causes.{Rose}
-use Rattle.image_source.specs.Seen.{Image, OnlyReads, Seen}
+use Rattle.image_source.specs.Seen.{Image, OnlyReads, Seen, lengths_of}
 use Rattle.image_source.specs.Streams.{AppendsFront}
 use Rattle.raid_params.specs.declared.limits.TheConstants.{MOST}
 use Rattle.raid_params.specs.declared.types.GeoFault.{GeoFault}
@@ -16,7 +16,7 @@ use Rattle.virtual_volume.specs.Gained.{AppendsSectors}
 use Rattle.virtual_volume.specs.Served.{IsServed}
 use Rattle.virtual_volume.specs.declared.volume.VolumeFault.{VolumeFault}
 use Rattle.virtual_volume.specs.declared.volume.VolumeFault.TheVariants.{ReadFault as VolumeRead, WriteFault as VolumeWrite, Memory as VolumeMemory}
-use Rattle.run_ends.specs.Agreement.{count_fault, end_of, lengths_of, limits_fault, shortest}
+use Rattle.run_ends.specs.Agreement.{count_fault, end_of, limits_fault, shortest}
 use Rattle.run_ends.specs.Jobs.{Ends, Leaves}
 use Rattle.set_jobs.specs.Mapping.{set_refusal}
 use Rattle.run_ends.specs.Stops.{IsRefusal, first_of, stop_of_volume}

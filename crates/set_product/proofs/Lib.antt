@@ -8,4 +8,3 @@ pub mod Shaped
 pub mod Equal
 pub mod Ranked
 pub mod Uniqueness
-pub mod TestPlans

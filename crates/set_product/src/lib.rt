@@ -20,6 +20,3 @@ pub use laws::{
     heads_hold_their_ranks, heads_make_the_product, ranks_and_sets_undo, same_sets_are_equal,
 };
 pub use product::{product_rank, product_set, product_total};
-
-#[cfg(test)]
-mod tests;

@@ -6,7 +6,7 @@ use Rattle.std.proofs.lemmas.List.Concat.{flat_map-append}
 use Rattle.std.proofs.lemmas.List.Elements.{All-get_or, filter_map-append}
 use Rattle.std.proofs.lemmas.Bool.Decides.{nat_tests}
 use Rattle.image_source.specs.Attached.{told_all}
-use Rattle.image_source.specs.Seen.{Image, AreTold, AreWithin, OnlyReads, Seen}
+use Rattle.image_source.specs.Seen.{Image, AreTold, AreWithin, OnlyReads, Seen, lengths_of}
 use Rattle.image_source.proofs.Reading.{reads_join, reads_up}
 use Rattle.landmark_rules.specs.declared.marks.Kind.TheVariants.{Gpt as GptKind}
 use Rattle.std.specs.Prelude.{count_by}
@@ -18,7 +18,6 @@ use Rattle.raid_params.specs.declared.limits.TheConstants.{MOST_MARKS, MOST_ORIG
 use Rattle.survey_engine.specs.Kept.{with_number}
 use Rattle.survey_engine.specs.Origins.{has_entries, hints_at, hints_by, origins_of, with_numbers}
 use Rattle.survey_engine.specs.Sightings.{is_same_kind, sector_of}
-use Rattle.survey_engine.specs.Surveys.{lengths_of}
 use Rattle.survey_engine.specs.declared.landmark.Landmark.{Landmark}
 use Rattle.survey_engine.specs.declared.landmark.Landmark.TheVariants.{Gpt, Boot, FileRecord, Super, Agf, Agi}
 use Rattle.survey_engine.specs.declared.sighting.Sighting.{Sighting}

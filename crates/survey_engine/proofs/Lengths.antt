@@ -3,10 +3,9 @@ use Rattle.std.proofs.Common.{◌≡◌, ℕ, zero, suc, ◌+◌, ◌^◌, ◌<�
 use Rattle.std.specs.Option.{option_map}
 use Rattle.std.proofs.lemmas.List.{length-map, take_all}
 use Rattle.std.proofs.lemmas.List.Elements.{All-map}
-use Rattle.image_source.specs.Seen.{Image}
+use Rattle.image_source.specs.Seen.{Image, lengths_of}
 use Rattle.search_plan.specs.Plans.{AreLengths}
 use Rattle.raid_params.specs.declared.limits.TheConstants.{MOST}
-use Rattle.survey_engine.specs.Surveys.{lengths_of}
 
 -- one more length
 pub lengths_more : (attached : List Image) (i n : ℕ) → option_map (λ a. a.sectors) (slice_get attached i) ≡ Some n → take (i + 1) (lengths_of attached) ≡ take i (lengths_of attached) ++ n ∷ []

@@ -11,4 +11,3 @@ pub mod Owners
 pub mod Marks
 pub mod Once
 pub mod Law
-pub mod TestAsks

@@ -1,7 +1,7 @@
 -- The plan that a survey makes.
 use Rattle.std.specs.Prelude.{ℕ, ◌≡◌, ◌^◌, ◌≤◌, ◌<◌, List, length, map, All}
 use Rattle.image_source.specs.Causes.{Rose}
-use Rattle.image_source.specs.Seen.{Image, Seen}
+use Rattle.image_source.specs.Seen.{Image, Seen, lengths_of}
 use Rattle.raid_params.specs.declared.limits.TheConstants.{MOST}
 use Rattle.search_plan.specs.Plans.{AreBounds, AreLimits, AreTests}
 use Rattle.search_plan.specs.declared.plan.Plan.{Plan}
@@ -26,10 +26,6 @@ pub record IsSurveyable (ask : Ask) (attached : List Image) : Type 0 where
   pub most : length attached ≤ MOST
   pub short : All (λ image. image.sectors < 2 ^ 55) attached
   pub long : All (λ image. ask.end ≤ image.sectors) attached
-
--- the lengths of the attached images, in sectors
-abbrev pub lengths_of : List Image → List ℕ
-lengths_of attached = map (λ image. image.sectors) attached
 
 -- the sightings that count, in images of these bytes
 abbrev pub found_in : Ask → List Image → List (List ℕ) → List Sighting

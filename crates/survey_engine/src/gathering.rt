@@ -2,11 +2,11 @@
 ghost use Rattle.std.specs.Prelude.{◌≡◌, ◌+◌, ◌-◌, ◌*◌, ◌^◌, ◌<◌, ◌≤◌, fold, length, slice_index, All, IfErr, IfOk, OnOk, IfSome};
 ghost use Rattle.image_blocks.specs.Sweep.{next_of};
 ghost use Rattle.image_source.specs.Attached.{told_all};
-ghost use Rattle.image_source.specs.Seen.{OnlyReads};
+ghost use Rattle.image_source.specs.Seen.{OnlyReads, lengths_of};
 ghost use Rattle.survey_engine.specs.Blocks.{found_in_block, found_in_row};
 ghost use Rattle.survey_engine.specs.Kept.{kept_with};
 ghost use Rattle.survey_engine.specs.Sightings.{is_early, AreBefore, AreSightings};
-ghost use Rattle.survey_engine.specs.Surveys.{found_in, lengths_of, EndsSurvey, IsSurveyable};
+ghost use Rattle.survey_engine.specs.Surveys.{found_in, EndsSurvey, IsSurveyable};
 
 use crate::ask::Ask;
 use crate::count::Counted;

@@ -2,13 +2,12 @@
 ghost use Rattle.std.specs.Prelude.{◌≡◌, ℕ, ◌+◌, ◌*◌, ◌^◌, ◌<◌, ◌≤◌, if◌then◌else◌, length, slice_index, take, All, IfOk, IfSome, MatchOption, OnOk};
 ghost use Rattle.image_source.specs.Attached.{told_all};
 ghost use Rattle.image_source.specs.Causes.{HasCause};
-ghost use Rattle.image_source.specs.Seen.{OnlyReads};
+ghost use Rattle.image_source.specs.Seen.{OnlyReads, lengths_of};
 ghost use Rattle.std.specs.List.{filter_map, insert};
 ghost use Rattle.landmark_rules.specs.declared.marks.Kind.TheVariants.{Gpt as GptKind};
 ghost use Rattle.survey_engine.specs.Kept.{with_number};
 ghost use Rattle.survey_engine.specs.Origins.{has_entries, hints_at, origins_of, with_numbers, AreOrigins};
 ghost use Rattle.survey_engine.specs.Sightings.{is_same_kind, AreSightings, IsSighting};
-ghost use Rattle.survey_engine.specs.Surveys.{lengths_of};
 
 use crate::landmark::Landmark;
 use crate::sighting::Sighting;

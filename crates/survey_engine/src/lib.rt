@@ -19,8 +19,6 @@ mod landmark;
 mod owner;
 mod planning;
 mod sighting;
-#[cfg(test)]
-mod tests;
 
 pub use ask::Ask;
 pub use planning::{SurveyFault, survey};

@@ -1,9 +1,9 @@
 //! The survey.
 ghost use Rattle.std.specs.Prelude.{◌≡◌, ◌+◌, ◌-◌, ◌*◌, ◌≤◌, length, slice_index, IfErr, IfOk, IfSome};
 ghost use Rattle.image_source.specs.Attached.{told_all};
-ghost use Rattle.image_source.specs.Seen.{OnlyReads};
+ghost use Rattle.image_source.specs.Seen.{OnlyReads, lengths_of};
 ghost use Rattle.search_plan.specs.Plans.{IsPlan};
-ghost use Rattle.survey_engine.specs.Surveys.{lengths_of, Adds, EndsSurvey, IsSurveyable, Repeats};
+ghost use Rattle.survey_engine.specs.Surveys.{Adds, EndsSurvey, IsSurveyable, Repeats};
 
 use crate::ask::Ask;
 use crate::gathering::gather;

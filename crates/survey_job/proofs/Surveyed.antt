@@ -6,14 +6,14 @@ use Rattle.std.proofs.lemmas.List.Elements.{All-cons, All-nil}
 use Rattle.std.proofs.lemmas.Bool.{eqb-true, eqb-false}
 use Rattle.arrayvec.specs.ArrayVec.{ArrayVec}
 use Rattle.image_source.specs.Causes.{Rose}
-use Rattle.image_source.specs.Seen.{Image, OnlyReads, Seen}
+use Rattle.image_source.specs.Seen.{Image, OnlyReads, Seen, lengths_of}
 use Rattle.raid_params.specs.declared.limits.TheConstants.{MOST, MOST_MARKS}
 use Rattle.search_plan.specs.Plans.{AreBounds, AreLimits}
 use Rattle.command_words.specs.Commands.{AreAsked}
 use Rattle.command_words.specs.declared.command.SurveyWords.{SurveyWords}
 use Rattle.run_ends.proofs.Lengths.{end_near}
 use Rattle.run_ends.proofs.Limits.{all_reach, no_limits}
-use Rattle.run_ends.specs.Agreement.{end_of, limits_fault, lengths_of, shortest}
+use Rattle.run_ends.specs.Agreement.{end_of, limits_fault, shortest}
 use Rattle.run_ends.specs.Jobs.{HasCauses, IsUnreached, Orders, Refuses}
 use Rattle.run_ends.specs.Stops.{IsExcused}
 use Rattle.run_ends.specs.declared.agreement.Disagreement.{Disagreement}

@@ -3,7 +3,7 @@ use Rattle.std.specs.Prelude.{ℕ, ◌+◌, ◌*◌, ◌-◌, slice_index, max, 
 use Rattle.std.specs.Option.{option_map}
 use Rattle.std.specs.declared.option.Option.{Option}
 use Rattle.arrayvec.specs.ArrayVec.{ArrayVec}
-use Rattle.image_source.specs.Seen.{Image}
+use Rattle.image_source.specs.Seen.{Image, lengths_of}
 use Rattle.raid_params.specs.declared.limits.TheConstants.{MOST_MARKS}
 use Rattle.search_plan.specs.declared.plan.Plan.{Plan}
 use Rattle.survey_engine.specs.Origins.{origins_of}
@@ -12,7 +12,7 @@ use Rattle.survey_engine.specs.Surveys.{found_in}
 use Rattle.survey_engine.specs.declared.ask.Ask.{Ask}
 use Rattle.plan_text.specs.PlanText.{plan_text}
 use Rattle.command_words.specs.declared.command.SurveyWords.{SurveyWords}
-use Rattle.run_ends.specs.Agreement.{end_of, lengths_of, limits_fault}
+use Rattle.run_ends.specs.Agreement.{end_of, limits_fault}
 use Rattle.run_ends.specs.declared.stop.Stop.{Stop}
 use Rattle.run_ends.specs.declared.stop.Stop.TheVariants.{Images}
 

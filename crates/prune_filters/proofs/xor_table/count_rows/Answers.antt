@@ -4,7 +4,7 @@ use Rattle.image_source.specs.Attached.{told_all}
 use Rattle.image_source.specs.Seen.{Image}
 use Rattle.member_regions.proofs.IfTold.{if_any, if_both, if_told}
 use Rattle.member_regions.specs.Regions.{HoldRead}
-use Rattle.prune_filters.specs.Reading.{AreOfPlan}
+use Rattle.search_plan.specs.Plans.{AgreeWith}
 use Rattle.prune_filters.specs.Xors.{most_tested, AreKnown, AreXorTables, CountFirst, HoldRows, RowTable}
 use Rattle.prune_filters.proofs.Ordered.{hold_rows, in_order, order_length, order_reaches, plan_near, reads_next, reads_within}
 use Rattle.prune_filters.proofs.Settled.{all_known, first_counts, known_tables}
@@ -60,8 +60,8 @@ pub read-requires-clause-held : goal.read-requires-clause-held
 read-requires-clause-held g c = λ k d lt.
     let within = c.most_rows-rows.ensures.within in
     let at = c.all_images-geo.ensures.offset in
-    let are : AreOfPlan c.args.plan.now (g.I.Images.seen c.loop-first.images).attached
-    = subst (λ (l : List Image). AreOfPlan c.args.plan.now l) (sym c.loop-first.invariant.reads.attached) c.requires.images in
+    let are : AgreeWith c.args.plan.now (g.I.Images.seen c.loop-first.images).attached
+    = subst (λ (l : List Image). AgreeWith c.args.plan.now l) (sym c.loop-first.invariant.reads.attached) c.requires.images in
     order_reaches c.args.plan.now (g.I.Images.seen c.loop-first.images).attached c.all_images-geo.result.slots.items
     (c.all_images-geo.result.head.offset + (c.loop-first.first + c.min-count.result)) k d c.requires.plan are
     (c.all_images-geo.ensures.slots ∙ ap in_order c.len.ensures.value) (omega arith) lt

@@ -1,5 +1,6 @@
 use Rattle.std.proofs.Common.{◌≡◌, take}
-use Rattle.run_ends.specs.Agreement.{lengths_of, shortest}
+use Rattle.image_source.specs.Seen.{lengths_of}
+use Rattle.run_ends.specs.Agreement.{shortest}
 use Rattle.run_ends.proofs.agreement.shortest.Given as goal
 
 abbrev pub invariant-loop-image : goal.invariant-loop-image

@@ -2,14 +2,13 @@ use Rattle.std.proofs.Common.{◌≡◌, ◌-◌, ℕ, ◌*◌, ◌≤◌, List,
 use Rattle.std.proofs.lemmas.Bool.Decides.{nat_tests}
 use Rattle.std.proofs.lemmas.List.{length-map}
 use Rattle.image_source.specs.Attached.{told_all}
-use Rattle.image_source.specs.Seen.{Image}
+use Rattle.image_source.specs.Seen.{Image, lengths_of}
 use Rattle.image_source.proofs.Reading.{reads_none, reads_up}
 use Rattle.image_blocks.specs.Sweep.{next_count, next_of, sectors_of, GoesOn}
 use Rattle.raid_params.specs.declared.limits.TheConstants.{MOST}
 use Rattle.survey_engine.specs.Blocks.{found_in_block}
 use Rattle.survey_engine.specs.Kept.{kept_with}
 use Rattle.survey_engine.specs.Sightings.{is_early}
-use Rattle.survey_engine.specs.Surveys.{lengths_of}
 use Rattle.survey_engine.proofs.Order.{before_none}
 use Rattle.survey_engine.proofs.Sweeping.{few_fold, few_is, few_none, end_near, long_lengths, reads_next, reads_of, reads_to, starts, told_block, told_end, told_start}
 use Rattle.survey_engine.proofs.gathering.gather.Goals as goal

@@ -3,7 +3,7 @@ use Rattle.std.proofs.lemmas.List.Elements.{All-same}
 use Rattle.survey_engine.specs.Origins.{AreOrigins}
 use Rattle.survey_engine.specs.Owners.{groups_of}
 use Rattle.survey_engine.specs.Sightings.{AreSightings}
-use Rattle.survey_engine.specs.Surveys.{lengths_of}
+use Rattle.image_source.specs.Seen.{lengths_of}
 use Rattle.survey_engine.proofs.Law.{are_groups}
 use Rattle.survey_engine.proofs.Lengths.{are_lengths, are_short, reach_end}
 use Rattle.survey_engine.proofs.planning.survey.Goals as goal

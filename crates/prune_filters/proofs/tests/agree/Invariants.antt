@@ -1,8 +1,0 @@
-use Rattle.std.proofs.Common.{◌≡◌, ℕ, ◌<◌, get_or, Some}
-use Rattle.std.specs.List.{slice_get}
-use Rattle.std.specs.Option.{option_map}
-use Rattle.image_source.specs.Memory.{seen_of}
-use Rattle.prune_filters.proofs.tests.agree.Given as goal
-
-abbrev pub invariant-loop-image : goal.invariant-loop-image
-invariant-loop-image l = (i : ℕ) → i < l.image → option_map (λ one. one.sectors) (slice_get (seen_of l.images).attached i) ≡ Some (get_or l.planned i 0)

@@ -1,8 +1,0 @@
-use Rattle.std.proofs.Common.{◌≡◌, ◌+◌, ◌<◌, ◌^◌, length, All}
-use Rattle.row_scan.proofs.many_tests.some_sets.Given as goal
-
-abbrev pub invariant-loop-k : goal.invariant-loop-k
-invariant-loop-k l = record {
-  long : length l.sets.items + l.first ≡ l.k;
-  near : All (λ geo. geo.head.offset < 2 ^ 55) l.sets.items;
-}

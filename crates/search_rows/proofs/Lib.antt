@@ -1,0 +1,3 @@
+pub mod TestAsks
+pub mod TestPlans
+pub mod TestSets

@@ -1,0 +1,24 @@
+//! Tests of the libraries of the search, over objects in memory.
+//!
+//! What each answers was worked out by hand: `products` the sets of a plan by rank, `prefixes` which beginnings of slot
+//! lists may pass, `row_counts` and `many_sets` the rows of sets, `listings` pages, `surveys` the plans of images.
+//! They stand here, since a library with tests is proved a second time with them. Their plans stand in `plans`, lists
+//! and images in `objects`.
+#![tactic(auto)]
+
+#[cfg(test)]
+mod listings;
+#[cfg(test)]
+mod many_sets;
+#[cfg(test)]
+mod objects;
+#[cfg(test)]
+mod plans;
+#[cfg(test)]
+mod prefixes;
+#[cfg(test)]
+mod products;
+#[cfg(test)]
+mod row_counts;
+#[cfg(test)]
+mod surveys;

@@ -1,0 +1,200 @@
+//! Scans of many sets over images in memory.
+ghost use Rattle.std.specs.Prelude.{◌≡◌, ◌+◌, ◌≤◌, ◌<◌, ◌^◌, length, vec_len, All, IfOk, IsTrue, true};
+ghost use Rattle.raid_params.specs.Validity.{is_shaped};
+ghost use Rattle.row_scan.specs.declared.many_sets.TheConstants.{MOST_SETS};
+
+use crate::objects::{three_images, three_reach};
+use crate::plans::three_rows;
+use crate::row_counts::three_members;
+use image_source::{Images, MemImages};
+use raid_params::Geometry;
+use row_scan::{Gate, MOST_SETS, OpenGate, ScanFault, Verdicts, scan};
+use search_plan::Plan;
+use std::alloc::Global;
+use std::hint;
+use std::process::Abort;
+use std::sync::atomic::{AtomicBool, Ordering};
+use std::test::Fail;
+use std::thread::Threads;
+
+/// How often a piece looks for the other before it gives up.
+const TURNS: u32 = 50_000_000;
+
+// Sets number `first` on of three members, of which every third begins at sector 0 and the others at sector 1.
+fn some_sets(alloc: Global, first: usize, count: usize) -> Result<Vec<Geometry>, Fail>
+    requires { first + count ≤ MOST_SETS }
+    ensures long { IfOk result (λ sets. vec_len sets ≡ count) }
+    ensures near { IfOk result (λ sets. All (λ geo. geo.head.offset < 2 ^ 55) sets.items) }
+{
+    let mut sets = Vec::new(alloc);
+    for k in first..first + count {
+        sets.push(set_at(if k % 3 == 0 { 0 } else { 1 }))?;
+    }
+    Ok(sets)
+}
+
+// Three members from a sector on, which is near.
+fn set_at(offset: u64) -> Geometry
+    requires { offset ≤ 1 }
+    ensures { result.head.offset < 2 ^ 55 }
+{
+    let mut geo = three_members(1);
+    geo.head.offset = offset;
+    geo
+}
+
+// Whether all sets have a sensible shape over three images.
+fn are_shaped(sets: &[Geometry]) -> bool
+    ensures { IsTrue result → All (λ geo. is_shaped geo 3 ≡ true) sets.now }
+{
+    sets.iter().all(|geo| geo.is_shaped(3))
+}
+
+// A scan over three images.
+#[tactic(auto, using(crate::proofs::TestSets::all_scannable))]
+fn verdicts<R: Threads + Sync + Abort, G: Gate + Sync>(
+    rt: &R,
+    alloc: Global,
+    images: &mut MemImages,
+    plan: &Plan,
+    sets: &[Geometry],
+    gate: &G,
+) -> Result<Verdicts, ScanFault>
+    requires some { 1 ≤ length sets.now }
+    requires most { length sets.now ≤ MOST_SETS }
+    requires near { All (λ geo. geo.head.offset < 2 ^ 55) sets.now }
+    requires lengths { length plan.now.lengths.items ≡ 3 }
+    requires end { plan.now.end ≡ 2 }
+{
+    assert!(rt; are_shaped(sets));
+    assert!(rt; three_reach(images, 2));
+    scan(rt, alloc, images, plan, sets, gate)
+}
+
+// Sector 0 of the images holds 1, 3 and the last one's first byte. Sector 1 is a sound row, since 2, 4 and 6 cancel
+// bit by bit.
+fn two_rows<R: AllocGlobal>(rt: &R, first: u8) -> Result<MemImages, Fail> {
+    let (mut a, mut b, mut c) = ([1; 1024], [3; 1024], [first; 1024]);
+    a[512..].fill(2);
+    b[512..].fill(4);
+    c[512..].fill(6);
+    three_images(rt, [&a, &b, &c])
+}
+
+// 1, 3 and 7 do not cancel bit by bit, so that sector 0 is no sound row.
+fn broken_first<R: AllocGlobal>(rt: &R) -> Result<MemImages, Fail> {
+    two_rows(rt, 7)
+}
+
+// The verdict of a scan of set number `k` alone.
+fn alone<R: Threads + Sync + Abort + AllocGlobal>(rt: &R, k: usize) -> Result<bool, Fail>
+    requires { k < MOST_SETS }
+{
+    let plan = three_rows(rt.alloc(), 2, 2);
+    let mut images = broken_first(rt)?;
+    let sets = some_sets(rt.alloc(), k, 1)?;
+    let found = verdicts(rt, rt.alloc(), &mut images, &plan, &sets, &OpenGate)?;
+    Ok(found.as_slice().contains(&true))
+}
+
+// Each verdict of a scan of `count` sets is that of a scan of the set alone: against those that begin at sector 0.
+fn scan_of<R: Threads + Sync + Abort + AllocGlobal>(rt: &R, count: usize) -> Result<(), Fail>
+    requires some { 1 ≤ count }
+    requires most { count ≤ MOST_SETS }
+{
+    let plan = three_rows(rt.alloc(), 2, 2);
+    let mut images = broken_first(rt)?;
+    let sets = some_sets(rt.alloc(), 0, count)?;
+    let found = verdicts(rt, rt.alloc(), &mut images, &plan, &sets, &OpenGate)?;
+    assert_eq!(rt; found.as_slice().len(), count);
+    let one_by_one = [alone(rt, 0)?, alone(rt, 1)?, alone(rt, 2)?];
+    assert!(rt; one_by_one == [false, true, true]);
+    for k in 0..found.as_slice().len() {
+        assert_eq!(rt; found.as_slice()[k], one_by_one[k % 3]);
+    }
+    Ok(())
+}
+
+#[test]
+fn one_set(rt: HostRuntime) -> Result<(), Fail> {
+    scan_of(&rt, 1)
+}
+
+#[test]
+fn about_a_piece(rt: HostRuntime) -> Result<(), Fail> {
+    scan_of(&rt, 511)?;
+    scan_of(&rt, 512)?;
+    scan_of(&rt, 513)
+}
+
+#[test]
+fn as_many_as_may_be(rt: HostRuntime) -> Result<(), Fail> {
+    scan_of(&rt, MOST_SETS)
+}
+
+// Three attachments come before: the fourth call is the first reading, and the fifth the second.
+#[test]
+fn a_reading_fails(rt: HostRuntime) -> Result<(), Fail> {
+    let plan = three_rows(rt.alloc(), 2, 2);
+    let sets = some_sets(rt.alloc(), 0, 2)?;
+    for call in 4..6 {
+        let mut images = broken_first(&rt)?;
+        images.fail_call(call)?;
+        let found = verdicts(&rt, rt.alloc(), &mut images, &plan, &sets, &OpenGate);
+        assert!(rt; matches!(found, Err(ScanFault::ReadFault)));
+    }
+    Ok(())
+}
+
+// Pieces 0 and 1 each wait until the other has come.
+#[derive(Drop)]
+struct Meeting {
+    first: AtomicBool,
+    second: AtomicBool,
+    gave_up: AtomicBool,
+}
+
+impl Meeting {
+    fn new() -> Meeting {
+        Meeting {
+            first: AtomicBool::new(false),
+            second: AtomicBool::new(false),
+            gave_up: AtomicBool::new(false),
+        }
+    }
+
+    fn wait_for(&self, other: &AtomicBool) {
+        for _ in 0..TURNS {
+            if other.load(Ordering::SeqCst) {
+                return;
+            }
+            hint::spin_loop();
+        }
+        self.gave_up.store(true, Ordering::SeqCst);
+    }
+}
+
+impl Gate for Meeting {
+    fn pass(&self, piece: usize) {
+        if piece == 0 {
+            self.first.store(true, Ordering::SeqCst);
+            self.wait_for(&self.second);
+        } else if piece == 1 {
+            self.second.store(true, Ordering::SeqCst);
+            self.wait_for(&self.first);
+        }
+    }
+}
+
+// 1, 3 and 2 cancel bit by bit, so that all sets are tested to the end, in two pieces.
+#[test]
+fn pieces_meet(rt: HostRuntime) -> Result<(), Fail> {
+    let mut images = two_rows(&rt, 2)?;
+    let plan = three_rows(rt.alloc(), 2, 2);
+    let sets = some_sets(rt.alloc(), 0, 1024)?;
+    let gate = Meeting::new();
+    let found = verdicts(&rt, rt.alloc(), &mut images, &plan, &sets, &gate)?;
+    assert!(rt; !gate.gave_up.load(Ordering::SeqCst));
+    assert!(rt; found.as_slice().iter().all(|passes| *passes));
+    Ok(())
+}

@@ -1,0 +1,84 @@
+//! Small products whose sets are known.
+ghost use Rattle.std.specs.Prelude.{◌<◌, ◌^◌};
+ghost use Rattle.search_plan.specs.Plans.{IsPlan};
+ghost use Rattle.search_plan.specs.Sets.{total_of};
+
+use crate::plans::{largest, one_missing, two_levels};
+use raid_params::{Geometry, Level, Pattern};
+use search_plan::Plan;
+use set_product::{Heads, product_rank, product_set, product_total};
+use std::process::Abort;
+
+// An empty slot.
+const NO: Option<u8> = None;
+
+// The set of a rank that the plan has.
+fn set_of<R: Abort>(rt: &R, plan: &Plan, rank: u64) -> Geometry
+    requires { IsPlan plan.now }
+    ensures { total_of plan.now < 2 ^ 64 }
+{
+    let total = product_total(plan).expect(rt, "few sets");
+    assert!(rt; rank < total);
+    product_set(plan, rank)
+}
+
+// Whether the set of this rank has these slots, and its rank is this.
+fn stands<R: Abort>(rt: &R, plan: &Plan, rank: u64, slots: &[Option<u8>]) -> bool
+    requires { IsPlan plan.now }
+{
+    let geo = set_of(rt, plan, rank);
+    geo.slots.as_slice() == slots && product_rank(plan, &geo) == Some(rank)
+}
+
+// Two members of level 0 take 3 * 2 orders of two images, three take 3 * 2 of all, and three of
+// level 5 as many.
+#[test]
+fn two_levels_of_three_images(rt: HostRuntime) {
+    let plan = two_levels(rt.alloc());
+    assert_eq!(rt; product_total(&plan), Some(18));
+    let first = set_of(&rt, &plan, 0);
+    assert!(rt; matches!(first.head.level, Level::Raid0));
+    assert_eq!(rt; first.head.members, 2);
+    let last = set_of(&rt, &plan, 12);
+    assert!(rt; matches!(last.head.level, Level::Raid5));
+    assert!(rt; matches!(last.head.pattern, Pattern::Ls));
+    assert!(rt; stands(&rt, &plan, 0, &[Some(0), Some(1)]));
+    assert!(rt; stands(&rt, &plan, 12, &[Some(0), Some(1), Some(2)]));
+}
+
+// Two images in three slots leave one empty, in 3 * 2 ways.
+#[test]
+fn one_empty_slot(rt: HostRuntime) {
+    let plan = one_missing(rt.alloc());
+    assert_eq!(rt; product_total(&plan), Some(6));
+    assert!(rt; stands(&rt, &plan, 0, &[Some(0), Some(1), NO]));
+    assert!(rt; stands(&rt, &plan, 5, &[NO, Some(1), Some(0)]));
+}
+
+// 39,936 heads of 77 * 16! slot lists each are more than 2 to the power 64.
+#[test]
+fn too_many_sets(rt: HostRuntime) {
+    assert_eq!(rt; product_total(&largest(rt.alloc())), None);
+}
+
+// Six sets have two members of level 0, twelve three: six of level 0 and six of level 5. The second
+// head has its sets from rank 6 on, and a walk from rank 11 on begins there.
+#[test]
+fn three_heads(rt: HostRuntime) {
+    let plan = two_levels(rt.alloc());
+    assert_eq!(rt; product_total(&plan), Some(18));
+    let mut heads = Heads::of(&plan);
+    let first = heads.next().expect(&rt, "a head");
+    assert_eq!(rt;
+        (first.head.members, first.space.members, first.first),
+        (2, 2, 0)
+    );
+    heads.skip_to(11);
+    let second = heads.next().expect(&rt, "a head");
+    assert_eq!(rt;
+        (second.head.members, second.space.members, second.first),
+        (3, 3, 6)
+    );
+    heads.skip_to(18);
+    assert!(rt; heads.next().is_none());
+}

@@ -1,0 +1,358 @@
+//! Surveys over images in memory. Checksums of headers were computed by zlib.
+ghost use Rattle.std.specs.Prelude.{◌≡◌, [], ◌∷◌, ◌+◌, ◌≤◌, ◌<◌, ◌^◌, length, All, IsSomeAnd, IsTrue, slice_get};
+ghost use Rattle.image_source.specs.Memory.{seen_of};
+ghost use Rattle.survey_engine.specs.Surveys.{IsAsk};
+
+use arrayvec::ArrayVec;
+use image_source::{Images, MemImages};
+use landmark_rules::{Kind, Mark, MarkTests, Rule};
+use raid_params::{Bounds, Level, Pattern, SECTORS_END, Syndrome};
+use search_plan::{DropAt, Kinds, Limits, Plan};
+use std::process::Abort;
+use std::test::Fail;
+use survey_engine::{Ask, SurveyFault, survey};
+
+// MyLBA 1, AlternateLBA 127, the entries from block 2 on, 128 of 128 bytes.
+const HEADER: [u8; 92] = [
+    0x45, 0x46, 0x49, 0x20, 0x50, 0x41, 0x52, 0x54, 0x00, 0x00, 0x01, 0x00, 0x5c, 0x00, 0x00, 0x00,
+    0xf3, 0xf6, 0xc2, 0xeb, 0x00, 0x00, 0x00, 0x00, 0x01, 0x00, 0x00, 0x00, 0x00, 0x00, 0x00, 0x00,
+    0x7f, 0x00, 0x00, 0x00, 0x00, 0x00, 0x00, 0x00, 0x00, 0x00, 0x00, 0x00, 0x00, 0x00, 0x00, 0x00,
+    0x00, 0x00, 0x00, 0x00, 0x00, 0x00, 0x00, 0x00, 0x01, 0x02, 0x03, 0x04, 0x05, 0x06, 0x07, 0x08,
+    0x09, 0x0a, 0x0b, 0x0c, 0x0d, 0x0e, 0x0f, 0x10, 0x02, 0x00, 0x00, 0x00, 0x00, 0x00, 0x00, 0x00,
+    0x80, 0x00, 0x00, 0x00, 0x80, 0x00, 0x00, 0x00, 0x00, 0x00, 0x00, 0x00,
+];
+
+// MyLBA 1, AlternateLBA 63: the first header of the own table of an image of 64 sectors.
+const OWN_FIRST: [u8; 92] = [
+    0x45, 0x46, 0x49, 0x20, 0x50, 0x41, 0x52, 0x54, 0x00, 0x00, 0x01, 0x00, 0x5c, 0x00, 0x00, 0x00,
+    0x1f, 0xb6, 0x4d, 0x87, 0x00, 0x00, 0x00, 0x00, 0x01, 0x00, 0x00, 0x00, 0x00, 0x00, 0x00, 0x00,
+    0x3f, 0x00, 0x00, 0x00, 0x00, 0x00, 0x00, 0x00, 0x00, 0x00, 0x00, 0x00, 0x00, 0x00, 0x00, 0x00,
+    0x00, 0x00, 0x00, 0x00, 0x00, 0x00, 0x00, 0x00, 0x01, 0x02, 0x03, 0x04, 0x05, 0x06, 0x07, 0x08,
+    0x09, 0x0a, 0x0b, 0x0c, 0x0d, 0x0e, 0x0f, 0x10, 0x02, 0x00, 0x00, 0x00, 0x00, 0x00, 0x00, 0x00,
+    0x80, 0x00, 0x00, 0x00, 0x80, 0x00, 0x00, 0x00, 0x00, 0x00, 0x00, 0x00,
+];
+
+// MyLBA 63, AlternateLBA 1: its last.
+const OWN_LAST: [u8; 92] = [
+    0x45, 0x46, 0x49, 0x20, 0x50, 0x41, 0x52, 0x54, 0x00, 0x00, 0x01, 0x00, 0x5c, 0x00, 0x00, 0x00,
+    0xf8, 0x9c, 0x7e, 0xa7, 0x00, 0x00, 0x00, 0x00, 0x3f, 0x00, 0x00, 0x00, 0x00, 0x00, 0x00, 0x00,
+    0x01, 0x00, 0x00, 0x00, 0x00, 0x00, 0x00, 0x00, 0x00, 0x00, 0x00, 0x00, 0x00, 0x00, 0x00, 0x00,
+    0x00, 0x00, 0x00, 0x00, 0x00, 0x00, 0x00, 0x00, 0x01, 0x02, 0x03, 0x04, 0x05, 0x06, 0x07, 0x08,
+    0x09, 0x0a, 0x0b, 0x0c, 0x0d, 0x0e, 0x0f, 0x10, 0x20, 0x00, 0x00, 0x00, 0x00, 0x00, 0x00, 0x00,
+    0x80, 0x00, 0x00, 0x00, 0x80, 0x00, 0x00, 0x00, 0x00, 0x00, 0x00, 0x00,
+];
+
+// A mark: its kind, image, sector and rule.
+type Line = (Kind, u8, u64, Rule);
+
+fn is_rule(a: &Rule, b: &Rule) -> bool {
+    match (a, b) {
+        (Rule::At(d), Rule::At(e)) => d == e,
+        (Rule::Either(d, e), Rule::Either(f, g)) => d == f && e == g,
+        (
+            Rule::Every { step, count, plus },
+            Rule::Every {
+                step: other_step,
+                count: other_count,
+                plus: other_plus,
+            },
+        ) => step == other_step && count == other_count && plus == other_plus,
+        _ => false,
+    }
+}
+
+fn is_mark(mark: &Mark, line: &Line) -> bool {
+    mark.kind.place() == line.0.place()
+        && mark.image == line.1
+        && mark.sector == line.2
+        && is_rule(&mark.rule, &line.3)
+}
+
+// Whether a plan has one group, of `count` marks, which begin with these.
+fn has_marks(plan: &Plan, count: usize, lines: &[Line]) -> bool {
+    match plan.groups.as_slice() {
+        [group] => {
+            let marks = group.marks.as_slice();
+            let mut same = marks.len() == count;
+            for (number, line) in lines.iter().enumerate() {
+                same = same && marks.get(number).is_some_and(|mark| is_mark(mark, line));
+            }
+            same
+        }
+        _ => false,
+    }
+}
+
+fn one<T: Copy + Default, const N: usize>(value: T) -> ArrayVec<T, N>
+    requires { 1 ≤ N }
+    ensures { result.items ≡ value ∷ [] }
+{
+    let mut list = ArrayVec::new();
+    list.push(value);
+    list
+}
+
+// All kinds, one offset, origin 0, no drops.
+#[tactic(auto, using(crate::proofs::TestAsks::bounds_are, crate::proofs::TestAsks::tests_are))]
+fn ask(offset: u64, end: u64) -> Ask
+    requires { offset < 2 ^ 55 }
+    ensures limits { IsAsk result }
+    ensures end { result.end ≡ end }
+    ensures drops { result.drops.items ≡ [] }
+{
+    let bounds = Bounds {
+        levels: one(Level::Raid0),
+        members: one(2),
+        patterns: one(Pattern::Plain),
+        syndromes: one(Syndrome::NoQ),
+        chunks: one(8),
+        offsets: one(offset),
+        missing: 0,
+        foreign: 0,
+    };
+    let tests = MarkTests {
+        origins: one(0),
+        misfits: 0,
+        least: 1,
+    };
+    Ask {
+        bounds,
+        end,
+        limits: Limits {
+            badrows: 0,
+            window: 1,
+        },
+        tests,
+        kinds: Kinds {
+            gpt: true,
+            ntfs: true,
+            xfs: true,
+        },
+        drops: ArrayVec::new(),
+    }
+}
+
+// Whether an image is attached that reaches to the end.
+fn is_long(images: &MemImages, image: u32, end: u64) -> bool
+    ensures { IsTrue result → IsSomeAnd (slice_get (seen_of images.now).attached image) (λ a. (end ≤ a.sectors) × (a.sectors < 2 ^ 55)) }
+{
+    match images.length(image) {
+        Some(sectors) => end <= sectors && sectors < SECTORS_END,
+        None => false,
+    }
+}
+
+// Whether `count` images are attached, and each reaches to the end.
+fn are_long(images: &MemImages, count: u32, end: u64) -> bool
+    ensures { IsTrue result → (length (seen_of images.now).attached ≡ count)
+        × All (λ image. image.sectors < 2 ^ 55) (seen_of images.now).attached
+        × All (λ image. end ≤ image.sectors) (seen_of images.now).attached }
+{
+    for image in 0..count {
+        if !is_long(images, image, end) {
+            return false;
+        }
+    }
+    images.length(count).is_none()
+}
+
+fn plan_of<R: Abort + AllocGlobal>(
+    rt: &R,
+    images: &mut MemImages,
+    count: u32,
+    ask: &Ask,
+) -> Result<Plan, Fail>
+    requires some { 1 ≤ count }
+    requires most { count ≤ 16 }
+    requires limits { IsAsk ask.now }
+{
+    assert!(rt; are_long(images, count, ask.end));
+    Ok(survey(rt.alloc(), images, ask)?)
+}
+
+// Writes bytes from `at` on.
+fn put(image: &mut [u8], at: usize, bytes: &[u8])
+    requires { at + length bytes.now ≤ length image.old }
+    ensures { length image.new ≡ length image.old }
+{
+    image[at..at + bytes.len()].copy_from_slice(bytes);
+}
+
+// Two images, attached in this order.
+fn two_images<R: AllocGlobal>(rt: &R, first: &[u8], second: &[u8]) -> Result<MemImages, Fail> {
+    let mut images = MemImages::new(rt.alloc())?;
+    images.add("a", first)?;
+    images.add("b", second)?;
+    images.attach("a")?;
+    images.attach("b")?;
+    Ok(images)
+}
+
+// Two images of 64 sectors, zero but for the header in sector 1 of the first, with that first byte of the
+// disk's identifier, and an entry of blocks 40 to 100 in the next.
+fn a_table<R: AllocGlobal>(rt: &R, identifier: u8) -> Result<MemImages, Fail> {
+    let zeros = vec![in rt.alloc(); 0u8; 32_768]?;
+    let mut first = vec![in rt.alloc(); 0u8; 32_768]?;
+    put(&mut first, 512, &HEADER);
+    put(&mut first, 568, &[identifier]);
+    put(&mut first, 1024, &[1]);
+    put(&mut first, 1056, &[40, 0, 0, 0, 0, 0, 0, 0, 100]);
+    two_images(rt, &first, &zeros)
+}
+
+// Whether a survey of such a table finds none.
+fn finds_nothing<R: Abort + AllocGlobal>(rt: &R, identifier: u8, ask: &Ask) -> Result<bool, Fail>
+    requires { IsAsk ask.now }
+{
+    let mut images = a_table(rt, identifier)?;
+    let plan = plan_of(rt, &mut images, 2, ask)?;
+    Ok(plan.groups.as_slice().is_empty() && plan.tests.origins.as_slice() == [0].as_slice())
+}
+
+#[test]
+fn a_table_hints_at_its_partitions(rt: HostRuntime) -> Result<(), Fail> {
+    let mut images = a_table(&rt, 1)?;
+    let plan = plan_of(&rt, &mut images, 2, &ask(0, 64))?;
+    assert_eq!(rt; plan.tests.origins.as_slice(), [0, 40].as_slice());
+    assert!(rt; has_marks(&plan, 1, &[(Kind::Gpt, 0, 1, Rule::At(1))]));
+    // Not where the sector is dropped, lies before the smallest offset, or has a bit turned.
+    let mut dropped = ask(0, 64);
+    dropped.drops.push(DropAt {
+        image: 0,
+        sector: 1,
+    });
+    assert!(rt; finds_nothing(&rt, 1, &dropped)?);
+    assert!(rt; finds_nothing(&rt, 1, &ask(2, 64))?);
+    assert!(rt; finds_nothing(&rt, 3, &ask(0, 64))?);
+    Ok(())
+}
+
+// Headers of the image's own table are passed over. The same header two sectors on is a mark, and no
+// entries follow it.
+#[test]
+fn own_tables_are_passed_over(rt: HostRuntime) -> Result<(), Fail> {
+    let mut own = vec![in rt.alloc(); 0u8; 32_768]?;
+    put(&mut own, 512, &OWN_FIRST);
+    put(&mut own, 32_256, &OWN_LAST);
+    let mut images = two_images(&rt, &own, &own)?;
+    let plan = plan_of(&rt, &mut images, 2, &ask(0, 64))?;
+    assert!(rt; plan.groups.as_slice().is_empty());
+    let mut moved = vec![in rt.alloc(); 0u8; 32_768]?;
+    put(&mut moved, 1536, &OWN_FIRST);
+    let mut images = two_images(&rt, &own, &moved)?;
+    let plan = plan_of(&rt, &mut images, 2, &ask(0, 64))?;
+    assert!(rt; has_marks(&plan, 1, &[(Kind::Gpt, 1, 3, Rule::At(1))]));
+    assert_eq!(rt; plan.tests.origins.as_slice(), [0].as_slice());
+    Ok(())
+}
+
+// The boot sector of an NTFS of 100 sectors, 8 a cluster, its table at cluster 4 and the copy at cluster 2.
+fn put_boot(image: &mut [u8], at: usize)
+    requires { at + 512 ≤ length image.old }
+    ensures { length image.new ≡ length image.old }
+{
+    put(image, at + 3, b"NTFS    ");
+    put(image, at + 11, &[0, 2, 8]);
+    put(image, at + 40, &[100]);
+    put(image, at + 48, &[4]);
+    put(image, at + 56, &[2]);
+    put(image, at + 64, &[246]);
+    put(image, at + 510, &[0x55, 0xaa]);
+}
+
+// Such an NTFS in sectors 10 to 110. Record 1, of 1,024 bytes, lies in sector 44; its update sequence
+// begins at `update`.
+fn an_ntfs<R: AllocGlobal>(rt: &R, update: u8) -> Result<Vec<u8>, Fail> {
+    let mut bytes = vec![in rt.alloc(); 0u8; 102_400]?;
+    put_boot(&mut bytes, 5120);
+    put_boot(&mut bytes, 56_320);
+    put(&mut bytes, 22_528, b"FILE");
+    put(&mut bytes, 22_532, &[update]);
+    put(&mut bytes, 22_557, &[4]);
+    put(&mut bytes, 22_572, &[1]);
+    Ok(bytes)
+}
+
+fn one_image<R: AllocGlobal>(rt: &R, bytes: &[u8]) -> Result<MemImages, Fail> {
+    let mut images = MemImages::new(rt.alloc())?;
+    images.add("a", bytes)?;
+    images.attach("a")?;
+    Ok(images)
+}
+
+#[test]
+fn an_ntfs_has_its_records(rt: HostRuntime) -> Result<(), Fail> {
+    let mut images = one_image(&rt, &an_ntfs(&rt, 48)?)?;
+    let plan = plan_of(&rt, &mut images, 1, &ask(0, 200))?;
+    let first = (Kind::Boot, 0, 10, Rule::Either(0, 100));
+    let copy = (Kind::Boot, 0, 110, Rule::Either(0, 100));
+    let file = (Kind::FileRecord, 0, 44, Rule::Either(34, 18));
+    assert!(rt; has_marks(&plan, 3, &[first, file, copy]));
+    let mut images = one_image(&rt, &an_ntfs(&rt, 42)?)?;
+    let plan = plan_of(&rt, &mut images, 1, &ask(0, 200))?;
+    assert!(rt; has_marks(&plan, 2, &[first, copy]));
+    Ok(())
+}
+
+// Group `group` of an XFS: blocks of 4,096 bytes, sectors of 512, 17 blocks a group, four groups.
+fn a_member<R: AllocGlobal>(rt: &R, group: u8) -> Result<Vec<u8>, Fail>
+    requires { group < 4 }
+{
+    let mut bytes = vec![in rt.alloc(); 0u8; 327_680]?;
+    let at = 512 * (512 + 32 * group as usize);
+    put(&mut bytes, at, b"XFSB\x00\x00\x10\x00");
+    put(&mut bytes, at + 87, &[17, 0, 0, 0, 4]);
+    put(&mut bytes, at + 102, &[2]);
+    put(&mut bytes, at + 512, b"XAGF\x00\x00\x00\x01");
+    put(&mut bytes, at + 523, &[group]);
+    put(&mut bytes, at + 1024, b"XAGI\x00\x00\x00\x01");
+    put(&mut bytes, at + 1035, &[group]);
+    Ok(bytes)
+}
+
+#[test]
+fn an_xfs_has_its_groups(rt: HostRuntime) -> Result<(), Fail> {
+    let mut images = MemImages::new(rt.alloc())?;
+    images.add("a", &a_member(&rt, 0)?)?;
+    images.add("b", &a_member(&rt, 1)?)?;
+    images.add("c", &a_member(&rt, 2)?)?;
+    images.add("d", &a_member(&rt, 3)?)?;
+    images.attach("a")?;
+    images.attach("b")?;
+    images.attach("c")?;
+    images.attach("d")?;
+    let plan = plan_of(&rt, &mut images, 4, &ask(0, 640))?;
+    let every = Rule::Every {
+        step: 136,
+        count: 4,
+        plus: 0,
+    };
+    let first = (Kind::Super, 0, 512, every);
+    let free = (Kind::Agf, 0, 513, Rule::At(1));
+    let inodes = (Kind::Agi, 0, 514, Rule::At(2));
+    let second = (Kind::Super, 1, 544, every);
+    let second_free = (Kind::Agf, 1, 545, Rule::At(137));
+    assert!(rt; has_marks(&plan, 12, &[first, free, inodes, second, second_free]));
+    Ok(())
+}
+
+// Whether a survey of the table ends with the images' fault, where that call of theirs fails.
+fn ends_at<R: Abort + AllocGlobal>(rt: &R, call: u64) -> Result<bool, Fail> {
+    let mut images = a_table(rt, 1)?;
+    images.fail_call(call)?;
+    assert!(rt; are_long(&images, 2, 64));
+    match survey(rt.alloc(), &mut images, &ask(0, 64)) {
+        Err(SurveyFault::ReadFault) => Ok(true),
+        _ => Ok(false),
+    }
+}
+
+// The images are attached by calls 1 and 2 and read by 3 and 4, the sector of entries by 5.
+#[test]
+fn a_fault_ends_the_survey(rt: HostRuntime) -> Result<(), Fail> {
+    assert!(rt; ends_at(&rt, 3)?);
+    assert!(rt; ends_at(&rt, 4)?);
+    assert!(rt; ends_at(&rt, 5)?);
+    assert!(rt; !ends_at(&rt, 6)?);
+    Ok(())
+}

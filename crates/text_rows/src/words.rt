@@ -1,0 +1,241 @@
+//! Command lines and the words at which they are refused, found by hand from the rules of the grammar.
+use command_words::{Command, Form, SurveyWords, Word, read_words};
+use raid_params::{Level, Pattern, Syndrome};
+use std::alloc::Global;
+use std::test::Fail;
+
+/// What the words of a line say. A space ends a word, so two beside each other have an empty word between
+/// them.
+fn read_text(alloc: Global, line: &str) -> Result<Result<Command, u64>, Fail> {
+    let mut words = Vec::new(alloc);
+    for text in line.split(' ') {
+        words.push(Word::new(alloc, text)?)?;
+    }
+    Ok(read_words(&words))
+}
+
+/// The refused word of a line, or 0.
+fn refused_word(alloc: Global, line: &str) -> Result<u64, Fail> {
+    Ok(read_text(alloc, line)?.err().unwrap_or(0))
+}
+
+/// Lines with their refused words, counted from 1.
+const REFUSED: [(&str, u64); 70] = [
+    ("", 1),
+    ("lists -- a", 1),
+    ("LIST -- a", 1),
+    ("-- a", 1),
+    ("--help", 1),
+    ("size=1 list -- a", 1),
+    ("list", 2),
+    ("survey", 2),
+    ("list a -- a", 2),
+    ("list  -- a", 2),
+    ("list size -- a", 2),
+    ("list =1 -- a", 2),
+    ("list size= -- a", 2),
+    ("list Size=1 -- a", 2),
+    ("list size=0 -- a", 2),
+    ("list size=01 -- a", 2),
+    ("list size=+1 -- a", 2),
+    ("list size=1000001 -- a", 2),
+    ("list size=1=1 -- a", 2),
+    ("list pages=0 -- a", 2),
+    ("list pages=1000001 -- a", 2),
+    ("list span=0 -- a", 2),
+    ("list from=18446744073709551616 -- a", 2),
+    (
+        "list from=100000000000000000000000000000000000000000000000000000000001 -- a",
+        2,
+    ),
+    ("list form=yaml -- a", 2),
+    ("list set=0:plain:none:8:0:0,1 -- a", 2),
+    ("list missing=1 -- a", 2),
+    ("list size=2 size=3 -- a", 3),
+    ("list size=2 size=2 -- a", 3),
+    ("list form=json from=1 form=text -- a", 4),
+    ("list size=10", 3),
+    ("list size=10 form=text", 4),
+    ("list pages=40001 -- a", 3),
+    ("list pages=40001 form=text -- a", 4),
+    ("list pages=40001 size=100 -- a", 3),
+    ("list size=1000000 pages=5", 3),
+    ("list size=1000000 pages=5 -- a", 3),
+    ("list pages=5 from=1 size=800001 -- a", 4),
+    ("check", 2),
+    ("check -- a", 2),
+    ("write -- a", 2),
+    ("write end=4 -- a", 3),
+    (
+        "write set=0:plain:none:8:0:0,1 end=36028797018963968 -- a",
+        3,
+    ),
+    ("write set=1:plain:none:8:0:0,1 -- a", 2),
+    ("write set=0:plain:none:4294967296:0:0,1 -- a", 2),
+    ("write set=0:plain:none:8:36028797018963968:0,1 -- a", 2),
+    ("write set=0:plain:none:8:0:0,16 -- a", 2),
+    ("write set=0:plain:none:8:0: -- a", 2),
+    ("map set=0:plain:none:8:0:0,1 -- a", 3),
+    ("map sector=1 -- a", 3),
+    ("map sector=-1 -- a", 2),
+    ("rebuild set=0:plain:none:8:0:0,1 slot=16 -- a", 3),
+    ("rebuild set=0:plain:none:8:0:0,1 -- a", 3),
+    ("survey levels=5,0 -- a", 2),
+    ("survey levels=5,5 -- a", 2),
+    ("survey levels= -- a", 2),
+    ("survey levels=4 -- a", 2),
+    ("survey members=1 -- a", 2),
+    ("survey members=17 -- a", 2),
+    ("survey chunks=0 -- a", 2),
+    ("survey chunks=3 -- a", 2),
+    ("survey chunks=65536 -- a", 2),
+    ("survey offsets=36028797018963968 -- a", 2),
+    ("survey missing=3 foreign=1 -- a", 2),
+    ("survey foreign=17 -- a", 2),
+    ("survey window=0 -- a", 2),
+    ("survey kinds=xfs,gpt -- a", 2),
+    ("survey drop=0:5,0:5 -- a", 2),
+    ("survey drop=16:0 -- a", 2),
+    ("sample number=1 set=0:plain:none:8:0:0,1 rows=2 -- a", 6),
+];
+
+/// Lines that are command lines.
+const ACCEPTED: [&str; 30] = [
+    "list --",
+    "list -- a",
+    "list -- -- a",
+    "list -- size=0 size=0",
+    "list --  a",
+    "list form=json pages=1000000 size=4 span=1 from=18446744073709551615 -- a",
+    "list size=1000000 pages=4 -- a",
+    "list pages=40000 -- a",
+    "list size=4 pages=1000000 -- a",
+    "check set=5:ls:none:1:0:0,1,2 -- a b c",
+    "check set=0:plain:none:0:0:- -- a",
+    "check set=6:parity-first-6:by-slot:4294967295:36028797018963967:0,0,15 --",
+    "map sector=18446744073709551615 set=5:ls:none:1:0:0 -- a",
+    "map end=0 sector=0 set=0:la:after-q:1:0:0,1 -- a",
+    "write set=5:ls:none:1:0:0,1,2 -- a b c",
+    "write end=36028797018963967 set=5:ls:none:1:0:0,1,2 -- a b c",
+    "rebuild slot=15 set=5:ls:none:1:0:0,1,- -- a b",
+    "sample rows=65536 set=5:ls:none:1:0:0,1,- number=0 --",
+    "sample rows=1 marks=none set=5:ls:none:1:0:0,1,- number=18446744073709551615 --",
+    "survey -- a",
+    "survey --",
+    "survey levels=0,6 members=2,16 patterns=plain,parity-first-6 syndromes=none,by-slot -- a",
+    "survey chunks=1,32768 offsets=0,36028797018963967 origins=7 -- a",
+    "survey missing=2 foreign=16 badrows=0 misfits=36028797018963967 least=0 -- a",
+    "survey window=1 end=0 -- a",
+    "survey window=36028797018963967 -- a",
+    "survey kinds=gpt,xfs -- a",
+    "survey kinds=ntfs -- a",
+    "survey drop=0:5,0:6,15:0 -- a",
+    "survey drop=1:36028797018963967,2:0 -- a",
+];
+
+#[test]
+fn lines_are_refused_at_their_words(rt: HostRuntime) -> Result<(), Fail> {
+    let alloc = rt.alloc();
+    for (line, word) in REFUSED {
+        assert_eq!(rt; refused_word(alloc, line)?, word, "{line}");
+    }
+    for line in ACCEPTED {
+        assert_eq!(rt; refused_word(alloc, line)?, 0, "{line}");
+    }
+    assert!(rt; matches!(read_words(&[]), Err(1)));
+    Ok(())
+}
+
+/// What a listing is asked for, with its form as a word.
+fn listing(alloc: Global, line: &str) -> Result<Option<(u64, u64, u64, u64, bool, usize)>, Fail> {
+    Ok(match read_text(alloc, line)? {
+        Ok(
+            Command::List {
+                from,
+                size,
+                span,
+                pages,
+                form,
+                names,
+            },
+        ) => Some((from, size, span, pages, matches!(form, Form::Json), names)),
+        _ => None,
+    })
+}
+
+#[test]
+fn operands_are_told_from_defaults(rt: HostRuntime) -> Result<(), Fail> {
+    let alloc = rt.alloc();
+    assert_eq!(rt;
+        listing(alloc, "list -- a")?,
+        Some((0, 100, 18446744073709551615, 1, false, 2))
+    );
+    assert_eq!(rt;
+        listing(alloc, "list form=json pages=3 from=7 span=9 size=2 -- a")?,
+        Some((7, 2, 9, 3, true, 7))
+    );
+    let written = read_text(
+        alloc,
+        "write end=8 set=6:n-restart:by-slot:128:2048:-,11,0 -- a",
+    )?;
+    assert!(rt; matches!(&written, Ok(Command::Write { .. })));
+    if let Ok(Command::Write { set, end, names }) = written {
+        assert!(rt; matches!(set.head.level, Level::Raid6));
+        assert!(rt; matches!(set.head.pattern, Pattern::NRestart));
+        assert!(rt; matches!(set.head.syndrome, Syndrome::BySlot));
+        assert_eq!(rt;
+            (set.head.members, set.head.chunk, set.head.offset),
+            (3, 128, 2048)
+        );
+        assert_eq!(rt; set.slots.as_slice(), [None, Some(11), Some(0)].as_slice());
+        assert_eq!(rt; (end, names), (Some(8), 4));
+    }
+    Ok(())
+}
+
+/// What a survey is asked for.
+fn asked(alloc: Global, line: &str) -> Result<Option<SurveyWords>, Fail> {
+    Ok(match read_text(alloc, line)? {
+        Ok(Command::Survey(asked)) => Some(asked),
+        _ => None,
+    })
+}
+
+#[test]
+fn a_survey_has_its_defaults(rt: HostRuntime) -> Result<(), Fail> {
+    let alloc = rt.alloc();
+    let plain = asked(alloc, "survey -- a b")?;
+    assert!(rt; plain.is_some());
+    if let Some(plain) = plain {
+        let bounds = &plain.bounds;
+        assert_eq!(rt; (bounds.levels.len(), bounds.members.len()), (3, 0));
+        assert_eq!(rt; (bounds.patterns.len(), bounds.syndromes.len()), (14, 4));
+        assert_eq!(rt;
+            bounds.chunks.as_slice(),
+            [8, 16, 32, 64, 128, 256, 512, 1024, 2048].as_slice()
+        );
+        assert_eq!(rt;
+            bounds.offsets.as_slice(),
+            [0, 2048, 262144, 264192].as_slice()
+        );
+        assert_eq!(rt; plain.tests.origins.as_slice(), [0, 2048].as_slice());
+        assert_eq!(rt; (plain.tests.misfits, plain.tests.least), (0, 1));
+        assert_eq!(rt;
+            (plain.end, plain.window, plain.badrows, plain.names),
+            (None, None, 0, 2)
+        );
+        assert!(rt; plain.kinds.gpt && plain.kinds.ntfs && plain.kinds.xfs);
+        assert_eq!(rt; plain.drops.len(), 0);
+    }
+    let told = asked(
+        alloc,
+        "survey drop=2:9,3:1 kinds=gpt,xfs least=4 members=3 -- a",
+    )?;
+    assert!(rt; told.is_some());
+    if let Some(told) = told {
+        assert!(rt; told.kinds.gpt && !told.kinds.ntfs && told.kinds.xfs);
+        assert_eq!(rt; told.bounds.members.as_slice(), [3].as_slice());
+        assert_eq!(rt; (told.tests.least, told.drops.len(), told.names), (4, 2, 6));
+    }
+    Ok(())
+}

@@ -12,10 +12,10 @@ use landmark_rules::Kind;
 use raid_params::{Level, MOST, MOST_LEVELS, MOST_PATTERNS, MOST_SYNDROMES, Pattern, Syndrome};
 
 /// All levels, in their order.
-const LEVELS: [Level; MOST_LEVELS] = [Level::Raid0, Level::Raid5, Level::Raid6];
+pub const LEVELS: [Level; MOST_LEVELS] = [Level::Raid0, Level::Raid5, Level::Raid6];
 
 /// All patterns, in their order.
-const PATTERNS: [Pattern; MOST_PATTERNS] = [
+pub const PATTERNS: [Pattern; MOST_PATTERNS] = [
     Pattern::Plain,
     Pattern::La,
     Pattern::Ra,
@@ -33,7 +33,7 @@ const PATTERNS: [Pattern; MOST_PATTERNS] = [
 ];
 
 /// All orders of Q, in their order.
-const SYNDROMES: [Syndrome; MOST_SYNDROMES] = [
+pub const SYNDROMES: [Syndrome; MOST_SYNDROMES] = [
     Syndrome::NoQ,
     Syndrome::AfterQ,
     Syndrome::ByData,

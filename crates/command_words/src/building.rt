@@ -11,6 +11,7 @@ use crate::table::Name;
 use crate::values::Value;
 use arrayvec::ArrayVec;
 use landmark_rules::MarkTests;
+use plan_text::{LEVELS, PATTERNS, SYNDROMES};
 use raid_params::{
     Bounds, Geometry, Level, MOST_CHUNKS, MOST_DROPS, MOST_LESS_ONE, MOST_LEVELS, MOST_OFFSETS,
     MOST_PATTERNS, MOST_SYNDROMES, Pattern, Syndrome,
@@ -22,35 +23,6 @@ const DEFAULT_PAGE: u64 = 100;
 
 /// The most lines of all pages of a listing together, since it is kept whole before it is put.
 const MOST_LINES: u64 = 4_000_000;
-
-/// The levels that are tried where `levels` is not given: all.
-const LEVELS: [Level; MOST_LEVELS] = [Level::Raid0, Level::Raid5, Level::Raid6];
-
-/// The patterns that are tried where `patterns` is not given: all.
-const PATTERNS: [Pattern; MOST_PATTERNS] = [
-    Pattern::Plain,
-    Pattern::La,
-    Pattern::Ra,
-    Pattern::Ls,
-    Pattern::Rs,
-    Pattern::ParityFirst,
-    Pattern::ParityLast,
-    Pattern::NRestart,
-    Pattern::NContinue,
-    Pattern::La6,
-    Pattern::Ra6,
-    Pattern::Ls6,
-    Pattern::Rs6,
-    Pattern::ParityFirst6,
-];
-
-/// The orders of Q that are tried where `syndromes` is not given: all.
-const SYNDROMES: [Syndrome; MOST_SYNDROMES] = [
-    Syndrome::NoQ,
-    Syndrome::AfterQ,
-    Syndrome::ByData,
-    Syndrome::BySlot,
-];
 
 /// The chunks that are tried where `chunks` is not given: from 4 KiB to 1 MiB, which controllers offer.
 const CHUNKS: [u64; 9] = [8, 16, 32, 64, 128, 256, 512, 1024, 2048];
@@ -222,6 +194,7 @@ fn is_among(landmark: Landmark, others: &[Landmark]) -> bool
     others.iter().any(|other| other.order() == landmark.order())
 }
 
+/// All where `levels` is not given.
 fn levels(operands: &[Operand]) -> ArrayVec<Level, MOST_LEVELS>
     ensures { result ≡ levels_or (value_of Name.Levels operands.now) }
 {
@@ -243,6 +216,7 @@ fn members(operands: &[Operand]) -> ArrayVec<u8, MOST_LESS_ONE>
     }
 }
 
+/// All where `patterns` is not given.
 fn patterns(operands: &[Operand]) -> ArrayVec<Pattern, MOST_PATTERNS>
     ensures { result ≡ patterns_or (value_of Name.Patterns operands.now) }
 {
@@ -253,6 +227,7 @@ fn patterns(operands: &[Operand]) -> ArrayVec<Pattern, MOST_PATTERNS>
     }
 }
 
+/// All where `syndromes` is not given.
 fn syndromes(operands: &[Operand]) -> ArrayVec<Syndrome, MOST_SYNDROMES>
     ensures { result ≡ syndromes_or (value_of Name.Syndromes operands.now) }
 {

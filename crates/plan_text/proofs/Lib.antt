@@ -21,3 +21,4 @@ pub mod PlanEnds
 pub mod Written
 pub mod Examples
 pub mod Drops
+pub mod AllValues

@@ -184,22 +184,3 @@ same_list name IsSpelled s (x ∷ w ∷ xs) (y ∷ z ∷ ys) some more p q e =
 pub next_value : {A : Type 0} (name : A → List ℕ) (IsSpelled : A → Type 0) → IsFieldName name IsSpelled → (mark : ℕ) (text : List ℕ) (x y : A) (rest more : List ℕ) → IsTrue (is_mark mark) → IsSpelled x × (text ≡ name x ++ mark ∷ rest) → IsSpelled y →
     text ≡ name y ++ mark ∷ more → (x ≡ y) × (rest ≡ more)
 next_value name IsSpelled s mark text x y rest more is read spelled e = same_value name IsSpelled s mark x y rest more is read.0 spelled (sym read.1 ∙ e)
-
--- the bytes of a word, and then the end
-abbrev pub AreAt : List ℕ → ℕ → List ℕ → Type 0
-AreAt text i [] = length text ≡ i
-AreAt text i (byte ∷ word) = (get_or text i 0 ≡ byte) × AreAt text (i + 1) word
-
-length_at : (text word : List ℕ) (i : ℕ) → AreAt text i word → length text ≡ i + length word
-length_at text [] i at = omega arith
-length_at text (byte ∷ word) i at = let more = length_at text word (i + 1) at.1 in omega arith
-
-drop_at : (text word : List ℕ) (i : ℕ) → AreAt text i word → drop i text ≡ word
-drop_at text [] i at = drop_all i text (omega arith)
-drop_at text (byte ∷ word) i at =
-    let whole = length_at text (byte ∷ word) i at in
-    let more = drop_at text word (i + 1) at.1 in
-    drop-cons text i 0 (omega arith) ∙ (let next : suc i ≡ i + 1 = omega arith in ap (λ (k : ℕ). get_or text i 0 ∷ drop k text) next) ∙ ap (λ (b : ℕ). b ∷ drop (i + 1) text) at.0 ∙ ap (λ (ds : List ℕ). byte ∷ ds) more
-
-pub word_at : (text word : List ℕ) → AreAt text 0 word → text ≡ word
-word_at text word at = drop_at text word 0 at

@@ -40,7 +40,7 @@ pub use bounded::{read_chunks, read_members, read_sectors};
 pub use fault::PlanFault;
 pub use front::cut;
 pub use laws::{one_refused_line, one_spelling, set_words_have_one_spelling};
-pub use names::{pattern_name, syndrome_name};
+pub use names::{LEVELS, PATTERNS, SYNDROMES, pattern_name, syndrome_name};
 pub use number::{after, read_number};
 pub use plan::read_plan;
 pub use search_plan::{Limits, Placed, Plan};

@@ -1,5 +1,5 @@
 //! The names of levels, patterns, syndromes, slots and numbers.
-ghost use Rattle.std.specs.Prelude.{◌≡◌, ◌<◌, ◌^◌, ◌≢◌, ℕ, decimal, IfSome, MatchOption};
+ghost use Rattle.std.specs.Prelude.{◌≡◌, ◌<◌, ◌^◌, ◌≢◌, ℕ, List, decimal, All, IfSome, MatchOption};
 ghost use Rattle.raid_params.specs.declared.limits.TheConstants.{MOST as MOST_IMAGES};
 ghost use Rattle.plan_text.specs.Spelling.{level_name, pattern_name as pattern_spelling, syndrome_name as syndrome_spelling, kind_name, slot_name};
 ghost use Rattle.plan_text.specs.NameLaws.{in_lists, level_law, pattern_law, syndrome_law, kind_law, byte_law, number_law, slot_law};
@@ -9,20 +9,88 @@ use crate::spelled::{Field, Spelled};
 use crate::text::{Text, add_number};
 use image_source::Memory;
 use landmark_rules::Kind;
-use raid_params::{Level, MOST, Pattern, Syndrome};
+use raid_params::{Level, MOST, MOST_LEVELS, MOST_PATTERNS, MOST_SYNDROMES, Pattern, Syndrome};
+
+/// All levels, in their order.
+pub const LEVELS: [Level; MOST_LEVELS] = [Level::Raid0, Level::Raid5, Level::Raid6];
+
+/// All patterns, in their order.
+pub const PATTERNS: [Pattern; MOST_PATTERNS] = [
+    Pattern::Plain,
+    Pattern::La,
+    Pattern::Ra,
+    Pattern::Ls,
+    Pattern::Rs,
+    Pattern::ParityFirst,
+    Pattern::ParityLast,
+    Pattern::NRestart,
+    Pattern::NContinue,
+    Pattern::La6,
+    Pattern::Ra6,
+    Pattern::Ls6,
+    Pattern::Rs6,
+    Pattern::ParityFirst6,
+];
+
+/// All orders of Q, in their order.
+pub const SYNDROMES: [Syndrome; MOST_SYNDROMES] = [
+    Syndrome::NoQ,
+    Syndrome::AfterQ,
+    Syndrome::ByData,
+    Syndrome::BySlot,
+];
+
+/// All kinds of landmark sectors, in their order.
+const KINDS: [Kind; 6] = [
+    Kind::Gpt,
+    Kind::Boot,
+    Kind::FileRecord,
+    Kind::Super,
+    Kind::Agf,
+    Kind::Agi,
+];
+
+/// A value that is one of a few, each with a name.
+trait Named: Copy + Drop {
+    ghost called: { Self → List ℕ };
+
+    /// Its name.
+    fn name(self) -> &'static str
+        ensures { result.now ≡ called self };
+}
+
+/// The first of these values whose name is the whole text.
+fn find_named<T: Named>(values: &[T], text: &[u8]) -> Option<T>
+    ensures { MatchOption result (All (λ value. text.now ≢ T.called value) values.now) (λ value. text.now ≡ T.called value) }
+{
+    for value in values {
+        if value.name().as_bytes() == text {
+            return Some(*value);
+        }
+    }
+    None
+}
+
+impl Named for Level {
+    ghost called = { level_name };
+
+    fn name(self) -> &'static str {
+        match self {
+            Level::Raid0 => "0",
+            Level::Raid5 => "5",
+            Level::Raid6 => "6",
+        }
+    }
+}
 
 impl Spelled for Level {
     ghost name = { level_name };
 
     ghost IsSpelled = { λ level. Unit {0} };
 
+    #[tactic(auto, using(crate::proofs::AllValues::any_level))]
     fn read(text: &[u8]) -> Option<Level> {
-        match text {
-            b"0" => Some(Level::Raid0),
-            b"5" => Some(Level::Raid5),
-            b"6" => Some(Level::Raid6),
-            _ => None,
-        }
+        find_named(&LEVELS, text)
     }
 
     ghost law = { in_lists level_name (λ level. Unit {0}) level_law };
@@ -30,15 +98,18 @@ impl Spelled for Level {
 
 impl Field for Level {
     fn add_to(&self, text: &mut Text) -> Result<(), Memory> {
-        let name = match self {
-            Level::Raid0 => "0",
-            Level::Raid5 => "5",
-            Level::Raid6 => "6",
-        };
-        text.extend_from_slice(name.as_bytes())
+        text.extend_from_slice(self.name().as_bytes())
     }
 
     ghost law = { level_law };
+}
+
+impl Named for Pattern {
+    ghost called = { pattern_spelling };
+
+    fn name(self) -> &'static str {
+        pattern_name(self)
+    }
 }
 
 impl Spelled for Pattern {
@@ -46,24 +117,9 @@ impl Spelled for Pattern {
 
     ghost IsSpelled = { λ pattern. Unit {0} };
 
+    #[tactic(auto, using(crate::proofs::AllValues::any_pattern))]
     fn read(text: &[u8]) -> Option<Pattern> {
-        match text {
-            b"plain" => Some(Pattern::Plain),
-            b"la" => Some(Pattern::La),
-            b"ra" => Some(Pattern::Ra),
-            b"ls" => Some(Pattern::Ls),
-            b"rs" => Some(Pattern::Rs),
-            b"parity-first" => Some(Pattern::ParityFirst),
-            b"parity-last" => Some(Pattern::ParityLast),
-            b"n-restart" => Some(Pattern::NRestart),
-            b"n-continue" => Some(Pattern::NContinue),
-            b"la-6" => Some(Pattern::La6),
-            b"ra-6" => Some(Pattern::Ra6),
-            b"ls-6" => Some(Pattern::Ls6),
-            b"rs-6" => Some(Pattern::Rs6),
-            b"parity-first-6" => Some(Pattern::ParityFirst6),
-            _ => None,
-        }
+        find_named(&PATTERNS, text)
     }
 
     ghost law = { in_lists pattern_spelling (λ pattern. Unit {0}) pattern_law };
@@ -71,7 +127,7 @@ impl Spelled for Pattern {
 
 impl Field for Pattern {
     fn add_to(&self, text: &mut Text) -> Result<(), Memory> {
-        text.extend_from_slice(pattern_name(*self).as_bytes())
+        text.extend_from_slice(self.name().as_bytes())
     }
 
     ghost law = { pattern_law };
@@ -99,19 +155,22 @@ pub fn pattern_name(pattern: Pattern) -> &'static str
     }
 }
 
+impl Named for Syndrome {
+    ghost called = { syndrome_spelling };
+
+    fn name(self) -> &'static str {
+        syndrome_name(self)
+    }
+}
+
 impl Spelled for Syndrome {
     ghost name = { syndrome_spelling };
 
     ghost IsSpelled = { λ syndrome. Unit {0} };
 
+    #[tactic(auto, using(crate::proofs::AllValues::any_syndrome))]
     fn read(text: &[u8]) -> Option<Syndrome> {
-        match text {
-            b"none" => Some(Syndrome::NoQ),
-            b"after-q" => Some(Syndrome::AfterQ),
-            b"by-data" => Some(Syndrome::ByData),
-            b"by-slot" => Some(Syndrome::BySlot),
-            _ => None,
-        }
+        find_named(&SYNDROMES, text)
     }
 
     ghost law = { in_lists syndrome_spelling (λ syndrome. Unit {0}) syndrome_law };
@@ -119,7 +178,7 @@ impl Spelled for Syndrome {
 
 impl Field for Syndrome {
     fn add_to(&self, text: &mut Text) -> Result<(), Memory> {
-        text.extend_from_slice(syndrome_name(*self).as_bytes())
+        text.extend_from_slice(self.name().as_bytes())
     }
 
     ghost law = { syndrome_law };
@@ -137,21 +196,29 @@ pub fn syndrome_name(syndrome: Syndrome) -> &'static str
     }
 }
 
+impl Named for Kind {
+    ghost called = { kind_name };
+
+    fn name(self) -> &'static str {
+        match self {
+            Kind::Gpt => "gpt",
+            Kind::Boot => "boot",
+            Kind::FileRecord => "record",
+            Kind::Super => "super",
+            Kind::Agf => "agf",
+            Kind::Agi => "agi",
+        }
+    }
+}
+
 impl Spelled for Kind {
     ghost name = { kind_name };
 
     ghost IsSpelled = { λ kind. Unit {0} };
 
+    #[tactic(auto, using(crate::proofs::AllValues::any_kind))]
     fn read(text: &[u8]) -> Option<Kind> {
-        match text {
-            b"gpt" => Some(Kind::Gpt),
-            b"boot" => Some(Kind::Boot),
-            b"record" => Some(Kind::FileRecord),
-            b"super" => Some(Kind::Super),
-            b"agf" => Some(Kind::Agf),
-            b"agi" => Some(Kind::Agi),
-            _ => None,
-        }
+        find_named(&KINDS, text)
     }
 
     ghost law = { in_lists kind_name (λ kind. Unit {0}) kind_law };
@@ -159,15 +226,7 @@ impl Spelled for Kind {
 
 impl Field for Kind {
     fn add_to(&self, text: &mut Text) -> Result<(), Memory> {
-        let name = match self {
-            Kind::Gpt => "gpt",
-            Kind::Boot => "boot",
-            Kind::FileRecord => "record",
-            Kind::Super => "super",
-            Kind::Agf => "agf",
-            Kind::Agi => "agi",
-        };
-        text.extend_from_slice(name.as_bytes())
+        text.extend_from_slice(self.name().as_bytes())
     }
 
     ghost law = { kind_law };

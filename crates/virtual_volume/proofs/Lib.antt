@@ -6,3 +6,4 @@ pub mod Sets
 pub mod Whole
 pub mod Puts
 pub mod TestSets
+pub mod Ahead

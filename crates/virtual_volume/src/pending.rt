@@ -9,7 +9,7 @@ use std::alloc::Global;
 use std::marker::Model;
 
 /// The bytes that wait at most.
-const PENDING: usize = BLOCK * SECTOR;
+pub(crate) const PENDING: usize = BLOCK * SECTOR;
 
 /// Pieces of this many bytes and more are put at once, after what waits, and never copied. The chunks of a
 /// volume are all of one length, so its puts are of no less than this but the last one.
@@ -91,6 +91,7 @@ impl Pending {
     pub(crate) fn put<K: Sink>(&mut self, sink: &mut K, bytes: &[u8]) -> Result<(), Failed>
         requires whole { length bytes.now % 512 ≡ 0 }
         ensures passed { Passed (K.gained sink.old) (K.gained sink.new) self.old self.new result bytes.now }
+        ensures few { OnOk result (length self.new ≤ PENDING) }
         ensures cause { HasCause (K.faults sink.old) (K.faults sink.new) result }
     {
         if bytes.len() >= LARGE {

@@ -12,7 +12,8 @@ ghost use Rattle.raid_terms.specs.Volume.{volume};
 ghost use Rattle.member_regions.specs.Members.{IsTestable, Reaches};
 ghost use Rattle.member_regions.specs.Needs.{HoldData, needed_sectors};
 ghost use Rattle.member_regions.specs.Regions.{IsRoomFor, KeepsRoom};
-ghost use Rattle.virtual_volume.specs.Gained.{AppendsSectors};
+ghost use Rattle.virtual_volume.specs.Gained.{AppendsSectors, IsAhead, most_ahead};
+ghost use Rattle.member_regions.specs.declared.regions.TheConstants.{BLOCK as BLOCK_SECTORS};
 ghost use Rattle.virtual_volume.specs.Parts.{items_of, rows_of};
 ghost use Rattle.virtual_volume.specs.Served.{Ends, IsServed};
 ghost use Rattle.virtual_volume.specs.Waiting.{Passed};
@@ -61,12 +62,14 @@ fn put_row<K: Sink>(
     at: usize,
 ) -> Result<(), Failed>
     requires set { IsTestable geo.now }
+    requires few { length pending.old ≤ 512 * BLOCK_SECTORS }
     requires room { IsRoomFor (length geo.now.slots.items) (at + geo.now.head.chunk) regions.now }
     ensures passed { (images : List (List ℕ)) (first count : ℕ) →
         first + at ≡ row * geo.now.head.chunk → at + geo.now.head.chunk ≤ count →
         HoldData images geo.now regions.now.stride first count regions.now.bytes →
         Passed (K.gained sink.old) (K.gained sink.new) pending.old pending.new result
         (items_of images geo.now row (data_blocks_of geo.now.head)) }
+    ensures few { OnOk result (length pending.new ≤ 512 * BLOCK_SECTORS) }
     ensures cause { HasCause (K.faults sink.old) (K.faults sink.new) result }
 {
     let chunk = geo.head.chunk as usize;
@@ -88,6 +91,7 @@ fn put_rows<K: Sink>(
     rows: usize,
 ) -> Result<(), Failed>
     requires set { IsTestable geo.now }
+    requires few { length pending.old ≤ 512 * BLOCK_SECTORS }
     requires room { IsRoomFor (length geo.now.slots.items) (rows * geo.now.head.chunk) regions.now }
     requires short { rows * geo.now.head.chunk < 2 ^ 55 }
     requires first { first + rows < 2 ^ 55 }
@@ -95,6 +99,7 @@ fn put_rows<K: Sink>(
         HoldData images geo.now regions.now.stride (first * geo.now.head.chunk) (rows * geo.now.head.chunk) regions.now.bytes →
         Passed (K.gained sink.old) (K.gained sink.new) pending.old pending.new result
         (rows_of images geo.now first rows) }
+    ensures few { OnOk result (length pending.new ≤ 512 * BLOCK_SECTORS) }
     ensures cause { HasCause (K.faults sink.old) (K.faults sink.new) result }
 {
     for r in 0..rows {
@@ -116,6 +121,7 @@ fn write_batch<I: Images, K: Sink>(
     rows: u64,
 ) -> Result<(), VolumeFault>
     requires set { IsTestable geo.now }
+    requires few { length pending.old ≤ 512 * BLOCK_SECTORS }
     requires held { All (Reaches (I.seen images.old).attached
         (geo.now.head.offset + (first * geo.now.head.chunk + rows * geo.now.head.chunk))) geo.now.slots.items }
     requires near { geo.now.head.offset + (first * geo.now.head.chunk + rows * geo.now.head.chunk) < 2 ^ 55 }
@@ -123,6 +129,7 @@ fn write_batch<I: Images, K: Sink>(
     requires room { IsRoomFor (length geo.now.slots.items) (rows * geo.now.head.chunk) regions.old }
     ensures passed { IfSome (told_all (I.seen images.old).attached) (λ bytes.
         Passed (K.gained sink.old) (K.gained sink.new) pending.old pending.new result (rows_of bytes geo.now first rows)) }
+    ensures few { OnOk result (length pending.new ≤ 512 * BLOCK_SECTORS) }
     ensures unput { IsErrOf result VolumeFault.ReadFault → K.gained sink.new ≡ K.gained sink.old }
     ensures reads { OnlyReads (I.seen images.old) (I.seen images.new)
         (needed_sectors geo.now (first * geo.now.head.chunk) (rows * geo.now.head.chunk)) }
@@ -150,6 +157,7 @@ fn write_rows<I: Images, K: Sink>(
     batch: u64,
 ) -> Result<(), VolumeFault>
     requires set { IsTestable geo.now }
+    requires few { length pending.old ≤ 512 * BLOCK_SECTORS }
     requires held { All (Reaches (I.seen images.old).attached
         (geo.now.head.offset + rows * geo.now.head.chunk)) geo.now.slots.items }
     requires near { geo.now.head.offset + rows * geo.now.head.chunk < 2 ^ 55 }
@@ -159,6 +167,9 @@ fn write_rows<I: Images, K: Sink>(
         Passed (K.gained sink.old) (K.gained sink.new) pending.old pending.new result (rows_of bytes geo.now 0 rows)) }
     ensures whole { IsErrOf result VolumeFault.ReadFault → IfSome (told_all (I.seen images.old).attached)
         (λ bytes. AppendsSectors (K.gained sink.old) (K.gained sink.new) (pending.old ++ rows_of bytes geo.now 0 rows)) }
+    ensures ahead { IfSome (told_all (I.seen images.old).attached)
+        (λ bytes. IsAhead (data_blocks_of geo.now.head * (batch * geo.now.head.chunk) + BLOCK_SECTORS)
+        (I.seen images.old).sectors_read (I.seen images.new).sectors_read (K.gained sink.old) (K.gained sink.new)) }
     ensures reads { OnlyReads (I.seen images.old) (I.seen images.new)
         (needed_sectors geo.now 0 (rows * geo.now.head.chunk)) }
     ensures later { K.faults sink.old ≤ K.faults sink.new }
@@ -192,6 +203,9 @@ fn write_all<I: Images, K: Sink>(
         (λ bytes. Puts (K.gained sink.old) (K.gained sink.new) result (volume bytes geo.now end)) }
     ensures whole { IsErrOf result VolumeFault.ReadFault → IfSome (told_all (I.seen images.old).attached)
         (λ bytes. AppendsSectors (K.gained sink.old) (K.gained sink.new) (volume bytes geo.now end)) }
+    ensures ahead { IfSome (told_all (I.seen images.old).attached)
+        (λ bytes. IsAhead (data_blocks_of geo.now.head * (batch * geo.now.head.chunk) + BLOCK_SECTORS)
+        (I.seen images.old).sectors_read (I.seen images.new).sectors_read (K.gained sink.old) (K.gained sink.new)) }
     ensures reads { OnlyReads (I.seen images.old) (I.seen images.new) (volume_sectors geo.now.head end) }
     ensures later { K.faults sink.old ≤ K.faults sink.new }
     ensures ends { IfErr result (Ends (I.seen images.old).faults (I.seen images.new).faults (K.faults sink.old) (K.faults sink.new)) }
@@ -229,6 +243,10 @@ pub fn write_volume<I: Images, K: Sink>(
         Rose (I.seen images.old).faults (I.seen images.new).faults }
     ensures write_fault { IsErrOf result VolumeFault.WriteFault → Rose (K.faults sink.old) (K.faults sink.new) }
     ensures reads { OnlyReads (I.seen images.old) (I.seen images.new) (volume_sectors geo.now.head end) }
+
+    // It is read as it is put: a batch of rows ahead at most, and nothing after the sink failed.
+    ensures ahead { IfSome (told_all (I.seen images.old).attached)
+        (λ bytes. IsAhead (most_ahead geo.now.head) (I.seen images.old).sectors_read (I.seen images.new).sectors_read (K.gained sink.old) (K.gained sink.new)) }
     ensures later { K.faults sink.old ≤ K.faults sink.new }
 {
     let batch = batch_rows(&geo.head);

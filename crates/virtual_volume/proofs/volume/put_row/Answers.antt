@@ -10,6 +10,7 @@ use Rattle.virtual_volume.proofs.volume.put_row.Goals as goal
 pub loop-item-init : goal.loop-item-init
 loop-item-init g c = record {
   passes = λ images first count place few hold. items_start images c.args.geo.now c.args.row (g.K.Sink.gained c.args.sink.now) c.args.pending.now;
+  few = omega arith;
   later = omega arith;
 }
 
@@ -34,6 +35,7 @@ loop-item-preserved g c =
           items_on images c.args.geo.now c.args.row c.loop-item.item (g.K.Sink.gained c.args.sink.now) (g.K.Sink.gained c.loop-item.sink) (g.K.Sink.gained c.put.new.sink) c.args.pending.now c.loop-item.pending c.put.new.self _
           (item_part images c.args.geo.now c.args.regions.now.stride first count c.args.row c.loop-item.item c.slot_of_item-slot.result c.args.at c.args.regions.now.bytes c.region.result.now c.requires.set last c.slot_of_item-slot.ensures.there within hold place few c.region.ensures.long c.region.ensures.sectors)
           (c.loop-item.invariant.passes images first count place few hold) c.in_ok-put.ensures.passed;
+      few = omega (arith, c.in_ok-put.ensures.few);
       later = omega (arith, c.put.ensures.cause.later);
     }
 

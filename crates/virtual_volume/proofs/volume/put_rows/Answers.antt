@@ -11,6 +11,7 @@ begins first r chunk = grind arith
 pub loop-r-init : goal.loop-r-init
 loop-r-init g c = record {
   passes = λ images hold. rows_start images c.args.geo.now c.args.first (g.K.Sink.gained c.args.sink.now) c.args.pending.now;
+  few = omega arith;
   later = omega arith;
 }
 
@@ -31,6 +32,7 @@ loop-r-preserved g c = record {
       (c.loop-r.invariant.passes images hold)
       (c.in_ok-put_row.ensures.passed images (c.args.first * c.args.geo.now.head.chunk) (c.args.rows * c.args.geo.now.head.chunk)
       (begins c.args.first c.loop-r.r c.args.geo.now.head.chunk) (row_inside c.loop-r.r c.args.rows c.args.geo.now.head.chunk c.loop-r-test.true) hold);
+  few = omega (arith, c.in_ok-put_row.ensures.few);
   later = omega (arith, c.put_row.ensures.cause.later);
 }
 

@@ -1,4 +1,5 @@
-use Rattle.std.proofs.Common.{ℕ, ◌*◌, ◌≤◌, List}
+use Rattle.std.proofs.Common.{ℕ, ◌*◌, ◌≤◌, List, length}
+use Rattle.member_regions.specs.declared.regions.TheConstants.{BLOCK}
 use Rattle.virtual_volume.specs.Parts.{rows_of}
 use Rattle.member_regions.specs.Needs.{HoldData}
 use Rattle.virtual_volume.specs.Waiting.{Passes}
@@ -8,5 +9,6 @@ abbrev pub invariant-loop-r : goal.invariant-loop-r
 invariant-loop-r g l = record {
   passes : (images : List (List ℕ)) → HoldData images l.geo l.regions.stride (l.first * l.geo.head.chunk) (l.rows * l.geo.head.chunk) l.regions.bytes →
       Passes (g.K.Sink.gained l.fn.sink) (g.K.Sink.gained l.sink) l.fn.pending l.pending (rows_of images l.geo l.first l.r);
+  few : length l.pending ≤ 512 * BLOCK;
   later : g.K.Sink.faults l.fn.sink ≤ g.K.Sink.faults l.sink;
 }

@@ -1,12 +1,14 @@
-use Rattle.std.proofs.Common.{◌≡◌, ℕ, ◌+◌, ◌*◌, List, ◌++◌, ap, subst, arith, rules}
+use Rattle.std.proofs.Common.{◌≡◌, ℕ, ◌+◌, ◌*◌, List, [], ◌++◌, ap, subst, arith, rules}
 use Rattle.image_source.specs.Attached.{told_all}
 use Rattle.image_source.specs.Streams.{AppendsFront, Puts}
-use Rattle.raid_params.specs.Size.{rows}
+use Rattle.raid_params.specs.Size.{data_blocks, rows}
+use Rattle.member_regions.specs.declared.regions.TheConstants.{BLOCK}
 use Rattle.raid_terms.specs.Volume.{volume}
 use Rattle.member_regions.proofs.Sets.{testable_chunk}
 use Rattle.virtual_volume.specs.Gained.{AppendsSectors}
 use Rattle.virtual_volume.specs.Parts.{rows_of}
 use Rattle.virtual_volume.specs.Waiting.{Passes}
+use Rattle.virtual_volume.proofs.Ahead.{ahead_passed}
 use Rattle.virtual_volume.proofs.Fronts.{puts_err}
 use Rattle.member_regions.proofs.IfTold.{if_told}
 use Rattle.virtual_volume.proofs.Puts.{rows_flushed, rows_whole}
@@ -58,3 +60,9 @@ returns-in_err-write_rows-clause-reads g c =
 pub returns-clause-reads : goal.returns-clause-reads
 returns-clause-reads g c =
     needed_volume (g.I.Images.seen c.args.images.now) (g.I.Images.seen c.write_rows.new.images) c.args.geo.now c.args.end c.rows-rows.result (g.I.Images.seen c.args.images.now).attached c.requires.set c.rows-rows.ensures c.write_rows.ensures.reads
+
+pub returns-clause-ahead : goal.returns-clause-ahead
+returns-clause-ahead g c =
+    ahead_passed (told_all (g.I.Images.seen c.args.images.now).attached) (data_blocks c.args.geo.now.head * (c.args.batch * c.args.geo.now.head.chunk) + BLOCK) (g.I.Images.seen c.args.images.now).sectors_read (g.I.Images.seen c.write_rows.new.images).sectors_read
+    (g.K.Sink.gained c.args.sink.now) (g.K.Sink.gained c.write_rows.new.sink) (g.K.Sink.gained c.flush.new.sink) c.write_rows.new.pending c.flush.new.self [] c.flush.result
+    c.write_rows.ensures.ahead c.flush.ensures.passed

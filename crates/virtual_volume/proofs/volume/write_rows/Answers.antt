@@ -10,6 +10,7 @@ use Rattle.member_regions.proofs.IfTold.{if_any, if_both, if_told}
 use Rattle.virtual_volume.proofs.Puts.{rows_cut, rows_start}
 use Rattle.virtual_volume.proofs.Sets.{batch_held, batch_inside, needed_on}
 use Rattle.virtual_volume.proofs.Whole.{rows_join}
+use Rattle.virtual_volume.proofs.Ahead.{ahead_at_end, ahead_at_error}
 use Rattle.virtual_volume.proofs.volume.write_rows.Goals as goal
 
 pub loop-first-init : goal.loop-first-init
@@ -19,6 +20,7 @@ loop-first-init g c = record {
       (λ bytes. Passes (g.K.Sink.gained c.args.sink.now) (g.K.Sink.gained c.args.sink.now) c.args.pending.now c.args.pending.now (rows_of bytes c.args.geo.now 0 0))
       (λ bytes. rows_start bytes c.args.geo.now 0 (g.K.Sink.gained c.args.sink.now) c.args.pending.now);
   reads = reads_up (g.I.Images.seen c.args.images.now) (g.I.Images.seen c.args.images.now) (reads_none (g.I.Images.seen c.args.images.now)) (omega arith);
+  few = omega arith;
   later = omega arith;
   within = omega arith;
   room = record { members = refl; stride = refl };
@@ -86,7 +88,20 @@ loop-first-preserved g c = record {
   reads =
       needed_on (g.I.Images.seen c.args.images.now) (g.I.Images.seen c.loop-first.images) (g.I.Images.seen c.write_batch.new.images) c.args.geo.now c.loop-first.first c.min-count.result (c.loop-first.first + c.min-count.result) c.args.geo.now.head.chunk
       c.loop-first.invariant.reads c.write_batch.ensures.reads (omega arith);
+  few = omega (arith, c.in_ok-write_batch.ensures.few);
   later = omega (arith, c.write_batch.ensures.later);
   within = omega arith;
   room = record { members = c.write_batch.ensures.room.members ∙ c.loop-first.invariant.room.members; stride = c.write_batch.ensures.room.stride ∙ c.loop-first.invariant.room.stride };
 }
+
+pub returns-in_err-write_batch-clause-ahead : goal.returns-in_err-write_batch-clause-ahead
+returns-in_err-write_batch-clause-ahead g c =
+    ahead_at_error (told_all (g.I.Images.seen c.args.images.now).attached) (g.I.Images.seen c.args.images.now) (g.I.Images.seen c.loop-first.images) (g.I.Images.seen c.write_batch.new.images) c.args.geo.now
+    c.loop-first.first c.min-count.result c.args.batch
+    (g.K.Sink.gained c.args.sink.now) (g.K.Sink.gained c.loop-first.sink) (g.K.Sink.gained c.write_batch.new.sink) c.args.pending.now c.loop-first.pending
+    c.requires.set (omega arith) c.loop-first.invariant.few c.loop-first.invariant.reads c.write_batch.ensures.reads c.loop-first.invariant.passes (rw (← c.loop-first.invariant.reads.attached) c.in_err-write_batch.ensures.passed)
+
+pub returns-clause-ahead : goal.returns-clause-ahead
+returns-clause-ahead g c =
+    ahead_at_end (told_all (g.I.Images.seen c.args.images.now).attached) (g.I.Images.seen c.args.images.now) (g.I.Images.seen c.loop-first.images) c.args.geo.now c.loop-first.first c.args.batch
+    (g.K.Sink.gained c.args.sink.now) (g.K.Sink.gained c.loop-first.sink) c.args.pending.now c.loop-first.pending c.requires.set c.loop-first.invariant.few c.loop-first.invariant.reads c.loop-first.invariant.passes

@@ -1,4 +1,5 @@
-use Rattle.std.proofs.Common.{◌-◌, ◌*◌, ◌≤◌, IfSome}
+use Rattle.std.proofs.Common.{◌-◌, ◌*◌, ◌≤◌, IfSome, length}
+use Rattle.member_regions.specs.declared.regions.TheConstants.{BLOCK}
 use Rattle.image_source.specs.Attached.{told_all}
 use Rattle.image_source.specs.Seen.{OnlyReads}
 use Rattle.member_regions.specs.Needs.{needed_sectors}
@@ -11,6 +12,7 @@ abbrev pub invariant-loop-first : goal.invariant-loop-first
 invariant-loop-first g l = record {
   passes : IfSome (told_all (g.I.Images.seen l.fn.images).attached) (λ bytes. Passes (g.K.Sink.gained l.fn.sink) (g.K.Sink.gained l.sink) l.fn.pending l.pending (rows_of bytes l.geo 0 l.first));
   reads : OnlyReads (g.I.Images.seen l.fn.images) (g.I.Images.seen l.images) (needed_sectors l.geo 0 (l.first * l.geo.head.chunk));
+  few : length l.pending ≤ 512 * BLOCK;
   later : g.K.Sink.faults l.fn.sink ≤ g.K.Sink.faults l.sink;
   within : l.first ≤ l.rows;
   room : KeepsRoom l.fn.regions l.regions;

@@ -1,6 +1,6 @@
 -- The heads that a walk has before it.
 use Rattle.std.proofs.Common.{◌≡◌, ℕ, ◌+◌, ◌-◌, ◌<◌, ◌≤◌, ◌^◌, Bool, true, nat_lt, cond, List, [], ◌∷◌, length, filter, refl, sym, ap, ◌∙◌, arith, subst, Option, Some, option_map, slice_get, inl, inr}
-use Rattle.std.specs.List.{flat_map, AllByRecursion}
+use Rattle.std.specs.List.{flat_map, AllByRecursion, Contains}
 use Rattle.std.proofs.lemmas.Bool.{cases_lt, lt-ltb, le-ltb}
 use Rattle.std.proofs.lemmas.Option.{slice_get_within}
 use Rattle.raid_params.specs.Validity.{is_valid_head}
@@ -18,7 +18,7 @@ use Rattle.set_product.proofs.HeadByHead.{all_counted, heads_make}
 use Rattle.set_product.proofs.Shaped.{valid_heads}
 use Rattle.set_product.proofs.Spaces.{space_images, space_members}
 use Rattle.page_engine.specs.Walk.{IsAmong, IsHeadOf}
-use Rattle.page_engine.proofs.Among.{among_heads}
+use Rattle.page_engine.proofs.Among.{among_heads, each_among}
 
 -- the sets of the ranks from this one on are those of these heads
 unfoldable pub Ahead : Plan → ℕ → List HeadSets → Type 0
@@ -36,12 +36,12 @@ unfolding Ahead
 at_head plan at sets all later e ahead = let P : List HeadSets → Type 0 = λ l. Ahead plan at l in subst P e ahead
 
 -- all heads of a plan
-all_ahead : (plan : Plan) (first : ℕ) (hs : List Head) → AllByRecursion (λ head. (head.offset < 2 ^ 55) × (is_valid_head head ≡ true)) hs → AllByRecursion (IsAmong plan.bounds) hs →
+all_ahead : (plan : Plan) (first : ℕ) (hs : List Head) → AllByRecursion (λ head. (head.offset < 2 ^ 55) × (is_valid_head head ≡ true)) hs → AllByRecursion (IsAmong plan.bounds) hs → AllByRecursion (Contains (heads plan.bounds)) hs →
     ((n : ℕ) (geo : Geometry) → slice_get (flat_map sets_in (numbered plan first hs)) n ≡ Some geo → slice_get (sets_of plan) (first + n) ≡ Some geo) →
     first + count_in plan hs ≡ total_of plan → Ahead plan first (numbered plan first hs)
 unfolding Ahead numbered count_in
-all_ahead plan first [] valid among stand all = omega arith
-all_ahead plan first (head ∷ hs) valid among stand all =
+all_ahead plan first [] valid among listed stand all = omega arith
+all_ahead plan first (head ∷ hs) valid among listed stand all =
     let space = space_of plan head.level head.members in
     let count = length (lists_of (space_of plan head.level head.members)) in
     let own : HeadSets = record { head = head; space = space_of plan head.level head.members; first = first; count = length (lists_of (space_of plan head.level head.members)) } in
@@ -54,6 +54,7 @@ all_ahead plan first (head ∷ hs) valid among stand all =
         head = valid.0.1;
         offset = valid.0.0;
         among = among.0;
+        listed = listed.0;
         images = space_images plan head.level head.members;
         members = space_members plan head.level head.members;
         count = refl;
@@ -64,7 +65,7 @@ all_ahead plan first (head ∷ hs) valid among stand all =
             ∙ ap (option_map make) e);
         within = omega arith;
       },
-      all_ahead plan (first + count) hs valid.1 among.1
+      all_ahead plan (first + count) hs valid.1 among.1 listed.1
           (λ n geo e.
           ap (slice_get (sets_of plan)) (let f : first + length (lists_of (space_of plan head.level head.members)) + n ≡ first + (length (lists_of (space_of plan head.level head.members)) + n) = omega arith in f)
           ∙ stand (count + n) geo
@@ -105,7 +106,7 @@ skip_ahead plan at rank (sets ∷ later) ahead low =
 pub ahead_from : (plan : Plan) (rank : ℕ) → IsPlan plan → Ahead plan rank (filter (λ sets. nat_lt rank (end_of sets)) (heads_of plan))
 ahead_from plan rank is_plan =
     skip_ahead plan 0 rank (heads_of plan)
-    (all_ahead plan 0 (heads plan.bounds) (valid_heads plan is_plan) (among_heads plan.bounds)
+    (all_ahead plan 0 (heads plan.bounds) (valid_heads plan is_plan) (among_heads plan.bounds) (each_among (heads plan.bounds))
     (λ n geo e. ap (λ (k : ℕ). slice_get (sets_of plan) k) (let f : 0 + n ≡ n = omega arith in f) ∙ ap (λ (l : List Geometry). slice_get l n) (heads_make plan) ∙ e)
     (let all = all_counted plan in omega arith))
     (omega arith)

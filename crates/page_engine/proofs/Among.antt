@@ -10,7 +10,7 @@ use Rattle.slot_math.proofs.Listed.{each_flat, each_kept, each_map, each_more}
 use Rattle.page_engine.specs.Walk.{IsAmong}
 
 -- each element of a list is among its elements
-each_among : {X : Type 0} (xs : List X) → AllByRecursion (Contains xs) xs
+pub each_among : {X : Type 0} (xs : List X) → AllByRecursion (Contains xs) xs
 each_among xs = recursion_from_All (Contains xs) xs (λ k d lt. (k, lt, get_or_default xs k (get_or xs k d) d lt))
 
 each_any : {A : Type 0} (P : A → Type 0) → ((x : A) → P x) → (xs : List A) → AllByRecursion P xs

@@ -1,5 +1,5 @@
 -- Tables of rows that are kept.
-use Rattle.std.proofs.Common.{ℕ, zero, suc, ◌≡◌, ◌<◌, ◌≤◌, ◌+◌, ◌-◌, ◌||◌, ◌==◌, Bool, true, false, if◌then◌else◌, cond, List, [], ◌∷◌, ◌++◌, length, length-append, get_or, refl, sym, ap, ap₂, ◌∙◌, arith, Option, Some, None, IfSome, IsSomeAnd, Result, Ok, Err, IsErr, All, Contains, slice_get, inl, inr, subst}
+use Rattle.std.proofs.Common.{ℕ, zero, suc, ◌≡◌, ◌<◌, ◌≤◌, ◌+◌, ◌-◌, ◌*◌, ◌||◌, ◌==◌, Bool, true, false, if◌then◌else◌, cond, List, [], ◌∷◌, ◌++◌, length, length-append, get_or, refl, sym, ap, ap₂, ◌∙◌, arith, Option, Some, None, IfSome, IsSomeAnd, Result, Ok, Err, IsErr, All, Contains, slice_get, inl, inr, subst}
 use Rattle.std.specs.List.{list_any, position, position_from, slice_index, slice_index_or, sum_by}
 use Rattle.std.proofs.lemmas.Bool.{cases_Bool, cases_lt, eq-eqb, eqb-true}
 use Rattle.std.proofs.Math.Seq.{get_or-append_seam}
@@ -12,10 +12,12 @@ use Rattle.std.proofs.lemmas.Option.{get_or_from_slice_get, slice_get-get_or, sl
 use Rattle.image_source.proofs.Reading.{reads_up}
 use Rattle.image_source.specs.Seen.{OnlyReads, Seen}
 use Rattle.raid_params.specs.declared.types.Head.{Head}
+use Rattle.raid_terms.specs.Product.{heads}
 use Rattle.search_plan.specs.declared.plan.Plan.{Plan}
 use Rattle.slot_math.proofs.Nested.{get_high}
-use Rattle.prune_filters.specs.Xors.{AreXors, AreXorTables, IsXorTable, RowTable}
-use Rattle.page_engine.specs.Pages.{offset_reads, table_reads}
+use Rattle.prune_filters.specs.Rows.{needs_table}
+use Rattle.prune_filters.specs.Xors.{most_tested, AreXors, AreXorTables, IsXorTable, RowTable}
+use Rattle.page_engine.specs.Pages.{asks_tables, offset_reads, table_reads}
 use Rattle.page_engine.specs.Walk.{left_after, left_reads, IsKept, Spends, StandsFor}
 use Rattle.page_engine.specs.declared.page_parts.PageFault.{PageFault}
 use Rattle.page_engine.specs.declared.row_tables.OffsetTables.{OffsetTables}
@@ -162,6 +164,16 @@ kept_more told plan old new one grown all here = subst (λ (l : List OffsetTable
           let last : get_or (old ++ one ∷ []) k d ≡ one = ap (λ (n : ℕ). get_or (old ++ one ∷ []) n d) (sym at) ∙ get_or-append_seam old one [] d in
           subst (IsKept told plan) (sym last) here)
     ]
+
+-- what is read for the tables of an offset, where a head needs one
+pub reads_offset : (plan : Plan) (head : Head) (chunks : List ℕ) (old new : Seen) → Contains (heads plan.bounds) head → needs_table plan head ≡ true → chunks ≡ plan.bounds.chunks.items →
+    OnlyReads old new (length plan.lengths.items * most_tested plan chunks head.offset) → OnlyReads old new (offset_reads plan head.offset)
+unfolding offset_reads asks_tables
+reads_offset plan head chunks old new (k, lt, e) needs is read =
+    let there : list_any (needs_table plan) (heads plan.bounds) ≡ true = list_any_at (needs_table plan) (heads plan.bounds) k head lt (ap (needs_table plan) e ∙ needs) in
+    let P : Bool → Type 0 = λ b. OnlyReads old new (if b then (length plan.lengths.items * most_tested plan plan.bounds.chunks.items head.offset) else 0) in
+    let Q : List ℕ → Type 0 = λ l. OnlyReads old new (length plan.lengths.items * most_tested plan l head.offset) in
+    subst P (sym there) (subst Q is read)
 
 -- before any table is made, those of all offsets are left to read
 pub left_all : (plan : Plan) → left_reads plan [] ≤ table_reads plan

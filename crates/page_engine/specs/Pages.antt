@@ -1,6 +1,6 @@
 -- Pages of the parameter sets that pass, and what is read for them.
-use Rattle.std.specs.Prelude.{ℕ, zero, suc, ◌≡◌, ◌+◌, ◌≤◌, ◌<◌, ◌^◌, ◌*◌, ◌-◌, ◌/◌, ◌⊎◌, min, Bool, true, false, not, ◌&&◌, ◌||◌, Result, Ok, Err, IfSome, List, [], ◌∷◌, length, map, sum_by, count_by, slice_get, All}
-use Rattle.std.specs.List.{range_with_len}
+use Rattle.std.specs.Prelude.{ℕ, zero, suc, ◌≡◌, ◌+◌, ◌≤◌, ◌<◌, ◌^◌, ◌*◌, ◌-◌, ◌/◌, ◌⊎◌, min, Bool, true, false, not, ◌&&◌, ◌||◌, if◌then◌else◌, Result, Ok, Err, IfSome, List, [], ◌∷◌, length, map, sum_by, count_by, slice_get, All}
+use Rattle.std.specs.List.{list_any, range_with_len}
 use Rattle.std.specs.Option.{option_map_or}
 use Rattle.std.specs.declared.option.Option.{Option}
 use Rattle.std.specs.declared.option.Option.TheVariants.{None, Some}
@@ -8,12 +8,13 @@ use Rattle.image_source.specs.Causes.{Rose}
 use Rattle.image_source.specs.Seen.{OnlyReads, Seen}
 use Rattle.raid_params.specs.declared.types.Geometry.{Geometry}
 use Rattle.raid_terms.specs.Page.{page_next, stop_of, IsPage}
+use Rattle.raid_terms.specs.Product.{heads}
 use Rattle.candidate_enum.specs.Survivors.{all_admitted}
 use Rattle.row_scan.specs.Scan.{is_unbreakable}
 use Rattle.row_scan.specs.Windows.{scan_reads}
 use Rattle.row_scan.specs.declared.many_sets.TheConstants.{MOST_SETS}
 use Rattle.prune_filters.specs.Hopeful.{is_hopeful}
-use Rattle.prune_filters.specs.Rows.{rows_decide}
+use Rattle.prune_filters.specs.Rows.{needs_table, rows_decide}
 use Rattle.prune_filters.specs.Xors.{most_tested}
 use Rattle.search_plan.specs.Sets.{passes_at, sets_of, total_of}
 use Rattle.search_plan.specs.declared.plan.Plan.{Plan}
@@ -91,9 +92,13 @@ scans told plan from to = min (open_ranks told plan from to) ((hopeful_ranks tol
 unfoldable pub most_scanned : Plan → ℕ
 most_scanned plan = scan_reads (length plan.lengths.items) plan.end plan.limits.window plan.bounds.offsets.items
 
--- for the tables of an offset: the tested rows of the chunk that has most, of each image
-abbrev pub offset_reads : Plan → ℕ → ℕ
-offset_reads plan offset = length plan.lengths.items * most_tested plan plan.bounds.chunks.items offset
+-- some head of the plan needs a table of rows
+unfoldable pub asks_tables : Plan → Bool
+asks_tables plan = list_any (needs_table plan) (heads plan.bounds)
+
+-- for the tables of an offset: the tested rows of the chunk that has most, of each image, where some head needs a table
+unfoldable pub offset_reads : Plan → ℕ → ℕ
+offset_reads plan offset = if asks_tables plan then length plan.lengths.items * most_tested plan plan.bounds.chunks.items offset else 0
 
 -- for those of all offsets
 unfoldable pub table_reads : Plan → ℕ

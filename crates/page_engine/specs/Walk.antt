@@ -8,6 +8,7 @@ use Rattle.raid_params.specs.Validity.{is_valid_head}
 use Rattle.raid_params.specs.declared.types.Bounds.{Bounds}
 use Rattle.raid_params.specs.declared.types.Head.{Head}
 use Rattle.raid_terms.specs.Page.{passing}
+use Rattle.raid_terms.specs.Product.{heads}
 use Rattle.landmark_rules.specs.Groups.{groups_hold}
 use Rattle.search_plan.specs.Sets.{passes_at, sets_of, total_of}
 use Rattle.search_plan.specs.declared.plan.Plan.{Plan}
@@ -36,6 +37,7 @@ pub record IsHeadOf (plan : Plan) (sets : HeadSets) : Type 0 where
   pub head : is_valid_head sets.head ≡ true
   pub offset : sets.head.offset < 2 ^ 55
   pub among : IsAmong plan.bounds sets.head
+  pub listed : Contains (heads plan.bounds) sets.head
   pub images : sets.space.images ≡ length plan.lengths.items
   pub members : sets.space.members ≡ sets.head.members
   pub count : sets.count ≡ length (lists_of sets.space)

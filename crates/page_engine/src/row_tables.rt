@@ -1,6 +1,7 @@
 //! The tables of rows that a walk has made.
-ghost use Rattle.std.specs.Prelude.{◌≡◌, ◌<◌, ◌==◌, All, Contains, IfErr, IfOk, ℕ, Some, length, position, slice_get, slice_index, slice_index_or};
+ghost use Rattle.std.specs.Prelude.{◌≡◌, ◌<◌, ◌==◌, All, Contains, IfErr, IfOk, ℕ, Some, length, position, slice_get, slice_index, slice_index_or, true};
 ghost use Rattle.image_source.specs.Attached.{told_all};
+ghost use Rattle.prune_filters.specs.Rows.{needs_table as head_needs_table};
 ghost use Rattle.prune_filters.specs.Xors.{RowTable};
 ghost use Rattle.search_plan.specs.Plans.{IsPlan, AgreeWith};
 ghost use Rattle.page_engine.specs.Pages.{EndsTest};
@@ -43,7 +44,7 @@ fn chunk_place(chunks: &[u64], chunk: u64) -> usize
     }
 }
 
-/// The place of the tables of a head's offset, which are made where they were not yet.
+/// The place of the tables of the offset of a head that needs one. They are made where they were not yet.
 pub(crate) fn table_place<I: Images>(
     alloc: Global,
     images: &mut I,
@@ -54,6 +55,7 @@ pub(crate) fn table_place<I: Images>(
     requires plan { IsPlan plan.now }
     requires lengths { AgreeWith plan.now (I.seen images.old).attached }
     requires head { IsHeadOf plan.now sets.now }
+    requires needs { head_needs_table plan.now sets.now.head ≡ true }
     requires kept { All (IsKept (told_all (I.seen images.old).attached) plan.now) kept.old }
     ensures place { IfOk result (λ place. StandsFor sets.now.head.offset place kept.new) }
     ensures kept { All (IsKept (told_all (I.seen images.old).attached) plan.now) kept.new }

@@ -1,5 +1,5 @@
 //! The verdicts of a scan.
-ghost use Rattle.std.specs.Prelude.{◌≡◌, [], ◌∷◌, ◌++◌, false, IfOk, OnErr, OnOk, length, replicate};
+ghost use Rattle.std.specs.Prelude.{◌≡◌, false, IfOk, length, replicate};
 
 use image_source::Memory;
 use std::alloc::Global;
@@ -20,15 +20,6 @@ impl Model for Verdicts {
 }
 
 impl Verdicts {
-    /// No verdicts. It takes no memory.
-    pub fn new(alloc: Global) -> Verdicts
-        ensures { result ≡ [] }
-    {
-        Verdicts {
-            passed: Vec::new(alloc),
-        }
-    }
-
     /// `count` verdicts, all against.
     pub(crate) fn against(alloc: Global, count: usize) -> Result<Verdicts, Memory>
         ensures against { IfOk result (λ v. v ≡ replicate count false) }
@@ -36,14 +27,6 @@ impl Verdicts {
     {
         let passed = vec![in alloc; false; count].map_err(|_| Memory)?;
         Ok(Verdicts { passed })
-    }
-
-    /// Appends a verdict, or leaves the list as it was.
-    pub fn push(&mut self, passes: bool) -> Result<(), Memory>
-        ensures ok { OnOk result (self.new ≡ self.old ++ passes ∷ []) }
-        ensures err { OnErr result (self.new ≡ self.old) }
-    {
-        self.passed.push(passes).map_err(|_| Memory)
     }
 
     /// The verdicts, in the order of the sets.

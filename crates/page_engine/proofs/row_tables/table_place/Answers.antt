@@ -1,12 +1,12 @@
-use Rattle.std.proofs.Common.{rules, ◌≡◌, ◌≤◌, ◌*◌, ◌+◌, ◌++◌, ◌∷◌, [], ◌==◌, ℕ, None, List, IfSome, length, subst, sym, ap, ◌∙◌, refl}
+use Rattle.std.proofs.Common.{rules, ◌≡◌, ◌≤◌, ◌+◌, ◌++◌, ◌∷◌, [], ◌==◌, ℕ, None, List, IfSome, length, subst, sym, ap, ◌∙◌, refl}
 use Rattle.image_source.specs.Attached.{told_all}
 use Rattle.image_source.specs.Seen.{OnlyReads}
 use Rattle.std.specs.List.{position}
-use Rattle.prune_filters.specs.Xors.{most_tested, AreXorTables}
+use Rattle.prune_filters.specs.Xors.{AreXorTables}
 use Rattle.page_engine.specs.Pages.{offset_reads}
 use Rattle.page_engine.specs.Walk.{left_reads, Spends}
 use Rattle.page_engine.specs.declared.row_tables.OffsetTables.{OffsetTables}
-use Rattle.page_engine.proofs.Kept.{found_stands, kept_more, left_holds, left_less, made_stands, none_found, none_left, spends_made}
+use Rattle.page_engine.proofs.Kept.{found_stands, kept_more, left_holds, left_less, made_stands, none_found, none_left, reads_offset, spends_made}
 use Rattle.page_engine.proofs.row_tables.table_place.Goals as goal
 
 pub returns-in-Some-clause-place : goal.returns-in-Some-clause-place
@@ -19,7 +19,7 @@ returns-in-Err-ReadFault-clause-reads g c =
     let none : position (λ (one : OffsetTables). one.offset == c.args.sets.now.head.offset) c.args.kept.now ≡ None
     = ap (position (λ (one : OffsetTables). one.offset == c.args.sets.now.head.offset)) (sym c.as_slice.ensures) ∙ sym c.kept_place.ensures ∙ c.in_default.is in
     let read : OnlyReads (g.I.Images.seen c.args.images.now) (g.I.Images.seen c.build_each.new.images) (offset_reads c.args.plan.now c.args.sets.now.head.offset)
-    = subst (λ (l : List ℕ). OnlyReads (g.I.Images.seen c.args.images.now) (g.I.Images.seen c.build_each.new.images) (length c.args.plan.now.lengths.items * most_tested c.args.plan.now l c.args.sets.now.head.offset)) c.deref.ensures.0 c.build_each.ensures.reads in
+    = reads_offset c.args.plan.now c.args.sets.now.head _ _ _ c.requires.head.listed c.requires.needs c.deref.ensures.0 c.build_each.ensures.reads in
     spends_made (left_reads c.args.plan.now c.args.kept.now) 0 (offset_reads c.args.plan.now c.args.sets.now.head.offset) _ _
     (left_holds c.args.plan.now c.args.kept.now c.args.sets.now.head.offset c.requires.head.among.offset (none_found (λ (one : OffsetTables). one.offset == c.args.sets.now.head.offset) c.args.kept.now none)) read
 
@@ -28,7 +28,7 @@ returns-in_err-map_err-clause-reads g c =
     let none : position (λ (one : OffsetTables). one.offset == c.args.sets.now.head.offset) c.args.kept.now ≡ None
     = ap (position (λ (one : OffsetTables). one.offset == c.args.sets.now.head.offset)) (sym c.as_slice.ensures) ∙ sym c.kept_place.ensures ∙ c.in_default.is in
     let read : OnlyReads (g.I.Images.seen c.args.images.now) (g.I.Images.seen c.build_each.new.images) (offset_reads c.args.plan.now c.args.sets.now.head.offset)
-    = subst (λ (l : List ℕ). OnlyReads (g.I.Images.seen c.args.images.now) (g.I.Images.seen c.build_each.new.images) (length c.args.plan.now.lengths.items * most_tested c.args.plan.now l c.args.sets.now.head.offset)) c.deref.ensures.0 c.build_each.ensures.reads in
+    = reads_offset c.args.plan.now c.args.sets.now.head _ _ _ c.requires.head.listed c.requires.needs c.deref.ensures.0 c.build_each.ensures.reads in
     subst (λ (n : ℕ). Spends (left_reads c.args.plan.now c.args.kept.now) n (g.I.Images.seen c.args.images.now) (g.I.Images.seen c.build_each.new.images) 0)
     (sym (none_left c.args.plan.now c.push.new.self c.from_residual.result c.from_residual.ensures.0))
     (spends_made (left_reads c.args.plan.now c.args.kept.now) 0 (offset_reads c.args.plan.now c.args.sets.now.head.offset) _ _
@@ -53,7 +53,7 @@ returns-clause-reads g c =
     let none : position (λ (one : OffsetTables). one.offset == c.args.sets.now.head.offset) c.args.kept.now ≡ None
     = ap (position (λ (one : OffsetTables). one.offset == c.args.sets.now.head.offset)) (sym c.as_slice.ensures) ∙ sym c.kept_place.ensures ∙ c.in_default.is in
     let read : OnlyReads (g.I.Images.seen c.args.images.now) (g.I.Images.seen c.build_each.new.images) (offset_reads c.args.plan.now c.args.sets.now.head.offset)
-    = subst (λ (l : List ℕ). OnlyReads (g.I.Images.seen c.args.images.now) (g.I.Images.seen c.build_each.new.images) (length c.args.plan.now.lengths.items * most_tested c.args.plan.now l c.args.sets.now.head.offset)) c.deref.ensures.0 c.build_each.ensures.reads in
+    = reads_offset c.args.plan.now c.args.sets.now.head _ _ _ c.requires.head.listed c.requires.needs c.deref.ensures.0 c.build_each.ensures.reads in
     let less : left_reads c.args.plan.now c.push.new.self + offset_reads c.args.plan.now c.args.sets.now.head.offset ≤ left_reads c.args.plan.now c.args.kept.now
     = subst (λ (l : List OffsetTables). left_reads c.args.plan.now l + offset_reads c.args.plan.now c.args.sets.now.head.offset ≤ left_reads c.args.plan.now c.args.kept.now) (sym pushed)
     (left_less c.args.plan.now c.args.kept.now (record { offset = c.args.sets.now.head.offset; tables = c.in-Ok.tables }) c.requires.head.among.offset

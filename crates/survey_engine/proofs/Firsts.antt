@@ -1,5 +1,5 @@
 -- Hints, one after the other.
-use Rattle.std.proofs.Common.{◌≡◌, ℕ, zero, suc, ◌+◌, ◌*◌, ◌^◌, ◌<◌, ◌≤◌, List, [], ◌∷◌, ◌++◌, length, take, get_or, slice_index, slice_get, slice_range, Bool, true, false, cond, refl, sym, ap, subst, IsSomeAnd, ◌∙◌, arith, All, IfSome, Option, Some, None}
+use Rattle.std.proofs.Common.{◌≡◌, ℕ, zero, suc, ◌+◌, ◌-◌, ◌*◌, ◌^◌, ◌==◌, ◌<◌, ◌≤◌, List, [], ◌∷◌, ◌++◌, length, take, get_or, slice_index, slice_get, slice_range, Bool, true, false, cond, refl, sym, ap, subst, IsSomeAnd, ◌∙◌, arith, All, IfSome, Option, Some, None}
 use Rattle.std.specs.List.{filter_map, flat_map, cons_option}
 use Rattle.std.proofs.lemmas.List.{append-nil, length-map, take_all, take_more}
 use Rattle.std.proofs.lemmas.List.Concat.{flat_map-append}
@@ -10,14 +10,18 @@ use Rattle.image_source.specs.Seen.{Image, AreTold, AreWithin, OnlyReads, Seen, 
 use Rattle.image_source.proofs.Reading.{reads_join, reads_up}
 use Rattle.landmark_rules.specs.declared.marks.Kind.TheVariants.{Gpt as GptKind}
 use Rattle.std.specs.Prelude.{count_by}
-use Rattle.std.proofs.lemmas.List.Sums.{sum_by_more, sum_by-take-le}
+use Rattle.std.proofs.lemmas.List.Sums.{sum_by-le-sum_by, sum_by_more, sum_by-take-le}
 use Rattle.image_blocks.proofs.Reading.{told_bytes}
 use Rattle.gpt_marks.specs.Entry.{first_lbas}
 use Rattle.gpt_marks.specs.declared.header.GptHeader.{GptHeader}
 use Rattle.raid_params.specs.declared.limits.TheConstants.{MOST_MARKS, MOST_ORIGINS}
 use Rattle.survey_engine.specs.Kept.{with_number}
-use Rattle.survey_engine.specs.Origins.{has_entries, hints_at, hints_by, origins_of, with_numbers}
+use Rattle.survey_engine.specs.Origins.{has_entries, is_followed, entries_follow, hints_at, hints_by, origins_of, with_numbers}
 use Rattle.survey_engine.specs.Sightings.{is_same_kind, sector_of}
+use Rattle.survey_engine.specs.Surveys.{entries_read, found_in, survey_reads}
+use Rattle.survey_engine.specs.declared.ask.Ask.{Ask}
+use Rattle.survey_engine.specs.Landmarks.{kind_of}
+use Rattle.landmark_rules.specs.Groups.{kind_place}
 use Rattle.survey_engine.specs.declared.landmark.Landmark.{Landmark}
 use Rattle.survey_engine.specs.declared.landmark.Landmark.TheVariants.{Gpt, Boot, FileRecord, Super, Agf, Agi}
 use Rattle.survey_engine.specs.declared.sighting.Sighting.{Sighting}
@@ -174,11 +178,59 @@ hinted_all attached asked lengths found n items all is = all_hints (told_all att
 
 -- ---- what is read for them
 
-pub one_more_read : (a b c : Seen) (found : List Sighting) (i : ℕ) (s : Sighting) → i < length found → s ≡ get_or found i s → OnlyReads a b (count_by (is_same_kind GptKind) (take i found)) → OnlyReads b c (cond (is_same_kind GptKind s) 1 0) →
-    OnlyReads a c (count_by (is_same_kind GptKind) (take (i + 1) found))
-one_more_read a b c found i s below is ab bc =
-    let one : ◌≡◌ {A = ℕ} (cond (is_same_kind GptKind s) 1 0) (cond (is_same_kind GptKind (get_or found i s)) 1 0) = ap (λ (t : Sighting). cond (is_same_kind GptKind t) 1 0) is in
-    reads_up a c (reads_join a b c ab bc) (omega (arith, sum_by_more (λ (t : Sighting). cond (is_same_kind GptKind t) 1 0) found i s below, one))
+pub one_more_read : (a b c : Seen) (lengths : List ℕ) (found : List Sighting) (i : ℕ) (s : Sighting) → i < length found → s ≡ get_or found i s → OnlyReads a b (count_by (is_followed lengths) (take i found)) → OnlyReads b c (cond (is_followed lengths s) 1 0) →
+    OnlyReads a c (count_by (is_followed lengths) (take (i + 1) found))
+one_more_read a b c lengths found i s below is ab bc =
+    let one : ◌≡◌ {A = ℕ} (cond (is_followed lengths s) 1 0) (cond (is_followed lengths (get_or found i s)) 1 0) = ap (λ (t : Sighting). cond (is_followed lengths t) 1 0) is in
+    reads_up a c (reads_join a b c ab bc) (omega (arith, sum_by_more (λ (t : Sighting). cond (is_followed lengths t) 1 0) found i s below, one))
 
-pub reads_few : (a b : Seen) (found : List Sighting) (n : ℕ) → count_by (is_same_kind GptKind) found ≤ MOST_MARKS → OnlyReads a b (count_by (is_same_kind GptKind) (take n found)) → OnlyReads a b MOST_MARKS
-reads_few a b found n few ab = reads_up a b ab (omega (arith, sum_by-take-le (λ (t : Sighting). cond (is_same_kind GptKind t) 1 0) found n, few))
+pub reads_some : (a b : Seen) (lengths : List ℕ) (found : List Sighting) (n : ℕ) → OnlyReads a b (count_by (is_followed lengths) (take n found)) → OnlyReads a b (count_by (is_followed lengths) found)
+reads_some a b lengths found n ab = reads_up a b ab (omega (arith, sum_by-take-le (λ (t : Sighting). cond (is_followed lengths t) 1 0) found n))
+
+-- the sector after a header that entries follow is read
+pub one_read : (a b : Seen) (lengths : List ℕ) (s : Sighting) (h : GptHeader) → s.landmark ≡ Gpt h → has_entries h s.sector (slice_index lengths s.image) ≡ true → OnlyReads a b 1 → OnlyReads a b (cond (is_followed lengths s) 1 0)
+unfolding is_followed
+one_read a b lengths s h is entries ab =
+    let follow : entries_follow s.landmark s.sector (slice_index lengths s.image) ≡ true = ap (λ (l : Landmark). entries_follow l s.sector (slice_index lengths s.image)) is ∙ entries in
+    subst (λ (k : Bool). OnlyReads a b (cond k 1 0)) (sym follow) ab
+
+-- ---- how many those are
+
+one_at_most : (b : Bool) → cond b 1 0 ≤ 1
+one_at_most true = omega arith
+one_at_most false = omega arith
+
+followed_few : (l : Landmark) (sector long : ℕ) → cond (entries_follow l sector long) 1 0 ≤ cond (kind_place (kind_of l) == 0) 1 0
+followed_few (Gpt h) sector long = one_at_most (has_entries h sector long)
+followed_few (Boot b) sector long = omega arith
+followed_few (FileRecord r) sector long = omega arith
+followed_few (Super x) sector long = omega arith
+followed_few (Agf g) sector long = omega arith
+followed_few (Agi g) sector long = omega arith
+
+followed_are_few : (lengths : List ℕ) (found : List Sighting) → count_by (is_followed lengths) found ≤ count_by (is_same_kind GptKind) found
+unfolding is_followed
+followed_are_few lengths found =
+    sum_by-le-sum_by (λ (s : Sighting). cond (is_followed lengths s) 1 0) (λ (s : Sighting). cond (is_same_kind GptKind s) 1 0) found (λ s. followed_few s.landmark s.sector (slice_index lengths s.image))
+
+-- where the bytes are known the sightings are those of the images
+entries_of : (told : Option (List (List ℕ))) (ask : Ask) (attached : List Image) (lengths : List ℕ) (found : List Sighting) → lengths ≡ lengths_of attached → IfSome told (λ bytes. found ≡ found_in ask attached bytes) →
+    count_by (is_same_kind GptKind) found ≤ MOST_MARKS → count_by (is_followed lengths) found ≤ entries_read told ask attached
+entries_of None ask attached lengths found are is few = omega (arith, followed_are_few lengths found, few)
+entries_of (Some bytes) ask attached lengths found are is few =
+    let same : count_by (is_followed lengths) found ≡ count_by (is_followed (lengths_of attached)) (found_in ask attached bytes) =
+    ap (λ (ns : List ℕ). count_by (is_followed ns) found) are ∙ ap (λ (l : List Sighting). count_by (is_followed (lengths_of attached)) l) is in
+    omega (arith, same)
+
+-- what was read for the sightings
+pub sweep_read : (a b : Seen) (ask : Ask) → OnlyReads a b (length a.attached * (ask.end - slice_index ask.bounds.offsets.items 0)) → OnlyReads a b (survey_reads ask a.attached)
+unfolding survey_reads
+sweep_read a b ask ab = reads_up a b ab (omega arith)
+
+-- and then for their entries
+pub survey_read : (a b c : Seen) (ask : Ask) (lengths : List ℕ) (found : List Sighting) → lengths ≡ lengths_of a.attached → IfSome (told_all a.attached) (λ bytes. found ≡ found_in ask a.attached bytes) →
+    count_by (is_same_kind GptKind) found ≤ MOST_MARKS → OnlyReads a b (length a.attached * (ask.end - slice_index ask.bounds.offsets.items 0)) → OnlyReads b c (count_by (is_followed lengths) found) →
+    OnlyReads a c (survey_reads ask a.attached)
+unfolding survey_reads
+survey_read a b c ask lengths found are is few ab bc =
+    reads_up a c (reads_join a b c ab bc) (omega (arith, entries_of (told_all a.attached) ask a.attached lengths found are is few))

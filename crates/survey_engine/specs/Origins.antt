@@ -1,6 +1,6 @@
 -- Where partition tables say that partitions begin.
 use Rattle.search_plan.specs.Plans.{AreRising}
-use Rattle.std.specs.Prelude.{ℕ, ◌+◌, ◌^◌, ◌<◌, ◌≤◌, All, length, Bool, ◌&&◌, ◌==◌, nat_lt, List, [], take, fold, if◌then◌else◌, slice_index, slice_index_or}
+use Rattle.std.specs.Prelude.{ℕ, ◌+◌, ◌^◌, ◌<◌, ◌≤◌, All, length, Bool, false, ◌&&◌, ◌==◌, nat_lt, List, [], take, fold, if◌then◌else◌, slice_index, slice_index_or}
 use Rattle.std.specs.List.{filter_map, flat_map}
 use Rattle.raid_params.specs.declared.limits.TheConstants.{MOST_ORIGINS}
 use Rattle.gpt_marks.specs.Entry.{first_lbas}
@@ -20,6 +20,15 @@ abbrev pub hints_by : Landmark → ℕ → ℕ → List ℕ → List ℕ
 hints_by (Gpt h) sector length bytes =
     if has_entries h sector length then filter_map (λ first. first) (first_lbas (sector_of bytes (sector + 1)) h.alternate) else []
 hints_by landmark sector length bytes = []
+
+-- entries follow a landmark in a sector of an image of that length, as they follow a header
+abbrev pub entries_follow : Landmark → ℕ → ℕ → Bool
+entries_follow (Gpt h) sector length = has_entries h sector length
+entries_follow landmark sector length = false
+
+-- entries follow a sighting, in images of these lengths
+unfoldable pub is_followed : List ℕ → Sighting → Bool
+is_followed lengths s = entries_follow s.landmark s.sector (slice_index lengths s.image)
 
 unfoldable pub hints_at : List ℕ → List (List ℕ) → Sighting → List ℕ
 hints_at lengths images s = hints_by s.landmark s.sector (slice_index lengths s.image) (slice_index_or images s.image [])

@@ -1,11 +1,13 @@
 -- The plan that a survey makes.
-use Rattle.std.specs.Prelude.{ℕ, ◌≡◌, ◌^◌, ◌≤◌, ◌<◌, List, length, map, All}
+use Rattle.std.specs.Prelude.{ℕ, ◌≡◌, ◌+◌, ◌-◌, ◌*◌, ◌^◌, ◌≤◌, ◌<◌, List, length, map, count_by, slice_index, All, Option}
+use Rattle.std.specs.Option.{option_map_or}
+use Rattle.image_source.specs.Attached.{told_all}
 use Rattle.image_source.specs.Causes.{Rose}
 use Rattle.image_source.specs.Seen.{Image, Seen, lengths_of}
-use Rattle.raid_params.specs.declared.limits.TheConstants.{MOST}
+use Rattle.raid_params.specs.declared.limits.TheConstants.{MOST, MOST_MARKS}
 use Rattle.search_plan.specs.Plans.{AreBounds, AreLimits, AreTests}
 use Rattle.search_plan.specs.declared.plan.Plan.{Plan}
-use Rattle.survey_engine.specs.Origins.{origins_of}
+use Rattle.survey_engine.specs.Origins.{is_followed, origins_of}
 use Rattle.survey_engine.specs.Owners.{groups_of}
 use Rattle.survey_engine.specs.Sightings.{counted, sightings}
 use Rattle.survey_engine.specs.declared.ask.Ask.{Ask}
@@ -30,6 +32,16 @@ pub record IsSurveyable (ask : Ask) (attached : List Image) : Type 0 where
 -- the sightings that count, in images of these bytes
 abbrev pub found_in : Ask → List Image → List (List ℕ) → List Sighting
 found_in ask attached images = counted (sightings ask (lengths_of attached) images (length attached))
+
+-- the most sectors of entries that a survey reads: one for each sighting that counts and that entries follow, where the
+-- bytes of the images are known, and else MOST_MARKS
+abbrev pub entries_read : Option (List (List ℕ)) → Ask → List Image → ℕ
+entries_read told ask attached = option_map_or (λ images. count_by (is_followed (lengths_of attached)) (found_in ask attached images)) told MOST_MARKS
+
+-- the most sectors that it reads: each of each image from the smallest offset to the end once, and those of entries
+unfoldable pub survey_reads : Ask → List Image → ℕ
+survey_reads ask attached =
+    length attached * (ask.end - slice_index ask.bounds.offsets.items 0) + entries_read (told_all attached) ask attached
 
 -- what the plan repeats
 pub record Repeats (ask : Ask) (attached : List Image) (plan : Plan) : Type 0 where

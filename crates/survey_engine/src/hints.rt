@@ -1,20 +1,19 @@
 //! The origins of a plan: those that were asked for, and those that partition tables hint at.
-ghost use Rattle.std.specs.Prelude.{◌≡◌, ℕ, ◌+◌, ◌*◌, ◌^◌, ◌<◌, ◌≤◌, if◌then◌else◌, length, slice_index, take, All, IfOk, IfSome, MatchOption, OnOk};
+ghost use Rattle.std.specs.Prelude.{◌≡◌, ℕ, ◌+◌, ◌*◌, ◌^◌, ◌<◌, ◌≤◌, if◌then◌else◌, count_by, length, slice_index, take, All, IfOk, IfSome, MatchOption, OnOk};
 ghost use Rattle.image_source.specs.Attached.{told_all};
 ghost use Rattle.image_source.specs.Causes.{HasCause};
 ghost use Rattle.image_source.specs.Seen.{OnlyReads, lengths_of};
 ghost use Rattle.std.specs.List.{filter_map, insert};
-ghost use Rattle.landmark_rules.specs.declared.marks.Kind.TheVariants.{Gpt as GptKind};
 ghost use Rattle.survey_engine.specs.Kept.{with_number};
-ghost use Rattle.survey_engine.specs.Origins.{has_entries, hints_at, origins_of, with_numbers, AreOrigins};
-ghost use Rattle.survey_engine.specs.Sightings.{is_same_kind, AreSightings, IsSighting};
+ghost use Rattle.survey_engine.specs.Origins.{has_entries, is_followed, hints_at, origins_of, with_numbers, AreOrigins};
+ghost use Rattle.survey_engine.specs.Sightings.{AreSightings, IsSighting};
 
 use crate::landmark::Landmark;
 use crate::sighting::Sighting;
 use arrayvec::ArrayVec;
 use gpt_marks::{GptHeader, read_entries};
 use image_source::{Failed, Images, SECTOR};
-use raid_params::{MOST_MARKS, MOST_ORIGINS};
+use raid_params::MOST_ORIGINS;
 
 /// The bytes of an entry of a partition table.
 const ENTRY: u32 = 128;
@@ -23,7 +22,8 @@ const ENTRY: u32 = 128;
 type Origins = ArrayVec<u64, MOST_ORIGINS>;
 
 /// The origins asked for and those that the headers which count give, in rising order, of all these the
-/// first `MOST_ORIGINS`. It reads at most one sector for each header.
+/// first `MOST_ORIGINS`. It reads at most one sector for each header
+/// that entries follow.
 pub fn origins<I: Images>(
     images: &mut I,
     asked: &[u64],
@@ -37,7 +37,7 @@ pub fn origins<I: Images>(
     ensures told { IfOk result (λ origins. IfSome (told_all (I.seen images.old).attached)
         (λ bytes. origins.items ≡ origins_of asked.now lengths.now bytes found.now)) }
     ensures origins { IfOk result (λ origins. AreOrigins origins.items) }
-    ensures reads { OnlyReads (I.seen images.old) (I.seen images.new) MOST_MARKS }
+    ensures reads { OnlyReads (I.seen images.old) (I.seen images.new) (count_by (is_followed lengths.now) found.now) }
     ensures cause { HasCause (I.seen images.old).faults (I.seen images.new).faults result }
 {
     let mut origins = Origins::new();
@@ -63,7 +63,7 @@ fn add_hints<I: Images>(
     ensures told { OnOk result (IfSome (told_all (I.seen images.old).attached)
         (λ bytes. origins.new.items ≡ with_numbers origins.old.items (hints_at lengths.now bytes sighting.now))) }
     ensures origins { OnOk result (AreOrigins origins.new.items) }
-    ensures reads { OnlyReads (I.seen images.old) (I.seen images.new) (if is_same_kind GptKind sighting.now then 1 else 0) }
+    ensures reads { OnlyReads (I.seen images.old) (I.seen images.new) (if is_followed lengths.now sighting.now then 1 else 0) }
     ensures cause { HasCause (I.seen images.old).faults (I.seen images.new).faults result }
 {
     match &sighting.landmark {

@@ -1,9 +1,9 @@
 //! The survey.
-ghost use Rattle.std.specs.Prelude.{◌≡◌, ◌+◌, ◌-◌, ◌*◌, ◌≤◌, length, slice_index, IfErr, IfOk, IfSome};
+ghost use Rattle.std.specs.Prelude.{◌≡◌, ◌≤◌, length, IfErr, IfOk, IfSome};
 ghost use Rattle.image_source.specs.Attached.{told_all};
 ghost use Rattle.image_source.specs.Seen.{OnlyReads, lengths_of};
 ghost use Rattle.search_plan.specs.Plans.{IsPlan};
-ghost use Rattle.survey_engine.specs.Surveys.{Adds, EndsSurvey, IsSurveyable, Repeats};
+ghost use Rattle.survey_engine.specs.Surveys.{survey_reads, Adds, EndsSurvey, IsSurveyable, Repeats};
 
 use crate::ask::Ask;
 use crate::gathering::gather;
@@ -12,7 +12,7 @@ use crate::hints::origins;
 use arrayvec::ArrayVec;
 use image_source::Images;
 use landmark_rules::MarkTests;
-use raid_params::{Bounds, MOST, MOST_MARKS};
+use raid_params::{Bounds, MOST};
 use search_plan::Plan;
 use std::alloc::Global;
 use thiserror::Error;
@@ -32,15 +32,14 @@ pub enum SurveyFault {
 /// of marks that the sightings make, and the origins that partition tables hint at.
 ///
 /// Each sector from the smallest offset to the end is read once, and at most one sector of entries for
-/// each header of a partition table that counts.
+/// each header of a partition table that counts and that entries follow.
 pub fn survey<I: Images>(alloc: Global, images: &mut I, ask: &Ask) -> Result<Plan, SurveyFault>
     requires { IsSurveyable ask.now (I.seen images.old).attached }
     ensures plan { IfOk result IsPlan }
     ensures repeats { IfOk result (Repeats ask.now (I.seen images.old).attached) }
     ensures adds { IfOk result (λ plan. IfSome (told_all (I.seen images.old).attached)
         (λ bytes. Adds ask.now (I.seen images.old).attached bytes plan)) }
-    ensures reads { OnlyReads (I.seen images.old) (I.seen images.new)
-        (length (I.seen images.old).attached * (ask.now.end - slice_index ask.now.bounds.offsets.items 0) + MOST_MARKS) }
+    ensures reads { OnlyReads (I.seen images.old) (I.seen images.new) (survey_reads ask.now (I.seen images.old).attached) }
     ensures ends { IfErr result (EndsSurvey (I.seen images.old) (I.seen images.new)) }
 {
     let lengths = lengths(images);

@@ -1,29 +1,26 @@
 -- What is asked of a survey, and how it ends.
-use Rattle.std.proofs.Common.{◌≡◌, ℕ, ◌+◌, ◌*◌, ◌<◌, ◌≤◌, ◌^◌, ◌⊎◌, min, max, Bool, true, false, cond, nat_eq, List, [], length, All, None, Some, Option, Result, Ok, Err, IfOk, IfErr, IfSome, refl, sym, ap, ◌∙◌, subst, arith, inl, inr, ◌∷◌, suc}
+use Rattle.std.proofs.Common.{◌≡◌, ℕ, ◌<◌, ◌≤◌, ◌^◌, ◌⊎◌, min, max, Bool, false, cond, nat_eq, List, [], length, All, None, Some, Option, Result, Ok, Err, IfOk, IfErr, IfSome, sym, ap, ◌∙◌, subst, arith, inl, inr, ◌∷◌, suc}
 use Rattle.std.proofs.lemmas.Bool.Decides.{nat_tests}
 use Rattle.std.specs.Option.{option_map}
 use Rattle.std.proofs.lemmas.List.Elements.{All-cons, All-nil}
-use Rattle.std.proofs.lemmas.Bool.{eqb-true, eqb-false}
-use Rattle.arrayvec.specs.ArrayVec.{ArrayVec}
 use Rattle.image_source.specs.Causes.{Rose}
-use Rattle.image_source.specs.Seen.{Image, OnlyReads, Seen, lengths_of}
-use Rattle.raid_params.specs.declared.limits.TheConstants.{MOST, MOST_MARKS}
-use Rattle.search_plan.specs.Plans.{AreBounds, AreLimits}
+use Rattle.image_source.specs.Seen.{Image, OnlyReads, Seen}
+use Rattle.raid_params.specs.declared.limits.TheConstants.{MOST}
 use Rattle.command_words.specs.Commands.{AreAsked}
 use Rattle.command_words.specs.declared.command.SurveyWords.{SurveyWords}
 use Rattle.run_ends.proofs.Lengths.{end_near}
 use Rattle.run_ends.proofs.Limits.{all_reach, no_limits}
-use Rattle.run_ends.specs.Agreement.{end_of, limits_fault, shortest}
-use Rattle.run_ends.specs.Jobs.{HasCauses, IsUnreached, Orders, Refuses}
+use Rattle.run_ends.specs.Agreement.{end_of, limits_fault}
+use Rattle.run_ends.specs.Jobs.{Refuses}
 use Rattle.run_ends.specs.Stops.{IsExcused}
 use Rattle.run_ends.specs.declared.agreement.Disagreement.{Disagreement}
 use Rattle.run_ends.specs.declared.stop.Stop.{Stop}
-use Rattle.run_ends.specs.declared.stop.Stop.TheVariants.{Images, ImageFault, PlanFault, OutFault, OutOfMemory}
+use Rattle.run_ends.specs.declared.stop.Stop.TheVariants.{Images, ImageFault, OutOfMemory}
 use Rattle.plan_text.specs.Parts.{AreMembers}
 use Rattle.plan_text.specs.PlanText.{plan_text}
-use Rattle.survey_engine.specs.Surveys.{IsSurveyable}
+use Rattle.survey_engine.specs.Surveys.{survey_reads as reads_of, IsSurveyable}
 use Rattle.survey_engine.specs.declared.ask.Ask.{Ask}
-use Rattle.survey_job.specs.Surveying.{ask_of, members_for, survey_output, survey_plan, survey_refusal, window_for}
+use Rattle.survey_job.specs.Surveying.{ask_of, members_for, survey_output, survey_plan, survey_reads, survey_refusal, window_for}
 
 -- the images are refused, or not
 pub images_refused : (asked : SurveyWords) (names : ℕ) (attached : List Image) (fault : Disagreement) → limits_fault asked.end names attached ≡ Some fault → survey_refusal asked names attached ≡ Some (Images fault)
@@ -97,3 +94,11 @@ surveyed_refuses refused old new (Err stop) none (inr h) = record { ends = inl (
 -- images that are refused end the survey
 pub ending : (asked : SurveyWords) (names : ℕ) (attached : List Image) (fault : Disagreement) → limits_fault asked.end names attached ≡ Some fault → Refuses {T = List ℕ} (survey_refusal asked names attached) (Err (Images fault))
 ending asked names attached fault e = record { ends = inr (images_refused asked names attached fault e); passes = tt }
+
+-- what is read where the images are not refused: each of them is attached
+pub read_for : (asked : SurveyWords) (names end : ℕ) (old new : Seen) (ask : Ask) → limits_fault asked.end names old.attached ≡ None → length old.attached ≡ min names 65536 → end ≡ end_of asked.end old.attached → ask ≡ ask_of asked names end →
+    OnlyReads old new (reads_of ask old.attached) → OnlyReads old new (survey_reads asked old.attached)
+read_for asked names end old new ask none count same is reads =
+    let few = (no_limits asked.end names old.attached none).few in
+    let all : names ≡ length old.attached = omega (arith, few, count) in
+    subst (λ (a : Ask). OnlyReads old new (reads_of a old.attached)) (is ∙ ap (ask_of asked names) same ∙ ap (λ (n : ℕ). ask_of asked n (end_of asked.end old.attached)) all) reads

@@ -1,14 +1,12 @@
 -- What `survey` refuses and prints.
-use Rattle.std.specs.Prelude.{ℕ, ◌+◌, ◌*◌, ◌-◌, slice_index, max, nat_eq, if◌then◌else◌, List, [], ◌∷◌, length, unwrap_or}
+use Rattle.std.specs.Prelude.{ℕ, max, nat_eq, if◌then◌else◌, List, [], ◌∷◌, length, unwrap_or}
 use Rattle.std.specs.Option.{option_map}
 use Rattle.std.specs.declared.option.Option.{Option}
-use Rattle.arrayvec.specs.ArrayVec.{ArrayVec}
 use Rattle.image_source.specs.Seen.{Image, lengths_of}
-use Rattle.raid_params.specs.declared.limits.TheConstants.{MOST_MARKS}
 use Rattle.search_plan.specs.declared.plan.Plan.{Plan}
 use Rattle.survey_engine.specs.Origins.{origins_of}
 use Rattle.survey_engine.specs.Owners.{groups_of}
-use Rattle.survey_engine.specs.Surveys.{found_in}
+use Rattle.survey_engine.specs.Surveys.{found_in, survey_reads as reads_of}
 use Rattle.survey_engine.specs.declared.ask.Ask.{Ask}
 use Rattle.plan_text.specs.PlanText.{plan_text}
 use Rattle.command_words.specs.declared.command.SurveyWords.{SurveyWords}
@@ -60,7 +58,7 @@ unfoldable pub survey_output : SurveyWords → ℕ → List Image → Option (Li
 survey_output asked names attached told =
     option_map (λ images. plan_text (survey_plan (ask_of asked names (end_of asked.end attached)) attached images)) told
 
--- the most sectors that `survey` reads: each sector of each image from the smallest offset to the end once, and
--- one of entries for each header that counts, of which there are at most MOST_MARKS
+-- the most sectors that `survey` reads: each sector of each image from the smallest offset to the end once, and one of
+-- entries for each header that counts and that entries follow
 abbrev pub survey_reads : SurveyWords → List Image → ℕ
-survey_reads asked attached = length attached * (end_of asked.end attached - slice_index asked.bounds.offsets.items 0) + MOST_MARKS
+survey_reads asked attached = reads_of (ask_of asked (length attached) (end_of asked.end attached)) attached

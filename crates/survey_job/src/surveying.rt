@@ -1,5 +1,5 @@
 //! The command `survey`.
-ghost use Rattle.std.specs.Prelude.{◌≡◌, ◌≤◌, ◌<◌, ◌+◌, ◌*◌, ◌-◌, ◌^◌, ◌⊎◌, All, IfErr, IfOk, IfSome, None, OnOk, Some, false, length, min, slice_index};
+ghost use Rattle.std.specs.Prelude.{◌≡◌, ◌≤◌, ◌<◌, ◌+◌, ◌^◌, ◌⊎◌, All, IfErr, IfOk, IfSome, None, OnOk, Some, false, length, min};
 ghost use Rattle.image_source.specs.Attached.{told_all};
 ghost use Rattle.image_source.specs.Causes.{Rose};
 ghost use Rattle.image_source.specs.Seen.{OnlyReads};
@@ -9,14 +9,14 @@ ghost use Rattle.run_ends.specs.Agreement.{end_of as end_of_images};
 ghost use Rattle.run_ends.specs.Jobs.{Ends, HasCauses, Leaves, Orders, Refuses};
 ghost use Rattle.run_ends.specs.Stops.{IsRefusal};
 ghost use Rattle.run_ends.specs.declared.stop.Stop.TheVariants.{ImageFault as ImageFaultOf, OutOfMemory as OutOfMemoryOf};
-ghost use Rattle.survey_engine.specs.Surveys.{IsSurveyable};
+ghost use Rattle.survey_engine.specs.Surveys.{survey_reads as reads_of, IsSurveyable};
 ghost use Rattle.survey_job.specs.Surveying.{ask_of as ask_of_words, members_for, survey_output, survey_plan, survey_reads, survey_refusal, window_for};
 
 use arrayvec::ArrayVec;
 use command_words::SurveyWords;
 use image_source::{Images, MOST_ATTACHED, Sink};
 use plan_text::{Text, write_plan};
-use raid_params::{Bounds, MOST, MOST_LESS_ONE, MOST_MARKS};
+use raid_params::{Bounds, MOST, MOST_LESS_ONE};
 use run_ends::{Stop, end_of, limits_fault, print};
 use search_plan::Limits;
 use std::alloc::Global;
@@ -76,7 +76,7 @@ fn answer<I: Images>(
 fn surveyed<I: Images>(alloc: Global, images: &mut I, ask: &Ask) -> Result<Text, Stop>
     requires { IsSurveyable ask.now (I.seen images.old).attached }
     ensures text { IfOk result (λ text. IfSome (told_all (I.seen images.old).attached) (λ bytes. text ≡ plan_text (survey_plan ask.now (I.seen images.old).attached bytes))) }
-    ensures reads { OnlyReads (I.seen images.old) (I.seen images.new) (length (I.seen images.old).attached * (ask.now.end - slice_index ask.now.bounds.offsets.items 0) + MOST_MARKS) }
+    ensures reads { OnlyReads (I.seen images.old) (I.seen images.new) (reads_of ask.now (I.seen images.old).attached) }
     ensures ends { IfErr result (λ stop. ((stop ≡ ImageFaultOf) × Rose (I.seen images.old).faults (I.seen images.new).faults) ⊎ (stop ≡ OutOfMemoryOf)) }
 {
     match survey_engine::survey(alloc, images, ask) {

@@ -1,7 +1,7 @@
 use Rattle.std.proofs.Common.{◌+◌, arith, rules}
 use Rattle.image_source.specs.Seen.{AreTold}
 use Rattle.image_source.proofs.Reading.{reads_none, reads_up}
-use Rattle.survey_engine.proofs.Firsts.{image_there, next_within, no_entries, no_header, told_none, told_read}
+use Rattle.survey_engine.proofs.Firsts.{image_there, next_within, no_entries, no_header, one_read, told_none, told_read}
 use Rattle.survey_engine.proofs.hints.add_hints.Goals as goal
 
 pub returns-then-not-has_entries-clause-told : goal.returns-then-not-has_entries-clause-told
@@ -27,3 +27,11 @@ returns-in_default g c = record {
   reads = reads_up (g.I.Images.seen c.args.images.now) (g.I.Images.seen c.args.images.now) (reads_none (g.I.Images.seen c.args.images.now)) (omega arith);
   cause = search rules;
 }
+
+pub returns-in_ok-read-in-Gpt-clause-reads : goal.returns-in_ok-read-in-Gpt-clause-reads
+returns-in_ok-read-in-Gpt-clause-reads g c =
+    one_read (g.I.Images.seen c.args.images.now) (g.I.Images.seen c.read.new.self) c.args.lengths.now c.args.sighting.now c.in-Gpt.header c.in-Gpt.is (search rules) (search rules)
+
+pub returns-in_err-read-in-Gpt-clause-reads : goal.returns-in_err-read-in-Gpt-clause-reads
+returns-in_err-read-in-Gpt-clause-reads g c =
+    one_read (g.I.Images.seen c.args.images.now) (g.I.Images.seen c.read.new.self) c.args.lengths.now c.args.sighting.now c.in-Gpt.header c.in-Gpt.is (search rules) (search rules)

@@ -1,9 +1,11 @@
 use Rattle.std.proofs.Common.{◌≡◌, ◌^◌, ◌<◌, ◌≤◌, rules}
 use Rattle.std.proofs.lemmas.List.Elements.{All-same}
+use Rattle.landmark_rules.specs.declared.marks.Kind.TheVariants.{Gpt as GptKind}
 use Rattle.survey_engine.specs.Origins.{AreOrigins}
 use Rattle.survey_engine.specs.Owners.{groups_of}
 use Rattle.survey_engine.specs.Sightings.{AreSightings}
 use Rattle.image_source.specs.Seen.{lengths_of}
+use Rattle.survey_engine.proofs.Firsts.{survey_read, sweep_read}
 use Rattle.survey_engine.proofs.Law.{are_groups}
 use Rattle.survey_engine.proofs.Lengths.{are_lengths, are_short, reach_end}
 use Rattle.survey_engine.proofs.planning.survey.Goals as goal
@@ -28,3 +30,24 @@ returns-clause-plan g c =
       tests = record { origins = origins.rising; few_origins = origins.few; near_origins = origins.near; misfits = c.requires.ask_is.tests.misfits; least = c.requires.ask_is.tests.least };
       groups = rw made (rw (← same) (are_groups c.deref.result.now c.in_ok-found.found are));
     }
+
+pub returns-clause-reads : goal.returns-clause-reads
+returns-clause-reads g c =
+    let are : AreSightings c.deref.result.now c.in_ok-found.found = search rules in
+    survey_read (g.I.Images.seen c.args.images.now) (g.I.Images.seen c.gather.new.images) (g.I.Images.seen c.origins.new.images) c.args.ask.now c.lengths-lengths.result.items c.in_ok-found.found
+    (search rules) (search rules) (are.few GptKind) (search rules) (search rules)
+
+pub returns-in_err-found-clause-reads : goal.returns-in_err-found-clause-reads
+returns-in_err-found-clause-reads g c = sweep_read (g.I.Images.seen c.args.images.now) (g.I.Images.seen c.gather.new.images) c.args.ask.now (search rules)
+
+pub returns-in_err-origins-clause-reads : goal.returns-in_err-origins-clause-reads
+returns-in_err-origins-clause-reads g c =
+    let are : AreSightings c.deref.result.now c.in_ok-found.found = search rules in
+    survey_read (g.I.Images.seen c.args.images.now) (g.I.Images.seen c.gather.new.images) (g.I.Images.seen c.origins.new.images) c.args.ask.now c.lengths-lengths.result.items c.in_ok-found.found
+    (search rules) (search rules) (are.few GptKind) (search rules) (search rules)
+
+pub returns-in_err-groups-clause-reads : goal.returns-in_err-groups-clause-reads
+returns-in_err-groups-clause-reads g c =
+    let are : AreSightings c.deref.result.now c.in_ok-found.found = search rules in
+    survey_read (g.I.Images.seen c.args.images.now) (g.I.Images.seen c.gather.new.images) (g.I.Images.seen c.origins.new.images) c.args.ask.now c.lengths-lengths.result.items c.in_ok-found.found
+    (search rules) (search rules) (are.few GptKind) (search rules) (search rules)

@@ -1,8 +1,8 @@
-use Rattle.std.proofs.Common.{refl, sym, ◌∙◌, None}
+use Rattle.std.proofs.Common.{sym, ◌∙◌, None}
 use Rattle.image_source.specs.Attached.{told_all}
 use Rattle.run_ends.proofs.Printed.{order_allowed}
 use Rattle.survey_job.specs.Surveying.{survey_refusal}
-use Rattle.survey_job.proofs.Surveyed.{ending, images_allowed, images_refused, surveyable, surveyed_refuses, text_told}
+use Rattle.survey_job.proofs.Surveyed.{ending, images_allowed, read_for, surveyable, surveyed_refuses, text_told}
 use Rattle.survey_job.proofs.surveying.answer.Goals as goal
 
 pub returns-in-Some-clause-refuses : goal.returns-in-Some-clause-refuses
@@ -31,3 +31,8 @@ returns-clause-order g c =
     let seen = g.I.Images.seen c.args.images.now in
     order_allowed (survey_refusal c.args.asked c.args.names seen.attached) seen.sectors_read (g.I.Images.seen c.surveyed.new.images).sectors_read None None c.surveyed.result
     (images_allowed c.args.asked c.args.names seen.attached (sym c.limits_fault.ensures ∙ c.in_default.is))
+
+pub returns-clause-reads : goal.returns-clause-reads
+returns-clause-reads g c =
+    read_for c.args.asked c.args.names c.end_of-end.result (g.I.Images.seen c.args.images.now) (g.I.Images.seen c.surveyed.new.images) c.ask_of-ask.result
+    (sym c.limits_fault.ensures ∙ c.in_default.is) c.requires.attached c.end_of-end.ensures c.ask_of-ask.ensures c.surveyed.ensures.reads

@@ -22,8 +22,12 @@ pub enum Kind {
 /// How the images disagree with the plan, or with what the command takes.
 #[derive(Clone, Copy)]
 pub struct Disagreement {
+    /// What disagrees.
     pub kind: Kind,
+    /// What the words or the images have: the number of names, the sectors of the image, or the end.
     pub given: u64,
+    /// What the plan has, or the command takes: the number of images, the sectors of the image, or those of the
+    /// shortest image.
     pub planned: u64,
 }
 

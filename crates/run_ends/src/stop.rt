@@ -16,6 +16,7 @@ use virtual_volume::VolumeFault;
 /// A sector asked for, which is past the end of the volume.
 #[derive(Clone, Copy)]
 pub struct SectorFault {
+    /// The sector that was asked for.
     pub sector: u64,
     /// The sectors of the volume.
     pub size: u64,

@@ -53,9 +53,10 @@ struct Tools<'a, R, G> {
     gate: &'a G,
 }
 
-/// Prints what a survey and the first page of a listing find of an array that is generated, whole or not at
-/// all. `number` is that from which its bytes are made, `rows` its rows of chunks; `xfs` says whether its volume gets
-/// the landmarks of an XFS file system. Pieces of a scan of the listing may run side by side: each passes the gate.
+/// Prints what a survey and the first page of a listing find of an array that is generated. The text is made before any
+/// of it is put, so only a fault of the output leaves a part of it. `number` is that from which the array's bytes are
+/// made, `rows` its rows of chunks; `xfs` says whether its volume gets the landmarks of an XFS file system. Pieces of a
+/// scan of the listing may run side by side: each passes the gate.
 pub fn sample<R: Threads + Sync, K: Sink, G: Gate + Sync>(
     rt: &R,
     alloc: Global,

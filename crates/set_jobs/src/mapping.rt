@@ -19,9 +19,9 @@ use raid_params::{Geometry, Head};
 use run_ends::{SectorFault, Stop, add_number, add_or_dash, end_of, limits_fault, print};
 use std::alloc::Global;
 
-/// Prints where a sector of the volume of a set lies, whole or not at all. `names` is the number of
-/// images; `end` is the image sector after the last one of the members, or None for the shortest
-/// image's.
+/// Prints where a sector of the volume of a set lies. The text is made before any of it is put, so only a
+/// fault of the output leaves a part of it. `names` is the number of images; `end` is the image sector after the
+/// last one of the members, or None for the shortest image's.
 #[tactic(auto, using(run_ends::proofs::Printed::ends_printed))]
 pub fn map<I: Images, K: Sink>(
     alloc: Global,

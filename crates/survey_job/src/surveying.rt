@@ -22,7 +22,8 @@ use search_plan::Limits;
 use std::alloc::Global;
 use survey_engine::{Ask, SurveyFault};
 
-/// Prints the plan of a survey of the images, whole or not at all. `names` is the number of images.
+/// Prints the plan of a survey of the images. The text is made before any of it is put, so only a fault of the output
+/// leaves a part of it. `names` is the number of images.
 pub fn survey<I: Images, K: Sink>(
     alloc: Global,
     images: &mut I,

@@ -14,13 +14,13 @@ use Rattle.plan_text.specs.SetText.{HasWord}
 use Rattle.search_plan.specs.Places.{level_place, pattern_place, syndrome_place}
 use Rattle.search_plan.specs.Plans.{AreBounds, AreRising, AreTests}
 use Rattle.command_words.specs.Commands.{AreAsked, IsCommandLine, IsWithin, bounds_of, chunks_or, command_of, drops_or, has_landmark, kinds_or, levels_or, members_or, number_in, number_or, patterns_or, plain_survey, sectors_or, set_in, survey_of, syndromes_or, tests_of}
-use Rattle.command_words.specs.Items.{landmark_place}
+use Rattle.landmark_rules.specs.Groups.{group_place}
 use Rattle.command_words.specs.Operands.{AreDrops, AreFitting, IsFitting, IsValueOf, kind_of, value_of}
 use Rattle.command_words.specs.declared.command.Command.{Command}
 use Rattle.command_words.specs.declared.command.Verb.{Verb}
 use Rattle.command_words.specs.declared.command.Verb.TheVariants.{Survey, List as ListVerb, Check, Map, Write, Rebuild, Sample}
-use Rattle.command_words.specs.declared.items.Landmark.{Landmark}
-use Rattle.command_words.specs.declared.items.Landmark.TheVariants.{Gpt, Ntfs, Xfs}
+use Rattle.landmark_rules.specs.declared.marks.GroupKind.{GroupKind}
+use Rattle.landmark_rules.specs.declared.marks.GroupKind.TheVariants.{Gpt, Ntfs, Xfs}
 use Rattle.command_words.specs.declared.operands.Operand.{Operand}
 use Rattle.command_words.specs.declared.table.Name.{Name}
 use Rattle.command_words.specs.declared.table.Name.TheVariants.{Levels as LevelsName, Members as MembersName, Patterns as PatternsName, Syndromes as SyndromesName, Chunks as ChunksName, Offsets as OffsetsName, Origins as OriginsName, Missing as MissingName, Foreign as ForeignName, Badrows as BadrowsName, Misfits as MisfitsName, Least as LeastName, Window as WindowName, End as EndName, Kinds as KindsName, Dropped as DropName, Size as SizeName, Span as SpanName, Pages as PagesName, Set as SetName, Slot as SlotName, Rows as RowsName}
@@ -130,7 +130,7 @@ third_of true c = refl
 third_of false true = refl
 third_of false false = refl
 
-one_sought : (xs : List Landmark) → 1 ≤ length (map landmark_place xs) → (has_landmark Gpt xs || has_landmark Ntfs xs || has_landmark Xfs xs) ≡ true
+one_sought : (xs : List GroupKind) → 1 ≤ length (map group_place xs) → (has_landmark Gpt xs || has_landmark Ntfs xs || has_landmark Xfs xs) ≡ true
 one_sought [] some = absurd (omega arith)
 one_sought (Gpt ∷ xs) some = refl
 one_sought (Ntfs ∷ xs) some = second_of (has_landmark Gpt xs) (has_landmark Xfs (Ntfs ∷ xs))

@@ -7,21 +7,20 @@ use Rattle.raid_params.specs.declared.types.Level.{Level}
 use Rattle.raid_params.specs.declared.types.Pattern.{Pattern}
 use Rattle.raid_params.specs.declared.types.Syndrome.{Syndrome}
 use Rattle.plan_text.specs.DropLaws.{drop_law}
-use Rattle.plan_text.specs.NameLaws.{byte_law, in_lists, level_law, number_law, pattern_law, syndrome_law}
-use Rattle.plan_text.specs.Spelling.{IsDrop, drop_name, drop_place, level_name, pattern_name, syndrome_name}
+use Rattle.plan_text.specs.NameLaws.{byte_law, group_law, in_lists, level_law, number_law, pattern_law, syndrome_law}
+use Rattle.plan_text.specs.Spelling.{IsDrop, drop_name, drop_place, group_name, level_name, pattern_name, syndrome_name}
 use Rattle.plan_text.proofs.Fits.{chunks_are_short, members_are_bytes, offsets_are_short}
 use Rattle.plan_text.proofs.Lists.{some_value}
 use Rattle.plan_text.proofs.SetWords.{one_spelling}
 use Rattle.plan_text.proofs.Spellings.{same_list}
 use Rattle.search_plan.specs.Places.{level_place, pattern_place, syndrome_place}
 use Rattle.search_plan.specs.declared.looking.DropAt.{DropAt}
-use Rattle.command_words.specs.Items.{landmark_name, landmark_place}
-use Rattle.command_words.specs.ItemLaws.{landmark_law}
+use Rattle.landmark_rules.specs.Groups.{group_place}
 use Rattle.command_words.specs.Operands.{IsOperand, IsValueOf, form_text, kind_of, marks_text, name_text, operand_word, operands_of, value_text}
 use Rattle.command_words.specs.declared.command.Form.{Form}
 use Rattle.command_words.specs.declared.command.Form.TheVariants.{Text, Json}
 use Rattle.command_words.specs.declared.command.Verb.{Verb}
-use Rattle.command_words.specs.declared.items.Landmark.{Landmark}
+use Rattle.landmark_rules.specs.declared.marks.GroupKind.{GroupKind}
 use Rattle.command_words.specs.declared.operands.Operand.{Operand}
 use Rattle.command_words.specs.declared.table.Name.{Name}
 use Rattle.command_words.specs.declared.table.ValueKind.{ValueKind}
@@ -95,8 +94,8 @@ one_value SectorsKind short v w a b e =
     let same = same_list decimal (λ n. n < 2 ^ 64) (in_lists decimal (λ n. n < 2 ^ 64) number_law) a.0.items b.0.items a.2.0.some b.2.0.some (offsets_are_short a.0.items a.2.2) (offsets_are_short b.0.items b.2.2) (texts (λ xs. Sectors xs) a.0 b.0 v w a.1 b.1 e) in
     same_held (λ (xs : List ℕ). Sectors (record { items = xs })) a.0.items b.0.items v w a.1 b.1 same
 one_value LandmarksKind short v w a b e =
-    let same = same_list landmark_name (λ x. Unit {0}) landmark_law a.0.items b.0.items (some_value landmark_place a.0.items a.2.rising) (some_value landmark_place b.0.items b.2.rising) (λ k d lt. tt) (λ k d lt. tt) (texts (λ xs. Landmarks xs) a.0 b.0 v w a.1 b.1 e) in
-    same_held (λ (xs : List Landmark). Landmarks (record { items = xs })) a.0.items b.0.items v w a.1 b.1 same
+    let same = same_list group_name (λ x. Unit {0}) (in_lists group_name (λ x. Unit {0}) group_law) a.0.items b.0.items (some_value group_place a.0.items a.2.rising) (some_value group_place b.0.items b.2.rising) (λ k d lt. tt) (λ k d lt. tt) (texts (λ xs. Landmarks xs) a.0 b.0 v w a.1 b.1 e) in
+    same_held (λ (xs : List GroupKind). Landmarks (record { items = xs })) a.0.items b.0.items v w a.1 b.1 same
 one_value DropsKind short v w a b e =
     let same = same_list drop_name IsDrop drop_law a.0.items b.0.items (some_value drop_place a.0.items a.2.list.rising) (some_value drop_place b.0.items b.2.list.rising) a.2.all b.2.all (texts (λ xs. Drops xs) a.0 b.0 v w a.1 b.1 e) in
     same_held (λ (xs : List DropAt). Drops (record { items = xs })) a.0.items b.0.items v w a.1 b.1 same

@@ -20,7 +20,7 @@ use Rattle.plan_text.specs.SetText.{HasWord}
 use Rattle.search_plan.specs.Plans.{AreBounds, AreTests}
 use Rattle.search_plan.specs.declared.looking.DropAt.{DropAt}
 use Rattle.search_plan.specs.declared.looking.Kinds.{Kinds}
-use Rattle.command_words.specs.Items.{landmark_place}
+use Rattle.landmark_rules.specs.Groups.{group_place}
 use Rattle.command_words.specs.Operands.{AreDrops, AreOperands, operand_word, value_of}
 use Rattle.command_words.specs.declared.command.Command.{Command}
 use Rattle.command_words.specs.declared.command.Command.TheVariants.{Survey as SurveyCommand, List as ListCommand, Check as CheckCommand, Map as MapCommand, Write as WriteCommand, Rebuild as RebuildCommand, Sample as SampleCommand}
@@ -29,8 +29,8 @@ use Rattle.command_words.specs.declared.command.Form.TheVariants.{Text}
 use Rattle.command_words.specs.declared.command.SurveyWords.{SurveyWords}
 use Rattle.command_words.specs.declared.command.Verb.{Verb}
 use Rattle.command_words.specs.declared.command.Verb.TheVariants.{Survey, List as ListVerb, Check, Map, Write, Rebuild, Sample}
-use Rattle.command_words.specs.declared.items.Landmark.{Landmark}
-use Rattle.command_words.specs.declared.items.Landmark.TheVariants.{Gpt, Ntfs, Xfs}
+use Rattle.landmark_rules.specs.declared.marks.GroupKind.{GroupKind}
+use Rattle.landmark_rules.specs.declared.marks.GroupKind.TheVariants.{Gpt, Ntfs, Xfs}
 use Rattle.command_words.specs.declared.operands.Operand.{Operand}
 use Rattle.command_words.specs.declared.table.Name.TheVariants.{Levels as LevelsName, Members as MembersName, Patterns as PatternsName, Syndromes as SyndromesName, Chunks as ChunksName, Offsets as OffsetsName, Origins as OriginsName, Missing as MissingName, Foreign as ForeignName, Badrows as BadrowsName, Misfits as MisfitsName, Least as LeastName, Window as WindowName, End as EndName, Kinds as KindsName, Dropped as DropName, From as FromName, Size as SizeName, Span as SpanName, Pages as PagesName, Form as FormName, Set as SetName, Sector as SectorName, Slot as SlotName, Number as NumberName, Rows as RowsName, Marks as MarksName}
 use Rattle.command_words.specs.declared.values.Value.{Value}
@@ -84,8 +84,8 @@ drops_or (Some (Drops ds)) = ds
 drops_or _ = record { items = [] }
 
 -- a landmark is among these
-abbrev pub has_landmark : Landmark → List Landmark → Bool
-has_landmark landmark landmarks = list_any (λ other. nat_eq (landmark_place landmark) (landmark_place other)) landmarks
+abbrev pub has_landmark : GroupKind → List GroupKind → Bool
+has_landmark landmark landmarks = list_any (λ other. nat_eq (group_place landmark) (group_place other)) landmarks
 
 abbrev pub kinds_or : Option Value → Kinds
 kinds_or (Some (Landmarks xs)) = record { gpt = has_landmark Gpt xs.items; ntfs = has_landmark Ntfs xs.items; xfs = has_landmark Xfs xs.items }

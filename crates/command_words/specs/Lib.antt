@@ -1,5 +1,3 @@
-pub mod Items
-pub mod ItemLaws
 pub mod Operands
 pub mod Commands
 pub mod Steps

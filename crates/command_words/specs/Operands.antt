@@ -12,16 +12,16 @@ use Rattle.raid_params.specs.declared.types.Pattern.{Pattern}
 use Rattle.raid_params.specs.declared.types.Syndrome.{Syndrome}
 use Rattle.plan_text.specs.SetText.{HasWord, set_word}
 use Rattle.plan_text.specs.Parts.{AreChunks, AreMembers, AreSectors}
-use Rattle.plan_text.specs.Spelling.{IsDrop, level_name, pattern_name, syndrome_name, commas, drop_name, drop_place}
+use Rattle.plan_text.specs.Spelling.{IsDrop, level_name, pattern_name, syndrome_name, group_name, commas, drop_name, drop_place}
 use Rattle.search_plan.specs.Places.{level_place, pattern_place, syndrome_place}
 use Rattle.search_plan.specs.Plans.{AreRising}
 use Rattle.search_plan.specs.declared.looking.DropAt.{DropAt}
-use Rattle.command_words.specs.Items.{landmark_name, landmark_place}
+use Rattle.landmark_rules.specs.Groups.{group_place}
 use Rattle.command_words.specs.declared.command.Form.{Form}
 use Rattle.command_words.specs.declared.command.Form.TheVariants.{Text, Json}
 use Rattle.command_words.specs.declared.command.Verb.{Verb}
 use Rattle.command_words.specs.declared.command.Verb.TheVariants.{Survey, List as ListVerb, Check, Map, Write, Rebuild, Sample}
-use Rattle.command_words.specs.declared.items.Landmark.{Landmark}
+use Rattle.landmark_rules.specs.declared.marks.GroupKind.{GroupKind}
 use Rattle.command_words.specs.declared.operands.Operand.{Operand}
 use Rattle.command_words.specs.declared.table.Name.{Name}
 use Rattle.command_words.specs.declared.table.Name.TheVariants.{Levels as LevelsName, Members as MembersName, Patterns as PatternsName, Syndromes as SyndromesName, Chunks as ChunksName, Offsets as OffsetsName, Origins as OriginsName, Missing as MissingName, Foreign as ForeignName, Badrows as BadrowsName, Misfits as MisfitsName, Least as LeastName, Window as WindowName, End as EndName, Kinds as KindsName, Dropped as DropName, From as FromName, Size as SizeName, Span as SpanName, Pages as PagesName, Form as FormName, Set as SetName, Sector as SectorName, Slot as SlotName, Number as NumberName, Rows as RowsName, Marks as MarksName}
@@ -127,7 +127,7 @@ IsValueOf value PatternsKind = (xs : ArrayVec Pattern) × (value ≡ Patterns xs
 IsValueOf value SyndromesKind = (xs : ArrayVec Syndrome) × (value ≡ Syndromes xs) × IsList syndrome_place MOST_SYNDROMES xs.items
 IsValueOf value ChunksKind = (ns : ArrayVec ℕ) × (value ≡ Chunks ns) × AreChunks ns.items
 IsValueOf value SectorsKind = (ns : ArrayVec ℕ) × (value ≡ Sectors ns) × AreSectors MOST_OFFSETS ns.items
-IsValueOf value LandmarksKind = (xs : ArrayVec Landmark) × (value ≡ Landmarks xs) × IsList landmark_place 3 xs.items
+IsValueOf value LandmarksKind = (xs : ArrayVec GroupKind) × (value ≡ Landmarks xs) × IsList group_place 3 xs.items
 IsValueOf value DropsKind = (ds : ArrayVec DropAt) × (value ≡ Drops ds) × AreDrops ds.items
 IsValueOf value FormKind = (form : Form) × (value ≡ FormValue form)
 IsValueOf value MarksKind = (xfs : Bool) × (value ≡ Marks xfs)
@@ -142,7 +142,7 @@ value_text (Patterns xs) = commas (map pattern_name xs.items)
 value_text (Syndromes xs) = commas (map syndrome_name xs.items)
 value_text (Chunks ns) = commas (map decimal ns.items)
 value_text (Sectors ns) = commas (map decimal ns.items)
-value_text (Landmarks xs) = commas (map landmark_name xs.items)
+value_text (Landmarks xs) = commas (map group_name xs.items)
 value_text (Drops ds) = commas (map drop_name ds.items)
 value_text (FormValue form) = form_text form
 value_text (Marks xfs) = marks_text xfs

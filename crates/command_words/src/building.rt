@@ -5,12 +5,11 @@ ghost use Rattle.command_words.specs.Operands.{AreFitting, value_of};
 ghost use Rattle.command_words.specs.Steps.{lines_fit};
 
 use crate::command::{Command, Form, SurveyWords, Verb};
-use crate::items::Landmark;
 use crate::operands::{Operand, find_value};
 use crate::table::Name;
 use crate::values::Value;
 use arrayvec::ArrayVec;
-use landmark_rules::MarkTests;
+use landmark_rules::{GroupKind, MarkTests};
 use plan_text::{LEVELS, PATTERNS, SYNDROMES};
 use raid_params::{
     Bounds, Geometry, Level, MOST_CHUNKS, MOST_DROPS, MOST_LESS_ONE, MOST_LEVELS, MOST_OFFSETS,
@@ -174,9 +173,9 @@ fn kinds(operands: &[Operand]) -> Kinds
 {
     if let Some(Value::Landmarks(landmarks)) = find_value(operands, Name::Kinds) {
         Kinds {
-            gpt: is_among(Landmark::Gpt, landmarks),
-            ntfs: is_among(Landmark::Ntfs, landmarks),
-            xfs: is_among(Landmark::Xfs, landmarks),
+            gpt: is_among(GroupKind::Gpt, landmarks),
+            ntfs: is_among(GroupKind::Ntfs, landmarks),
+            xfs: is_among(GroupKind::Xfs, landmarks),
         }
     } else {
         Kinds {
@@ -188,10 +187,10 @@ fn kinds(operands: &[Operand]) -> Kinds
 }
 
 /// Whether this landmark is among the others.
-fn is_among(landmark: Landmark, others: &[Landmark]) -> bool
+fn is_among(landmark: GroupKind, others: &[GroupKind]) -> bool
     ensures { result ≡ has_landmark landmark others.now }
 {
-    others.iter().any(|other| other.order() == landmark.order())
+    others.iter().any(|other| other.place() == landmark.place())
 }
 
 /// All where `levels` is not given.

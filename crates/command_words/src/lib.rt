@@ -12,7 +12,6 @@
 
 mod building;
 mod command;
-mod items;
 mod laws;
 mod operands;
 mod reading;

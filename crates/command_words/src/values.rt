@@ -5,9 +5,9 @@ ghost use Rattle.command_words.specs.declared.command.Form.{Form as FormOf};
 ghost use Rattle.command_words.specs.declared.values.Value.{Value as ValueOf};
 
 use crate::command::Form;
-use crate::items::Landmark;
 use crate::table::ValueKind;
 use arrayvec::ArrayVec;
+use landmark_rules::GroupKind;
 use plan_text::{read_chunks, read_members, read_number, read_sectors, read_set, rising};
 use raid_params::{
     Geometry, Level, MOST_CHUNKS, MOST_DROPS, MOST_LESS_ONE, MOST_LEVELS, MOST_OFFSETS,
@@ -36,7 +36,7 @@ pub enum Value {
     /// Places on an image or on the volume, in sectors: as many as a plan may have offsets or origins.
     Sectors(ArrayVec<u64, MOST_OFFSETS>),
     /// Kinds of landmarks.
-    Landmarks(ArrayVec<Landmark, MOST_LANDMARKS>),
+    Landmarks(ArrayVec<GroupKind, MOST_LANDMARKS>),
     /// Sectors of images.
     Drops(ArrayVec<DropAt, MOST_DROPS>),
     /// A form of listings.

@@ -59,9 +59,10 @@ pub struct Mark {
 pub type Marks = ListOf<Mark>;
 
 /// What the marks of a group belong to.
-#[derive(Clone, Copy)]
+#[derive(Clone, Copy, Default)]
 pub enum GroupKind {
     /// A GUID partition table, which begins with the volume.
+    #[default]
     Gpt,
     /// An NTFS file system.
     Ntfs,

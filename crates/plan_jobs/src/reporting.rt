@@ -3,7 +3,6 @@ ghost use Rattle.std.specs.Prelude.{◌≡◌, ◌<◌, ◌+◌, ◌++◌, ◌^�
 ghost use Rattle.landmark_rules.specs.Groups.{held_origin as first_origin};
 ghost use Rattle.plan_jobs.specs.Checking.{group_line, group_lines, held_text, rank_line, report as report_of, tests_hold, verdict_line};
 ghost use Rattle.row_scan.specs.ImageRows.{rows_of};
-ghost use Rattle.plan_text.specs.Spelling.{group_name as group_name_of};
 ghost use Rattle.raid_params.specs.Validity.{is_shaped};
 ghost use Rattle.search_plan.specs.Plans.{IsPlan};
 ghost use Rattle.search_plan.specs.Sets.{total_of};
@@ -11,10 +10,10 @@ ghost use Rattle.plan_jobs.specs.Reporting.{IsReported};
 
 use address_map::area;
 use image_source::Memory;
-use landmark_rules::{Group, GroupKind, groups_hold, held_origin, tally};
-use plan_text::Text;
+use landmark_rules::{Group, groups_hold, held_origin, tally};
+use plan_text::{Text, add_number, group_name};
 use raid_params::Geometry;
-use run_ends::{add_number, add_or_dash, add_share};
+use run_ends::{add_or_dash, add_share};
 use search_plan::Plan;
 use set_product::product_rank;
 use std::alloc::Global;
@@ -116,17 +115,6 @@ fn add_held(
             add_number(text, count.misfits)
         }
         None => text.extend_from_slice(b" none"),
-    }
-}
-
-/// The name of a kind of group.
-fn group_name(kind: GroupKind) -> &'static str
-    ensures { result.now ≡ group_name_of kind }
-{
-    match kind {
-        GroupKind::Gpt => "gpt",
-        GroupKind::Ntfs => "ntfs",
-        GroupKind::Xfs => "xfs",
     }
 }
 

@@ -1,9 +1,8 @@
 -- A line of groups is that of one entry.
-use Rattle.std.proofs.Common.{◌≡◌, ◌≢◌, ◌<◌, ◌^◌, ℕ, List, ◌∷◌, ◌++◌, cond, eqb, get_or, codes, decimal, refl, sym, ap, ◌∙◌, arith, Option, None, Some, MatchOption}
+use Rattle.std.proofs.Common.{◌≡◌, ◌≢◌, ◌<◌, ◌^◌, ℕ, List, ◌∷◌, ◌++◌, get_or, codes, decimal, refl, sym, ap, ◌∙◌, arith, Option, None, Some, MatchOption}
 use Rattle.std.proofs.lemmas.Fmt.{decimal_injective}
 use Rattle.std.proofs.lemmas.List.{append_cancel_left}
 use Rattle.landmark_rules.specs.declared.marks.GroupKind.{GroupKind}
-use Rattle.landmark_rules.specs.declared.marks.GroupKind.TheVariants.{Gpt as GptGroup, Ntfs, Xfs}
 use Rattle.landmark_rules.specs.declared.marks.Kind.{Kind}
 use Rattle.landmark_rules.specs.declared.marks.Mark.{Mark}
 use Rattle.landmark_rules.specs.declared.marks.Rule.{Rule}
@@ -12,7 +11,7 @@ use Rattle.landmark_rules.specs.Rules.{IsRule}
 use Rattle.plan_text.specs.declared.entry.Entry.{Entry}
 use Rattle.plan_text.specs.declared.entry.Entry.TheVariants.{Done, Group as GroupEntry, Mark as MarkEntry}
 use Rattle.plan_text.specs.Drafts.{IsEntry, IsSpelledMark, entry_line}
-use Rattle.plan_text.specs.NameLaws.{kind_law, byte_law, number_law}
+use Rattle.plan_text.specs.NameLaws.{group_law, kind_law, byte_law, number_law}
 use Rattle.plan_text.specs.PlanText.{mark_text, rule_text}
 use Rattle.plan_text.specs.Spelling.{group_name, kind_name}
 use Rattle.plan_text.proofs.Spellings.{next_value}
@@ -24,17 +23,8 @@ Same m n = m ≡ n
 abbrev byte_at : ℕ → List ℕ → ℕ
 byte_at i ds = get_or ds i 0
 
-group_at : ℕ → GroupKind
-group_at byte = cond (eqb byte 103) GptGroup (cond (eqb byte 110) Ntfs Xfs)
-
-group_back : (kind : GroupKind) → group_at (byte_at 0 (group_name kind)) ≡ kind
-unfolding group_at
-group_back GptGroup = refl
-group_back Ntfs = refl
-group_back Xfs = refl
-
 pub same_group : (k l : GroupKind) → group_name k ≡ group_name l → k ≡ l
-same_group k l e = sym (group_back k) ∙ ap (λ (ds : List ℕ). group_at (byte_at 0 ds)) e ∙ group_back l
+same_group k l e = group_law.one_value k l tt tt e
 
 -- a number, a colon and what follows
 pub same_number : (text : List ℕ) (m n : ℕ) (x y : List ℕ) → (m < 2 ^ 55) × (text ≡ decimal m ++ 58 ∷ x) → n < 2 ^ 55 → text ≡ decimal n ++ 58 ∷ y → (m ≡ n) × (x ≡ y)
@@ -146,9 +136,9 @@ same_entry (MarkEntry m) (GroupEntry k) p q h = let no : Same 109 103 = ap (byte
 same_entry (MarkEntry m) (MarkEntry n) p q h = ap MarkEntry (same_mark m n p q (append_cancel_left (codes "mark ") (mark_text m) (mark_text n) h))
 
 -- a line that is none of groups
-pub no_group : (line name : List ℕ) → line ≡ codes "group " ++ name → ((kind : GroupKind) → name ≢ group_name kind) → (entry : Entry) → IsEntry entry → line ≢ entry_line entry
+pub no_group : (line name : List ℕ) → line ≡ codes "group " ++ name → ((kind : GroupKind) → Unit {0} → name ≢ group_name kind) → (entry : Entry) → IsEntry entry → line ≢ entry_line entry
 no_group line name w none Done is e = let no : Same 103 100 = ap (byte_at 0) (sym w ∙ e) in absurd (omega arith)
-no_group line name w none (GroupEntry kind) is e = none kind (append_cancel_left (codes "group ") name (group_name kind) (sym w ∙ e))
+no_group line name w none (GroupEntry kind) is e = none kind tt (append_cancel_left (codes "group ") name (group_name kind) (sym w ∙ e))
 no_group line name w none (MarkEntry mark) is e = let no : Same 103 109 = ap (byte_at 0) (sym w ∙ e) in absurd (omega arith)
 
 pub no_mark : (line text : List ℕ) → line ≡ codes "mark " ++ text → ((mark : Mark) → IsSpelledMark mark → text ≢ mark_text mark) → (entry : Entry) → IsEntry entry → line ≢ entry_line entry

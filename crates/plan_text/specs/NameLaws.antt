@@ -16,9 +16,11 @@ use Rattle.raid_params.specs.declared.types.Pattern.{Pattern}
 use Rattle.raid_params.specs.declared.types.Pattern.TheVariants.{Plain, La, Ra, Ls, Rs, ParityFirst, ParityLast, NRestart, NContinue, La6, Ra6, Ls6, Rs6, ParityFirst6}
 use Rattle.raid_params.specs.declared.types.Syndrome.{Syndrome}
 use Rattle.raid_params.specs.declared.types.Syndrome.TheVariants.{NoQ, AfterQ, ByData, BySlot}
+use Rattle.landmark_rules.specs.declared.marks.GroupKind.{GroupKind}
+use Rattle.landmark_rules.specs.declared.marks.GroupKind.TheVariants.{Gpt as GptGroup, Ntfs, Xfs}
 use Rattle.landmark_rules.specs.declared.marks.Kind.{Kind}
 use Rattle.landmark_rules.specs.declared.marks.Kind.TheVariants.{Gpt, Boot, FileRecord, Super, Agf, Agi}
-use Rattle.plan_text.specs.Spelling.{level_name, pattern_name, syndrome_name, kind_name, slot_name, is_mark, is_plain, IsFieldName, IsSpelling}
+use Rattle.plan_text.specs.Spelling.{level_name, pattern_name, syndrome_name, group_name, kind_name, slot_name, is_mark, is_plain, IsFieldName, IsSpelling}
 
 abbrev IsOther : ℕ → ℕ → Type 0
 IsOther mark byte = byte ≢ mark
@@ -136,6 +138,27 @@ syndrome_has_no_mark BySlot = refl
 
 pub syndrome_law : IsFieldName syndrome_name (λ syndrome. Unit {0})
 syndrome_law = record { one_value = λ x y p q. one_syndrome x y; has_no_mark = λ x p. syndrome_has_no_mark x }
+
+-- the kind of group with a name whose bytes have this sum
+group_at : ℕ → GroupKind
+group_at weight = cond (eqb weight 331) GptGroup (cond (eqb weight 443) Ntfs Xfs)
+
+group_back : (kind : GroupKind) → group_at (sum (group_name kind)) ≡ kind
+unfolding group_at
+group_back GptGroup = refl
+group_back Ntfs = refl
+group_back Xfs = refl
+
+one_group : (x y : GroupKind) → group_name x ≡ group_name y → x ≡ y
+one_group x y e = sym (group_back x) ∙ ap (λ (name : List ℕ). group_at (sum name)) e ∙ group_back y
+
+group_has_no_mark : (x : GroupKind) → list_all is_plain (group_name x) ≡ true
+group_has_no_mark GptGroup = refl
+group_has_no_mark Ntfs = refl
+group_has_no_mark Xfs = refl
+
+pub group_law : IsFieldName group_name (λ kind. Unit {0})
+group_law = record { one_value = λ x y p q. one_group x y; has_no_mark = λ x p. group_has_no_mark x }
 
 -- the kind of landmark with a name whose bytes have this sum
 kind_at : ℕ → Kind

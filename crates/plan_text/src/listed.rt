@@ -1,11 +1,13 @@
 //! The places of values in the lists of plans and of the command line, and the sectors of images in such a list.
 ghost use Rattle.std.specs.Prelude.{◌≡◌};
+ghost use Rattle.landmark_rules.specs.Groups.{group_place};
 ghost use Rattle.search_plan.specs.Places.{level_place, pattern_place, syndrome_place};
 ghost use Rattle.plan_text.specs.DropLaws.{drop_law};
 ghost use Rattle.plan_text.specs.Spelling.{IsDrop, drop_name, drop_place};
 
 use crate::front::cut;
 use crate::spelled::{Listed, Spelled};
+use landmark_rules::GroupKind;
 use raid_params::{Level, MOST, Pattern, SECTORS_END, Syndrome};
 use search_plan::{DropAt, Placed};
 
@@ -27,6 +29,14 @@ impl Listed for Pattern {
 
 impl Listed for Syndrome {
     ghost place = { syndrome_place };
+
+    fn is_before(&self, next: &Self) -> bool {
+        self.place() < next.place()
+    }
+}
+
+impl Listed for GroupKind {
+    ghost place = { group_place };
 
     fn is_before(&self, next: &Self) -> bool {
         self.place() < next.place()

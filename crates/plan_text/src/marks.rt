@@ -1,6 +1,5 @@
 //! Marks and their rules.
 ghost use Rattle.std.specs.Prelude.{◌≡◌, ◌≢◌, ◌<◌, ◌^◌, ◌↔◌, ◌∷◌, ◌++◌, ◌*◌, ◌+◌, ℕ, List, IsTrue, decimal, MatchOption};
-ghost use Rattle.landmark_rules.specs.declared.marks.GroupKind.{GroupKind as GroupKindOf};
 ghost use Rattle.landmark_rules.specs.declared.marks.Mark.{Mark as MarkOf};
 ghost use Rattle.landmark_rules.specs.declared.marks.Rule.{Rule as RuleOf};
 ghost use Rattle.landmark_rules.specs.declared.marks.Rule.TheVariants.{Either as EitherOf, Every as EveryOf};
@@ -8,11 +7,10 @@ ghost use Rattle.landmark_rules.specs.Rules.{IsRule};
 ghost use Rattle.plan_text.specs.declared.entry.Entry.{Entry as EntryOf};
 ghost use Rattle.plan_text.specs.Drafts.{IsEntry, IsSpelledMark, entry_line};
 ghost use Rattle.plan_text.specs.PlanText.{mark_text, rule_text};
-ghost use Rattle.plan_text.specs.Spelling.{group_name};
 
 use crate::entry::Entry;
 use crate::number::{after, read_number};
-use crate::spelled::value_until;
+use crate::spelled::{Spelled, value_until};
 use landmark_rules::{GroupKind, Mark, Rule};
 use raid_params::SECTORS_END;
 
@@ -26,24 +24,10 @@ pub fn read_entry(line: &[u8]) -> Option<Entry>
         return Some(Entry::Done);
     }
     if let Some(name) = after(line, b"group ") {
-        return Some(Entry::Group(read_group(name)?));
+        return Some(Entry::Group(GroupKind::read(name)?));
     }
     let text = after(line, b"mark ")?;
     Some(Entry::Mark(read_mark(text)?))
-}
-
-/// The kind of group that a text names.
-fn read_group(name: &[u8]) -> Option<GroupKind>
-    ensures { MatchOption result
-        ((kind : GroupKindOf) → name.now ≢ group_name kind)
-        (λ kind. name.now ≡ group_name kind) }
-{
-    match name {
-        b"gpt" => Some(GroupKind::Gpt),
-        b"ntfs" => Some(GroupKind::Ntfs),
-        b"xfs" => Some(GroupKind::Xfs),
-        _ => None,
-    }
 }
 
 /// The mark that a text spells.

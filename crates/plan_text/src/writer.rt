@@ -2,8 +2,9 @@
 ghost use Rattle.std.specs.Prelude.{◌≡◌, ◌∷◌, ◌++◌, [], IfOk, OnOk, codes, decimal, map};
 ghost use Rattle.std.specs.List.{flat_map};
 ghost use Rattle.plan_text.specs.PlanText.{plan_text, image_lines, search_lines, kinds_lines, sizes_lines, counts_lines, groups_lines, mark_line, mark_text, rule_text};
-ghost use Rattle.plan_text.specs.Spelling.{commas, group_name, line as line_of, named};
+ghost use Rattle.plan_text.specs.Spelling.{commas, group_name as group_spelling, line as line_of, named};
 
+use crate::group_names::group_name;
 use crate::spelled::{Field, add_list};
 use crate::text::{Text, add_number};
 use image_source::Memory;
@@ -86,21 +87,19 @@ fn add_groups(text: &mut Text, groups: &[Group]) -> Result<(), Memory>
     ensures { OnOk result (text.new ≡ text.old ++ flat_map line_of (groups_lines groups.now)) }
 {
     for group in groups {
-        text.extend_from_slice(group_line(group.kind).as_bytes())?;
+        add_group_line(text, group.kind)?;
         add_marks(text, group.marks.as_slice())?;
     }
     text.extend_from_slice(b"done\n")
 }
 
-/// The line that begins a group.
-fn group_line(kind: GroupKind) -> &'static str
-    ensures { result.now ≡ line_of (named (codes "group") (group_name kind)) }
+/// Appends the line that begins a group.
+fn add_group_line(text: &mut Text, kind: GroupKind) -> Result<(), Memory>
+    ensures { OnOk result (text.new ≡ text.old ++ line_of (named (codes "group") (group_spelling kind))) }
 {
-    match kind {
-        GroupKind::Gpt => "group gpt\n",
-        GroupKind::Ntfs => "group ntfs\n",
-        GroupKind::Xfs => "group xfs\n",
-    }
+    text.extend_from_slice(b"group ")?;
+    text.extend_from_slice(group_name(kind).as_bytes())?;
+    text.push(b'\n')
 }
 
 /// Appends the lines of marks.

@@ -14,6 +14,6 @@ mod stop;
 
 pub use agreement::{Disagreement, Kind, end_of, limits_fault, plan_fault};
 pub use attaching::attach_front;
-pub use printing::{add_number, add_or_dash, add_share, print};
+pub use printing::{add_or_dash, add_share, print};
 pub use reading::read_all;
 pub use stop::{SectorFault, Stop};

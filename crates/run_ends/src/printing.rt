@@ -1,12 +1,11 @@
 //! Putting an answer to the output, and the parts of its text.
-ghost use Rattle.std.specs.Prelude.{◌≡◌, ◌≤◌, ◌++◌, OnOk, decimal};
+ghost use Rattle.std.specs.Prelude.{◌≡◌, ◌≤◌, ◌++◌, OnOk};
 ghost use Rattle.run_ends.specs.Jobs.{IsPrinted};
 ghost use Rattle.run_ends.specs.Printing.{or_dash, share_line};
 
 use crate::stop::Stop;
 use image_source::{Memory, Sink};
-use itoa::Buffer;
-use plan_text::Text;
+use plan_text::{Text, add_number};
 
 /// Puts the answer whole, if there is one, or says why there is none.
 pub fn print<K: Sink>(out: &mut K, answer: Result<Text, Stop>) -> Result<(), Stop>
@@ -28,14 +27,6 @@ pub fn add_or_dash(text: &mut Text, number: Option<u64>) -> Result<(), Memory>
         Some(number) => add_number(text, number),
         None => text.extend_from_slice(b"-"),
     }
-}
-
-/// Appends a number in decimal.
-pub fn add_number(text: &mut Text, number: u64) -> Result<(), Memory>
-    ensures { OnOk result (text.new ≡ text.old ++ decimal number) }
-{
-    let mut buffer = Buffer::new();
-    text.extend_from_slice(buffer.format(number).as_bytes())
 }
 
 /// Appends the line `NAME PART of WHOLE`. The name ends with a space.

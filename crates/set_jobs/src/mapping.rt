@@ -13,10 +13,10 @@ ghost use Rattle.raid_terms.specs.Address.{home_item, home_row, home_sector, hom
 
 use address_map::{Home, locate, volume_sectors};
 use image_source::{Images, MOST_ATTACHED, Memory, Sink};
-use plan_text::Text;
+use plan_text::{Text, add_number};
 use raid_layouts::{md_name, p_slot, q_slot};
 use raid_params::{Geometry, Head};
-use run_ends::{SectorFault, Stop, add_number, add_or_dash, end_of, limits_fault, print};
+use run_ends::{SectorFault, Stop, add_or_dash, end_of, limits_fault, print};
 use std::alloc::Global;
 
 /// Prints where a sector of the volume of a set lies. The text is made before any of it is put, so only a

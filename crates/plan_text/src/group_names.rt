@@ -1,0 +1,35 @@
+//! The names of what the marks of a group belong to.
+ghost use Rattle.std.specs.Prelude.{◌≡◌};
+ghost use Rattle.plan_text.specs.NameLaws.{group_law, in_lists};
+ghost use Rattle.plan_text.specs.Spelling.{group_name as group_spelling};
+
+use crate::spelled::Spelled;
+use landmark_rules::GroupKind;
+
+impl Spelled for GroupKind {
+    ghost name = { group_spelling };
+
+    ghost IsSpelled = { λ kind. Unit {0} };
+
+    fn read(text: &[u8]) -> Option<GroupKind> {
+        match text {
+            b"gpt" => Some(GroupKind::Gpt),
+            b"ntfs" => Some(GroupKind::Ntfs),
+            b"xfs" => Some(GroupKind::Xfs),
+            _ => None,
+        }
+    }
+
+    ghost law = { in_lists group_spelling (λ kind. Unit {0}) group_law };
+}
+
+/// The name of what the marks of a group belong to.
+pub fn group_name(kind: GroupKind) -> &'static str
+    ensures { result.now ≡ group_spelling kind }
+{
+    match kind {
+        GroupKind::Gpt => "gpt",
+        GroupKind::Ntfs => "ntfs",
+        GroupKind::Xfs => "xfs",
+    }
+}

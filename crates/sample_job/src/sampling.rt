@@ -295,7 +295,6 @@ fn count_marks(groups: &[Group]) -> Result<u64, Memory>
 }
 
 /// Whether the set is on a page.
-
 fn is_on(plan: &Plan, set: &Geometry, page: &ListPage) -> bool
     requires plan { IsPlan plan.now }
     requires total { total_of plan.now < 2 ^ 64 }

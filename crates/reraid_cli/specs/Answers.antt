@@ -83,10 +83,10 @@ unfoldable pub output : Reading → List Image → Option (List ℕ)
 output reading attached = command_output reading.words reading attached
 
 -- what a command may read, by the counts of the sectors read before and after: `survey` each sector of each image from
--- the smallest offset to the end, and one of entries for each partition table that counts; `list` for each offset the
--- tested rows of the chunk that has most, once, where some head needs a table of rows, and for each `MOST_SETS` hopeful
--- sets of a page, begun ones counted, one scan, where only a run that failed may have a page that could not be made;
--- `check` the tested rows of its set, and none
+-- the smallest offset to the end, and one of entries for each header that counts and that entries follow; `list` for
+-- each offset the tested rows of the chunk that has most, once, where some head needs a table of rows, and for each
+-- `MOST_SETS` hopeful sets of a page, begun ones counted, one scan, where only a run that failed may have a page that
+-- could not be made; `check` the tested rows of its set, and none
 -- where nothing can break one; `write` as many sectors as the volume has, `rebuild` each sector of each member that is
 -- there, `map` none, and `sample` none of those given. A text that is no plan bounds nothing
 abbrev pub CommandReads : Result Command ℕ → Reading → List Image → Bool → ℕ → ℕ → Type 0

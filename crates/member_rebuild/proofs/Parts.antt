@@ -3,9 +3,10 @@ use Rattle.std.proofs.Common.{◌≡◌, ℕ, zero, suc, ◌+◌, ◌-◌, ◌*�
 use Rattle.std.specs.Io.KnownBytes.{Appends}
 use Rattle.std.specs.Prelude.{MatchResult, slice_range}
 use Rattle.std.specs.Result.{IsErrAnd}
-use Rattle.image_source.specs.Seen.{Image}
+use Rattle.image_source.proofs.Reading.{reads_up}
+use Rattle.image_source.specs.Seen.{Image, OnlyReads, Seen}
 use Rattle.image_source.specs.Streams.{AppendsFront, Puts}
-use Rattle.raid_params.specs.Size.{area}
+use Rattle.raid_params.specs.Size.{area, data_blocks, volume_sectors}
 use Rattle.raid_params.specs.declared.types.Geometry.{Geometry}
 use Rattle.raid_terms.specs.Volume.{member, member_sector}
 use Rattle.member_regions.proofs.Sets.{reaches_less}
@@ -94,3 +95,9 @@ pub block_held : (attached now : List Image) (offset first count sectors : ℕ) 
     All (Reaches attached (offset + sectors)) slots → All (Reaches now (offset + (first + count))) slots
 block_held attached now offset first count sectors slots same few all =
     rw same (reaches_less attached (offset + sectors) (offset + (first + count)) slots all (omega arith))
+
+-- as many sectors as there are data in all rows are those of the volume
+pub reads_volume : (old new : Seen) (geo : Geometry) (end n : ℕ) → n ≡ area geo.head end → OnlyReads old new (data_blocks geo.head * n) → OnlyReads old new (volume_sectors geo.head end)
+reads_volume old new geo end n all reads =
+    let turned : data_blocks geo.head * area geo.head end ≡ volume_sectors geo.head end = grind arith in
+    reads_up old new reads (omega (arith, turned, ap (λ (k : ℕ). data_blocks geo.head * k) all))

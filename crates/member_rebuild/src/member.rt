@@ -6,9 +6,9 @@ ghost use Rattle.image_source.specs.Attached.{told_all};
 ghost use Rattle.image_source.specs.Causes.{Rose};
 ghost use Rattle.image_source.specs.Seen.{OnlyReads};
 ghost use Rattle.image_source.specs.Streams.{AppendsFront, Puts};
-ghost use Rattle.raid_params.specs.Size.{area as area_of};
+ghost use Rattle.raid_params.specs.Size.{data_blocks, volume_sectors};
 ghost use Rattle.raid_terms.specs.Volume.{member};
-ghost use Rattle.member_regions.specs.Members.{IsTestable, Reaches, held};
+ghost use Rattle.member_regions.specs.Members.{IsTestable, Reaches};
 ghost use Rattle.member_regions.specs.Regions.{IsRoomFor, KeepsRoom};
 ghost use Rattle.virtual_volume.specs.Gained.{AppendsSectors};
 ghost use Rattle.virtual_volume.specs.Served.{Ends, IsServed};
@@ -42,15 +42,16 @@ fn write_block<I: Images, K: Sink>(
     ensures put { IfSome (told_all (I.seen images.old).attached)
         (λ bytes. Puts (K.gained sink.old) (K.gained sink.new) result (sectors_of bytes geo.now slot first count)) }
     ensures unput { IsErrOf result VolumeFault.ReadFault → K.gained sink.new ≡ K.gained sink.old }
-    ensures reads { OnlyReads (I.seen images.old) (I.seen images.new) (held geo.now.slots.items * count) }
+    ensures reads { OnlyReads (I.seen images.old) (I.seen images.new) (data_blocks geo.now.head * count) }
     ensures later { K.faults sink.old ≤ K.faults sink.new }
     ensures ends { IfErr result (Ends (I.seen images.old).faults (I.seen images.new).faults (K.faults sink.old) (K.faults sink.new)) }
     ensures room { KeepsRoom regions.old regions.new }
 {
     regions
-        .read(images, geo, first, count)
+        .read_needed(geo, images, first, count)
         .map_err(|_| VolumeFault::ReadFault)?;
-    regions.solve(geo, first, count);
+    regions.solve_data(geo, first, count);
+    regions.solve_parity(geo, slot, first, count);
     sink.put(regions.region(slot, 0, count))
         .map_err(|_| VolumeFault::WriteFault)
 }
@@ -74,7 +75,7 @@ fn write_sectors<I: Images, K: Sink>(
         (λ bytes. Puts (K.gained sink.old) (K.gained sink.new) result (sectors_of bytes geo.now slot 0 sectors)) }
     ensures whole { IsErrOf result VolumeFault.ReadFault → IfSome (told_all (I.seen images.old).attached)
         (λ bytes. AppendsSectors (K.gained sink.old) (K.gained sink.new) (sectors_of bytes geo.now slot 0 sectors)) }
-    ensures reads { OnlyReads (I.seen images.old) (I.seen images.new) (held geo.now.slots.items * sectors) }
+    ensures reads { OnlyReads (I.seen images.old) (I.seen images.new) (data_blocks geo.now.head * sectors) }
     ensures later { K.faults sink.old ≤ K.faults sink.new }
     ensures ends { IfErr result (Ends (I.seen images.old).faults (I.seen images.new).faults (K.faults sink.old) (K.faults sink.new)) }
 {
@@ -92,7 +93,8 @@ fn write_sectors<I: Images, K: Sink>(
 ///
 /// Memory may run out only before anything is read or written. After that only a fault of the images or
 /// of the sink ends the work: then a prefix of the member was written, of whole sectors where the images
-/// failed. No more sectors are read than the present members hold in whole rows.
+/// failed. No more sectors are read than the volume has: the present data, and for a lost data block
+/// P, or Q where P alone does not tell it.
 #[tactic(auto, using(virtual_volume::proofs::Sets::served_head, virtual_volume::proofs::Sets::served_slots, virtual_volume::proofs::Sets::served_testable))]
 pub fn rebuild<I: Images, K: Sink>(
     alloc: Global,
@@ -116,7 +118,7 @@ pub fn rebuild<I: Images, K: Sink>(
     ensures read_fault { IsErrOf result VolumeFault.ReadFault →
         Rose (I.seen images.old).faults (I.seen images.new).faults }
     ensures write_fault { IsErrOf result VolumeFault.WriteFault → Rose (K.faults sink.old) (K.faults sink.new) }
-    ensures reads { OnlyReads (I.seen images.old) (I.seen images.new) (held geo.now.slots.items * area_of geo.now.head end) }
+    ensures reads { OnlyReads (I.seen images.old) (I.seen images.new) (volume_sectors geo.now.head end) }
     ensures later { K.faults sink.old ≤ K.faults sink.new }
 {
     let sectors = area(&geo.head, end);

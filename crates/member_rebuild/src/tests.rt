@@ -19,24 +19,25 @@ fn reaches(images: &MemImages, image: u32, end: u64) -> bool
     }
 }
 
-// Whether two images are attached, and each reaches to the end.
-fn two_reach(images: &MemImages, end: u64) -> bool
-    ensures { IsTrue result → (length (seen_of images.now).attached ≡ 2) × All (λ a. end ≤ a.sectors) (seen_of images.now).attached }
+// Whether `count` images are attached, and each reaches to the end.
+fn all_reach(images: &MemImages, count: u8, end: u64) -> bool
+    ensures { IsTrue result → (length (seen_of images.now).attached ≡ count) × All (λ a. end ≤ a.sectors) (seen_of images.now).attached }
 {
-    for i in 0..2u32 {
-        if !reaches(images, i, end) {
+    for i in 0..count {
+        if !reaches(images, i as u32, end) {
             return false;
         }
     }
-    images.length(2).is_none()
+    images.length(count as u32).is_none()
 }
 
-// Writes the member of slot 0, over two images.
+// Writes the member of slot 0, over `count` images.
 #[tactic(auto, using(virtual_volume::proofs::TestSets::long_served))]
 fn write<R: Abort, K: Sink>(
     rt: &R,
     alloc: Global,
     images: &mut MemImages,
+    count: u8,
     geo: &Geometry,
     end: u64,
     sink: &mut K,
@@ -46,8 +47,8 @@ fn write<R: Abort, K: Sink>(
     requires missing { slice_index_or geo.now.slots.items 0 None ≡ None }
     requires end { end < 2 ^ 55 }
 {
-    assert!(rt; geo.validate(2, end).is_ok());
-    assert!(rt; two_reach(images, end));
+    assert!(rt; geo.validate(count, end).is_ok());
+    assert!(rt; all_reach(images, count, end));
     rebuild(alloc, images, geo, end, 0, sink)
 }
 
@@ -91,7 +92,7 @@ fn first_member(rt: HostRuntime) -> Result<(), Fail> {
     let alloc = rt.alloc();
     let mut images = two_images(alloc)?;
     let mut sink = MemSink::new(alloc, 2048)?;
-    assert!(rt; write(&rt, alloc, &mut images, &three(), 2, &mut sink).is_ok());
+    assert!(rt; write(&rt, alloc, &mut images, 2, &three(), 2, &mut sink).is_ok());
     let mut member = [1; 1024];
     member[512..].fill(2);
     assert_eq!(rt; sink.bytes(), member.as_slice());
@@ -105,13 +106,65 @@ fn faults(rt: HostRuntime) -> Result<(), Fail> {
     let mut images = two_images(alloc)?;
     images.fail_call(4)?;
     let mut sink = MemSink::new(alloc, 2048)?;
-    let cut = write(&rt, alloc, &mut images, &three(), 2, &mut sink);
+    let cut = write(&rt, alloc, &mut images, 2, &three(), 2, &mut sink);
     assert!(rt; matches!(&cut, Err(VolumeFault::ReadFault)));
     assert_eq!(rt; sink.bytes().len(), 0);
     sink.fail_call(1, 100)?;
-    let cut = write(&rt, alloc, &mut images, &three(), 2, &mut sink);
+    let cut = write(&rt, alloc, &mut images, 2, &three(), 2, &mut sink);
     assert!(rt; matches!(&cut, Err(VolumeFault::WriteFault)));
     assert_eq!(rt; sink.bytes(), [1; 100].as_slice());
+    Ok(())
+}
+
+// Level 6, with P on slot 0, which is empty, and Q on slot 1.
+fn without_p() -> Geometry
+    ensures offset { result.head.offset ≡ 0 }
+    ensures members { result.head.members ≡ 4 }
+    ensures missing { slice_index_or result.slots.items 0 None ≡ None }
+{
+    let mut slots = Slots::new();
+    slots.push(None);
+    slots.push(Some(2));
+    slots.push(Some(0));
+    slots.push(Some(1));
+    let head = Head {
+        level: Level::Raid6,
+        members: 4,
+        pattern: Pattern::ParityFirst,
+        syndrome: Syndrome::ByData,
+        chunk: 1,
+        offset: 0,
+    };
+    Geometry { head, slots }
+}
+
+// The two images, and one of Q after them.
+fn three_images(alloc: Global) -> Result<MemImages, Fail> {
+    let (mut a, mut b) = ([3; 1024], [2; 1024]);
+    a[512..].fill(4);
+    b[512..].fill(6);
+    let mut images = MemImages::new(alloc)?;
+    images.add("a", &a)?;
+    images.add("b", &b)?;
+    images.add("q", &[0xAA; 1024])?;
+    images.attach("a")?;
+    images.attach("b")?;
+    images.attach("q")?;
+    Ok(images)
+}
+
+// P is found by the data alone. Three images are attached by the first three calls, and the member of each data
+// slot is read by one. A sixth call, for Q, would fail.
+#[test]
+fn q_is_not_read_for_p(rt: HostRuntime) -> Result<(), Fail> {
+    let alloc = rt.alloc();
+    let mut images = three_images(alloc)?;
+    images.fail_call(6)?;
+    let mut sink = MemSink::new(alloc, 2048)?;
+    assert!(rt; write(&rt, alloc, &mut images, 3, &without_p(), 2, &mut sink).is_ok());
+    let mut member = [1; 1024];
+    member[512..].fill(2);
+    assert_eq!(rt; sink.bytes(), member.as_slice());
     Ok(())
 }
 
@@ -156,7 +209,7 @@ fn whole_sectors_are_put(rt: HostRuntime) -> Result<(), Fail> {
         bytes: 0,
         whole: true,
     };
-    assert!(rt; write(&rt, alloc, &mut images, &three(), 700, &mut sink).is_ok());
+    assert!(rt; write(&rt, alloc, &mut images, 2, &three(), 700, &mut sink).is_ok());
     assert_eq!(rt; sink.bytes, 358_400);
     assert!(rt; sink.whole);
     Ok(())

@@ -63,7 +63,7 @@ data_needed geo slot t there holds =
     there_as geo slot t (part_of geo.head (t / geo.head.chunk) slot) there refl
     ∙ needs_data (row_cells geo (t / geo.head.chunk)) (part_of geo.head (t / geo.head.chunk) slot) holds
 
-column_byte : (f : Option ℕ → ℕ) (slots : List (Option ℕ)) (place : ℕ) → place < length slots → get_or (map f slots) place 0 ≡ f (get_or slots place None)
+pub column_byte : (f : Option ℕ → ℕ) (slots : List (Option ℕ)) (place : ℕ) → place < length slots → get_or (map f slots) place 0 ≡ f (get_or slots place None)
 column_byte f [] place below = absurd (omega arith)
 column_byte f (held ∷ slots) zero below = refl
 column_byte f (held ∷ slots) (suc place) below = column_byte f slots place (omega arith)
@@ -92,7 +92,7 @@ rows_agree images geo stride first count from n row cells sectors are in_row ins
         ∙ sym (held_byte images geo (first + j) place x (get_or geo.slots.items place None) there)
         ∙ sym (column_byte (member_byte images geo.head.offset (first + j) x) geo.slots.items place below)
 
-map_length : (f : Option ℕ → ℕ) (slots : List (Option ℕ)) → length (map f slots) ≡ length slots
+pub map_length : (f : Option ℕ → ℕ) (slots : List (Option ℕ)) → length (map f slots) ≡ length slots
 map_length f [] = refl
 map_length f (held ∷ slots) = ap (λ n. suc n) (map_length f slots)
 

@@ -14,3 +14,5 @@ pub mod NeededSums
 pub mod DataFound
 pub mod NeededRows
 pub mod ImageSums
+pub mod ColumnBytes
+pub mod ParityFound

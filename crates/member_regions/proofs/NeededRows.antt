@@ -4,6 +4,8 @@ use Rattle.std.proofs.lemmas.Bool.{cases_lt, false≢true}
 use Rattle.std.proofs.lemmas.Bool.Decides.{nat_tests}
 use Rattle.std.specs.List.{count_by, range_with_len, sum}
 use Rattle.std.specs.Option.{is_none, is_some}
+use Rattle.image_source.proofs.Reading.{reads_up}
+use Rattle.image_source.specs.Seen.{OnlyReads, Seen}
 use Rattle.pq_parity.specs.Needs.{is_p_lost, lost_data, needs}
 use Rattle.raid_layouts.proofs.Counts.{any_counted, both_numbers, cells_length, count_cons, count_missing, count_p, count_parity, count_q, counted_any, number, number_few, q_beside}
 use Rattle.raid_layouts.proofs.Shapes.{shaped_head, shaped_missing, shaped_slots}
@@ -18,6 +20,7 @@ use Rattle.raid_terms.specs.Cells.{cells_from, part_of, row_cells}
 use Rattle.raid_terms.specs.Parity.{is_data, is_p, is_q}
 use Rattle.raid_terms.specs.Role.{p_of, q_of}
 use Rattle.member_regions.specs.Laws.{NeedsAsManyAsData, NeedsAsManyAsTheVolume}
+use Rattle.member_regions.specs.Members.{IsTestable}
 use Rattle.member_regions.specs.Needs.{is_needed, needed_of, needed_sectors}
 use Rattle.member_regions.proofs.Counting.{count_first}
 use Rattle.member_regions.proofs.LostParts.{cell_of}
@@ -300,3 +303,9 @@ as_many_as_data geo images first (suc n) shaped =
 
 pub as_many_as_volume : NeedsAsManyAsTheVolume
 as_many_as_volume geo images end shaped = as_many_as_data geo images 0 (area geo.head end) shaped
+
+-- so no more is read of any rows than they have data
+pub reads_data : (old new : Seen) (geo : Geometry) (first n : ℕ) → IsTestable geo → OnlyReads old new (needed_sectors geo first n) → OnlyReads old new (data_blocks geo.head * n)
+reads_data old new geo first n set reads =
+    let turned : n * data_blocks geo.head ≡ data_blocks geo.head * n = grind arith in
+    reads_up old new reads (omega (arith, as_many_as_data geo set.images first n set.shaped))

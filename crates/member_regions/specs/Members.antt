@@ -1,5 +1,5 @@
 -- The members of a set: which slots hold an image, and how far it reaches.
-use Rattle.std.specs.Prelude.{ℕ, ◌≡◌, ◌≤◌, true, List, count_by, slice_get, IfSome, IsSomeAnd}
+use Rattle.std.specs.Prelude.{ℕ, ◌≡◌, ◌≤◌, ◌<◌, true, List, [], count_by, slice_get, slice_index, slice_index_or, IfSome, IsSomeAnd}
 use Rattle.std.specs.declared.option.Option.{Option}
 use Rattle.std.specs.Option.{is_some}
 use Rattle.image_source.specs.Seen.{Image}
@@ -18,3 +18,7 @@ pub record IsTestable (geo : Geometry) : Type 0 where
 -- a slot is empty, or holds an attached image that reaches to the end
 abbrev pub Reaches : List Image → ℕ → Option ℕ → Type 0
 Reaches attached end slot = IfSome slot (λ i. IsSomeAnd (slice_get attached i) (λ image. end ≤ image.sectors))
+
+-- the images hold bytes
+abbrev pub HoldBytes : List (List ℕ) → Type 0
+HoldBytes images = (i k : ℕ) → slice_index (slice_index_or images i []) k < 256

@@ -1,5 +1,5 @@
 -- The members' sectors in memory: a region for each member, one after the other, each of `stride` bytes.
-use Rattle.std.specs.Prelude.{ℕ, ◌≡◌, ◌+◌, ◌*◌, ◌<◌, ◌≤◌, false, List, length, slice_index, slice_index_or}
+use Rattle.std.specs.Prelude.{ℕ, ◌≡◌, ◌+◌, ◌*◌, ◌<◌, ◌≤◌, false, List, slice_index, slice_index_or}
 use Rattle.std.specs.declared.option.Option.TheVariants.{None}
 use Rattle.std.specs.Option.{is_none}
 use Rattle.raid_params.specs.declared.types.Geometry.{Geometry}
@@ -33,8 +33,3 @@ abbrev pub HoldSlot : List (List ℕ) → Geometry → ℕ → ℕ → ℕ → �
 HoldSlot images geo stride first count slot sectors =
     (j x : ℕ) → j < count → x < 512 →
     slice_index sectors (stride * slot + (512 * j + x)) ≡ byte_in images geo (first + j) slot x (slice_index_or geo.slots.items slot None)
-
--- the regions of all slots do
-abbrev pub HoldAll : List (List ℕ) → Geometry → ℕ → ℕ → ℕ → List ℕ → Type 0
-HoldAll images geo stride first count sectors =
-    (slot : ℕ) → slot < length geo.slots.items → HoldSlot images geo stride first count slot sectors

@@ -2,12 +2,13 @@
 //!
 //! [`Regions`] takes its memory once, and is filled as often as need be. `row_scan` tests rows in it,
 //! `prune_filters` compares whole images in it, `virtual_volume` and `member_rebuild` find in it what lost
-//! members held. [`read_members`] and [`solve_members`] do the same in bytes that the caller has. What
-//! regions hold stands in `specs/Regions`, what is asked of the members in `specs/Members`.
+//! members held. [`read_members`] reads into bytes that the caller has. What regions hold stands in
+//! `specs/Regions`, what is asked of the members in `specs/Members`.
 //!
-//! A volume wants the data alone. [`Regions::read_needed`] reads what these are found by: the data that
-//! are there, and for each lost data block of a row one of its parity blocks. [`Regions::solve_data`] finds
-//! the lost data by it. What is needed stands in `specs/Needs`, and [`laws`] says how much that is.
+//! What members held is found by the data. [`Regions::read_needed`] reads what these are found by: the data
+//! that are there, and for each lost data block of a row one of its parity blocks. [`Regions::solve_data`]
+//! finds the lost data by it, and [`Regions::solve_parity`] the parity of a lost member by all data. What is
+//! needed stands in `specs/Needs`, and [`laws`] says how much that is.
 //!
 //! [`sum_images`] adds up the sectors of all images at each place, where each image has a region: `row_scan` and
 //! `prune_filters` test rows by these sums. What they say stands in `specs/ImageSums`.
@@ -25,4 +26,4 @@ mod tests;
 pub use image_sums::{ImageSum, sum_images};
 pub use reading::{read_member, read_members};
 pub use regions::{BLOCK, Regions, zeros};
-pub use solving::{solve_members, turn_to};
+pub use solving::turn_to;

@@ -1,16 +1,16 @@
 //! Room for regions of sectors, one a member.
-ghost use Rattle.std.specs.Prelude.{ℕ, List, ◌≡◌, ◌+◌, ◌*◌, ◌^◌, ◌<◌, ◌≤◌, All, IfOk, IfSome, OnOk, length, replicate, slice_range};
+ghost use Rattle.std.specs.Prelude.{ℕ, List, ◌≡◌, ◌+◌, ◌*◌, ◌^◌, ◌<◌, ◌≤◌, All, IfOk, IfSome, None, OnOk, length, replicate, slice_index_or, slice_range};
 ghost use Rattle.image_source.specs.Attached.{told_all};
 ghost use Rattle.image_source.specs.Causes.{HasCause};
 ghost use Rattle.image_source.specs.Seen.{OnlyReads};
 ghost use Rattle.raid_terms.specs.Parity.{is_sound, IsRow};
 ghost use Rattle.pq_parity.specs.Regions.{region_column};
-ghost use Rattle.member_regions.specs.Members.{held, IsTestable, Reaches};
+ghost use Rattle.member_regions.specs.Members.{held, HoldBytes, IsTestable, Reaches};
 ghost use Rattle.member_regions.specs.Needs.{HoldData, HoldNeeded, needed_sectors};
-ghost use Rattle.member_regions.specs.Regions.{HoldAll, HoldRead, IsRoomFor, KeepsRoom};
+ghost use Rattle.member_regions.specs.Regions.{HoldRead, HoldSlot, IsRoomFor, KeepsRoom};
 
 use crate::reading::{read_members, read_needed};
-use crate::solving::{find_data, solve_members};
+use crate::solving::{find_data, find_parity};
 use image_source::{Failed, Images, Memory, SECTOR};
 use pq_parity::sectors_hold;
 use raid_params::{Cell, Geometry};
@@ -118,21 +118,6 @@ impl Regions {
         sectors_hold(cells, &self.sectors, self.stride, j)
     }
 
-    /// Finds the `count` sectors of each missing member, from member sector `first` on, by those that
-    /// were read.
-    #[tactic(auto, using(crate::proofs::Room::room_inside))]
-    pub fn solve(&mut self, geo: &Geometry, first: u64, count: usize)
-        requires room { IsRoomFor (length geo.now.slots.items) count self.old }
-        requires set { IsTestable geo.now }
-        requires first { first + count < 2 ^ 55 }
-        ensures room { KeepsRoom self.old self.new }
-        ensures found { (bytes : List (List ℕ)) →
-            HoldRead bytes geo.now self.old.stride first (512 * count) (length geo.now.slots.items) self.old.bytes →
-            HoldAll bytes geo.now self.new.stride first count self.new.bytes }
-    {
-        solve_members(geo, &mut self.sectors, self.stride, first, count);
-    }
-
     /// Finds the lost data among the `count` sectors of each missing member, from member sector `first`
     /// on, by the needed ones. What else the regions hold may change.
     #[tactic(auto, using(crate::proofs::Room::room_inside))]
@@ -146,6 +131,23 @@ impl Regions {
             HoldData bytes geo.now self.new.stride first count self.new.bytes }
     {
         find_data(geo, &mut self.sectors, self.stride, first, count);
+    }
+
+    /// Finds the lost parity among the `count` sectors of the missing member of a slot, from member sector
+    /// `first` on, by the data, read or found.
+    #[tactic(auto, using(crate::proofs::Room::room_inside))]
+    pub fn solve_parity(&mut self, geo: &Geometry, slot: usize, first: u64, count: usize)
+        requires room { IsRoomFor (length geo.now.slots.items) count self.old }
+        requires set { IsTestable geo.now }
+        requires slot { slot < length geo.now.slots.items }
+        requires missing { slice_index_or geo.now.slots.items slot None ≡ None }
+        requires first { first + count < 2 ^ 55 }
+        ensures room { KeepsRoom self.old self.new }
+        ensures found { (bytes : List (List ℕ)) → HoldBytes bytes →
+            HoldData bytes geo.now self.old.stride first count self.old.bytes →
+            HoldSlot bytes geo.now self.new.stride first count slot self.new.bytes }
+    {
+        find_parity(geo, slot, &mut self.sectors, self.stride, first, count);
     }
 
     /// The `count` sectors of the region of a slot from its sector `at` on.

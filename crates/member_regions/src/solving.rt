@@ -1,15 +1,16 @@
 //! What lost members held.
-ghost use Rattle.std.specs.Prelude.{ℕ, List, ◌≡◌, ◌+◌, ◌*◌, ◌^◌, ◌<◌, ◌≤◌, length};
+ghost use Rattle.std.specs.Prelude.{ℕ, List, ◌≡◌, ◌+◌, ◌*◌, ◌^◌, ◌<◌, ◌≤◌, None, length, not, slice_index_or};
 ghost use Rattle.raid_terms.specs.Cells.{row_cells as row_cells_of};
-ghost use Rattle.member_regions.specs.Members.{IsTestable};
+ghost use Rattle.raid_terms.specs.Parity.{is_data};
+ghost use Rattle.member_regions.specs.Members.{HoldBytes, IsTestable};
 ghost use Rattle.member_regions.specs.Needs.{HoldData, HoldNeeded};
-ghost use Rattle.member_regions.specs.Regions.{HoldAll, HoldRead};
+ghost use Rattle.member_regions.specs.Regions.{HoldSlot};
 
 use crate::needs::{is_full, row_end};
 use arrayvec::ArrayVec;
-use pq_parity::{solve_data, solve_lost};
+use pq_parity::{solve_data, solve_parity};
 use raid_layouts::row_cells;
-use raid_params::{Cell, Geometry, MOST};
+use raid_params::{Cell, Geometry, MOST, Part};
 
 /// Makes the cells of one row those of another.
 #[tactic(auto, using(crate::proofs::Sets::testable_head, crate::proofs::Sets::testable_slots))]
@@ -20,29 +21,6 @@ pub fn turn_to(geo: &Geometry, cells: &mut ArrayVec<Cell, MOST>, at: u64, row: u
 {
     if at != row {
         *cells = row_cells(geo, row);
-    }
-}
-
-/// Finds the `count` sectors of each missing member, from member sector `first` on, and writes them
-/// into its region. The regions of the members that are there hold theirs. A region has `stride`
-/// bytes.
-#[tactic(auto, using(crate::proofs::Sets::testable_head, crate::proofs::Sets::testable_slots, crate::proofs::Sets::testable_chunk, crate::proofs::Sets::testable_row, crate::proofs::Sets::row_length))]
-pub fn solve_members(geo: &Geometry, sectors: &mut [u8], stride: usize, first: u64, count: usize)
-    requires set { IsTestable geo.now }
-    requires sectors { stride * length geo.now.slots.items ≤ length sectors.old }
-    requires fits { 512 * count ≤ stride }
-    requires first { first + count < 2 ^ 55 }
-    ensures { (bytes : List (List ℕ)) →
-        HoldRead bytes geo.now stride first (512 * count) (length geo.now.slots.items) sectors.old →
-        HoldAll bytes geo.now stride first count sectors.new }
-{
-    let mut at = first / geo.head.chunk;
-    let mut cells = row_cells(geo, at);
-    for j in 0..count {
-        let chunk_row = (first + j as u64) / geo.head.chunk;
-        turn_to(geo, &mut cells, at, chunk_row);
-        at = chunk_row;
-        solve_lost(&cells, sectors, stride, j);
     }
 }
 
@@ -75,4 +53,51 @@ pub(crate) fn find_data(geo: &Geometry, sectors: &mut [u8], stride: usize, first
         );
         at = next;
     }
+}
+
+/// Finds the lost parity among the `count` sectors of the missing member of a slot, from member sector `first`
+/// on, and writes it into the slot's region. The regions of all members hold their data, read or found. A
+/// region has `stride` bytes.
+#[tactic(auto, using(crate::proofs::Sets::testable_head, crate::proofs::Sets::testable_slots, crate::proofs::Sets::testable_chunk, crate::proofs::Sets::testable_row, crate::proofs::Sets::row_length))]
+pub(crate) fn find_parity(
+    geo: &Geometry,
+    slot: usize,
+    sectors: &mut [u8],
+    stride: usize,
+    first: u64,
+    count: usize,
+)
+    requires set { IsTestable geo.now }
+    requires slot { slot < length geo.now.slots.items }
+    requires missing { slice_index_or geo.now.slots.items slot None ≡ None }
+    requires sectors { stride * length geo.now.slots.items ≤ length sectors.old }
+    requires fits { 512 * count ≤ stride }
+    requires first { first + count < 2 ^ 55 }
+    ensures { (bytes : List (List ℕ)) → HoldBytes bytes → HoldData bytes geo.now stride first count sectors.old →
+        HoldSlot bytes geo.now stride first count slot sectors.new }
+{
+    let end = first + count as u64;
+    let mut at = first;
+    while at < end {
+        let next = row_end(geo, at, end);
+        let cells = row_cells(geo, at / geo.head.chunk);
+        if is_parity(cells[slot]) {
+            solve_parity(
+                &cells,
+                slot,
+                sectors,
+                stride,
+                (at - first) as usize,
+                (next - at) as usize,
+            );
+        }
+        at = next;
+    }
+}
+
+/// Whether a cell holds parity.
+fn is_parity(cell: Cell) -> bool
+    ensures { result ≡ not (is_data cell.part) }
+{
+    !matches!(cell.part, Part::Block(_))
 }

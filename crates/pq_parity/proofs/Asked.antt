@@ -1,7 +1,7 @@
 -- By which equations missing cells are found.
 use Rattle.std.proofs.Common.{ℕ, zero, suc, ◌≡◌, ◌≢◌, ◌<◌, ◌≤◌, ◌+◌, Bool, true, false, cond, not, ◌&&◌, ◌||◌, nat_eq, List, [], ◌∷◌, length, take, drop, get_or, count_by, refl, sym, ap, ◌∙◌, subst, arith, bit_xor, IfSome}
 use Rattle.std.specs.List.{find, list_any, slice_get}
-use Rattle.std.specs.Option.{is_some, option_map, option_or}
+use Rattle.std.specs.Option.{option_map, option_or}
 use Rattle.std.specs.declared.option.Option.{Option}
 use Rattle.std.specs.declared.option.Option.TheVariants.{None, Some}
 use Rattle.std.proofs.lemmas.Bool.{eq-eqb, false≢true}
@@ -95,16 +95,6 @@ some_missing [] place m h = absurd (omega arith)
 some_missing (cell ∷ cells) zero m h = first_case cell.missing cell cells m
 some_missing (cell ∷ cells) (suc place) m h = later_case cell.missing cell cells (some_missing cells place m (omega arith))
 
-none_here : (t : Bool) (cell : Cell) (cells : List Cell) → option_map (λ c. c.part) (cond t (Some cell) (find (λ c. c.missing) cells)) ≡ None → (t ≡ false) × (first_missing cells ≡ None)
-none_here true cell cells e = absurd (cc)
-none_here false cell cells e = (refl, e)
-
--- where no cell is missing, nothing is said of one
-pub none_missing : (cells : List Cell) (said : Type 0) (place : ℕ) → first_missing cells ≡ None → IfSome (slice_get cells place) (λ cell. cell.missing ≡ true → said)
-none_missing [] said place none = tt
-none_missing (cell ∷ cells) said zero none = λ is. absurd (false≢true (sym (none_here cell.missing cell cells none).0 ∙ is))
-none_missing (cell ∷ cells) said (suc place) none = none_missing cells said place (none_here cell.missing cell cells none).1
-
 q_case : (a b c d : Bool) → (c ≡ true → d ≡ true) → ((a && b) || c) ≡ true → (b || d) ≡ true
 q_case a true c d step e = refl
 q_case true false c d step e = step e
@@ -138,7 +128,3 @@ asked_has_q cells row some asked =
     let one : count_by (λ c. c.missing) cells ≡ 1 = omega (arith, length_lost cells, lost_some cells some, few) in
     let alone : nat_eq (count_by (λ c. c.missing) cells) 1 ≡ true = eq-eqb (count_by (λ c. c.missing) cells) 1 one in
     q_some cells (ap (λ (b : Bool). not b || is_q_lost cells) (sym alone) ∙ asked))
-
-pub is_none_from : (found : Option Part) (b : Bool) (cells : List Cell) → is_some found ≡ not b → b ≡ true → found ≡ first_missing cells → first_missing cells ≡ None
-is_none_from None b cells is e same = sym same
-is_none_from (Some part) b cells is e same = absurd (false≢true (sym (ap (λ (t : Bool). not t) e) ∙ sym is))

@@ -19,3 +19,5 @@ pub mod Asked
 pub mod Needed
 pub mod RowSteps
 pub mod Finding
+pub mod FilledRows
+pub mod DataSums

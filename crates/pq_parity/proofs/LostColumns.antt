@@ -43,11 +43,11 @@ abbrev pub q_of : List Cell → List ℕ → ℕ
 q_of cells bytes = known_sum in_q cells bytes
 
 -- these bytes at the missing cells pass
-abbrev ColumnPasses : List Cell → List ℕ → List ℕ → Type 0
+abbrev pub ColumnPasses : List Cell → List ℕ → List ℕ → Type 0
 ColumnPasses cells bytes xs = solution_test (has_p cells) (has_q cells) (lost cells) xs (p_of cells bytes) (q_of cells bytes) ≡ true
 
 -- the solution of a column
-solved_by : (cells : List Cell) (bytes : List ℕ) → IsRow cells → length bytes ≡ length cells → AllByRecursion (λ b. b < 256) bytes → 1 ≤ length (lost cells) →
+pub solved_by : (cells : List Cell) (bytes : List ℕ) → IsRow cells → length bytes ≡ length cells → AllByRecursion (λ b. b < 256) bytes → 1 ≤ length (lost cells) →
     (xs : List ℕ) × AreBytes (lost cells) xs × ColumnPasses cells bytes xs × (solved cells bytes ≡ put cells bytes xs) × In (filled cells bytes) (solved cells bytes) × (solves cells (solved cells bytes) ≡ true)
 unfolding solved
 solved_by cells bytes row e fit one =

@@ -94,7 +94,7 @@ p_dim (cell ∷ cells) [] = refl
 p_dim (cell ∷ cells) (byte ∷ column) = ap₂ bit_xor (p_byte cell.missing cell.part byte) (p_dim cells column)
 
 -- so neither does what solves where one byte alone is lost that is not Q
-by_p_alone : (cells : List Cell) (column : List ℕ) → is_one_lost cells ≡ true → is_q_lost cells ≡ false → solves cells column ≡ p_holds cells column
+pub by_p_alone : (cells : List Cell) (column : List ℕ) → is_one_lost cells ≡ true → is_q_lost cells ≡ false → solves cells column ≡ p_holds cells column
 by_p_alone cells column one none =
     ap (λ (b : Bool). cond b (cond (is_q_lost cells) (q_holds cells column) (p_holds cells column)) (equations_hold cells column)) one
     ∙ ap (λ (b : Bool). cond b (q_holds cells column) (p_holds cells column)) none

@@ -1,23 +1,20 @@
 -- Sector rows that are done one after the other.
-use Rattle.std.proofs.Common.{ℕ, ◌≡◌, ◌≢◌, ◌<◌, ◌≤◌, ◌+◌, ◌*◌, true, false, List, length, get_or, slice_get, slice_index, IfSome, inl, inr, arith, refl, sym, ap, ap₂, ◌∙◌, subst}
+use Rattle.std.proofs.Common.{ℕ, ◌≡◌, ◌≢◌, ◌<◌, ◌≤◌, ◌+◌, ◌*◌, true, List, length, get_or, slice_get, slice_index, IfSome, inl, inr, arith, refl, sym, ap, ap₂, ◌∙◌, subst}
 use Rattle.std.specs.declared.option.Option.{Option}
 use Rattle.std.specs.declared.option.Option.TheVariants.{None, Some}
 use Rattle.std.proofs.lemmas.Bool.{cases_lt}
 use Rattle.std.proofs.lemmas.Option.{slice_get-get_or}
 use Rattle.raid_params.specs.declared.types.Cell.{Cell}
-use Rattle.raid_params.specs.declared.types.Part.TheVariants.{Q}
 use Rattle.raid_terms.specs.Parity.{in_p, in_q, is_data, IsRow}
 use Rattle.raid_terms.specs.Solving.{lost_byte}
 use Rattle.pq_parity.specs.LostBytes.{weighed}
-use Rattle.pq_parity.specs.Needs.{needs, AgreeInRows, AreWhole, HoldLostData, KeepAllBut}
+use Rattle.pq_parity.specs.Needs.{AgreeInRows, AreWhole, HoldLostData, KeepAllBut}
 use Rattle.pq_parity.specs.Regions.{region_column, HoldsLost}
 use Rattle.pq_parity.specs.Finding.{is_lost_at, AreFinders, FindsAt, IsFinder, IsFor}
 use Rattle.pq_parity.specs.Known.{no_cell}
 use Rattle.pq_parity.specs.declared.finders.Finder.{Finder}
-use Rattle.pq_parity.specs.Syndromes.{known_sum, sum_at, AreColumns, IsSyndrome}
-use Rattle.pq_parity.proofs.Finding.{found_by_p, lost_here, lost_inside, lost_missing, lost_part, no_other}
-use Rattle.pq_parity.proofs.Pairs.{weighed_p}
-use Rattle.pq_parity.proofs.Sums.{in_p_fits, known_sum_fits}
+use Rattle.pq_parity.specs.Syndromes.{AreColumns, IsSyndrome}
+use Rattle.pq_parity.proofs.Finding.{lost_here, lost_inside, lost_missing, lost_part}
 use Rattle.pq_parity.proofs.Needed.{same_lost, some_case}
 use Rattle.pq_parity.proofs.Regions.{map_same, regions_apart}
 
@@ -140,16 +137,6 @@ columns_apart stride j i place x z fits inside short apart = λ e.
             apart (omega arith))
       ]
     ]
-
--- P's sum in the region of the one missing data cell
-pub row_by_p : (cells : List Cell) (stride j place : ℕ) (old new : List ℕ) → IsRow cells → is_lost_at cells place ≡ true → needs cells Q ≡ false → AreColumns cells (columns_of cells stride old j) →
-    ((x : ℕ) → x < 512 → slice_index new (stride * place + (512 * j + x)) ≡ sum_at in_p cells (columns_of cells stride old j) x) → HoldLostData cells stride j 1 new (columns_of cells stride old)
-row_by_p cells stride j place old new row lost unneeded columns sums =
-    lost_by_place cells stride j old new
-    (λ i also. subst (λ (k : ℕ). HoldsLost cells stride j old new k) (sym (no_other cells place lost unneeded i also))
-    (λ x inside. sums x inside
-    ∙ sym (found_by_p cells place row lost unneeded (columns_of cells stride old j x) (columns x).0 (columns x).1
-    ∙ weighed_p (known_sum in_p cells (columns_of cells stride old j x)) (known_sum in_q cells (columns_of cells stride old j x)) (known_sum_fits in_p in_p_fits cells (columns_of cells stride old j x) (columns x).1))))
 
 -- the weighed sums in the region of a missing data cell
 pub cell_by_both : (cells : List Cell) (stride j place a b : ℕ) (old new p q : List ℕ) → FindsAt cells place a b → AreColumns cells (columns_of cells stride old j) →

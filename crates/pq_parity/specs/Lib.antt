@@ -5,4 +5,5 @@ pub mod Unbreakable
 pub mod Known
 pub mod Passes
 pub mod Needs
+pub mod DataThere
 pub mod Finding

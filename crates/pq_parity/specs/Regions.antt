@@ -1,8 +1,10 @@
 -- The sectors of a row where they lie in regions: that of cell i in region i, and each region has `stride` bytes.
-use Rattle.std.specs.Prelude.{ℕ, ◌≡◌, ◌≢◌, ◌+◌, ◌*◌, ◌<◌, true, List, map, length, slice_get, slice_index, IfSome}
+use Rattle.std.specs.Prelude.{ℕ, ◌≡◌, ◌≢◌, ◌+◌, ◌*◌, ◌<◌, ◌≤◌, List, map, length, slice_index}
 use Rattle.std.specs.List.{range_with_len}
 use Rattle.raid_params.specs.declared.types.Cell.{Cell}
+use Rattle.raid_params.specs.declared.types.Part.{Part}
 use Rattle.raid_terms.specs.Solving.{lost_byte}
+use Rattle.pq_parity.specs.Syndromes.{sum_at}
 
 -- byte y of the region of a place
 abbrev pub region_byte : List ℕ → ℕ → ℕ → ℕ → ℕ
@@ -17,13 +19,13 @@ abbrev pub HoldsLost : List Cell → ℕ → ℕ → List ℕ → List ℕ → �
 HoldsLost cells stride j old new place =
     (x : ℕ) → x < 512 → slice_index new (stride * place + (512 * j + x)) ≡ lost_byte cells (region_column (length cells) stride old j x) place
 
--- so it is for each missing cell
-abbrev pub HoldLost : List Cell → ℕ → ℕ → List ℕ → List ℕ → Type 0
-HoldLost cells stride j old new =
-    (place : ℕ) → IfSome (slice_get cells place) (λ cell. cell.missing ≡ true → HoldsLost cells stride j old new place)
+-- in `count` sectors, from number `from` on, the region of a place holds the sums of what the cells that are there add, by the regions as
+-- they were before
+abbrev pub HoldSums : (Part → ℕ → ℕ) → List Cell → ℕ → ℕ → ℕ → ℕ → List ℕ → List ℕ → Type 0
+HoldSums adds cells stride from count place old new =
+    (j x : ℕ) → from ≤ j → j < from + count → x < 512 → slice_index new (stride * place + (512 * j + x)) ≡ sum_at adds cells (region_column (length cells) stride old j) x
 
--- a byte that lies in no lost sector is as it was
-abbrev pub KeepKnown : List Cell → ℕ → ℕ → List ℕ → List ℕ → Type 0
-KeepKnown cells stride j old new =
-    (p : ℕ) → ((place : ℕ) → IfSome (slice_get cells place) (λ cell. cell.missing ≡ true → (x : ℕ) → x < 512 → p ≢ stride * place + (512 * j + x))) →
-    slice_index new p ≡ slice_index old p
+-- a byte that lies in none of these sectors of this region is as it was
+abbrev pub KeepOthers : ℕ → ℕ → ℕ → ℕ → List ℕ → List ℕ → Type 0
+KeepOthers stride from count place old new =
+    (p : ℕ) → ((j x : ℕ) → from ≤ j → j < from + count → x < 512 → p ≢ stride * place + (512 * j + x)) → slice_index new p ≡ slice_index old p

@@ -5,23 +5,25 @@
 //! bytes for the missing blocks with which both equations hold. `laws` says that lost bytes are
 //! found in one way only.
 //!
-//! [`row_holds`] and [`solve`] take a row whose sectors stand one after the other, [`sectors_hold`] and
-//! [`solve_lost`] one whose sectors lie in regions of the members. `member_regions` tests rows and finds
-//! lost sectors with the latter. [`solve_data`] finds the data alone, of many sector rows with the same
-//! cells, and asks of the regions no parity that these are not found by: where P tells the one lost block,
-//! its sums go straight into the region; elsewhere each lost block takes the two sums of the row times its
-//! factors, whose tables are made once.
+//! [`row_holds`] and [`solve`] take a row whose sectors stand one after the other. Where they lie in regions
+//! of the members, [`sectors_hold`] tests a row, and two functions find lost sectors of many rows with the
+//! same cells. [`solve_data`] finds the data, and asks of the regions no parity that these are not found by:
+//! where P tells the one lost block, its sums go straight into the region; elsewhere each lost block takes
+//! the two sums of the row times its factors, whose tables are made once. [`solve_parity`] finds a parity
+//! block by all data of its row: their sums go straight into the region.
 //!
 //! The equations stand in `Parity` of `raid_terms`, lost bytes in `Solving`, the two sums in
-//! `specs/Syndromes`, the regions in `specs/Regions`, what data are found by in `specs/Needs`. Sums are
+//! `specs/Syndromes`, the regions in `specs/Regions`, what data are found by in `specs/Needs`, and what parity is in `specs/DataThere`. Sums are
 //! formed by strips of 64 columns, Q's in falling order of exponents, so that it takes doublings alone; a
 //! test is left at the first strip that fails.
 #![tactic(auto)]
 
+mod fills;
 mod finders;
 mod known;
 pub mod laws;
 mod lost_data;
+mod lost_parity;
 mod rows;
 mod solving;
 mod strips;
@@ -31,5 +33,6 @@ mod tests;
 mod weights;
 
 pub use lost_data::solve_data;
+pub use lost_parity::solve_parity;
 pub use rows::{row_holds, sectors_hold};
-pub use solving::{solve, solve_lost};
+pub use solving::solve;

@@ -1,17 +1,16 @@
 //! The lost sectors of data cells alone, of many sector rows at once.
 ghost use Rattle.std.specs.Prelude.{ℕ, List, ◌≡◌, ◌≢◌, ◌<◌, ◌≤◌, ◌+◌, ◌*◌, false, length, slice_index, true};
 ghost use Rattle.raid_params.specs.declared.types.Part.TheVariants.{Q};
-ghost use Rattle.raid_terms.specs.Parity.{has_q, in_p, IsRow};
+ghost use Rattle.raid_terms.specs.Parity.{has_q, IsRow};
 ghost use Rattle.pq_parity.specs.Finding.{is_lost_at, AreFinders};
 ghost use Rattle.pq_parity.specs.Known.{ArePlaces};
 ghost use Rattle.pq_parity.specs.LostBytes.{weighed};
 ghost use Rattle.pq_parity.specs.Needs.{needs, AgreeInRows, AreWhole, HoldLostData, KeepAllBut};
 ghost use Rattle.pq_parity.specs.Regions.{region_column};
-ghost use Rattle.pq_parity.specs.Syndromes.{AreColumns, sum_at};
 
+use crate::fills::fill_by_p;
 use crate::finders::{Finder, finder_after, finder_at, lost_data_from, needs_q};
 use crate::known::{Known, known_of};
-use crate::strips::{STRIP, STRIPS, p_sum, store};
 use crate::syndromes::{Sums, sums_by};
 use image_source::SECTOR;
 use lane_kernels::weigh;
@@ -37,51 +36,11 @@ pub fn solve_data(cells: &[Cell], sectors: &mut [u8], stride: usize, from: usize
     if needs_q(cells) {
         solve_by_both(cells, first, sectors, stride, from, count);
     } else {
-        solve_by_p(cells, first, sectors, stride, from, count);
+        fill_by_p(cells, first, sectors, stride, from, count);
     }
 }
 
-/// Finds the same where one data cell alone is missing, and P tells it.
-fn solve_by_p(
-    cells: &[Cell],
-    place: usize,
-    sectors: &mut [u8],
-    stride: usize,
-    from: usize,
-    count: usize,
-)
-    requires cells { IsRow cells.now }
-    requires place { is_lost_at cells.now place ≡ true }
-    requires by_p { needs cells.now Q ≡ false }
-    requires sectors { stride * length cells.now ≤ length sectors.old }
-    requires fits { 512 * (from + count) ≤ stride }
-    ensures lost { HoldLostData cells.now stride from count sectors.new (λ j x. region_column (length cells.now) stride sectors.old j x) }
-    ensures others { KeepAllBut cells.now stride from count sectors.old sectors.new }
-{
-    for row in 0..count {
-        fill_by_p(cells, place, sectors, stride, from + row);
-    }
-}
-
-/// Writes the sums of P's equation over the sectors number `j` into the region of this place.
-fn fill_by_p(cells: &[Cell], place: usize, sectors: &mut [u8], stride: usize, j: usize)
-    requires cells { IsRow cells.now }
-    requires place { place < length cells.now }
-    requires sectors { stride * length cells.now ≤ length sectors.old }
-    requires j { 512 * j + 512 ≤ stride }
-    ensures columns { AreColumns cells.now (region_column (length cells.now) stride sectors.old j) }
-    ensures sums { (x : ℕ) → x < 512 → slice_index sectors.new (stride * place + (512 * j + x))
-        ≡ sum_at in_p cells.now (region_column (length cells.now) stride sectors.old j) x }
-    ensures others { (p : ℕ) → ((x : ℕ) → x < 512 → p ≢ stride * place + (512 * j + x)) → slice_index sectors.new p ≡ slice_index sectors.old p }
-{
-    for strip in 0..STRIPS {
-        let at = SECTOR * j + STRIP * strip;
-        let p = p_sum(cells, sectors, stride, at);
-        store(sectors, stride * place + at, p);
-    }
-}
-
-/// Finds the same by both equations. `first` is the first missing data cell.
+/// Finds the same, by both equations. `first` is the first missing data cell.
 fn solve_by_both(
     cells: &[Cell],
     first: usize,

@@ -5,7 +5,7 @@ ghost use Rattle.gf256.specs.Field.{product};
 ghost use Rattle.raid_terms.specs.Parity.{column_of, in_p, in_q, IsRow};
 ghost use Rattle.raid_terms.specs.Solving.{is_q_lost, lost_byte};
 ghost use Rattle.pq_parity.specs.LostBytes.{asks_q, first_missing};
-ghost use Rattle.pq_parity.specs.Regions.{HoldLost, KeepKnown, region_column};
+ghost use Rattle.pq_parity.specs.Regions.{region_column};
 ghost use Rattle.pq_parity.specs.Syndromes.{AreColumns, IsSyndrome};
 
 use crate::rows::{missing_count, missing_part};
@@ -33,25 +33,6 @@ pub fn solve(cells: &[Cell], row: &[u8], place: usize, to: &mut [u8])
 {
     let sums = sums_for(cells, row, SECTOR, 0);
     find_sector(cells, place, &sums.p, &sums.q, to);
-}
-
-/// Writes the lost sector of each missing cell, as [`solve`] finds it, into the cell's region: as its sector
-/// number `j`. The regions lie one after the other, each of `stride` bytes.
-#[tactic(auto, using(crate::proofs::Regions::region_inside))]
-pub fn solve_lost(cells: &[Cell], sectors: &mut [u8], stride: usize, j: usize)
-    requires cells { IsRow cells.now }
-    requires sectors { stride * length cells.now ≤ length sectors.old }
-    requires j { 512 * j + 512 ≤ stride }
-    ensures lost { HoldLost cells.now stride j sectors.old sectors.new }
-    ensures others { KeepKnown cells.now stride j sectors.old sectors.new }
-{
-    if missing_part(cells).is_none() {
-        return;
-    }
-    let sums = sums_for(cells, sectors, stride, j);
-    for place in 0..cells.len() {
-        fill_sector(cells, place, &sums.p, &sums.q, sectors, stride, j);
-    }
 }
 
 /// The sums by which the missing cells are found: those of both equations, or those of P's alone where one
@@ -88,36 +69,6 @@ fn is_q_missing(cells: &[Cell]) -> bool
     cells
         .iter()
         .any(|cell| cell.missing && matches!(cell.part, Part::Q))
-}
-
-/// Writes the lost sector of the cell at this place into its region, where the cell is missing.
-#[tactic(auto, using(crate::proofs::Regions::region_inside))]
-fn fill_sector(
-    cells: &[Cell],
-    place: usize,
-    by_p: &[u8],
-    by_q: &[u8],
-    sectors: &mut [u8],
-    stride: usize,
-    j: usize,
-)
-    requires cells { IsRow cells.now }
-    requires place { place < length cells.now }
-    requires by_p { length by_p.now ≡ 512 }
-    requires by_q { length by_q.now ≡ 512 }
-    requires sectors { stride * length cells.now ≤ length sectors.old }
-    requires j { 512 * j + 512 ≤ stride }
-    ensures lost { IfSome (slice_get cells.now place) (λ cell. cell.missing ≡ true →
-        (column : ℕ → List ℕ) → AreColumns cells.now column →
-        IsSyndrome in_p cells.now column by_p.now → (asks_q cells.now ≡ true → IsSyndrome in_q cells.now column by_q.now) →
-        (x : ℕ) → x < 512 → slice_index sectors.new (stride * place + (512 * j + x)) ≡ lost_byte cells.now (column x) place) }
-    ensures others { (p : ℕ) → IfSome (slice_get cells.now place) (λ cell. cell.missing ≡ true →
-        (x : ℕ) → x < 512 → p ≢ stride * place + (512 * j + x)) → slice_index sectors.new p ≡ slice_index sectors.old p }
-{
-    if cells[place].missing {
-        let at = stride * place + SECTOR * j;
-        find_sector(cells, place, by_p, by_q, &mut sectors[at..at + SECTOR]);
-    }
 }
 
 /// Finds the lost sector of the missing cell at this place by the sums of both equations.

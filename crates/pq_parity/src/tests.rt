@@ -2,7 +2,7 @@
 ghost use Rattle.std.specs.Prelude.{◌≡◌, ◌≢◌, ◌<◌, ◌≤◌, [], ◌∷◌, count_by};
 ghost use Rattle.raid_terms.specs.Parity.{IsRow};
 
-use crate::{row_holds, solve, solve_data};
+use crate::{row_holds, solve, solve_data, solve_parity};
 use image_source::SECTOR;
 use raid_params::{Cell, Part};
 
@@ -219,6 +219,55 @@ fn lost_data_of_two_rows(rt: HostRuntime) {
                 repeats(&regions, place, row + 1, rows[row][place]),
                 "{place} of {row}"
             );
+        }
+    }
+}
+
+/// Finds what is lost in sectors 1 and 2 of the regions: the data, and then the parity by these.
+fn find_all(cells: &[Cell; 4], regions: &mut [u8; 8192])
+    requires { IsRow cells.now }
+{
+    solve_data(cells, regions, 2048, 1, 2);
+    for place in 0..4usize {
+        if cells[place].missing {
+            match cells[place].part {
+                Part::P | Part::Q => solve_parity(cells, place, regions, 2048, 1, 2),
+                Part::Block(_) => {}
+            }
+        }
+    }
+}
+
+// The same rows, where parity is lost, and a data block beside it.
+#[test]
+fn lost_parity_of_two_rows(rt: HostRuntime) {
+    let rows = [[0x3A, 0x12, 0x9F, 0x8D], [0x56, 0x47, 0xE3, 0xA4]];
+    for (q, first, second, p) in [
+        (true, false, false, true),
+        (true, true, false, false),
+        (true, false, true, false),
+        (false, true, false, true),
+        (true, false, false, false),
+        (false, false, false, true),
+    ] {
+        let lost = [q, first, second, p];
+        let mut regions = [0xAA; 8192];
+        for row in 0..2usize {
+            for place in 0..4usize {
+                if !lost[place] {
+                    put(&mut regions, place, row + 1, rows[row][place]);
+                }
+            }
+        }
+        assert!(rt; u8::from(q) + u8::from(first) + u8::from(second) + u8::from(p) <= 2);
+        find_all(&four(7, 200, q, first, second, p), &mut regions);
+        for row in 0..2usize {
+            for place in 0..4usize {
+                assert!(rt;
+                    repeats(&regions, place, row + 1, rows[row][place]),
+                    "{place} of {row}, lost {lost:?}"
+                );
+            }
         }
     }
 }

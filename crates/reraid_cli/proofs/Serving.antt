@@ -12,7 +12,7 @@ use Rattle.plan_jobs.specs.Checking.{check_output, check_reads, check_refusal}
 use Rattle.run_ends.specs.Jobs.{Ends, Orders}
 use Rattle.plan_jobs.specs.Listing.{ListReads, list_output, list_refusal}
 use Rattle.set_jobs.specs.Mapping.{map_refusal, map_text, set_refusal}
-use Rattle.set_jobs.specs.Writing.{members_reads, rebuild_output, rebuild_refusal, volume_reads, write_output}
+use Rattle.set_jobs.specs.Writing.{rebuild_output, rebuild_refusal, volume_reads, write_output}
 use Rattle.survey_job.specs.Surveying.{survey_output, survey_reads, survey_refusal}
 use Rattle.plan_jobs.specs.Plans.{IfPlan, IsTextOf, PlanReading, Reads, Refused}
 use Rattle.run_ends.specs.declared.stop.Stop.{Stop}
@@ -142,7 +142,7 @@ pub write_reads : (set : Geometry) (end : Option ℕ) (n names : ℕ) (failed : 
     MayRead reading attached failed before after
 write_reads set end n names failed before after left reading attached asked few = reads_as (WriteCommand set end n) reading attached failed before after asked.command_is few
 
-pub rebuild_reads : (set : Geometry) (slot : ℕ) (end : Option ℕ) (n names : ℕ) (failed : Bool) (before after : ℕ) (left : Option (List ℕ)) (reading : Reading) (attached : List Image) → IsAsked (RebuildCommand set slot end n) names left reading → after ≤ before + members_reads set end attached →
+pub rebuild_reads : (set : Geometry) (slot : ℕ) (end : Option ℕ) (n names : ℕ) (failed : Bool) (before after : ℕ) (left : Option (List ℕ)) (reading : Reading) (attached : List Image) → IsAsked (RebuildCommand set slot end n) names left reading → after ≤ before + volume_reads set end attached →
     MayRead reading attached failed before after
 rebuild_reads set slot end n names failed before after left reading attached asked few = reads_as (RebuildCommand set slot end n) reading attached failed before after asked.command_is few
 

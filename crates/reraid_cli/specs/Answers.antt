@@ -16,7 +16,7 @@ use Rattle.command_words.specs.declared.command.Form.{Form}
 use Rattle.survey_job.specs.Surveying.{survey_output, survey_reads, survey_refusal}
 use Rattle.set_jobs.specs.Mapping.{map_refusal, map_text, set_refusal}
 use Rattle.plan_jobs.specs.Plans.{IfPlan, IsTextOf, PlanReading}
-use Rattle.set_jobs.specs.Writing.{members_reads, rebuild_output, rebuild_refusal, volume_reads, write_output}
+use Rattle.set_jobs.specs.Writing.{rebuild_output, rebuild_refusal, volume_reads, write_output}
 use Rattle.run_ends.specs.Stops.{note_of, status_of}
 use Rattle.sample_job.specs.Sampling.{sample_output, sample_refusal}
 use Rattle.run_ends.specs.declared.stop.Stop.{Stop}
@@ -86,16 +86,15 @@ output reading attached = command_output reading.words reading attached
 -- the smallest offset to the end, and one of entries for each header that counts and that entries follow; `list` for
 -- each offset the tested rows of the chunk that has most, once, where some head needs a table of rows, and for each
 -- `MOST_SETS` hopeful sets of a page, begun ones counted, one scan, where only a run that failed may have a page that
--- could not be made; `check` the tested rows of its set, and none
--- where nothing can break one; `write` as many sectors as the volume has, `rebuild` each sector of each member that is
--- there, `map` none, and `sample` none of those given. A text that is no plan bounds nothing
+-- could not be made; `check` the tested rows of its set, and none where nothing can break one; `write` and `rebuild` as
+-- many sectors as the volume has, `map` none, and `sample` none of those given. A text that is no plan bounds nothing
 abbrev pub CommandReads : Result Command ℕ → Reading → List Image → Bool → ℕ → ℕ → Type 0
 CommandReads (Ok (SurveyCommand asked)) reading attached failed before after = after ≤ before + survey_reads asked attached
 CommandReads (Ok (ListCommand from size span pages form names)) reading attached failed before after =
     IfPlan reading.plan (λ plan. ListReads (told_all attached) (asked_of from size span pages form) plan failed before after)
 CommandReads (Ok (CheckCommand set names)) reading attached failed before after = IfPlan reading.plan (λ plan. after ≤ before + check_reads set attached plan)
 CommandReads (Ok (WriteCommand set end names)) reading attached failed before after = after ≤ before + volume_reads set end attached
-CommandReads (Ok (RebuildCommand set slot end names)) reading attached failed before after = after ≤ before + members_reads set end attached
+CommandReads (Ok (RebuildCommand set slot end names)) reading attached failed before after = after ≤ before + volume_reads set end attached
 CommandReads _ reading attached failed before after = after ≤ before
 
 -- what a run may read

@@ -10,7 +10,7 @@ use Rattle.raid_layouts.proofs.Shapes.{shaped_images}
 use Rattle.raid_params.specs.declared.types.Geometry.{Geometry}
 use Rattle.raid_terms.specs.Parity.{passes_parity, unsound_rows}
 use Rattle.search_plan.specs.declared.plan.Plan.{Plan}
-use Rattle.member_regions.specs.Members.{IsTestable}
+use Rattle.member_regions.specs.Members.{HoldBytes, IsTestable}
 use Rattle.member_regions.specs.Regions.{IsRoomFor, Room}
 use Rattle.member_regions.specs.declared.regions.TheConstants.{BLOCK}
 use Rattle.row_scan.specs.ImageRows.{rows_before, rows_of}
@@ -18,7 +18,7 @@ use Rattle.row_scan.specs.Pass.{AllTallies, BeginAnew, CanScan, IsDecided, IsSca
 use Rattle.row_scan.specs.Scan.{is_unbreakable, IsScannable}
 use Rattle.row_scan.specs.Verdicts.{verdicts_of}
 use Rattle.row_scan.proofs.Parity.{at_most, passes_where}
-use Rattle.row_scan.proofs.Unbroken.{HoldBytes, none_unsound}
+use Rattle.row_scan.proofs.Unbroken.{none_unsound}
 use Rattle.row_scan.proofs.Sets.{scannable_testable}
 
 first_scannable : (plan : Plan) (sets : List Geometry) (attached : List Image) → 1 ≤ length sets → All (λ geo. IsScannable geo plan.end attached) sets → (geo : Geometry) × IsScannable geo plan.end attached

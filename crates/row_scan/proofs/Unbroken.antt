@@ -1,41 +1,25 @@
 -- Where nothing can break a row, none is unsound.
-use Rattle.std.proofs.Common.{◌≡◌, ℕ, zero, suc, ◌/◌, ◌+◌, ◌*◌, ◌<◌, Bool, true, not, cond, List, [], ◌∷◌, map, length, get_or, sym, ap, ◌∙◌, refl, arith, All, Option, None, Some, IfSome}
+use Rattle.std.proofs.Common.{◌≡◌, ℕ, zero, suc, ◌/◌, ◌*◌, Bool, true, not, cond, List, length, sym, ap, ◌∙◌, refl, arith, All, Option, None, Some, IfSome}
 use Rattle.std.proofs.lemmas.Bool.{eqb-true}
-use Rattle.std.specs.List.{AllByRecursion}
 use Rattle.image_source.specs.Attached.{told_all}
 use Rattle.image_source.specs.Seen.{Image, OnlyReads, Seen, TellsBytes}
 use Rattle.image_source.proofs.Reading.{reads_none, reads_up}
 use Rattle.image_source.proofs.Told.{told_below}
-use Rattle.raid_layouts.proofs.Counts.{both_numbers, cells_length, count_missing, count_p, count_parity, count_q}
+use Rattle.raid_layouts.proofs.Counts.{both_numbers, count_missing, count_p, count_parity, count_q}
 use Rattle.raid_layouts.proofs.Shapes.{shaped_head, shaped_slots}
 use Rattle.raid_layouts.proofs.Solvable.{row_is}
 use Rattle.raid_params.specs.Size.{redundancy}
 use Rattle.raid_params.specs.Slots.{empties}
 use Rattle.raid_params.specs.declared.types.Geometry.{Geometry}
 use Rattle.raid_terms.specs.Cells.{row_cells}
-use Rattle.raid_terms.specs.Parity.{is_sound_row, member_byte, member_column, passes_parity, tested_rows, unsound_rows}
+use Rattle.raid_terms.specs.Parity.{is_sound_row, member_column, passes_parity, tested_rows, unsound_rows}
 use Rattle.pq_parity.proofs.Soundness.{sound_where_full}
+use Rattle.member_regions.proofs.ColumnBytes.{member_columns}
 use Rattle.member_regions.proofs.Counting.{count_suc}
-use Rattle.member_regions.specs.Members.{IsTestable}
+use Rattle.member_regions.specs.Members.{HoldBytes, IsTestable}
 use Rattle.row_scan.specs.Scan.{is_unbreakable, IsScannable}
 use Rattle.row_scan.proofs.Parity.{at_most}
 use Rattle.row_scan.proofs.Sets.{scannable_testable}
-
--- the images hold bytes
-abbrev pub HoldBytes : List (List ℕ) → Type 0
-HoldBytes images = (i k : ℕ) → get_or (get_or images i []) k 0 < 256
-
-length_map : (f : Option ℕ → ℕ) (xs : List (Option ℕ)) → length (map f xs) ≡ length xs
-length_map f [] = refl
-length_map f (x ∷ xs) = ap suc (length_map f xs)
-
-byte_below : (images : List (List ℕ)) (offset t x : ℕ) (held : Option ℕ) → HoldBytes images → member_byte images offset t x held < 256
-byte_below images offset t x None bytes = omega arith
-byte_below images offset t x (Some i) bytes = bytes i (512 * (offset + t) + x)
-
-column_below : (images : List (List ℕ)) (offset t x : ℕ) (slots : List (Option ℕ)) → HoldBytes images → AllByRecursion (λ b. b < 256) (map (member_byte images offset t x) slots)
-column_below images offset t x [] bytes = tt
-column_below images offset t x (held ∷ slots) bytes = (byte_below images offset t x held bytes, column_below images offset t x slots bytes)
 
 -- a row of a set that nothing can break
 sound_row : (images : List (List ℕ)) (geo : Geometry) (t : ℕ) → HoldBytes images → IsTestable geo → is_unbreakable geo ≡ true → is_sound_row images geo t ≡ true
@@ -49,10 +33,7 @@ sound_row images geo t bytes set none =
     let missing = count_missing geo.head (t / geo.head.chunk) 0 geo.slots.items in
     let parity = count_parity (row_cells geo (t / geo.head.chunk)) in
     sound_where_full (row_cells geo (t / geo.head.chunk)) (member_column images geo t) (row_is geo set.images (t / geo.head.chunk) set.shaped)
-    (λ x. (
-      length_map (member_byte images geo.head.offset t x) geo.slots.items ∙ sym (cells_length geo.head (t / geo.head.chunk) 0 geo.slots.items),
-      column_below images geo.head.offset t x geo.slots.items bytes,
-    ))
+    (member_columns images geo t (t / geo.head.chunk) (row_cells geo (t / geo.head.chunk)) bytes refl)
     (omega arith)
 
 -- so none are unsound

@@ -1,13 +1,12 @@
 -- What `write` and `rebuild` refuse and print.
-use Rattle.std.specs.Prelude.{ℕ, ◌*◌, ◌&&◌, nat_lt, if◌then◌else◌, List, [], ◌∷◌, slice_index_or}
+use Rattle.std.specs.Prelude.{ℕ, ◌&&◌, nat_lt, if◌then◌else◌, List, [], ◌∷◌, slice_index_or}
 use Rattle.std.specs.Option.{is_none, option_map}
 use Rattle.std.specs.declared.option.Option.{Option}
 use Rattle.std.specs.declared.option.Option.TheVariants.{None, Some}
 use Rattle.image_source.specs.Seen.{Image}
 use Rattle.raid_params.specs.declared.types.Geometry.{Geometry}
-use Rattle.raid_params.specs.Size.{area, volume_sectors}
+use Rattle.raid_params.specs.Size.{volume_sectors}
 use Rattle.raid_terms.specs.Volume.{member, volume}
-use Rattle.member_regions.specs.Members.{held}
 use Rattle.run_ends.specs.Agreement.{end_of}
 use Rattle.set_jobs.specs.Mapping.{set_refusal}
 use Rattle.run_ends.specs.Stops.{first_of}
@@ -30,10 +29,6 @@ rebuild_refusal set slot end names attached = first_of (set_refusal set end name
 abbrev pub rebuild_output : Geometry → ℕ → Option ℕ → List Image → Option (List (List ℕ)) → Option (List ℕ)
 rebuild_output set slot end attached told = option_map (λ images. member images set (end_of end attached) slot) told
 
--- the most sectors that `write` reads: as many as the volume has
+-- the most sectors that `write` reads, and `rebuild` too: as many as the volume has
 abbrev pub volume_reads : Geometry → Option ℕ → List Image → ℕ
 volume_reads set end attached = volume_sectors set.head (end_of end attached)
-
--- the most that `rebuild` reads: each sector of each member that is there
-abbrev pub members_reads : Geometry → Option ℕ → List Image → ℕ
-members_reads set end attached = held set.slots.items * area set.head (end_of end attached)

@@ -5,7 +5,7 @@ ghost use Rattle.run_ends.specs.Agreement.{end_of};
 ghost use Rattle.run_ends.specs.Jobs.{Ends, Leaves, Orders};
 ghost use Rattle.set_jobs.specs.Mapping.{set_refusal};
 ghost use Rattle.run_ends.specs.Stops.{IsRefusal};
-ghost use Rattle.set_jobs.specs.Writing.{members_reads, rebuild_output, rebuild_refusal, slot_refusal, volume_reads, write_output};
+ghost use Rattle.set_jobs.specs.Writing.{rebuild_output, rebuild_refusal, slot_refusal, volume_reads, write_output};
 ghost use Rattle.plan_text.specs.SetText.{HasWord};
 ghost use Rattle.virtual_volume.specs.Gained.{AppendsSectors, IsAhead, most_ahead};
 ghost use Rattle.virtual_volume.specs.Served.{IsServed};
@@ -76,7 +76,7 @@ pub fn rebuild<I: Images, K: Sink>(
         (K.gained out.old) (K.gained out.new) result }
     ensures whole { IsErrOf result Stop.ImageFault → IfSome (rebuild_output set.now slot end (I.seen images.old).attached (told_all (I.seen images.old).attached))
         (λ text. AppendsSectors (K.gained out.old) (K.gained out.new) text) }
-    ensures reads { (I.seen images.new).sectors_read ≤ (I.seen images.old).sectors_read + members_reads set.now end (I.seen images.old).attached }
+    ensures reads { (I.seen images.new).sectors_read ≤ (I.seen images.old).sectors_read + volume_reads set.now end (I.seen images.old).attached }
     ensures world { (I.seen images.new).world ≡ (I.seen images.old).world }
     ensures kept { (I.seen images.new).attached ≡ (I.seen images.old).attached }
 {

@@ -7,11 +7,12 @@ use Rattle.std.proofs.lemmas.Grind.{same_number_lists}
 use Rattle.std.proofs.lemmas.Nat.{div-mul-add}
 use Rattle.raid_params.specs.declared.types.Geometry.{Geometry}
 use Rattle.std.specs.Option.{is_none}
-use Rattle.std.proofs.lemmas.List.{append-nil}
-use Rattle.raid_terms.specs.Cells.{part_of}
-use Rattle.raid_terms.specs.Parity.{is_data, member_byte}
+use Rattle.raid_params.specs.declared.types.Cell.{Cell}
+use Rattle.raid_terms.specs.Cells.{part_of, row_cells}
+use Rattle.raid_terms.specs.Parity.{column_of, is_data, member_byte}
+use Rattle.raid_terms.specs.Solving.{lost_byte}
 use Rattle.raid_terms.specs.Volume.{byte_in, member_sector}
-use Rattle.member_regions.proofs.Solved.{held_byte}
+use Rattle.member_regions.proofs.Solved.{held_byte, row_lost}
 use Rattle.virtual_volume.specs.Parts.{chunk_of}
 use Rattle.member_regions.specs.Needs.{HoldData, is_data_at}
 use Rattle.member_regions.specs.Regions.{HoldRead, HoldSlot}
@@ -109,16 +110,13 @@ sector_read images geo slot t to long there bytes =
     (λ k h. bytes k h there ∙ held_byte images geo t slot k (slice_index_or geo.slots.items slot None) there ∙ sym (sector_byte images geo slot t k (omega arith)))
 
 -- a sector that was found
-pub sector_found : (images : List (List ℕ)) (geo : Geometry) (slot t k : ℕ) (sectors : List ℕ) → HoldSlot images geo 512 t 1 slot sectors → 512 * slot + 512 ≤ length sectors → k ≡ 512 →
-    take k (drop (512 * slot) sectors) ≡ member_sector images geo slot t
-sector_found images geo slot t k sectors hold within long =
-    let from : 512 * slot ≡ 512 * slot + 512 * 0 = omega arith in
-    let at : t + (0 + 0) ≡ t = omega arith in
-    region_sectors images geo 512 t 1 slot 0 1 sectors (take k (drop (512 * slot) sectors)) hold (omega arith)
-    (omega (arith, length-take k (drop (512 * slot) sectors), length-drop (512 * slot) sectors))
-    (ap (λ (n : ℕ). take n (drop (512 * slot) sectors)) long ∙ ap (λ (n : ℕ). take (512 * 1) (drop n sectors)) from)
-    ∙ append-nil (member_sector images geo slot (t + (0 + 0)))
-    ∙ ap (λ (s : ℕ). member_sector images geo slot s) at
+sector_found : (images : List (List ℕ)) (geo : Geometry) (slot t : ℕ) (row to : List ℕ) (cells : List Cell) → cells ≡ row_cells geo (t / geo.head.chunk) → slice_index_or geo.slots.items slot None ≡ None →
+    HoldRead images geo 512 t (512 * 1) (length geo.slots.items) row → length to ≡ 512 → ((x : ℕ) → x < 512 → get_or to x 0 ≡ lost_byte cells (column_of (length cells) row x) slot) → to ≡ member_sector images geo slot t
+sector_found images geo slot t row to cells are empty hold long found =
+    same_number_lists to (member_sector images geo slot t) (long ∙ sym (sector_long images geo slot t))
+    (λ x h. let inside : x < 512 = omega arith in
+    found x inside ∙ row_lost images geo t x slot row cells are hold inside
+    ∙ ap (λ (o : Option ℕ). byte_in images geo t slot x o) (sym empty) ∙ sym (sector_byte images geo slot t x inside))
 
 -- where it is known
 pub read_told : {T E : Type 0} (told : Option (List (List ℕ))) (geo : Geometry) (slot t : ℕ) (held : Option ℕ) (result : Result T E) (to : List ℕ) →
@@ -131,9 +129,10 @@ read_told (Some images) geo slot t held (Ok v) to same there long bytes =
     sector_read images geo slot t to long (ap (λ (o : Option ℕ). is_none o) (sym same) ∙ there)
     (λ y h some. bytes y h there ∙ ap (λ (o : Option ℕ). member_byte images geo.head.offset t y o) same)
 
-pub found_told : (told : Option (List (List ℕ))) (geo : Geometry) (slot t k : ℕ) (read sectors to : List ℕ) → 512 * slot + 512 ≤ length sectors → k ≡ 512 → to ≡ take k (drop (512 * slot) sectors) →
-    IfSome told (λ bytes. HoldRead bytes geo 512 t (512 * 1) (length geo.slots.items) read) →
-    ((bytes : List (List ℕ)) → HoldRead bytes geo 512 t (512 * 1) (length geo.slots.items) read → HoldSlot bytes geo 512 t 1 slot sectors) →
-    IfSome told (λ bytes. to ≡ member_sector bytes geo slot t)
-found_told None geo slot t k read sectors to within long is hold found = tt
-found_told (Some images) geo slot t k read sectors to within long is hold found = is ∙ sector_found images geo slot t k sectors (found images hold) within long
+pub found_told : (told : Option (List (List ℕ))) (geo : Geometry) (slot t k : ℕ) (sectors row to : List ℕ) (cells : List Cell) → cells ≡ row_cells geo (t / geo.head.chunk) → slice_index_or geo.slots.items slot None ≡ None →
+    row ≡ take k sectors → k ≡ 512 * length geo.slots.items → length to ≡ 512 → ((x : ℕ) → x < 512 → get_or to x 0 ≡ lost_byte cells (column_of (length cells) row x) slot) →
+    IfSome told (λ bytes. HoldRead bytes geo 512 t (512 * 1) (length geo.slots.items) sectors) → IfSome told (λ bytes. to ≡ member_sector bytes geo slot t)
+found_told None geo slot t k sectors row to cells are empty is size long found hold = tt
+found_told (Some images) geo slot t k sectors row to cells are empty is size long found hold =
+    sector_found images geo slot t row to cells are empty
+    (λ i y within below there. ap (λ (l : List ℕ). get_or l (512 * i + y) 0) is ∙ get_or-take k sectors (512 * i + y) 0 (omega arith) ∙ hold i y within below there) long found

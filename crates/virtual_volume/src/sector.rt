@@ -10,7 +10,9 @@ ghost use Rattle.virtual_volume.specs.Served.{IsServed};
 
 use address_map::locate;
 use image_source::{Failed, Images, SECTOR};
-use member_regions::{read_member, read_members, solve_members};
+use member_regions::{read_member, read_members};
+use pq_parity::solve;
+use raid_layouts::row_cells;
 use raid_params::{Geometry, MOST};
 
 /// The bytes of a sector of each member, at most.
@@ -70,7 +72,7 @@ fn read_sector<I: Images>(
 }
 
 /// Finds a sector of the missing member of a slot.
-#[tactic(auto, using(crate::proofs::Sets::few_slots))]
+#[tactic(auto, using(crate::proofs::Sets::few_slots, member_regions::proofs::Sets::testable_head, member_regions::proofs::Sets::testable_slots, member_regions::proofs::Sets::testable_chunk, member_regions::proofs::Sets::testable_row, member_regions::proofs::Sets::row_length))]
 fn find_sector<I: Images>(
     geo: &Geometry,
     images: &mut I,
@@ -92,7 +94,7 @@ fn find_sector<I: Images>(
 {
     let mut sectors = [0u8; ROW];
     read_members(images, &mut sectors, geo, SECTOR, sector, 1)?;
-    solve_members(geo, &mut sectors, SECTOR, sector, 1);
-    to.copy_from_slice(&sectors[SECTOR * slot..SECTOR * slot + SECTOR]);
+    let cells = row_cells(geo, sector / geo.head.chunk);
+    solve(&cells, &sectors[..SECTOR * cells.len()], slot, to);
     Ok(())
 }

@@ -8,7 +8,7 @@ use Rattle.member_regions.proofs.IfTold.{if_told}
 use Rattle.virtual_volume.proofs.Sets.{served_end, served_held, served_testable}
 use Rattle.virtual_volume.specs.Gained.{AppendsSectors}
 use Rattle.member_rebuild.specs.Sectors.{sectors_of}
-use Rattle.member_rebuild.proofs.Parts.{sectors_whole}
+use Rattle.member_rebuild.proofs.Parts.{reads_volume, sectors_whole}
 use Rattle.member_rebuild.proofs.member.rebuild.Goals as goal
 
 pub write_sectors-requires-clause-held : goal.write_sectors-requires-clause-held
@@ -42,3 +42,7 @@ returns-clause-whole g c = λ is.
     (λ bytes. AppendsSectors (g.K.Sink.gained c.args.sink.now) (g.K.Sink.gained c.write_sectors.new.sink) (member bytes c.args.geo.now c.args.end c.args.slot))
     (λ bytes p. subst (λ (l : List ℕ). AppendsSectors (g.K.Sink.gained c.args.sink.now) (g.K.Sink.gained c.write_sectors.new.sink) l) (sectors_whole bytes c.args.geo.now c.args.end c.args.slot c.area-sectors.result c.area-sectors.ensures) p)
     (c.write_sectors.ensures.whole is)
+
+pub returns-clause-reads : goal.returns-clause-reads
+returns-clause-reads g c =
+    reads_volume (g.I.Images.seen c.args.images.now) (g.I.Images.seen c.write_sectors.new.images) c.args.geo.now c.args.end c.area-sectors.result c.area-sectors.ensures c.write_sectors.ensures.reads

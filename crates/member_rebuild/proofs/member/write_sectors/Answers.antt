@@ -4,7 +4,7 @@ use Rattle.image_source.specs.Attached.{told_all}
 use Rattle.image_source.specs.Streams.{AppendsFront, Puts}
 use Rattle.image_source.proofs.Reading.{reads_none, reads_up}
 use Rattle.member_regions.proofs.Held.{reads_on}
-use Rattle.member_regions.specs.Members.{held}
+use Rattle.raid_params.specs.Size.{data_blocks}
 use Rattle.virtual_volume.proofs.Fronts.{puts_err}
 use Rattle.member_regions.proofs.IfTold.{if_any, if_both, if_told}
 use Rattle.virtual_volume.specs.Gained.{AppendsSectors}
@@ -58,7 +58,7 @@ returns-in_err-write_block-clause-whole g c = λ is.
 pub returns-in_err-write_block-clause-reads : goal.returns-in_err-write_block-clause-reads
 returns-in_err-write_block-clause-reads g c =
     let few : c.loop-first.first + c.min-count.result ≤ c.args.sectors = omega arith in
-    reads_on (g.I.Images.seen c.args.images.now) (g.I.Images.seen c.loop-first.images) (g.I.Images.seen c.write_block.new.images) (held c.args.geo.now.slots.items)
+    reads_on (g.I.Images.seen c.args.images.now) (g.I.Images.seen c.loop-first.images) (g.I.Images.seen c.write_block.new.images) (data_blocks c.args.geo.now.head)
     c.loop-first.first c.min-count.result c.args.sectors c.loop-first.invariant.reads c.write_block.ensures.reads few
 
 pub loop-first-preserved : goal.loop-first-preserved
@@ -73,7 +73,7 @@ loop-first-preserved g c = record {
       c.loop-first.invariant.put
       (rw (← c.loop-first.invariant.reads.attached) c.in_ok-write_block.ensures.put);
   reads =
-      reads_on (g.I.Images.seen c.args.images.now) (g.I.Images.seen c.loop-first.images) (g.I.Images.seen c.write_block.new.images) (held c.args.geo.now.slots.items)
+      reads_on (g.I.Images.seen c.args.images.now) (g.I.Images.seen c.loop-first.images) (g.I.Images.seen c.write_block.new.images) (data_blocks c.args.geo.now.head)
       c.loop-first.first c.min-count.result (c.loop-first.first + c.min-count.result) c.loop-first.invariant.reads c.write_block.ensures.reads (omega arith);
   later = omega (arith, c.write_block.ensures.later);
   within = omega arith;

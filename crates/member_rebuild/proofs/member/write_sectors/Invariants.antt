@@ -2,7 +2,7 @@ use Rattle.std.proofs.Common.{◌-◌, ◌*◌, ◌≤◌, IfSome}
 use Rattle.std.specs.Io.KnownBytes.{Appends}
 use Rattle.image_source.specs.Attached.{told_all}
 use Rattle.image_source.specs.Seen.{OnlyReads}
-use Rattle.member_regions.specs.Members.{held}
+use Rattle.raid_params.specs.Size.{data_blocks}
 use Rattle.member_regions.specs.Regions.{KeepsRoom}
 use Rattle.member_rebuild.specs.Sectors.{sectors_of}
 use Rattle.member_rebuild.proofs.member.write_sectors.Given as goal
@@ -10,7 +10,7 @@ use Rattle.member_rebuild.proofs.member.write_sectors.Given as goal
 abbrev pub invariant-loop-first : goal.invariant-loop-first
 invariant-loop-first g l = record {
   put : IfSome (told_all (g.I.Images.seen l.fn.images).attached) (λ bytes. Appends (g.K.Sink.gained l.fn.sink) (g.K.Sink.gained l.sink) (sectors_of bytes l.geo l.slot 0 l.first));
-  reads : OnlyReads (g.I.Images.seen l.fn.images) (g.I.Images.seen l.images) (held l.geo.slots.items * l.first);
+  reads : OnlyReads (g.I.Images.seen l.fn.images) (g.I.Images.seen l.images) (data_blocks l.geo.head * l.first);
   later : g.K.Sink.faults l.fn.sink ≤ g.K.Sink.faults l.sink;
   within : l.first ≤ l.sectors;
   room : KeepsRoom l.fn.regions l.regions;

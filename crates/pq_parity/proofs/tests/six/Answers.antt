@@ -1,4 +1,4 @@
-use Rattle.std.proofs.Common.{ℕ, ◌<◌, [], ◌∷◌, nat_eq, refl, arith}
+use Rattle.std.proofs.Common.{◌<◌, [], ◌∷◌, nat_eq, refl, arith}
 use Rattle.std.specs.List.{IsDistinct}
 use Rattle.std.proofs.lemmas.List.Elements.{All-from_recursion}
 use Rattle.pq_parity.proofs.tests.six.Goals as goal

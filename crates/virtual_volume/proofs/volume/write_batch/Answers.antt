@@ -1,4 +1,4 @@
-use Rattle.std.proofs.Common.{◌*◌, ◌++◌, length, IfSome, rules, arith}
+use Rattle.std.proofs.Common.{◌*◌, ◌++◌, IfSome, rules, arith}
 use Rattle.image_source.specs.Attached.{told_all}
 use Rattle.member_regions.proofs.Sets.{testable_chunk}
 use Rattle.virtual_volume.specs.Parts.{rows_of}

@@ -1,0 +1,12 @@
+use Rattle.std.proofs.Common.{ℕ, length}
+use Rattle.raid_terms.specs.Parity.{in_p}
+use Rattle.pq_parity.specs.Regions.{region_column, HoldSums, KeepOthers}
+use Rattle.pq_parity.specs.Syndromes.{AreColumns}
+use Rattle.pq_parity.proofs.fills.fill_by_p.Given as goal
+
+abbrev pub invariant-loop-row : goal.invariant-loop-row
+invariant-loop-row l = record {
+  columns : (j : ℕ) → AreColumns l.cells (region_column (length l.cells) l.stride l.fn.sectors j);
+  sums : HoldSums in_p l.cells l.stride l.from l.row l.place l.fn.sectors l.sectors;
+  others : KeepOthers l.stride l.from l.row l.place l.fn.sectors l.sectors;
+}

@@ -1,0 +1,9 @@
+use Rattle.raid_terms.specs.Parity.{in_q}
+use Rattle.pq_parity.specs.Regions.{HoldSums, KeepOthers}
+use Rattle.pq_parity.proofs.fills.fill_by_q.Given as goal
+
+abbrev pub invariant-loop-row : goal.invariant-loop-row
+invariant-loop-row l = record {
+  sums : HoldSums in_q l.cells l.stride l.from l.row l.place l.fn.sectors l.sectors;
+  others : KeepOthers l.stride l.from l.row l.place l.fn.sectors l.sectors;
+}

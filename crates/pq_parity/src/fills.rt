@@ -1,0 +1,101 @@
+//! Sums of a row, written into the region of a place: of many sector rows at once.
+ghost use Rattle.std.specs.Prelude.{ℕ, ◌≡◌, ◌≢◌, ◌<◌, ◌≤◌, ◌+◌, ◌*◌, length, slice_index, true};
+ghost use Rattle.raid_params.specs.declared.limits.TheConstants.{MOST};
+ghost use Rattle.raid_terms.specs.Parity.{has_q, in_p, in_q, IsRow};
+ghost use Rattle.pq_parity.specs.Known.{ArePlaces};
+ghost use Rattle.pq_parity.specs.Regions.{region_column, HoldSums, KeepOthers};
+ghost use Rattle.pq_parity.specs.Syndromes.{AreColumns, sum_at};
+
+use crate::known::{Known, known_of};
+use crate::strips::{STRIP, STRIPS, p_sum, store};
+use crate::syndromes::strip_sums;
+use image_source::SECTOR;
+use raid_params::Cell;
+
+/// Writes the sums of P's equation over `count` sectors, from number `from` on, into the region of this
+/// place.
+pub fn fill_by_p(
+    cells: &[Cell],
+    place: usize,
+    sectors: &mut [u8],
+    stride: usize,
+    from: usize,
+    count: usize,
+)
+    requires cells { length cells.now ≤ MOST }
+    requires place { place < length cells.now }
+    requires sectors { stride * length cells.now ≤ length sectors.old }
+    requires fits { 512 * (from + count) ≤ stride }
+    ensures columns { (j : ℕ) → AreColumns cells.now (region_column (length cells.now) stride sectors.old j) }
+    ensures sums { HoldSums in_p cells.now stride from count place sectors.old sectors.new }
+    ensures others { KeepOthers stride from count place sectors.old sectors.new }
+{
+    for row in 0..count {
+        fill_row_by_p(cells, place, sectors, stride, from + row);
+    }
+}
+
+/// Writes those over the sectors number `j`.
+fn fill_row_by_p(cells: &[Cell], place: usize, sectors: &mut [u8], stride: usize, j: usize)
+    requires cells { length cells.now ≤ MOST }
+    requires place { place < length cells.now }
+    requires sectors { stride * length cells.now ≤ length sectors.old }
+    requires j { 512 * j + 512 ≤ stride }
+    ensures sums { (x : ℕ) → x < 512 → slice_index sectors.new (stride * place + (512 * j + x))
+        ≡ sum_at in_p cells.now (region_column (length cells.now) stride sectors.old j) x }
+    ensures others { (p : ℕ) → ((x : ℕ) → x < 512 → p ≢ stride * place + (512 * j + x)) → slice_index sectors.new p ≡ slice_index sectors.old p }
+{
+    for strip in 0..STRIPS {
+        let at = SECTOR * j + STRIP * strip;
+        let p = p_sum(cells, sectors, stride, at);
+        store(sectors, stride * place + at, p);
+    }
+}
+
+/// Writes the sums of Q's equation over the same.
+pub fn fill_by_q(
+    cells: &[Cell],
+    place: usize,
+    sectors: &mut [u8],
+    stride: usize,
+    from: usize,
+    count: usize,
+)
+    requires cells { IsRow cells.now }
+    requires q { has_q cells.now ≡ true }
+    requires place { place < length cells.now }
+    requires sectors { stride * length cells.now ≤ length sectors.old }
+    requires fits { 512 * (from + count) ≤ stride }
+    ensures sums { HoldSums in_q cells.now stride from count place sectors.old sectors.new }
+    ensures others { KeepOthers stride from count place sectors.old sectors.new }
+{
+    let known = known_of(cells);
+    for row in 0..count {
+        fill_row_by_q(cells, &known, place, sectors, stride, from + row);
+    }
+}
+
+/// Writes those over the sectors number `j`.
+fn fill_row_by_q(
+    cells: &[Cell],
+    known: &Known,
+    place: usize,
+    sectors: &mut [u8],
+    stride: usize,
+    j: usize,
+)
+    requires cells { IsRow cells.now }
+    requires q { has_q cells.now ≡ true }
+    requires known { ArePlaces cells.now (length cells.now) known.now }
+    requires place { place < length cells.now }
+    requires sectors { stride * length cells.now ≤ length sectors.old }
+    requires j { 512 * j + 512 ≤ stride }
+    ensures sums { (x : ℕ) → x < 512 → slice_index sectors.new (stride * place + (512 * j + x))
+        ≡ sum_at in_q cells.now (region_column (length cells.now) stride sectors.old j) x }
+    ensures others { (p : ℕ) → ((x : ℕ) → x < 512 → p ≢ stride * place + (512 * j + x)) → slice_index sectors.new p ≡ slice_index sectors.old p }
+{
+    for strip in 0..STRIPS {
+        let (_, q) = strip_sums(cells, known, sectors, stride, j, strip);
+        store(sectors, stride * place + (SECTOR * j + STRIP * strip), q);
+    }
+}

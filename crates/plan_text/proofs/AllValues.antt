@@ -6,9 +6,12 @@ use Rattle.raid_params.specs.declared.types.Pattern.{Pattern}
 use Rattle.raid_params.specs.declared.types.Pattern.TheVariants.{Plain, La, Ra, Ls, Rs, ParityFirst, ParityLast, NRestart, NContinue, La6, Ra6, Ls6, Rs6, ParityFirst6}
 use Rattle.raid_params.specs.declared.types.Syndrome.{Syndrome}
 use Rattle.raid_params.specs.declared.types.Syndrome.TheVariants.{NoQ, AfterQ, ByData, BySlot}
+use Rattle.landmark_rules.specs.declared.marks.GroupKind.{GroupKind}
+use Rattle.landmark_rules.specs.declared.marks.GroupKind.TheVariants.{Gpt as GptGroup, Ntfs, Xfs}
 use Rattle.landmark_rules.specs.declared.marks.Kind.{Kind}
 use Rattle.landmark_rules.specs.declared.marks.Kind.TheVariants.{Gpt, Boot, FileRecord, Super, Agf, Agi}
-use Rattle.plan_text.specs.Spelling.{level_name, pattern_name, syndrome_name, kind_name}
+use Rattle.plan_text.specs.Spelling.{group_name, level_name, pattern_name, syndrome_name, kind_name}
+use Rattle.plan_text.specs.declared.group_names.TheConstants.{GROUPS}
 use Rattle.plan_text.specs.declared.names.TheConstants.{KINDS, LEVELS, PATTERNS, SYNDROMES}
 
 -- what reading gives: the value of the name, or none where no value has it
@@ -65,3 +68,12 @@ any_kind text None none = λ x spelled. other x
     other Super = none 3 Gpt (omega arith)
     other Agf = none 4 Gpt (omega arith)
     other Agi = none 5 Gpt (omega arith)
+
+pub any_group : (text : List ℕ) (r : Option GroupKind) → MatchOption r (All (λ x. text ≢ group_name x) GROUPS) (λ x. text ≡ group_name x) → Reads group_name text r
+any_group text (Some x) found = (tt, found)
+any_group text None none = λ x spelled. other x
+  where
+    other : (x : GroupKind) → text ≢ group_name x
+    other GptGroup = none 0 GptGroup (omega arith)
+    other Ntfs = none 1 GptGroup (omega arith)
+    other Xfs = none 2 GptGroup (omega arith)

@@ -3,21 +3,29 @@ ghost use Rattle.std.specs.Prelude.{◌≡◌};
 ghost use Rattle.plan_text.specs.NameLaws.{group_law, in_lists};
 ghost use Rattle.plan_text.specs.Spelling.{group_name as group_spelling};
 
+use crate::names::{Named, find_named};
 use crate::spelled::Spelled;
 use landmark_rules::GroupKind;
+
+/// What the marks of a group may belong to, in its order.
+const GROUPS: [GroupKind; 3] = [GroupKind::Gpt, GroupKind::Ntfs, GroupKind::Xfs];
+
+impl Named for GroupKind {
+    ghost called = { group_spelling };
+
+    fn name(self) -> &'static str {
+        group_name(self)
+    }
+}
 
 impl Spelled for GroupKind {
     ghost name = { group_spelling };
 
     ghost IsSpelled = { λ kind. Unit {0} };
 
+    #[tactic(auto, using(crate::proofs::AllValues::any_group))]
     fn read(text: &[u8]) -> Option<GroupKind> {
-        match text {
-            b"gpt" => Some(GroupKind::Gpt),
-            b"ntfs" => Some(GroupKind::Ntfs),
-            b"xfs" => Some(GroupKind::Xfs),
-            _ => None,
-        }
+        find_named(&GROUPS, text)
     }
 
     ghost law = { in_lists group_spelling (λ kind. Unit {0}) group_law };

@@ -51,7 +51,7 @@ const KINDS: [Kind; 6] = [
 ];
 
 /// A value that is one of a few, each with a name.
-trait Named: Copy + Drop {
+pub(crate) trait Named: Copy + Drop {
     ghost called: { Self → List ℕ };
 
     /// Its name.
@@ -60,7 +60,7 @@ trait Named: Copy + Drop {
 }
 
 /// The first of these values whose name is the whole text.
-fn find_named<T: Named>(values: &[T], text: &[u8]) -> Option<T>
+pub(crate) fn find_named<T: Named>(values: &[T], text: &[u8]) -> Option<T>
     ensures { MatchOption result (All (λ value. text.now ≢ T.called value) values.now) (λ value. text.now ≡ T.called value) }
 {
     for value in values {

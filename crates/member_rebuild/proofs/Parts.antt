@@ -40,7 +40,7 @@ unfolding sectors_of
 sectors_join images geo slot first n m k next e f = flat_split (member_sector images geo slot) first n m k next e f
 
 -- the bytes of n sectors
-sectors_long : (images : List (List ℕ)) (geo : Geometry) (slot first n : ℕ) → length (sectors_of images geo slot first n) ≡ 512 * n
+pub sectors_long : (images : List (List ℕ)) (geo : Geometry) (slot first n : ℕ) → length (sectors_of images geo slot first n) ≡ 512 * n
 unfolding sectors_of
 sectors_long images geo slot first zero = refl
 sectors_long images geo slot first (suc n) =

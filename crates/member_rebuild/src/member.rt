@@ -10,9 +10,10 @@ ghost use Rattle.raid_params.specs.Size.{data_blocks, volume_sectors};
 ghost use Rattle.raid_terms.specs.Volume.{member};
 ghost use Rattle.member_regions.specs.Members.{IsTestable, Reaches};
 ghost use Rattle.member_regions.specs.Regions.{IsRoomFor, KeepsRoom};
+ghost use Rattle.member_regions.specs.declared.regions.TheConstants.{BLOCK as BLOCK_SECTORS};
 ghost use Rattle.virtual_volume.specs.Gained.{AppendsSectors};
 ghost use Rattle.virtual_volume.specs.Served.{Ends, IsServed};
-ghost use Rattle.member_rebuild.specs.Sectors.{sectors_of};
+ghost use Rattle.member_rebuild.specs.Sectors.{IsAheadBy, sectors_of};
 
 use address_map::area;
 use image_source::{Images, Sink};
@@ -75,6 +76,8 @@ fn write_sectors<I: Images, K: Sink>(
         (λ bytes. Puts (K.gained sink.old) (K.gained sink.new) result (sectors_of bytes geo.now slot 0 sectors)) }
     ensures whole { IsErrOf result VolumeFault.ReadFault → IfSome (told_all (I.seen images.old).attached)
         (λ bytes. AppendsSectors (K.gained sink.old) (K.gained sink.new) (sectors_of bytes geo.now slot 0 sectors)) }
+    ensures ahead { IfSome (told_all (I.seen images.old).attached)
+        (λ bytes. IsAheadBy (data_blocks geo.now.head) BLOCK_SECTORS (I.seen images.old).sectors_read (I.seen images.new).sectors_read (K.gained sink.old) (K.gained sink.new)) }
     ensures reads { OnlyReads (I.seen images.old) (I.seen images.new) (data_blocks geo.now.head * sectors) }
     ensures later { K.faults sink.old ≤ K.faults sink.new }
     ensures ends { IfErr result (Ends (I.seen images.old).faults (I.seen images.new).faults (K.faults sink.old) (K.faults sink.new)) }
@@ -119,6 +122,10 @@ pub fn rebuild<I: Images, K: Sink>(
         Rose (I.seen images.old).faults (I.seen images.new).faults }
     ensures write_fault { IsErrOf result VolumeFault.WriteFault → Rose (K.faults sink.old) (K.faults sink.new) }
     ensures reads { OnlyReads (I.seen images.old) (I.seen images.new) (volume_sectors geo.now.head end) }
+
+    // It is read as it is put: a block ahead at most, and nothing after the sink failed.
+    ensures ahead { IfSome (told_all (I.seen images.old).attached)
+        (λ bytes. IsAheadBy (data_blocks geo.now.head) BLOCK_SECTORS (I.seen images.old).sectors_read (I.seen images.new).sectors_read (K.gained sink.old) (K.gained sink.new)) }
     ensures later { K.faults sink.old ≤ K.faults sink.new }
 {
     let sectors = area(&geo.head, end);

@@ -7,6 +7,9 @@ ghost use Rattle.set_jobs.specs.Mapping.{set_refusal};
 ghost use Rattle.run_ends.specs.Stops.{IsRefusal};
 ghost use Rattle.set_jobs.specs.Writing.{rebuild_output, rebuild_refusal, slot_refusal, volume_reads, write_output};
 ghost use Rattle.plan_text.specs.SetText.{HasWord};
+ghost use Rattle.raid_params.specs.Size.{data_blocks};
+ghost use Rattle.member_regions.specs.declared.regions.TheConstants.{BLOCK};
+ghost use Rattle.member_rebuild.specs.Sectors.{IsAheadBy};
 ghost use Rattle.virtual_volume.specs.Gained.{AppendsSectors, IsAhead, most_ahead};
 ghost use Rattle.virtual_volume.specs.Served.{IsServed};
 
@@ -77,6 +80,8 @@ pub fn rebuild<I: Images, K: Sink>(
     ensures whole { IsErrOf result Stop.ImageFault → IfSome (rebuild_output set.now slot end (I.seen images.old).attached (told_all (I.seen images.old).attached))
         (λ text. AppendsSectors (K.gained out.old) (K.gained out.new) text) }
     ensures reads { (I.seen images.new).sectors_read ≤ (I.seen images.old).sectors_read + volume_reads set.now end (I.seen images.old).attached }
+    ensures ahead { IfSome (told_all (I.seen images.old).attached)
+        (λ bytes. IsAheadBy (data_blocks set.now.head) BLOCK (I.seen images.old).sectors_read (I.seen images.new).sectors_read (K.gained out.old) (K.gained out.new)) }
     ensures world { (I.seen images.new).world ≡ (I.seen images.old).world }
     ensures kept { (I.seen images.new).attached ≡ (I.seen images.old).attached }
 {

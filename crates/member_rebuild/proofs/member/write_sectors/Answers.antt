@@ -9,6 +9,8 @@ use Rattle.virtual_volume.proofs.Fronts.{puts_err}
 use Rattle.member_regions.proofs.IfTold.{if_any, if_both, if_told}
 use Rattle.virtual_volume.specs.Gained.{AppendsSectors}
 use Rattle.member_rebuild.specs.Sectors.{sectors_of}
+use Rattle.member_regions.specs.declared.regions.TheConstants.{BLOCK}
+use Rattle.member_rebuild.proofs.Ahead.{ahead_at_end, ahead_at_error}
 use Rattle.member_rebuild.proofs.Parts.{block_held, sectors_cut, sectors_first, sectors_on, sectors_start}
 use Rattle.member_rebuild.proofs.member.write_sectors.Goals as goal
 
@@ -79,3 +81,14 @@ loop-first-preserved g c = record {
   within = omega arith;
   room = record { members = c.write_block.ensures.room.members ∙ c.loop-first.invariant.room.members; stride = c.write_block.ensures.room.stride ∙ c.loop-first.invariant.room.stride };
 }
+
+pub returns-in_err-write_block-clause-ahead : goal.returns-in_err-write_block-clause-ahead
+returns-in_err-write_block-clause-ahead g c =
+    ahead_at_error (told_all (g.I.Images.seen c.args.images.now).attached) (g.I.Images.seen c.args.images.now) (g.I.Images.seen c.loop-first.images) (g.I.Images.seen c.write_block.new.images) c.args.geo.now c.args.slot
+    (data_blocks c.args.geo.now.head) BLOCK c.loop-first.first c.min-count.result (g.K.Sink.gained c.args.sink.now) (g.K.Sink.gained c.loop-first.sink) (g.K.Sink.gained c.write_block.new.sink)
+    (omega arith) c.loop-first.invariant.reads c.write_block.ensures.reads c.loop-first.invariant.put (rw (← c.loop-first.invariant.reads.attached) c.in_err-write_block.ensures.put)
+
+pub returns-clause-ahead : goal.returns-clause-ahead
+returns-clause-ahead g c =
+    ahead_at_end (told_all (g.I.Images.seen c.args.images.now).attached) (g.I.Images.seen c.args.images.now) (g.I.Images.seen c.loop-first.images) c.args.geo.now c.args.slot
+    (data_blocks c.args.geo.now.head) BLOCK c.loop-first.first (g.K.Sink.gained c.args.sink.now) (g.K.Sink.gained c.loop-first.sink) c.loop-first.invariant.reads c.loop-first.invariant.put

@@ -1,6 +1,6 @@
-//! The member of an empty slot, found from the others and written out.
+//! The member of an empty slot, found by parity from the other members and written out.
 //!
-//! [`rebuild`] goes by 128 KiB a member, and reads of them what the data are found by; `set_jobs` has it do
+//! [`rebuild`] reads 128 KiB of each member at a time, and holds no more; `set_jobs` has it do
 //! `rebuild`. The member stands in `Volume` of `raid_terms`, its parts in `specs/Sectors`; room and faults
 //! are those of `virtual_volume`.
 #![tactic(auto)]

@@ -26,5 +26,5 @@ mod row_tables;
 mod scanning;
 mod walking;
 
-pub use page_parts::{CursorFault, Line, Lines, ListPage, PageFault, PageList};
+pub use page_parts::{CursorFault, Line, Lines, ListPage, PageFault, PageList, PageRequest};
 pub use paging::{page, pages};

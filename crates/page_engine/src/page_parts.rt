@@ -20,6 +20,19 @@ pub(crate) struct Paging<'a, R, G> {
     pub gate: &'a G,
 }
 
+/// Which pages are asked for.
+#[derive(Clone, Copy)]
+pub struct PageRequest {
+    /// The rank from which the first page goes on.
+    pub from: u64,
+    /// The most lines of a page, from 1 on.
+    pub size: u64,
+    /// The most ranks that a page goes through.
+    pub span: u64,
+    /// The most pages, from 1 on.
+    pub count: u64,
+}
+
 /// A parameter set that passes, with its rank.
 #[derive(Drop)]
 pub struct Line {

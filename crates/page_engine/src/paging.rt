@@ -11,7 +11,7 @@ ghost use Rattle.page_engine.specs.Pages.{ArePagesFrom, EndsPage, HoldsSet, IsPa
 ghost use Rattle.page_engine.specs.Walk.{IsKept, left_after, left_reads, Scans};
 ghost use Rattle.page_engine.specs.declared.page_parts.PageFault.TheVariants.{Cursor, Many};
 
-use crate::page_parts::{CursorFault, ListPage, PageFault, PageList, Paging};
+use crate::page_parts::{CursorFault, ListPage, PageFault, PageList, PageRequest, Paging};
 use crate::row_tables::KeptTables;
 use crate::walking::walk;
 use image_source::Images;
@@ -23,7 +23,7 @@ use std::thread::Threads;
 
 /// The page of a plan from a rank on: the first `size` of the sets that pass and whose ranks are
 /// below `from + span`, and the rank from which the next page goes on. Where some head of the plan needs a table of rows,
-/// the tested rows of the chunk that has most are read once for each offset, of each image. The sets that are still
+/// at most the tested rows of the chunk that has most are read, once for each offset, of each image. The sets that are still
 /// hopeful are scanned, up to `MOST_SETS` at a time, in one pass over the images; where none of their rows has to be
 /// tested, nothing is read for them. In a scan pieces of the sets may run side by side: each passes the gate.
 pub fn page<R: Threads + Sync, I: Images, G: Gate + Sync>(
@@ -92,41 +92,38 @@ fn next_page<R: Threads + Sync, I: Images, G: Gate + Sync>(
     walk(paging, images, kept, total, from, span)
 }
 
-/// The pages of a plan from a rank on: the page there, then the page where it goes on, until `count` are
-/// made or one goes on at the total. The tables are made once for all pages.
+/// The pages of a plan from a rank on: the page there, then the page where it goes on, until `count`
+/// are made or one goes on at the total. The tables are made once for all pages.
 pub fn pages<R: Threads + Sync, I: Images, G: Gate + Sync>(
     rt: &R,
     alloc: Global,
     images: &mut I,
     plan: &Plan,
-    from: u64,
-    size: u64,
-    span: u64,
-    count: u64,
+    asked: PageRequest,
     gate: &G,
 ) -> Result<PageList, PageFault>
     requires plan { IsPlan plan.now }
     requires lengths { AgreeWith plan.now (I.seen images.old).attached }
-    requires size { 1 ≤ size }
-    requires count { 1 ≤ count }
-    ensures pages { IfOk result (ArePagesFrom (told_all (I.seen images.old).attached) plan.now size span count from) }
+    requires size { 1 ≤ asked.size }
+    requires count { 1 ≤ asked.count }
+    ensures pages { IfOk result (ArePagesFrom (told_all (I.seen images.old).attached) plan.now asked.size asked.span asked.count asked.from) }
     ensures many { 2 ^ 64 ≤ total_of plan.now → IsErrOf result Many }
-    ensures cursor { total_of plan.now < 2 ^ 64 → total_of plan.now < from → IsErrOf result (Cursor (record { from = from; total = total_of plan.now })) }
-    ensures ends { IfErr result (EndsPage plan.now from (I.seen images.old) (I.seen images.new)) }
-    ensures reads { ReadsPages (told_all (I.seen images.old).attached) plan.now size span (is_err result) count from (I.seen images.old) (I.seen images.new) }
+    ensures cursor { total_of plan.now < 2 ^ 64 → total_of plan.now < asked.from → IsErrOf result (Cursor (record { from = asked.from; total = total_of plan.now })) }
+    ensures ends { IfErr result (EndsPage plan.now asked.from (I.seen images.old) (I.seen images.new)) }
+    ensures reads { ReadsPages (told_all (I.seen images.old).attached) plan.now asked.size asked.span (is_err result) asked.count asked.from (I.seen images.old) (I.seen images.new) }
 {
     let mut kept = KeptTables::new(alloc);
     let mut made = PageList::new(alloc);
-    let mut at = from;
+    let mut at = asked.from;
     let paging = Paging {
         rt,
         alloc,
         plan,
-        size,
+        size: asked.size,
         gate,
     };
-    for _ in 0..count {
-        let found = next_page(&paging, images, &mut kept, at, span)?;
+    for _ in 0..asked.count {
+        let found = next_page(&paging, images, &mut kept, at, asked.span)?;
         let (next, total) = (found.next, found.total);
         made.push(found).map_err(|_| PageFault::Memory)?;
         if next == total {

@@ -19,7 +19,7 @@ use crate::preparing::prepare;
 use command_words::Form;
 use image_source::{Images, MOST_ATTACHED, Memory, Sink, Source};
 use json_lines::{json_line, json_next};
-use page_engine::{Line, ListPage, PageFault, PageList, pages};
+use page_engine::{Line, ListPage, PageFault, PageList, PageRequest, pages};
 use plan_text::{Text, set_line};
 use row_scan::Gate;
 use run_ends::{Stop, add_share, print};
@@ -164,17 +164,13 @@ fn found_pages<R: Threads + Sync, I: Images, G: Gate + Sync>(
     ensures ends { IfErr result (EndsPage plan.now asked.now.from (I.seen images.old) (I.seen images.new)) }
     ensures reads { ReadsPages (told_all (I.seen images.old).attached) plan.now asked.now.size asked.now.span (is_err result) asked.now.pages asked.now.from (I.seen images.old) (I.seen images.new) }
 {
-    pages(
-        tools.rt,
-        tools.alloc,
-        images,
-        plan,
-        asked.from,
-        asked.size,
-        asked.span,
-        asked.pages,
-        tools.gate,
-    )
+    let request = PageRequest {
+        from: asked.from,
+        size: asked.size,
+        span: asked.span,
+        count: asked.pages,
+    };
+    pages(tools.rt, tools.alloc, images, plan, request, tools.gate)
 }
 
 /// The bytes of pages.

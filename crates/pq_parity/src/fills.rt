@@ -12,26 +12,29 @@ use crate::syndromes::strip_sums;
 use image_source::SECTOR;
 use raid_params::Cell;
 
-/// Writes the sums of P's equation over `count` sectors, from number `from` on, into the region of this
-/// place.
-pub fn fill_by_p(
-    cells: &[Cell],
-    place: usize,
-    sectors: &mut [u8],
-    stride: usize,
-    from: usize,
-    count: usize,
-)
+/// Sectors of each region, where the regions lie one after the other.
+#[derive(Clone, Copy)]
+pub struct SectorRows {
+    /// The bytes of a region.
+    pub stride: usize,
+    /// The number of the first sector in its region.
+    pub from: usize,
+    /// How many there are.
+    pub count: usize,
+}
+
+/// Writes the sums of P's equation over these sectors into the region of this place.
+pub fn fill_by_p(cells: &[Cell], place: usize, sectors: &mut [u8], rows: SectorRows)
     requires cells { length cells.now ≤ MOST }
     requires place { place < length cells.now }
-    requires sectors { stride * length cells.now ≤ length sectors.old }
-    requires fits { 512 * (from + count) ≤ stride }
-    ensures columns { (j : ℕ) → AreColumns cells.now (region_column (length cells.now) stride sectors.old j) }
-    ensures sums { HoldSums in_p cells.now stride from count place sectors.old sectors.new }
-    ensures others { KeepOthers stride from count place sectors.old sectors.new }
+    requires sectors { rows.stride * length cells.now ≤ length sectors.old }
+    requires fits { 512 * (rows.from + rows.count) ≤ rows.stride }
+    ensures columns { (j : ℕ) → AreColumns cells.now (region_column (length cells.now) rows.stride sectors.old j) }
+    ensures sums { HoldSums in_p cells.now rows.stride rows.from rows.count place sectors.old sectors.new }
+    ensures others { KeepOthers rows.stride rows.from rows.count place sectors.old sectors.new }
 {
-    for row in 0..count {
-        fill_row_by_p(cells, place, sectors, stride, from + row);
+    for row in 0..rows.count {
+        fill_row_by_p(cells, place, sectors, rows.stride, rows.from + row);
     }
 }
 
@@ -53,25 +56,18 @@ fn fill_row_by_p(cells: &[Cell], place: usize, sectors: &mut [u8], stride: usize
 }
 
 /// Writes the sums of Q's equation over the same.
-pub fn fill_by_q(
-    cells: &[Cell],
-    place: usize,
-    sectors: &mut [u8],
-    stride: usize,
-    from: usize,
-    count: usize,
-)
+pub fn fill_by_q(cells: &[Cell], place: usize, sectors: &mut [u8], rows: SectorRows)
     requires cells { IsRow cells.now }
     requires q { has_q cells.now ≡ true }
     requires place { place < length cells.now }
-    requires sectors { stride * length cells.now ≤ length sectors.old }
-    requires fits { 512 * (from + count) ≤ stride }
-    ensures sums { HoldSums in_q cells.now stride from count place sectors.old sectors.new }
-    ensures others { KeepOthers stride from count place sectors.old sectors.new }
+    requires sectors { rows.stride * length cells.now ≤ length sectors.old }
+    requires fits { 512 * (rows.from + rows.count) ≤ rows.stride }
+    ensures sums { HoldSums in_q cells.now rows.stride rows.from rows.count place sectors.old sectors.new }
+    ensures others { KeepOthers rows.stride rows.from rows.count place sectors.old sectors.new }
 {
     let known = known_of(cells);
-    for row in 0..count {
-        fill_row_by_q(cells, &known, place, sectors, stride, from + row);
+    for row in 0..rows.count {
+        fill_row_by_q(cells, &known, place, sectors, rows.stride, rows.from + row);
     }
 }
 

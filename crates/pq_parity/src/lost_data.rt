@@ -8,7 +8,7 @@ ghost use Rattle.pq_parity.specs.LostBytes.{weighed};
 ghost use Rattle.pq_parity.specs.Needs.{needs, AgreeInRows, AreWhole, HoldLostData, KeepAllBut};
 ghost use Rattle.pq_parity.specs.Regions.{region_column};
 
-use crate::fills::fill_by_p;
+use crate::fills::{SectorRows, fill_by_p};
 use crate::finders::{Finder, finder_after, finder_at, lost_data_from, needs_q};
 use crate::known::{Known, known_of};
 use crate::syndromes::{Sums, sums_by};
@@ -33,36 +33,42 @@ pub fn solve_data(cells: &[Cell], sectors: &mut [u8], stride: usize, from: usize
     let Some(first) = lost_data_from(cells, 0) else {
         return;
     };
+    let rows = SectorRows {
+        stride,
+        from,
+        count,
+    };
     if needs_q(cells) {
-        solve_by_both(cells, first, sectors, stride, from, count);
+        solve_by_both(cells, first, sectors, rows);
     } else {
-        fill_by_p(cells, first, sectors, stride, from, count);
+        fill_by_p(cells, first, sectors, rows);
     }
 }
 
 /// Finds the same, by both equations. `first` is the first missing data cell.
-fn solve_by_both(
-    cells: &[Cell],
-    first: usize,
-    sectors: &mut [u8],
-    stride: usize,
-    from: usize,
-    count: usize,
-)
+fn solve_by_both(cells: &[Cell], first: usize, sectors: &mut [u8], rows: SectorRows)
     requires cells { IsRow cells.now }
     requires first { is_lost_at cells.now first ≡ true }
     requires none_before { (i : ℕ) → i < first → is_lost_at cells.now i ≡ false }
     requires by_q { needs cells.now Q ≡ true }
-    requires sectors { stride * length cells.now ≤ length sectors.old }
-    requires fits { 512 * (from + count) ≤ stride }
-    ensures lost { HoldLostData cells.now stride from count sectors.new (λ j x. region_column (length cells.now) stride sectors.old j x) }
-    ensures others { KeepAllBut cells.now stride from count sectors.old sectors.new }
+    requires sectors { rows.stride * length cells.now ≤ length sectors.old }
+    requires fits { 512 * (rows.from + rows.count) ≤ rows.stride }
+    ensures lost { HoldLostData cells.now rows.stride rows.from rows.count sectors.new (λ j x. region_column (length cells.now) rows.stride sectors.old j x) }
+    ensures others { KeepAllBut cells.now rows.stride rows.from rows.count sectors.old sectors.new }
 {
     let known = known_of(cells);
     let second = finder_after(cells, first);
     let first = finder_at(cells, first);
-    for row in 0..count {
-        fill_row(cells, &known, &first, &second, sectors, stride, from + row);
+    for row in 0..rows.count {
+        fill_row(
+            cells,
+            &known,
+            &first,
+            &second,
+            sectors,
+            rows.stride,
+            rows.from + row,
+        );
     }
 }
 

@@ -6,7 +6,7 @@ ghost use Rattle.pq_parity.specs.DataThere.{data_there as data_there_of, parity_
 ghost use Rattle.pq_parity.specs.Regions.{KeepOthers};
 ghost use Rattle.pq_parity.specs.Syndromes.{AreColumns};
 
-use crate::fills::{fill_by_p, fill_by_q};
+use crate::fills::{SectorRows, fill_by_p, fill_by_q};
 use arrayvec::ArrayVec;
 use raid_params::{Cell, MOST, Part};
 
@@ -34,10 +34,15 @@ pub fn solve_parity(
     ensures others { KeepOthers stride from count place sectors.old sectors.new }
 {
     let by_data = parity_lost(cells);
+    let rows = SectorRows {
+        stride,
+        from,
+        count,
+    };
     if holds_q(cells[place]) {
-        fill_by_q(&by_data, place, sectors, stride, from, count);
+        fill_by_q(&by_data, place, sectors, rows);
     } else {
-        fill_by_p(&by_data, place, sectors, stride, from, count);
+        fill_by_p(&by_data, place, sectors, rows);
     }
 }
 

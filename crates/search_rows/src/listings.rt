@@ -5,7 +5,7 @@ ghost use Rattle.search_plan.specs.Plans.{IsPlan};
 use crate::objects::{agree, three_images};
 use crate::plans::two_levels;
 use image_source::{Images, MemImages};
-use page_engine::{ListPage, page, pages};
+use page_engine::{ListPage, PageRequest, page, pages};
 use row_scan::OpenGate;
 use search_plan::Plan;
 use std::process::Abort;
@@ -49,9 +49,13 @@ fn three_pages(rt: HostRuntime) -> Result<(), Fail> {
     let plan = two_levels(rt.alloc());
     let mut images = three_images(&rt, [&[1; 1024], &[3; 1024], &[7; 1024]])?;
     assert!(rt; agree(&images, &plan));
-    let made = pages(&rt, rt.alloc(), &mut images, &plan, 3, 7, 7, 5, &OpenGate).expect(
-        &rt, "pages",
-    );
+    let asked = PageRequest {
+        from: 3,
+        size: 7,
+        span: 7,
+        count: 5,
+    };
+    let made = pages(&rt, rt.alloc(), &mut images, &plan, asked, &OpenGate).expect(&rt, "pages");
     let made = made.as_slice();
     assert_eq!(rt; made.len(), 3);
     assert_eq!(rt; (made[0].lines.as_slice().len(), made[0].next), (7, 10));

@@ -7,8 +7,8 @@ use Rattle.pq_parity.proofs.fills.fill_by_p.Goals as goal
 
 pub loop-row-init : goal.loop-row-init
 loop-row-init c = record {
-  columns = λ j. region_columns c.args.cells.now c.args.sectors.now c.args.stride j c.type_inv.sectors;
-  sums = sums_none in_p c.args.cells.now c.args.stride c.args.from c.args.place c.args.sectors.now c.args.sectors.now;
+  columns = λ j. region_columns c.args.cells.now c.args.sectors.now c.args.rows.stride j c.type_inv.sectors;
+  sums = sums_none in_p c.args.cells.now c.args.rows.stride c.args.rows.from c.args.place c.args.sectors.now c.args.sectors.now;
   others = λ p apart. refl;
 }
 
@@ -16,18 +16,18 @@ pub loop-row-preserved : goal.loop-row-preserved
 loop-row-preserved c = record {
   columns = c.loop-row.invariant.columns;
   sums =
-      sums_more in_p c.args.cells.now c.args.stride c.args.from c.loop-row.row c.args.place c.args.sectors.now c.loop-row.sectors c.fill_row_by_p.new.sectors (omega arith)
+      sums_more in_p c.args.cells.now c.args.rows.stride c.args.rows.from c.loop-row.row c.args.place c.args.sectors.now c.loop-row.sectors c.fill_row_by_p.new.sectors (omega arith)
       c.loop-row.invariant.sums c.loop-row.invariant.others c.fill_row_by_p.ensures.sums c.fill_row_by_p.ensures.others;
   others =
-      others_more c.args.stride c.args.from c.loop-row.row c.args.place c.args.sectors.now c.loop-row.sectors c.fill_row_by_p.new.sectors c.loop-row.invariant.others c.fill_row_by_p.ensures.others;
+      others_more c.args.rows.stride c.args.rows.from c.loop-row.row c.args.place c.args.sectors.now c.loop-row.sectors c.fill_row_by_p.new.sectors c.loop-row.invariant.others c.fill_row_by_p.ensures.others;
 }
 
 pub returns-clause-sums : goal.returns-clause-sums
 returns-clause-sums c =
-    let all : c.loop-row.row ≡ c.args.count = omega arith in
-    subst (λ (n : ℕ). HoldSums in_p c.args.cells.now c.args.stride c.args.from n c.args.place c.args.sectors.now c.loop-row.sectors) all c.loop-row.invariant.sums
+    let all : c.loop-row.row ≡ c.args.rows.count = omega arith in
+    subst (λ (n : ℕ). HoldSums in_p c.args.cells.now c.args.rows.stride c.args.rows.from n c.args.place c.args.sectors.now c.loop-row.sectors) all c.loop-row.invariant.sums
 
 pub returns-clause-others : goal.returns-clause-others
 returns-clause-others c =
-    let all : c.loop-row.row ≡ c.args.count = omega arith in
-    subst (λ (n : ℕ). KeepOthers c.args.stride c.args.from n c.args.place c.args.sectors.now c.loop-row.sectors) all c.loop-row.invariant.others
+    let all : c.loop-row.row ≡ c.args.rows.count = omega arith in
+    subst (λ (n : ℕ). KeepOthers c.args.rows.stride c.args.rows.from n c.args.place c.args.sectors.now c.loop-row.sectors) all c.loop-row.invariant.others

@@ -6,7 +6,7 @@ use Rattle.pq_parity.proofs.fills.fill_by_p.Given as goal
 
 abbrev pub invariant-loop-row : goal.invariant-loop-row
 invariant-loop-row l = record {
-  columns : (j : ℕ) → AreColumns l.cells (region_column (length l.cells) l.stride l.fn.sectors j);
-  sums : HoldSums in_p l.cells l.stride l.from l.row l.place l.fn.sectors l.sectors;
-  others : KeepOthers l.stride l.from l.row l.place l.fn.sectors l.sectors;
+  columns : (j : ℕ) → AreColumns l.cells (region_column (length l.cells) l.rows.stride l.fn.sectors j);
+  sums : HoldSums in_p l.cells l.rows.stride l.rows.from l.row l.place l.fn.sectors l.sectors;
+  others : KeepOthers l.rows.stride l.rows.from l.row l.place l.fn.sectors l.sectors;
 }

@@ -4,6 +4,6 @@ use Rattle.pq_parity.proofs.fills.fill_by_q.Given as goal
 
 abbrev pub invariant-loop-row : goal.invariant-loop-row
 invariant-loop-row l = record {
-  sums : HoldSums in_q l.cells l.stride l.from l.row l.place l.fn.sectors l.sectors;
-  others : KeepOthers l.stride l.from l.row l.place l.fn.sectors l.sectors;
+  sums : HoldSums in_q l.cells l.rows.stride l.rows.from l.row l.place l.fn.sectors l.sectors;
+  others : KeepOthers l.rows.stride l.rows.from l.row l.place l.fn.sectors l.sectors;
 }

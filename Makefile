@@ -13,9 +13,9 @@ demo:
 test:
 	rt ci
 
-# Proves what the program stands on, and leaves the executable at crates/reraid/out/reraid.
+# Proves the program and what it stands on, and leaves the executable at crates/reraid/out/reraid.
 build:
-	cd crates/reraid && rt run -- list size=10 -- data/a data/b data/c < stdin
+	bench/build.sh
 
 # Runs the commands of the pages as they are printed, and compares what they print. It needs the Debian packages
 # xfsprogs, gdisk, e2fsprogs, ntfs-3g, pv, parallel and jq; with root=--root it runs those that need root too.

@@ -14,7 +14,8 @@ use Rattle.raid_params.specs.declared.types.Part.{Part}
 use Rattle.raid_terms.specs.Parity.{filled, has_p, has_q, in_p, in_q, IsRow}
 use Rattle.raid_terms.specs.Solving.{lost_byte, solved, solves}
 use Rattle.pq_parity.specs.Syndromes.{known_sum, sum_at, AreColumns}
-use Rattle.pq_parity.specs.LostBytes.{first_missing, weighed, Apart, Finds, EachLostColumnHasOneSolution}
+use Rattle.lane_kernels.specs.Formulas.{weighed_sum}
+use Rattle.pq_parity.specs.LostBytes.{first_missing, Apart, Finds, EachLostColumnHasOneSolution}
 use Rattle.pq_parity.proofs.Members.{In, In-from_Contains, Contains-from_In}
 use Rattle.pq_parity.proofs.Fillings.{lost, put, AreBytes, from_filled, put_in_filled}
 use Rattle.pq_parity.proofs.Sums.{known_sum_fits, in_p_fits, in_q_fits}
@@ -66,7 +67,7 @@ solved_by cells bytes row e fit one =
 -- one of the bytes, by weights that find it
 weighed_at : (p q : Bool) (parts before : List Part) (part : Part) (after : List Part) (other : Option Part) (xs : List ℕ) (s t a b : ℕ) →
     parts ≡ before ++ (part ∷ after) → other ≡ option_or (first before) (first after) → MayBeLost p q parts → AreBytes parts xs →
-    solution_test p q parts xs s t ≡ true → Finds part other a b → s < 256 → t < 256 → get_or xs (length before) 0 ≡ weighed a b s t
+    solution_test p q parts xs s t ≡ true → Finds part other a b → s < 256 → t < 256 → get_or xs (length before) 0 ≡ weighed_sum a b s t
 weighed_at p q parts before part after other xs s t a b split beside m fit test finds hs ht =
     let f = found_at p q before part after xs s t (rw split at m) (rw split at fit) (rw split at test) in
     finds (get_or xs (length before) 0) f.0 s t f.2 f.1 hs ht (rw beside f.3)
@@ -82,7 +83,7 @@ other_parts cells place other e = e ∙ ap₂ (λ (a b : Option Part). option_or
 pub lost_is : (cells : List Cell) (bytes : List ℕ) (place : ℕ) (cell : Cell) (other : Option Part) (a b : ℕ) → IsRow cells → length bytes ≡ length cells →
     AllByRecursion (λ x. x < 256) bytes → slice_get cells place ≡ Some cell → cell.missing ≡ true →
     other ≡ option_or (first_missing (take place cells)) (first_missing (drop (place + 1) cells)) → Finds cell.part other a b →
-    lost_byte cells bytes place ≡ weighed a b (p_of cells bytes) (q_of cells bytes)
+    lost_byte cells bytes place ≡ weighed_sum a b (p_of cells bytes) (q_of cells bytes)
 lost_is cells bytes place cell other a b row e fit is missing beside finds =
     let before = lost (take place cells) in
     let after = lost (drop (place + 1) cells) in
@@ -96,7 +97,7 @@ lost_is cells bytes place cell other a b row e fit is missing beside finds =
 pub lost_in_row : (cells : List Cell) (column : ℕ → List ℕ) (place x : ℕ) (cell : Cell) (other : Option Part) (a b : ℕ) → IsRow cells → AreColumns cells column →
     slice_get cells place ≡ Some cell → cell.missing ≡ true →
     other ≡ option_or (first_missing (take place cells)) (first_missing (drop (place + 1) cells)) → Finds cell.part other a b →
-    lost_byte cells (column x) place ≡ weighed a b (sum_at in_p cells column x) (sum_at in_q cells column x)
+    lost_byte cells (column x) place ≡ weighed_sum a b (sum_at in_p cells column x) (sum_at in_q cells column x)
 lost_in_row cells column place x cell other a b is_row bytes is missing beside finds =
     lost_is cells (column x) place cell other a b is_row (bytes x).0 (bytes x).1 is missing beside finds
 

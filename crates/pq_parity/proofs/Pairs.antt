@@ -9,15 +9,16 @@ use Rattle.gf256.proofs.Sums.{sum_fits, sum_commutes, sum_zero, sum_self, equal_
 use Rattle.gf256.proofs.Products.{product_zero_left, additive_left, additive_right, associates, xor_swap}
 use Rattle.gf256.proofs.Powers.{power_fits, product_one, commutes, not_zero, sum_not_zero}
 use Rattle.gf256.proofs.Undoing.{has_inverse}
-use Rattle.pq_parity.specs.LostBytes.{Apart, Finds, weighed}
+use Rattle.lane_kernels.specs.Formulas.{weighed_sum}
+use Rattle.pq_parity.specs.LostBytes.{Apart, Finds}
 
 one_times : (x : ℕ) → x < 256 → product 1 x ≡ x
 one_times x h = commutes 1 x (omega arith) h ∙ product_one x h
 
-pub weighed_p : (p q : ℕ) → p < 256 → weighed 1 0 p q ≡ p
+pub weighed_p : (p q : ℕ) → p < 256 → weighed_sum 1 0 p q ≡ p
 weighed_p p q h = ap₂ (λ (a b : ℕ). bit_xor a b) (one_times p h) (product_zero_left q) ∙ sum_zero p
 
-weighed_q : (b p q : ℕ) → weighed 0 b p q ≡ product b q
+weighed_q : (b p q : ℕ) → weighed_sum 0 b p q ≡ product b q
 weighed_q b p q = ap (λ (a : ℕ). bit_xor a (product b q)) (product_zero_left p)
 
 -- what weighs nothing adds nothing

@@ -7,7 +7,7 @@ use Rattle.std.proofs.lemmas.Option.{slice_get-get_or}
 use Rattle.raid_params.specs.declared.types.Cell.{Cell}
 use Rattle.raid_terms.specs.Parity.{in_p, in_q, is_data, IsRow}
 use Rattle.raid_terms.specs.Solving.{lost_byte}
-use Rattle.pq_parity.specs.LostBytes.{weighed}
+use Rattle.lane_kernels.specs.Formulas.{weighed_sum}
 use Rattle.pq_parity.specs.Needs.{AgreeInRows, AreWhole, HoldLostData, KeepAllBut}
 use Rattle.pq_parity.specs.Regions.{region_column, HoldsLost}
 use Rattle.pq_parity.specs.Finding.{is_lost_at, AreFinders, FindsAt, IsFinder, IsFor}
@@ -141,14 +141,14 @@ columns_apart stride j i place x z fits inside short apart = λ e.
 -- the weighed sums in the region of a missing data cell
 pub cell_by_both : (cells : List Cell) (stride j place a b : ℕ) (old new p q : List ℕ) → FindsAt cells place a b → AreColumns cells (columns_of cells stride old j) →
     IsSyndrome in_p cells (columns_of cells stride old j) p → IsSyndrome in_q cells (columns_of cells stride old j) q →
-    ((x : ℕ) → x < 512 → slice_index new (stride * place + (512 * j + x)) ≡ weighed a b (slice_index p x) (slice_index q x)) → HoldsLost cells stride j old new place
+    ((x : ℕ) → x < 512 → slice_index new (stride * place + (512 * j + x)) ≡ weighed_sum a b (slice_index p x) (slice_index q x)) → HoldsLost cells stride j old new place
 cell_by_both cells stride j place a b old new p q finds columns by_p by_q bytes = λ x inside.
-    bytes x inside ∙ ap₂ (weighed a b) (by_p.bytes x inside) (by_q.bytes x inside) ∙ sym (finds (columns_of cells stride old j x) (columns x).0 (columns x).1)
+    bytes x inside ∙ ap₂ (weighed_sum a b) (by_p.bytes x inside) (by_q.bytes x inside) ∙ sym (finds (columns_of cells stride old j x) (columns x).0 (columns x).1)
 
 -- what a fill writes
 abbrev pub IsFill : ℕ → ℕ → Finder → List ℕ → List ℕ → List ℕ → Type 0
 IsFill stride j finder p q new =
-    (x : ℕ) → x < 512 → slice_index new (stride * finder.place + (512 * j + x)) ≡ weighed finder.by_p.factor finder.by_q.factor (slice_index p x) (slice_index q x)
+    (x : ℕ) → x < 512 → slice_index new (stride * finder.place + (512 * j + x)) ≡ weighed_sum finder.by_p.factor finder.by_q.factor (slice_index p x) (slice_index q x)
 
 pub row_by_one : (cells : List Cell) (stride j : ℕ) (one : Finder) (other : Option Finder) (old new p q : List ℕ) → AreFinders cells one other → other ≡ None → AreColumns cells (columns_of cells stride old j) →
     IsSyndrome in_p cells (columns_of cells stride old j) p → IsSyndrome in_q cells (columns_of cells stride old j) q → IsFill stride j one p q new → HoldLostData cells stride j 1 new (columns_of cells stride old)

@@ -7,7 +7,7 @@ use Rattle.raid_params.specs.declared.types.Cell.{Cell}
 use Rattle.raid_terms.specs.Parity.{in_p, in_q, is_data}
 use Rattle.raid_terms.specs.Solving.{lost_byte}
 use Rattle.pq_parity.specs.Known.{no_cell}
-use Rattle.pq_parity.specs.LostBytes.{weighed}
+use Rattle.lane_kernels.specs.Formulas.{weighed_sum}
 use Rattle.pq_parity.specs.Syndromes.{known_sum}
 use Rattle.pq_parity.specs.declared.finders.Finder.{Finder}
 
@@ -18,7 +18,7 @@ is_lost_at cells place = (slice_index_or cells place no_cell).missing && is_data
 -- with these weights the sums of what is known of a column give the lost byte of this place
 abbrev pub FindsAt : List Cell → ℕ → ℕ → ℕ → Type 0
 FindsAt cells place a b = (column : List ℕ) → length column ≡ length cells → AllByRecursion (λ byte. byte < 256) column →
-    lost_byte cells column place ≡ weighed a b (known_sum in_p cells column) (known_sum in_q cells column)
+    lost_byte cells column place ≡ weighed_sum a b (known_sum in_p cells column) (known_sum in_q cells column)
 
 -- the factors find the missing data cell at the place
 pub record IsFinder (cells : List Cell) (finder : Finder) : Type 0 where

@@ -4,7 +4,7 @@ use Rattle.std.specs.List.{find, Contains}
 use Rattle.std.specs.Option.{option_map}
 use Rattle.std.specs.declared.option.Option.{Option}
 use Rattle.std.specs.declared.option.Option.TheVariants.{None, Some}
-use Rattle.gf256.specs.Field.{product}
+use Rattle.lane_kernels.specs.Formulas.{weighed_sum}
 use Rattle.raid_params.specs.declared.types.Cell.{Cell}
 use Rattle.raid_params.specs.declared.types.Part.{Part}
 use Rattle.raid_params.specs.declared.types.Part.TheVariants.{Block, P, Q}
@@ -40,13 +40,9 @@ Found Q None x y p q = bit_xor q x ≡ 0
 Found (Block k) None x y p q = bit_xor p x ≡ 0
 Found part (Some other) x y p q = (bit_xor p (bit_xor (in_p part x) (in_p other y)) ≡ 0) × (bit_xor q (bit_xor (in_q part x) (in_q other y)) ≡ 0)
 
--- a p + b q
-abbrev pub weighed : ℕ → ℕ → ℕ → ℕ → ℕ
-weighed a b p q = bit_xor (product a p) (product b q)
-
 -- with these weights the sums of what is known give the byte
 abbrev pub Finds : Part → Option Part → ℕ → ℕ → Type 0
-Finds part other a b = (x y p q : ℕ) → x < 256 → y < 256 → p < 256 → q < 256 → Found part other x y p q → x ≡ weighed a b p q
+Finds part other a b = (x y p q : ℕ) → x < 256 → y < 256 → p < 256 → q < 256 → Found part other x y p q → x ≡ weighed_sum a b p q
 
 -- where cells are missing there is one way to fill the column by which the equations hold, and no other
 abbrev pub EachLostColumnHasOneSolution : Type 0

@@ -4,7 +4,7 @@ ghost use Rattle.raid_params.specs.declared.types.Part.TheVariants.{Q};
 ghost use Rattle.raid_terms.specs.Parity.{has_q, IsRow};
 ghost use Rattle.pq_parity.specs.Finding.{is_lost_at, AreFinders};
 ghost use Rattle.pq_parity.specs.Known.{ArePlaces};
-ghost use Rattle.pq_parity.specs.LostBytes.{weighed};
+ghost use Rattle.lane_kernels.specs.Formulas.{weighed_sum};
 ghost use Rattle.pq_parity.specs.Needs.{needs, AgreeInRows, AreWhole, HoldLostData, KeepAllBut};
 ghost use Rattle.pq_parity.specs.Regions.{region_column};
 
@@ -106,7 +106,7 @@ fn fill(finder: &Finder, sums: &Sums, sectors: &mut [u8], stride: usize, members
     requires sectors { stride * members ≤ length sectors.old }
     requires j { 512 * j + 512 ≤ stride }
     ensures bytes { (x : ℕ) → x < 512 → slice_index sectors.new (stride * finder.now.place + (512 * j + x))
-        ≡ weighed finder.now.by_p.factor finder.now.by_q.factor (slice_index sums.now.p x) (slice_index sums.now.q x) }
+        ≡ weighed_sum finder.now.by_p.factor finder.now.by_q.factor (slice_index sums.now.p x) (slice_index sums.now.q x) }
     ensures others { (p : ℕ) → ((x : ℕ) → x < 512 → p ≢ stride * finder.now.place + (512 * j + x)) → slice_index sectors.new p ≡ slice_index sectors.old p }
 {
     let at = stride * finder.place + SECTOR * j;

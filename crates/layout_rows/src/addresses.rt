@@ -15,7 +15,7 @@ fn two_rows(rt: HostRuntime) {
         offset: 5,
     };
     assert!(rt; head.is_valid());
-    assert_eq!(rt; volume_sectors(&head, 10), 12);
+    assert!(rt; volume_sectors(&head, 10) == 12);
     let home = Home {
         row: 1,
         item: 0,

@@ -99,9 +99,8 @@ fn each_place_holds_the_formula(rt: HostRuntime) {
             Kernel::ScaleXor,
             Kernel::Scale,
         ] {
-            assert_eq!(rt;
-                changed(kernel, length),
-                expected(kernel, length),
+            assert!(rt;
+                changed(kernel, length) == expected(kernel, length),
                 "{kernel:?} over {length}"
             );
         }
@@ -135,14 +134,21 @@ fn expected_sum(length: usize) -> [u8; 512]
 fn each_place_holds_the_weighed_sum(rt: HostRuntime) {
     for length in LENGTHS {
         assert!(rt; length <= 512);
-        assert_eq!(rt; weighed(length), expected_sum(length), "over {length}");
+        assert!(rt; weighed(length) == expected_sum(length), "over {length}");
     }
 }
 
-// The first of so many bytes that is not zero.
-fn first_of(list: &[u8; 512], length: usize) -> Option<usize>
+// Which of so many zeros is found, once the last is 80 where `last` says so, and then the middle one 1.
+fn found(length: usize, last: bool, middle: bool) -> Option<usize>
     requires { length ≤ 512 }
 {
+    let mut list = [0u8; 512];
+    if last && 0 < length {
+        list[length - 1] = 0x80;
+    }
+    if middle && 0 < length {
+        list[length / 2] = 1;
+    }
     first_nonzero(&list[..length])
 }
 
@@ -150,19 +156,14 @@ fn first_of(list: &[u8; 512], length: usize) -> Option<usize>
 fn finds_the_first_byte_that_is_not_zero(rt: HostRuntime) {
     for length in LENGTHS {
         assert!(rt; length <= 512);
-        let mut list = [0u8; 512];
-        assert_eq!(rt; first_of(&list, length), None, "{length} zeros");
+        assert!(rt; found(length, false, false).is_none(), "{length} zeros");
         if length > 0 {
-            list[length - 1] = 0x80;
-            assert_eq!(rt;
-                first_of(&list, length),
-                Some(length - 1),
+            assert!(rt;
+                found(length, true, false) == Some(length - 1),
                 "the last of {length}"
             );
-            list[length / 2] = 1;
-            assert_eq!(rt;
-                first_of(&list, length),
-                Some(length / 2),
+            assert!(rt;
+                found(length, true, true) == Some(length / 2),
                 "the middle of {length}"
             );
         }

@@ -1,6 +1,6 @@
 //! Bytes of generated arrays that another program computed, from the published algorithm of SplitMix64 and the
 //! equations of P and Q.
-ghost use Rattle.std.specs.Prelude.{◌≤◌};
+ghost use Rattle.std.specs.Prelude.{◌≡◌, ◌≤◌, [], IfOk};
 
 use address_map::volume_sectors;
 use image_source::{Images, MemImages};
@@ -9,28 +9,38 @@ use sample_arrays::{LEAST_MARKED, MOST_SAMPLED, count_held, sample};
 use std::process::Abort;
 use std::test::Fail;
 
-// The array that is made from 7, with these two of its images attached. Each name is added once more, with no bytes, so
-// that it is known: the first file of a name is the one that it means.
-#[tactic(auto, using(crate::proofs::Named::added))]
-fn array<R: AllocGlobal + Abort>(
+// The array that is made from 7, of which nothing is attached.
+fn made<R: AllocGlobal + Abort>(
     rt: &R,
     geo: &Geometry,
     rows: u64,
     xfs: bool,
-    names: [&str; 2],
-) -> Result<MemImages, Fail> {
+) -> Result<MemImages, Fail>
+    requires chunk { geo.now.head.chunk ≡ 1 }
+    requires offset { geo.now.head.offset ≤ 1 }
+    requires rows { rows ≤ 512 }
+    ensures { IfOk result (λ images. images.attached ≡ []) }
+{
     let head = &geo.head;
-    assert!(rt; head.is_valid() && head.chunk == 1 && head.offset <= 1 && rows <= 512);
     let end = head.offset + rows * head.chunk;
     assert!(rt; geo.validate(count_held(&geo.slots), end).is_ok());
     assert!(rt; head.members as u64 * end <= MOST_SAMPLED);
-    assert!(rt; !xfs || LEAST_MARKED <= volume_sectors(head, end));
-    let mut images = sample(rt.alloc(), 7, geo, rows, xfs)?;
-    images.add(names[0], &[])?;
-    images.attach(names[0])?;
-    images.add(names[1], &[])?;
-    images.attach(names[1])?;
-    Ok(images)
+    assert!(rt; head.is_valid());
+    let marked = xfs && LEAST_MARKED <= volume_sectors(head, end);
+    Ok(sample(rt.alloc(), 7, geo, rows, marked)?)
+}
+
+// Attaches two images of an array. Each name is added once more, with no bytes, so that it is known: the first file of a
+// name is the one that it means.
+#[tactic(auto, using(crate::proofs::Named::added))]
+fn attach(images: &mut MemImages, first: &str, second: &str) -> Result<(), Fail>
+    requires { images.old.attached ≡ [] }
+{
+    images.add(first, &[])?;
+    images.attach(first)?;
+    images.add(second, &[])?;
+    images.attach(second)?;
+    Ok(())
 }
 
 // A sector of an attached image.
@@ -56,7 +66,10 @@ fn holds(images: &mut MemImages, image: u32, sector: u64, at: usize, bytes: &[u8
 }
 
 // Level 6, four members of two rows of a sector, from sector 1 on.
-fn four_members() -> Geometry {
+fn four_members() -> Geometry
+    ensures chunk { result.head.chunk ≡ 1 }
+    ensures offset { result.head.offset ≡ 1 }
+{
     let head = Head {
         level: Level::Raid6,
         members: 4,
@@ -85,8 +98,9 @@ const BEGINNINGS: [(u32, u64, [u8; 8]); 6] = [
 
 #[test]
 fn members_of_seven(rt: HostRuntime) -> Result<(), Fail> {
-    let mut images = array(&rt, &four_members(), 2, false, ["0", "3"])?;
-    assert_eq!(rt; (images.length(0), images.length(1)), (Some(3), Some(3)));
+    let mut images = made(&rt, &four_members(), 2, false)?;
+    attach(&mut images, "0", "3")?;
+    assert!(rt; images.length(0) == Some(3) && images.length(1) == Some(3));
     for (image, sector, bytes) in BEGINNINGS {
         assert!(rt;
             holds(&mut images, image, sector, 0, &bytes),
@@ -97,7 +111,10 @@ fn members_of_seven(rt: HostRuntime) -> Result<(), Fail> {
 }
 
 // Level 0, two members of a sector a chunk: sector v of the volume is sector v / 2 of member v % 2.
-fn two_members() -> Geometry {
+fn two_members() -> Geometry
+    ensures chunk { result.head.chunk ≡ 1 }
+    ensures offset { result.head.offset ≡ 0 }
+{
     let head = Head {
         level: Level::Raid0,
         members: 2,
@@ -119,14 +136,29 @@ const WORDS: [(u64, usize, u64); 3] = [
     (3, 0, 0x9cc3_781a_af8d_0975),
 ];
 
+// Both members of so many rows, attached.
+fn both<R: AllocGlobal + Abort>(rt: &R, rows: u64, xfs: bool) -> Result<MemImages, Fail>
+    requires { rows ≤ 512 }
+{
+    let mut images = made(rt, &two_members(), rows, xfs)?;
+    attach(&mut images, "0", "1")?;
+    Ok(images)
+}
+
+// Whether a sector of the volume has these bytes from `at` on.
+fn has(images: &mut MemImages, sector: u64, at: usize, bytes: &[u8]) -> bool
+    requires { at ≤ 512 }
+{
+    holds(images, (sector % 2) as u32, sector / 2, at, bytes)
+}
+
 #[test]
 fn words_of_seven(rt: HostRuntime) -> Result<(), Fail> {
-    let mut images = array(&rt, &two_members(), 2, false, ["0", "1"])?;
+    let mut images = both(&rt, 2, false)?;
     for (sector, at, word) in WORDS {
         assert!(rt; at <= 512);
-        let (image, place) = ((sector % 2) as u32, sector / 2);
         assert!(rt;
-            holds(&mut images, image, place, at, &word.to_le_bytes()),
+            has(&mut images, sector, at, &word.to_le_bytes()),
             "{sector} {at}"
         );
     }
@@ -152,25 +184,30 @@ const GROUP: [(u64, usize, &[u8]); 7] = [
     ),
 ];
 
-// After the group stand words again, as in an array without groups.
 #[test]
 fn last_group(rt: HostRuntime) -> Result<(), Fail> {
-    let mut images = array(&rt, &two_members(), 257, true, ["0", "1"])?;
+    let mut images = both(&rt, 257, true)?;
     for (sector, at, bytes) in GROUP {
         assert!(rt; at <= 512);
-        let (image, place) = ((sector % 2) as u32, sector / 2);
-        assert!(rt;
-            holds(&mut images, image, place, at, bytes),
-            "{sector} {at}"
-        );
+        assert!(rt; has(&mut images, sector, at, bytes), "{sector} {at}");
     }
-    let mut plain = array(&rt, &two_members(), 257, false, ["0", "1"])?;
-    for (image, place) in [(1, 253), (0, 256)] {
-        let words = sector_of(&mut images, image, place);
-        assert!(rt;
-            words.is_some() && words == sector_of(&mut plain, image, place),
-            "{place}"
-        );
+    Ok(())
+}
+
+// Whether both have the same sector of the volume.
+fn are_equal(images: &mut MemImages, others: &mut MemImages, sector: u64) -> bool {
+    match sector_of(images, (sector % 2) as u32, sector / 2) {
+        Some(bytes) => has(others, sector, 0, &bytes),
+        None => false,
     }
+}
+
+// After the group stand the words that an array without groups has.
+#[test]
+fn after_the_last_group(rt: HostRuntime) -> Result<(), Fail> {
+    let mut images = both(&rt, 257, true)?;
+    let mut plain = both(&rt, 257, false)?;
+    assert!(rt; are_equal(&mut images, &mut plain, 507));
+    assert!(rt; are_equal(&mut images, &mut plain, 512));
     Ok(())
 }

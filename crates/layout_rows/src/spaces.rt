@@ -1,4 +1,6 @@
 //! Small spaces whose lists are written out, and a large one whose length is worked out by hand.
+ghost use Rattle.std.specs.Prelude.{◌≡◌};
+
 use raid_params::Slots;
 use slot_math::Space;
 use std::process::Abort;
@@ -9,7 +11,7 @@ const NO: Option<u8> = None;
 // The lists of the space are these, in their order, and their ranks are their numbers.
 fn are_lists<R: Abort>(rt: &R, space: &Space, lists: &[[Option<u8>; 3]; 6]) {
     assert!(rt; space.images <= 3 && space.members == 3);
-    assert_eq!(rt; space.total(), 6);
+    assert!(rt; space.total() == 6);
     for rank in 0..6u8 {
         let slots = space.unrank(rank as u128);
         assert!(rt;
@@ -61,30 +63,37 @@ fn one_empty(rt: HostRuntime) {
     are_lists(&rt, &space, &lists);
 }
 
-// How many lists over sixteen images have from `low` to `high` empty places, how many of them begin so, and the rank of
-// this beginning as a list.
-fn counts(low: u8, high: u8, front: &Slots) -> (u128, u128, Option<u128>) {
-    let space = Space {
+// How many lists over sixteen images have from `low` to `high` empty places.
+fn total(low: u8, high: u8) -> u128 {
+    sixteen(low, high).total()
+}
+
+fn sixteen(low: u8, high: u8) -> Space
+    ensures images { result.images ≡ 16 }
+    ensures members { result.members ≡ 16 }
+{
+    Space {
         images: 16,
         members: 16,
         low,
         high,
-    };
-    (space.total(), space.completions(front), space.rank(front))
+    }
+}
+
+// How many of those with two empty places at most begin so, and the rank of this beginning as a list.
+fn begun(front: &Slots) -> (u128, Option<u128>) {
+    let space = sixteen(0, 2);
+    (space.completions(front), space.rank(front))
 }
 
 // 16! lists have all images, 256 * 15! leave one out, and 14400 * 14! two: together 77 * 16!.
 #[test]
 fn sixteen_images(rt: HostRuntime) {
+    assert!(rt; total(0, 2) == 77 * 20_922_789_888_000);
+    assert!(rt; total(3, 2) == 0);
     let mut front = Slots::new();
-    let all = counts(0, 2, &front);
-    assert_eq!(rt;
-        (all.0, all.1),
-        (77 * 20_922_789_888_000, 77 * 20_922_789_888_000)
-    );
-    assert_eq!(rt; counts(3, 2, &front).0, 0);
+    assert!(rt; begun(&front).0 == 77 * 20_922_789_888_000);
     front.push(Some(3));
     front.push(Some(3));
-    let twice = counts(0, 2, &front);
-    assert_eq!(rt; (twice.1, twice.2), (0, None));
+    assert!(rt; begun(&front) == (0, None));
 }

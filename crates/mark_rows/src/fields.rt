@@ -13,16 +13,16 @@ fn counting() -> [u8; 512] {
 #[test]
 fn numbers(rt: HostRuntime) {
     let sector = counting();
-    assert_eq!(rt; u16_le(&sector, 1), 0x0201);
-    assert_eq!(rt; u32_le(&sector, 1), 0x0403_0201);
-    assert_eq!(rt; u64_le(&sector, 504), 0xfffe_fdfc_fbfa_f9f8);
-    assert_eq!(rt; u16_be(&sector, 1), 0x0102);
-    assert_eq!(rt; u32_be(&sector, 508), 0xfcfd_feff);
+    assert!(rt; u16_le(&sector, 1) == 0x0201);
+    assert!(rt; u32_le(&sector, 1) == 0x0403_0201);
+    assert!(rt; u64_le(&sector, 504) == 0xfffe_fdfc_fbfa_f9f8);
+    assert!(rt; u16_be(&sector, 1) == 0x0102);
+    assert!(rt; u32_be(&sector, 508) == 0xfcfd_feff);
 }
 
 #[test]
 fn bytes(rt: HostRuntime) {
     let sector = counting();
-    assert_eq!(rt; uuid_at(&sector, 2).as_bytes()[15], 17);
+    assert!(rt; uuid_at(&sector, 2).as_bytes()[15] == 17);
     assert!(rt; has_bytes(&sector, 510, &[254, 255]) && !has_bytes(&sector, 511, &[255, 0]));
 }

@@ -75,7 +75,7 @@ fn is_header(at: usize, bytes: &[u8]) -> bool
 
 #[test]
 fn checksum(rt: HostRuntime) {
-    assert_eq!(rt; crc32(b"123456789"), 0xcbf4_3926);
+    assert!(rt; crc32(b"123456789") == 0xcbf4_3926);
 }
 
 #[test]
@@ -112,45 +112,37 @@ fn lba_read(size: u32, my_lba: u64, checksum: u32) -> Option<u64> {
 // The checksums are those that zlib's `crc32` gives.
 #[test]
 fn bounds_of_a_header(rt: HostRuntime) {
-    for (size, my_lba, checksum) in [
-        (92, 1, 0xe46c_03da),
-        (512, 1, 0xd0fb_c6c3),
-        (92, (1 << 55) - 1, 0xec8f_0f73),
+    for (size, my_lba, checksum, read) in [
+        (91, 1, 0x4539_e343, None),
+        (92, 1, 0xe46c_03da, Some(1)),
+        (512, 1, 0xd0fb_c6c3, Some(1)),
+        (513, 1, 0xff35_8024, None),
+        (92, (1 << 55) - 1, 0xec8f_0f73, Some((1 << 55) - 1)),
+        (92, 1 << 55, 0x520f_be47, None),
     ] {
-        assert_eq!(rt;
-            lba_read(size, my_lba, checksum),
-            Some(my_lba),
-            "{size} {my_lba}"
-        );
-    }
-    for (size, my_lba, checksum) in [
-        (91, 1, 0x4539_e343),
-        (513, 1, 0xff35_8024),
-        (92, 1 << 55, 0x520f_be47),
-    ] {
-        assert_eq!(rt; lba_read(size, my_lba, checksum), None, "{size} {my_lba}");
+        assert!(rt; lba_read(size, my_lba, checksum) == read, "{size} {my_lba}");
     }
 }
 
-// The first blocks of the entries of the sector, changed there.
-fn firsts(at: usize, bytes: &[u8], alternate: u64) -> [Option<u64>; 4]
+// A type of one bit.
+const LEAST_TYPE: [u8; 16] = [0, 0, 0, 0, 0, 0, 0, 0, 0, 0, 0, 0, 0, 0, 0, 1];
+
+// Whether these are the first blocks of the entries of the sector, changed there.
+fn are_firsts(at: usize, bytes: &[u8], alternate: u64, firsts: [Option<u64>; 4]) -> bool
     requires { at + length bytes.now ≤ 512 }
 {
     let entries = with(with([0; 512], 0, &ENTRY), 128, &SECOND_ENTRY);
-    read_entries(&with(entries, at, bytes), alternate)
+    read_entries(&with(entries, at, bytes), alternate) == firsts
 }
 
 #[test]
 fn entries_of_sgdisk(rt: HostRuntime) {
-    assert_eq!(rt; firsts(0, &[], 16383), [Some(40), Some(2088), None, None]);
-    assert_eq!(rt; firsts(0, &[], 8191), [Some(40), Some(2088), None, None]);
-    assert_eq!(rt; firsts(0, &[], 8190), [Some(40), None, None, None]);
+    assert!(rt; are_firsts(0, &[], 16383, [Some(40), Some(2088), None, None]));
+    assert!(rt; are_firsts(0, &[], 8191, [Some(40), Some(2088), None, None]));
+    assert!(rt; are_firsts(0, &[], 8190, [Some(40), None, None, None]));
     // An entry without a type is unused; one byte is a type.
-    assert_eq!(rt; firsts(0, &[0; 16], 16383), [None, Some(2088), None, None]);
-    assert_eq!(rt;
-        firsts(0, &[0, 0, 0, 0, 0, 0, 0, 0, 0, 0, 0, 0, 0, 0, 0, 1], 16383)[0],
-        Some(40)
-    );
+    assert!(rt; are_firsts(0, &[0; 16], 16383, [None, Some(2088), None, None]));
+    assert!(rt; are_firsts(0, &LEAST_TYPE, 16383, [Some(40), Some(2088), None, None]));
 }
 
 // The first block of the first entry, with these blocks.
@@ -162,11 +154,12 @@ fn first_of(first: u64, last: u64, alternate: u64) -> Option<u64> {
 
 #[test]
 fn bounds_of_an_entry(rt: HostRuntime) {
-    assert_eq!(rt; first_of(7, 7, 7), Some(7));
-    assert_eq!(rt; first_of(8, 7, 9), None);
-    assert_eq!(rt;
-        first_of((1 << 55) - 1, u64::MAX, u64::MAX),
-        Some((1 << 55) - 1)
-    );
-    assert_eq!(rt; first_of(1 << 55, u64::MAX, u64::MAX), None);
+    for (first, last, alternate, read) in [
+        (7, 7, 7, Some(7)),
+        (8, 7, 9, None),
+        ((1 << 55) - 1, u64::MAX, u64::MAX, Some((1 << 55) - 1)),
+        (1 << 55, u64::MAX, u64::MAX, None),
+    ] {
+        assert!(rt; first_of(first, last, alternate) == read, "{first}");
+    }
 }

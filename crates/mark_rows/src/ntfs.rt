@@ -91,24 +91,23 @@ fn marks_of_a_boot_sector(rt: HostRuntime) {
 
 #[test]
 fn sizes_of_records(rt: HostRuntime) {
-    let codes = [
-        (0, 2),
-        (-8, 2),
-        (-17, 2),
-        (-128, 2),
-        (127, 128),
-        (2, 128),
-        (1, 0),
-        (1, 3),
-        (1, 255),
-    ];
-    for (code, cluster) in codes {
-        assert_eq!(rt; size_by(code, cluster), None, "{code} {cluster}");
+    for (code, cluster, size) in [
+        (0, 2, None),
+        (-8, 2, None),
+        (-17, 2, None),
+        (-128, 2, None),
+        (127, 128, None),
+        (2, 128, None),
+        (1, 0, None),
+        (1, 3, None),
+        (1, 255, None),
+        (-9, 2, Some(512)),
+        (-16, 2, Some(65536)),
+        (1, 1, Some(512)),
+        (1, 128, Some(65536)),
+    ] {
+        assert!(rt; size_by(code, cluster) == size, "{code} {cluster}");
     }
-    assert_eq!(rt; size_by(-9, 2), Some(512));
-    assert_eq!(rt; size_by(-16, 2), Some(65536));
-    assert_eq!(rt; size_by(1, 1), Some(512));
-    assert_eq!(rt; size_by(1, 128), Some(65536));
 }
 
 // The first boot sector with this number there is one.

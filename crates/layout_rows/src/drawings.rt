@@ -1,98 +1,58 @@
 //! The first four rows of arrays of four members, as docs/LAYOUTS.md draws them, and the names of layouts. The drawings
 //! are written out by hand there, and not made by a crate.
-use raid_layouts::SlotRole::{Block, P, Q};
 use raid_layouts::{SlotRole, md_name, role};
 use raid_params::{Head, Level, Pattern, Syndrome};
 
-const A: SlotRole = Block(0);
-
-const B: SlotRole = Block(1);
-
-const C: SlotRole = Block(2);
-
-const D: SlotRole = Block(3);
-
-// Four rows of four slots.
-type Drawing = [[SlotRole; 4]; 4];
+// Four rows of four slots: data items by their numbers, P and Q.
+type Drawing = [u8; 19];
 
 // At level 5.
-const LEVEL_5: [(Pattern, Drawing); 6] = [
-    (
-        Pattern::La,
-        [[A, B, C, P], [A, B, P, C], [A, P, B, C], [P, A, B, C]],
-    ),
-    (
-        Pattern::Ra,
-        [[P, A, B, C], [A, P, B, C], [A, B, P, C], [A, B, C, P]],
-    ),
-    (
-        Pattern::Ls,
-        [[A, B, C, P], [B, C, P, A], [C, P, A, B], [P, A, B, C]],
-    ),
-    (
-        Pattern::Rs,
-        [[P, A, B, C], [C, P, A, B], [B, C, P, A], [A, B, C, P]],
-    ),
-    (Pattern::ParityFirst, [[P, A, B, C]; 4]),
-    (Pattern::ParityLast, [[A, B, C, P]; 4]),
+const LEVEL_5: [(Pattern, &Drawing); 6] = [
+    (Pattern::La, b"012P 01P2 0P12 P012"),
+    (Pattern::Ra, b"P012 0P12 01P2 012P"),
+    (Pattern::Ls, b"012P 12P0 2P01 P012"),
+    (Pattern::Rs, b"P012 2P01 12P0 012P"),
+    (Pattern::ParityFirst, b"P012 P012 P012 P012"),
+    (Pattern::ParityLast, b"012P 012P 012P 012P"),
 ];
 
-// At level 6.
-const LEVEL_6: [(Pattern, Syndrome, Drawing); 8] = [
+// At level 6, those with Q in the last slot after the others.
+const LEVEL_6: [(Pattern, Syndrome, &Drawing); 13] = [
+    (Pattern::La, Syndrome::AfterQ, b"Q01P 01PQ 0PQ1 PQ01"),
+    (Pattern::Ra, Syndrome::AfterQ, b"PQ01 0PQ1 01PQ Q01P"),
+    (Pattern::Ls, Syndrome::AfterQ, b"Q01P 01PQ 1PQ0 PQ01"),
+    (Pattern::Rs, Syndrome::AfterQ, b"PQ01 1PQ0 01PQ Q01P"),
+    (Pattern::NRestart, Syndrome::BySlot, b"01PQ 0PQ1 PQ01 Q01P"),
+    (Pattern::NContinue, Syndrome::BySlot, b"01QP 1QP0 QP01 P01Q"),
     (
-        Pattern::La,
+        Pattern::ParityFirst,
         Syndrome::AfterQ,
-        [[Q, A, B, P], [A, B, P, Q], [A, P, Q, B], [P, Q, A, B]],
+        b"PQ01 PQ01 PQ01 PQ01",
     ),
     (
-        Pattern::Ra,
+        Pattern::ParityLast,
         Syndrome::AfterQ,
-        [[P, Q, A, B], [A, P, Q, B], [A, B, P, Q], [Q, A, B, P]],
+        b"01PQ 01PQ 01PQ 01PQ",
     ),
+    (Pattern::La6, Syndrome::AfterQ, b"01PQ 0P1Q P01Q 01PQ"),
+    (Pattern::Ra6, Syndrome::AfterQ, b"P01Q 0P1Q 01PQ P01Q"),
+    (Pattern::Ls6, Syndrome::AfterQ, b"01PQ 1P0Q P01Q 01PQ"),
+    (Pattern::Rs6, Syndrome::AfterQ, b"P01Q 1P0Q 01PQ P01Q"),
     (
-        Pattern::Ls,
+        Pattern::ParityFirst6,
         Syndrome::AfterQ,
-        [[Q, A, B, P], [A, B, P, Q], [B, P, Q, A], [P, Q, A, B]],
+        b"P01Q P01Q P01Q P01Q",
     ),
-    (
-        Pattern::Rs,
-        Syndrome::AfterQ,
-        [[P, Q, A, B], [B, P, Q, A], [A, B, P, Q], [Q, A, B, P]],
-    ),
-    (
-        Pattern::NRestart,
-        Syndrome::BySlot,
-        [[A, B, P, Q], [A, P, Q, B], [P, Q, A, B], [Q, A, B, P]],
-    ),
-    (
-        Pattern::NContinue,
-        Syndrome::BySlot,
-        [[A, B, Q, P], [B, Q, P, A], [Q, P, A, B], [P, A, B, Q]],
-    ),
-    (Pattern::ParityFirst, Syndrome::AfterQ, [[P, Q, A, B]; 4]),
-    (Pattern::ParityLast, Syndrome::AfterQ, [[A, B, P, Q]; 4]),
 ];
 
-// At level 6, where Q stands in the last slot.
-const WITH_Q_LAST: [(Pattern, Drawing); 5] = [
-    (
-        Pattern::La6,
-        [[A, B, P, Q], [A, P, B, Q], [P, A, B, Q], [A, B, P, Q]],
-    ),
-    (
-        Pattern::Ra6,
-        [[P, A, B, Q], [A, P, B, Q], [A, B, P, Q], [P, A, B, Q]],
-    ),
-    (
-        Pattern::Ls6,
-        [[A, B, P, Q], [B, P, A, Q], [P, A, B, Q], [A, B, P, Q]],
-    ),
-    (
-        Pattern::Rs6,
-        [[P, A, B, Q], [B, P, A, Q], [A, B, P, Q], [P, A, B, Q]],
-    ),
-    (Pattern::ParityFirst6, [[P, A, B, Q]; 4]),
-];
+// What stands for a role in a drawing.
+fn drawn(role: SlotRole) -> u8 {
+    match role {
+        SlotRole::Block(item) => b'0'.wrapping_add(item),
+        SlotRole::P => b'P',
+        SlotRole::Q => b'Q',
+    }
+}
 
 // Whether the first four rows of four members of one sector a chunk are those of the drawing.
 fn is_drawn(level: Level, pattern: Pattern, syndrome: Syndrome, drawing: &Drawing) -> bool {
@@ -109,7 +69,7 @@ fn is_drawn(level: Level, pattern: Pattern, syndrome: Syndrome, drawing: &Drawin
     }
     for row in 0..4 {
         for slot in 0..4u8 {
-            if role(&head, row as u64, slot) != drawing[row][slot as usize] {
+            if drawn(role(&head, row as u64, slot)) != drawing[row * 5 + slot as usize] {
                 return false;
             }
         }
@@ -118,11 +78,17 @@ fn is_drawn(level: Level, pattern: Pattern, syndrome: Syndrome, drawing: &Drawin
 }
 
 #[test]
+fn rows_of_level_0(rt: HostRuntime) {
+    let drawing = b"0123 0123 0123 0123";
+    assert!(rt; is_drawn(Level::Raid0, Pattern::Plain, Syndrome::NoQ, drawing));
+}
+
+#[test]
 fn rows_of_level_5(rt: HostRuntime) {
     for i in 0..LEVEL_5.len() {
         let (pattern, drawing) = LEVEL_5[i];
         assert!(rt;
-            is_drawn(Level::Raid5, pattern, Syndrome::NoQ, &drawing),
+            is_drawn(Level::Raid5, pattern, Syndrome::NoQ, drawing),
             "drawing {i}"
         );
     }
@@ -133,27 +99,10 @@ fn rows_of_level_6(rt: HostRuntime) {
     for i in 0..LEVEL_6.len() {
         let (pattern, syndrome, drawing) = LEVEL_6[i];
         assert!(rt;
-            is_drawn(Level::Raid6, pattern, syndrome, &drawing),
+            is_drawn(Level::Raid6, pattern, syndrome, drawing),
             "drawing {i}"
         );
     }
-}
-
-#[test]
-fn rows_with_q_last(rt: HostRuntime) {
-    for i in 0..WITH_Q_LAST.len() {
-        let (pattern, drawing) = WITH_Q_LAST[i];
-        assert!(rt;
-            is_drawn(Level::Raid6, pattern, Syndrome::AfterQ, &drawing),
-            "drawing {i}"
-        );
-    }
-}
-
-#[test]
-fn rows_of_level_0(rt: HostRuntime) {
-    let drawing = [[A, B, C, D]; 4];
-    assert!(rt; is_drawn(Level::Raid0, Pattern::Plain, Syndrome::NoQ, &drawing));
 }
 
 #[test]

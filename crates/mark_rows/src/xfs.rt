@@ -92,34 +92,25 @@ fn superblocks_of_mkfs(rt: HostRuntime) {
 fn bounds_of_a_superblock(rt: HostRuntime) {
     // 28922735 * 1245691219 is 2^55 - 3, and 268435454 * 134217729 is 2^55 - 2. With groups of 512
     // bytes a block the AGI after the last group would lie 2 sectors further.
-    let good = [
-        (512, 1, 1, 512),
-        (65536, 1, 1, 32768),
-        (4096, 1, 1, 4096),
-        (512, 28922735, 1245691219, 512),
-    ];
-    for (block, blocks, groups, size) in good {
+    for (block, blocks, groups, size, read) in [
+        (512, 1, 1, 512, true),
+        (65536, 1, 1, 32768, true),
+        (4096, 1, 1, 4096, true),
+        (512, 28922735, 1245691219, 512, true),
+        (256, 1, 1, 256, false),
+        (1536, 1, 1, 512, false),
+        (131072, 1, 1, 512, false),
+        (4096, 0, 1, 512, false),
+        (4096, 1, 0, 512, false),
+        (4096, 1, 1, 256, false),
+        (4096, 1, 1, 1536, false),
+        (4096, 1, 1, 8192, false),
+        (65536, 1, 1, 65535, false),
+        (512, 268435454, 134217729, 512, false),
+        (65536, u32::MAX, u32::MAX, 512, false),
+    ] {
         assert!(rt;
-            is_super(block, blocks, groups, size),
-            "{block} {blocks} {groups} {size}"
-        );
-    }
-    let bad = [
-        (256, 1, 1, 256),
-        (1536, 1, 1, 512),
-        (131072, 1, 1, 512),
-        (4096, 0, 1, 512),
-        (4096, 1, 0, 512),
-        (4096, 1, 1, 256),
-        (4096, 1, 1, 1536),
-        (4096, 1, 1, 8192),
-        (65536, 1, 1, 65535),
-        (512, 268435454, 134217729, 512),
-        (65536, u32::MAX, u32::MAX, 512),
-    ];
-    for (block, blocks, groups, size) in bad {
-        assert!(rt;
-            !is_super(block, blocks, groups, size),
+            is_super(block, blocks, groups, size) == read,
             "{block} {blocks} {groups} {size}"
         );
     }

@@ -120,16 +120,23 @@ fn has_number(at: usize, number: u64) -> bool
 #[test]
 fn bounds_of_a_boot_sector(rt: HostRuntime) {
     // All sectors, from 1 to 2^55 - 1.
-    assert!(rt; !has_number(40, 0) && has_number(40, 1));
-    assert!(rt; has_number(40, (1 << 55) - 1));
-    assert!(rt; !has_number(40, 1 << 55));
-    // Clusters have 2 sectors here, and record 15 begins 30 sectors after record 0.
-    for at in [48, 56] {
-        assert!(rt; has_number(at, (1 << 54) - 16));
-        assert!(rt; !has_number(at, (1 << 54) - 15));
-        assert!(rt; !has_number(at, u64::MAX));
-        // Twice this is 2 to 64.
-        assert!(rt; !has_number(at, 1 << 63));
+    for (number, read) in [
+        (0, false),
+        (1, true),
+        ((1 << 55) - 1, true),
+        (1 << 55, false),
+    ] {
+        assert!(rt; has_number(40, number) == read, "{number} sectors");
+    }
+    // Clusters have 2 sectors here, and record 15 begins 30 sectors after record 0. Twice 2^63 is 2 to 64.
+    for (cluster, read) in [
+        ((1 << 54) - 16, true),
+        ((1 << 54) - 15, false),
+        (u64::MAX, false),
+        (1 << 63, false),
+    ] {
+        assert!(rt; has_number(48, cluster) == read, "the table at {cluster}");
+        assert!(rt; has_number(56, cluster) == read, "its copy at {cluster}");
     }
 }
 

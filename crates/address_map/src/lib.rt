@@ -14,6 +14,3 @@ mod map;
 
 pub use laws::{each_sector_has_one_home, each_sector_has_one_place, places_and_homes_undo};
 pub use map::{Home, MemberPlace, area, locate, place, rows, volume_sectors};
-
-#[cfg(test)]
-mod tests;

@@ -20,6 +20,3 @@ pub use family::Family;
 pub use laws::{survivors_are_lists, survivors_by_rank};
 pub use leaf::Leaf;
 pub use survivors::Survivors;
-
-#[cfg(test)]
-mod tests;

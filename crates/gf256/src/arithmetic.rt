@@ -53,29 +53,3 @@ pub fn divide(a: u8, b: u8) -> u8
 {
     mul(a, inverse(b))
 }
-
-#[cfg(test)]
-mod tests {
-    use super::*;
-
-    // Values worked out by hand from the polynomial: 2 * 8E = 11C ^ 11D = 1, 3 * F4 = F4 ^ 1E8 ^ 11D = 1.
-    #[test]
-    fn gives_the_known_values(rt: HostRuntime) {
-        assert_eq!(rt; add(0x9D, 0x1D), 0x80);
-        for (a, b, want) in [
-            (0x02, 0x80, 0x1D),
-            (0x04, 0x80, 0x3A),
-            (0x03, 0x80, 0x9D),
-            (0, 7, 0),
-        ] {
-            assert_eq!(rt; mul(a, b), want, "{a} times {b}");
-        }
-        for (k, want) in [(0, 0x01), (1, 0x02), (8, 0x1D), (254, 0x8E), (255, 0x01)] {
-            assert_eq!(rt; power(k), want, "2 to the {k}");
-        }
-        assert_eq!(rt; inverse(0x02), 0x8E);
-        assert_eq!(rt; inverse(0x03), 0xF4);
-        assert_eq!(rt; divide(0x1D, 0x80), 0x02);
-        assert_eq!(rt; divide(0, 0x80), 0);
-    }
-}

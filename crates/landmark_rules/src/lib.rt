@@ -11,8 +11,8 @@
 mod counting;
 mod marks;
 mod testing;
-#[cfg(test)]
-mod tests;
+
+// The tests stand in `layout_rows`.
 
 pub use counting::{fits, sector_in, tally};
 pub use marks::{Group, GroupKind, Groups, Kind, Mark, MarkCount, MarkTests, Marks, Rule};

@@ -10,9 +10,9 @@
 mod blocks;
 mod factors;
 mod sums;
-#[cfg(test)]
-mod tests;
 mod zeros;
+
+// The tests stand in `layout_rows`.
 
 pub use factors::{Multiplier, scale, scale_xor, weigh};
 pub use sums::{double_xor, xor_into};

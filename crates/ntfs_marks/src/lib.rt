@@ -8,8 +8,8 @@
 mod boot;
 mod file_record;
 mod record_size;
-#[cfg(test)]
-mod tests;
+
+// The tests stand in `mark_rows`.
 
 pub use boot::{NtfsBoot, read_boot};
 pub use file_record::{NtfsRecord, read_record};

@@ -27,6 +27,3 @@ pub use laws::{
 pub use names::md_name;
 pub use roles::{SlotRole, p_slot, q_slot, role, slot_of_item};
 pub use rows::row_cells;
-
-#[cfg(test)]
-mod tests;

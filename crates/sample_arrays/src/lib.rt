@@ -14,8 +14,8 @@ mod arrays;
 pub mod laws;
 mod marks;
 mod members;
-#[cfg(test)]
-mod tests;
 mod words;
+
+// The tests stand in `layout_rows`.
 
 pub use arrays::{LEAST_MARKED, MOST_SAMPLED, count_held, sample};

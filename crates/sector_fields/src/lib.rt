@@ -82,23 +82,3 @@ pub fn has_bytes(sector: &[u8; SECTOR], at: usize, bytes: &[u8]) -> bool
 {
     sector[at..].starts_with(bytes)
 }
-
-#[cfg(test)]
-mod tests {
-    use super::*;
-
-    #[test]
-    fn fields_by_hand(rt: HostRuntime) {
-        let mut sector = [0u8; 512];
-        for i in 0..512 {
-            sector[i] = (i % 256) as u8;
-        }
-        assert_eq!(rt; u16_le(&sector, 1), 0x0201);
-        assert_eq!(rt; u32_le(&sector, 1), 0x0403_0201);
-        assert_eq!(rt; u64_le(&sector, 504), 0xfffe_fdfc_fbfa_f9f8);
-        assert_eq!(rt; u16_be(&sector, 1), 0x0102);
-        assert_eq!(rt; u32_be(&sector, 508), 0xfcfd_feff);
-        assert_eq!(rt; uuid_at(&sector, 2).as_bytes()[15], 17);
-        assert!(rt; has_bytes(&sector, 510, &[254, 255]) && !has_bytes(&sector, 511, &[255, 0]));
-    }
-}

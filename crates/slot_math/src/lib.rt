@@ -18,6 +18,3 @@ mod space;
 
 pub use laws::{each_list_is_shaped, each_list_once, ranks_and_lists_undo};
 pub use space::Space;
-
-#[cfg(test)]
-mod tests;

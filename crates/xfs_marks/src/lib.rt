@@ -7,8 +7,8 @@
 
 mod group;
 mod superblock;
-#[cfg(test)]
-mod tests;
+
+// The tests stand in `mark_rows`.
 
 pub use group::{XfsGroup, read_group};
 pub use superblock::{XfsSuper, read_super};

@@ -1,13 +1,10 @@
 //! Two rows of a small array, worked out by hand.
-ghost use Rattle.std.specs.Prelude.{◌≡◌};
-
-use crate::{Home, MemberPlace, locate, place, volume_sectors};
+use address_map::{Home, MemberPlace, locate, place, volume_sectors};
 use raid_params::{Head, Level, Pattern, Syndrome};
 
 // Left-symmetric over four members, two sectors a chunk, from sector 5 on: rows 0 1 2 P and
 // 1 2 P 0.
 #[test]
-#[tactic(auto, unfolding(raid_params::specs::Validity::is_chunk))]
 fn two_rows(rt: HostRuntime) {
     let head = Head {
         level: Level::Raid5,
@@ -17,7 +14,8 @@ fn two_rows(rt: HostRuntime) {
         chunk: 2,
         offset: 5,
     };
-    assert_eq!(rt; volume_sectors(&head, 10), 12);
+    assert!(rt; head.is_valid());
+    assert!(rt; volume_sectors(&head, 10) == 12);
     let home = Home {
         row: 1,
         item: 0,

@@ -1,8 +1,8 @@
 //! Sectors that `mkntfs` wrote, and the bounds of a boot sector and of a file record on both sides.
-
 ghost use Rattle.std.specs.Prelude.{◌+◌, ◌≤◌, length};
 
-use crate::{NtfsBoot, NtfsRecord, read_boot, read_record};
+use crate::sectors::with;
+use ntfs_marks::{NtfsBoot, NtfsRecord, read_boot, read_record};
 
 // truncate -s 2M a.img; mkntfs -F -Q -s 512 -c 1024 -p 63 -H 16 -S 63 -L x a.img
 // `ntfsinfo -m` prints clusters of 1024 bytes, 2047 of them, records of 1024 bytes, the table at
@@ -34,16 +34,13 @@ const RECORD: [u8; 48] = [
     0x00, 0x00, 0x00, 0x00, 0x00, 0x00, 0x00, 0x00, 0x06, 0x00, 0x00, 0x00, 0x05, 0x00, 0x00, 0x00,
 ];
 
-// A sector with these bytes from `at` on.
-fn with(mut sector: [u8; 512], at: usize, bytes: &[u8]) -> [u8; 512]
-    requires { at + length bytes.now ≤ 512 }
-{
-    sector[at..at + bytes.len()].copy_from_slice(bytes);
-    sector
-}
-
 fn boot_sector(front: &[u8; 80]) -> [u8; 512] {
     with(with([0; 512], 0, front), 510, &[0x55, 0xaa])
+}
+
+// The boot sector that begins so.
+fn boot_of(front: &[u8; 80]) -> Option<NtfsBoot> {
+    read_boot(&boot_sector(front))
 }
 
 // The first boot sector, changed there, is one.
@@ -72,7 +69,7 @@ fn boot_sectors_of_mkntfs(rt: HostRuntime) {
         record_bytes: 1024,
         serial: 0x49de_4537_3dae_e0b1,
     };
-    assert!(rt; read_boot(&boot_sector(&BOOT)) == Some(boot));
+    assert!(rt; boot_of(&BOOT) == Some(boot));
     let large = NtfsBoot {
         cluster: 8,
         total: 16383,
@@ -81,7 +78,11 @@ fn boot_sectors_of_mkntfs(rt: HostRuntime) {
         record_bytes: 1024,
         serial: 0x50ce_e04d_5f7f_633b,
     };
-    assert!(rt; read_boot(&boot_sector(&LARGE_BOOT)) == Some(large));
+    assert!(rt; boot_of(&LARGE_BOOT) == Some(large));
+}
+
+#[test]
+fn marks_of_a_boot_sector(rt: HostRuntime) {
     assert!(rt; is_boot(0, b"\x00") && !is_boot(10, b"\x00") && !is_boot(3, b"n"));
     assert!(rt; !is_boot(510, b"\x56") && !is_boot(511, b"\xab"));
     // Bytes per sector: 512, 513, 4096.
@@ -89,54 +90,77 @@ fn boot_sectors_of_mkntfs(rt: HostRuntime) {
 }
 
 #[test]
+fn sizes_of_records(rt: HostRuntime) {
+    for (code, cluster, size) in [
+        (0, 2, None),
+        (-8, 2, None),
+        (-17, 2, None),
+        (-128, 2, None),
+        (127, 128, None),
+        (2, 128, None),
+        (1, 0, None),
+        (1, 3, None),
+        (1, 255, None),
+        (-9, 2, Some(512)),
+        (-16, 2, Some(65536)),
+        (1, 1, Some(512)),
+        (1, 128, Some(65536)),
+    ] {
+        assert!(rt; size_by(code, cluster) == size, "{code} {cluster}");
+    }
+}
+
+// The first boot sector with this number there is one.
+fn has_number(at: usize, number: u64) -> bool
+    requires { at ≤ 504 }
+{
+    is_boot(at, &number.to_le_bytes())
+}
+
+#[test]
 fn bounds_of_a_boot_sector(rt: HostRuntime) {
-    let codes = [
-        (0, 2),
-        (-8, 2),
-        (-17, 2),
-        (-128, 2),
-        (127, 128),
-        (2, 128),
-        (1, 0),
-        (1, 3),
-        (1, 255),
-    ];
-    for (code, cluster) in codes {
-        assert_eq!(rt; size_by(code, cluster), None, "{code} {cluster}");
-    }
-    assert_eq!(rt; size_by(-9, 2), Some(512));
-    assert_eq!(rt; size_by(-16, 2), Some(65536));
-    assert_eq!(rt; size_by(1, 1), Some(512));
-    assert_eq!(rt; size_by(1, 128), Some(65536));
     // All sectors, from 1 to 2^55 - 1.
-    assert!(rt; !is_boot(40, &0u64.to_le_bytes()) && is_boot(40, &1u64.to_le_bytes()));
-    assert!(rt; is_boot(40, &((1u64 << 55) - 1).to_le_bytes()));
-    assert!(rt; !is_boot(40, &(1u64 << 55).to_le_bytes()));
-    // Clusters have 2 sectors here, and record 15 begins 30 sectors after record 0.
-    for at in [48, 56] {
-        assert!(rt; is_boot(at, &((1u64 << 54) - 16).to_le_bytes()));
-        assert!(rt; !is_boot(at, &((1u64 << 54) - 15).to_le_bytes()));
-        assert!(rt; !is_boot(at, &u64::MAX.to_le_bytes()));
-        // Twice this is 2 to 64.
-        assert!(rt; !is_boot(at, &(1u64 << 63).to_le_bytes()));
+    for (number, read) in [
+        (0, false),
+        (1, true),
+        ((1 << 55) - 1, true),
+        (1 << 55, false),
+    ] {
+        assert!(rt; has_number(40, number) == read, "{number} sectors");
     }
+    // Clusters have 2 sectors here, and record 15 begins 30 sectors after record 0. Twice 2^63 is 2 to 64.
+    for (cluster, read) in [
+        ((1 << 54) - 16, true),
+        ((1 << 54) - 15, false),
+        (u64::MAX, false),
+        (1 << 63, false),
+    ] {
+        assert!(rt; has_number(48, cluster) == read, "the table at {cluster}");
+        assert!(rt; has_number(56, cluster) == read, "its copy at {cluster}");
+    }
+}
+
+// The record, changed there.
+fn record_with(at: usize, bytes: &[u8]) -> Option<NtfsRecord>
+    requires { at + length bytes.now ≤ 512 }
+{
+    read_record(&with(with([0; 512], 0, &RECORD), at, bytes))
 }
 
 #[test]
 fn file_records_of_mkntfs(rt: HostRuntime) {
-    let record = with([0; 512], 0, &RECORD);
     assert!(rt;
-        read_record(&record)
+        record_with(0, &[])
             == Some(NtfsRecord {
                 number: 5,
                 bytes: 1024
             })
     );
-    assert!(rt; read_record(&with(record, 44, &[15])).is_some());
-    assert!(rt; read_record(&with(record, 44, &[16])).is_none());
-    assert!(rt; read_record(&with(record, 47, &[1])).is_none());
+    assert!(rt; record_with(44, &[15]).is_some());
+    assert!(rt; record_with(44, &[16]).is_none());
+    assert!(rt; record_with(47, &[1]).is_none());
     // The records of NTFS before 3.1 have the update sequence at 42.
-    assert!(rt; read_record(&with(record, 4, &[42])).is_none());
-    assert!(rt; read_record(&with(record, 5, &[1])).is_none());
-    assert!(rt; read_record(&with(record, 0, b"BAAD")).is_none());
+    assert!(rt; record_with(4, &[42]).is_none());
+    assert!(rt; record_with(5, &[1]).is_none());
+    assert!(rt; record_with(0, b"BAAD").is_none());
 }

@@ -2,7 +2,7 @@
 ghost use Rattle.std.specs.Prelude.{◌≡◌, ◌<◌, ◌∷◌, [], Some, not};
 ghost use Rattle.std.specs.List.{starts_with};
 
-use crate::{Family, Leaf, Survivors};
+use candidate_enum::{Family, Leaf, Survivors};
 use raid_params::Slots;
 use slot_math::Space;
 use std::cell::Cell;
@@ -55,6 +55,32 @@ const ASKED: [&[Option<u8>]; 8] = [
     &[Some(2), Some(0), Some(1)],
 ];
 
+// The walk of these ranks.
+fn walk_of<'a, R: Abort, F: Family>(
+    rt: &R,
+    family: &'a F,
+    from: u64,
+    stop: u64,
+) -> Survivors<'a, F> {
+    let space = family.space();
+    assert!(rt; space.images <= 16 && space.members <= 16);
+    assert!(rt; from <= stop && stop as u128 <= space.total());
+    Survivors::start(family, from, stop)
+}
+
+// The next leaf, as an iterator gives it.
+fn next_leaf<F: Family>(walk: &mut Survivors<F>) -> Option<Leaf> {
+    walk.next()
+}
+
+// The next leaf, with its steps counted.
+fn counted_leaf<F: Family, L: Ledger>(
+    walk: &mut Survivors<F>,
+    steps: &mut Steps<L>,
+) -> Option<Leaf> {
+    walk.advance(steps)
+}
+
 fn is_leaf(leaf: &Option<Leaf>, rank: u64, slots: &[Option<u8>]) -> bool {
     match leaf {
         Some(leaf) => leaf.rank == rank && leaf.slots.as_slice() == slots,
@@ -69,11 +95,23 @@ fn two_leaves<R: Abort, L: Ledger>(rt: &R, family: &NotOne, blank: Blank)
 {
     assert!(rt; family.space().total() == 6);
     let mut steps = Steps::<L>::new(blank);
-    let mut walk = Survivors::start(family, 1, 5);
-    assert!(rt; is_leaf(&walk.advance(&mut steps), 1, &[Some(0), Some(2), Some(1)]));
-    assert!(rt; is_leaf(&walk.advance(&mut steps), 4, &[Some(2), Some(0), Some(1)]));
-    assert!(rt; walk.advance(&mut steps).is_none());
-    assert!(rt; walk.advance(&mut steps).is_none());
+    let mut walk = walk_of(rt, family, 1, 5);
+    assert!(rt;
+        is_leaf(
+            &counted_leaf(&mut walk, &mut steps),
+            1,
+            &[Some(0), Some(2), Some(1)]
+        )
+    );
+    assert!(rt;
+        is_leaf(
+            &counted_leaf(&mut walk, &mut steps),
+            4,
+            &[Some(2), Some(0), Some(1)]
+        )
+    );
+    assert!(rt; counted_leaf(&mut walk, &mut steps).is_none());
+    assert!(rt; counted_leaf(&mut walk, &mut steps).is_none());
 }
 
 #[test]
@@ -82,7 +120,7 @@ fn advanced(rt: HostRuntime) {
         asked: Cell::new(Some(0)),
     };
     two_leaves::<HostRuntime, Brand>(&rt, &family, Blank::new(1));
-    assert_eq!(rt; family.asked.get(), Some(ASKED.len()));
+    assert!(rt; family.asked.get() == Some(ASKED.len()));
 }
 
 #[test]
@@ -91,11 +129,11 @@ fn iterated(rt: HostRuntime) {
         asked: Cell::new(Some(0)),
     };
     assert!(rt; family.space().total() == 6);
-    let mut walk = Survivors::start(&family, 1, 5);
-    assert!(rt; is_leaf(&walk.next(), 1, &[Some(0), Some(2), Some(1)]));
-    assert!(rt; is_leaf(&walk.next(), 4, &[Some(2), Some(0), Some(1)]));
-    assert!(rt; walk.next().is_none());
-    assert_eq!(rt; family.asked.get(), Some(ASKED.len()));
+    let mut walk = walk_of(&rt, &family, 1, 5);
+    assert!(rt; is_leaf(&next_leaf(&mut walk), 1, &[Some(0), Some(2), Some(1)]));
+    assert!(rt; is_leaf(&next_leaf(&mut walk), 4, &[Some(2), Some(0), Some(1)]));
+    assert!(rt; next_leaf(&mut walk).is_none());
+    assert!(rt; family.asked.get() == Some(ASKED.len()));
 }
 
 /// Sixteen images in sixteen places, of which one list passes.
@@ -156,7 +194,7 @@ fn one_of_many(rt: HostRuntime) {
         wanted: Slots::from(WANTED),
     };
     assert!(rt; family.space().total() == 20_922_789_888_000);
-    let mut walk = Survivors::start(&family, 0, 20_922_789_888_000);
-    assert!(rt; is_leaf(&walk.next(), 12_345_678_901_234, &WANTED));
-    assert!(rt; walk.next().is_none());
+    let mut walk = walk_of(&rt, &family, 0, 20_922_789_888_000);
+    assert!(rt; is_leaf(&next_leaf(&mut walk), 12_345_678_901_234, &WANTED));
+    assert!(rt; next_leaf(&mut walk).is_none());
 }

@@ -1,9 +1,8 @@
 //! Sectors that `sgdisk` wrote, and the bounds of a header and of an entry on both sides.
-
 ghost use Rattle.std.specs.Prelude.{◌+◌, ◌≤◌, length};
 
-use crate::{GptHeader, crc32, own_table, read_entries, read_header};
-use std::process::Abort;
+use crate::sectors::with;
+use gpt_marks::{GptHeader, crc32, own_table, read_entries, read_header};
 use uuid::Uuid;
 
 // truncate -s 8M gpt.img
@@ -46,14 +45,6 @@ const SECOND_ENTRY: [u8; 48] = [
     0x28, 0x08, 0x00, 0x00, 0x00, 0x00, 0x00, 0x00, 0xff, 0x1f, 0x00, 0x00, 0x00, 0x00, 0x00, 0x00,
 ];
 
-// A sector with these bytes from `at` on.
-fn with(mut sector: [u8; 512], at: usize, bytes: &[u8]) -> [u8; 512]
-    requires { at + length bytes.now ≤ 512 }
-{
-    sector[at..at + bytes.len()].copy_from_slice(bytes);
-    sector
-}
-
 // What both headers of the disk say alike.
 fn header_at(my_lba: u64, alternate: u64, table: u64) -> GptHeader {
     let disk = Uuid::from_bytes([
@@ -70,45 +61,88 @@ fn header_at(my_lba: u64, alternate: u64, table: u64) -> GptHeader {
     }
 }
 
+// The header of the sector that begins so.
+fn header_of(front: &[u8; 96]) -> Option<GptHeader> {
+    read_header(&with([0; 512], 0, front))
+}
+
+// The first header, changed there, is one.
+fn is_header(at: usize, bytes: &[u8]) -> bool
+    requires { at + length bytes.now ≤ 512 }
+{
+    read_header(&with(with([0; 512], 0, &FIRST), at, bytes)).is_some()
+}
+
+#[test]
+fn checksum(rt: HostRuntime) {
+    assert!(rt; crc32(b"123456789") == 0xcbf4_3926);
+}
+
 #[test]
 fn headers_of_sgdisk(rt: HostRuntime) {
-    assert_eq!(rt; crc32(b"123456789"), 0xcbf4_3926);
-    let first = with([0; 512], 0, &FIRST);
+    assert!(rt; header_of(&FIRST) == Some(header_at(1, 16383, 2)));
+    assert!(rt; header_of(&LAST) == Some(header_at(16383, 1, 16351)));
+    // One bit of the disk's identifier.
+    assert!(rt; !is_header(56, &[0x66]));
+    assert!(rt; is_header(0, b"E"));
+    assert!(rt; !is_header(0, b"F"));
+}
+
+#[test]
+fn own_headers(rt: HostRuntime) {
     let header = header_at(1, 16383, 2);
-    assert!(rt; read_header(&first) == Some(header));
     assert!(rt; own_table(&header, 1, 16384));
     assert!(rt; !own_table(&header, 2, 16384));
     assert!(rt; !own_table(&header, 1, 16385));
-    let last = with([0; 512], 0, &LAST);
     let copy = header_at(16383, 1, 16351);
-    assert!(rt; read_header(&last) == Some(copy));
     assert!(rt; own_table(&copy, 16383, 16384));
     assert!(rt; !own_table(&copy, 1, 16384));
-    // One bit of the disk's identifier.
-    assert!(rt; read_header(&with(first, 56, &[0x66])).is_none());
-    assert!(rt; read_header(&with(first, 0, b"E")).is_some());
-    assert!(rt; read_header(&with(first, 0, b"F")).is_none());
 }
 
-// The header with this size and MyLBA, and the checksum that zlib's `crc32` gives for these.
-fn is_read(rt: &impl Abort, size: u32, my_lba: u64, checksum: u32) -> bool {
+// The MyLBA that is read of the header with this size, MyLBA and checksum.
+fn lba_read(size: u32, my_lba: u64, checksum: u32) -> Option<u64> {
     let sized = with(with([0; 512], 0, &FIRST), 12, &size.to_le_bytes());
     let placed = with(sized, 24, &my_lba.to_le_bytes());
-    let header = read_header(&with(placed, 16, &checksum.to_le_bytes()));
-    if let Some(found) = &header {
-        assert_eq!(rt; found.my_lba, my_lba);
+    match read_header(&with(placed, 16, &checksum.to_le_bytes())) {
+        Some(header) => Some(header.my_lba),
+        None => None,
     }
-    header.is_some()
+}
+
+// The checksums are those that zlib's `crc32` gives.
+#[test]
+fn bounds_of_a_header(rt: HostRuntime) {
+    for (size, my_lba, checksum, read) in [
+        (91, 1, 0x4539_e343, None),
+        (92, 1, 0xe46c_03da, Some(1)),
+        (512, 1, 0xd0fb_c6c3, Some(1)),
+        (513, 1, 0xff35_8024, None),
+        (92, (1 << 55) - 1, 0xec8f_0f73, Some((1 << 55) - 1)),
+        (92, 1 << 55, 0x520f_be47, None),
+    ] {
+        assert!(rt; lba_read(size, my_lba, checksum) == read, "{size} {my_lba}");
+    }
+}
+
+// A type of one bit.
+const LEAST_TYPE: [u8; 16] = [0, 0, 0, 0, 0, 0, 0, 0, 0, 0, 0, 0, 0, 0, 0, 1];
+
+// Whether these are the first blocks of the entries of the sector, changed there.
+fn are_firsts(at: usize, bytes: &[u8], alternate: u64, firsts: [Option<u64>; 4]) -> bool
+    requires { at + length bytes.now ≤ 512 }
+{
+    let entries = with(with([0; 512], 0, &ENTRY), 128, &SECOND_ENTRY);
+    read_entries(&with(entries, at, bytes), alternate) == firsts
 }
 
 #[test]
-fn bounds_of_a_header(rt: HostRuntime) {
-    assert!(rt; !is_read(&rt, 91, 1, 0x4539_e343));
-    assert!(rt; is_read(&rt, 92, 1, 0xe46c_03da));
-    assert!(rt; is_read(&rt, 512, 1, 0xd0fb_c6c3));
-    assert!(rt; !is_read(&rt, 513, 1, 0xff35_8024));
-    assert!(rt; is_read(&rt, 92, (1 << 55) - 1, 0xec8f_0f73));
-    assert!(rt; !is_read(&rt, 92, 1 << 55, 0x520f_be47));
+fn entries_of_sgdisk(rt: HostRuntime) {
+    assert!(rt; are_firsts(0, &[], 16383, [Some(40), Some(2088), None, None]));
+    assert!(rt; are_firsts(0, &[], 8191, [Some(40), Some(2088), None, None]));
+    assert!(rt; are_firsts(0, &[], 8190, [Some(40), None, None, None]));
+    // An entry without a type is unused; one byte is a type.
+    assert!(rt; are_firsts(0, &[0; 16], 16383, [None, Some(2088), None, None]));
+    assert!(rt; are_firsts(0, &LEAST_TYPE, 16383, [Some(40), Some(2088), None, None]));
 }
 
 // The first block of the first entry, with these blocks.
@@ -119,29 +153,13 @@ fn first_of(first: u64, last: u64, alternate: u64) -> Option<u64> {
 }
 
 #[test]
-fn entries_of_sgdisk(rt: HostRuntime) {
-    let entries = with(with([0; 512], 0, &ENTRY), 128, &SECOND_ENTRY);
-    assert_eq!(rt;
-        read_entries(&entries, 16383),
-        [Some(40), Some(2088), None, None]
-    );
-    assert_eq!(rt;
-        read_entries(&entries, 8191),
-        [Some(40), Some(2088), None, None]
-    );
-    assert_eq!(rt; read_entries(&entries, 8190), [Some(40), None, None, None]);
-    // An entry without a type is unused; one byte is a type.
-    let unused = with(entries, 0, &[0; 16]);
-    assert_eq!(rt;
-        read_entries(&unused, 16383),
-        [None, Some(2088), None, None]
-    );
-    assert_eq!(rt; read_entries(&with(unused, 15, &[1]), 16383)[0], Some(40));
-    assert_eq!(rt; first_of(7, 7, 7), Some(7));
-    assert_eq!(rt; first_of(8, 7, 9), None);
-    assert_eq!(rt;
-        first_of((1 << 55) - 1, u64::MAX, u64::MAX),
-        Some((1 << 55) - 1)
-    );
-    assert_eq!(rt; first_of(1 << 55, u64::MAX, u64::MAX), None);
+fn bounds_of_an_entry(rt: HostRuntime) {
+    for (first, last, alternate, read) in [
+        (7, 7, 7, Some(7)),
+        (8, 7, 9, None),
+        ((1 << 55) - 1, u64::MAX, u64::MAX, Some((1 << 55) - 1)),
+        (1 << 55, u64::MAX, u64::MAX, None),
+    ] {
+        assert!(rt; first_of(first, last, alternate) == read, "{first}");
+    }
 }

@@ -1,0 +1,116 @@
+//! The first four rows of arrays of four members, as docs/LAYOUTS.md draws them, and the names of layouts. The drawings
+//! are written out by hand there, and not made by a crate.
+use raid_layouts::{SlotRole, md_name, role};
+use raid_params::{Head, Level, Pattern, Syndrome};
+
+// Four rows of four slots: data items by their numbers, P and Q.
+type Drawing = [u8; 19];
+
+// At level 5.
+const LEVEL_5: [(Pattern, &Drawing); 6] = [
+    (Pattern::La, b"012P 01P2 0P12 P012"),
+    (Pattern::Ra, b"P012 0P12 01P2 012P"),
+    (Pattern::Ls, b"012P 12P0 2P01 P012"),
+    (Pattern::Rs, b"P012 2P01 12P0 012P"),
+    (Pattern::ParityFirst, b"P012 P012 P012 P012"),
+    (Pattern::ParityLast, b"012P 012P 012P 012P"),
+];
+
+// At level 6, those with Q in the last slot after the others.
+const LEVEL_6: [(Pattern, Syndrome, &Drawing); 13] = [
+    (Pattern::La, Syndrome::AfterQ, b"Q01P 01PQ 0PQ1 PQ01"),
+    (Pattern::Ra, Syndrome::AfterQ, b"PQ01 0PQ1 01PQ Q01P"),
+    (Pattern::Ls, Syndrome::AfterQ, b"Q01P 01PQ 1PQ0 PQ01"),
+    (Pattern::Rs, Syndrome::AfterQ, b"PQ01 1PQ0 01PQ Q01P"),
+    (Pattern::NRestart, Syndrome::BySlot, b"01PQ 0PQ1 PQ01 Q01P"),
+    (Pattern::NContinue, Syndrome::BySlot, b"01QP 1QP0 QP01 P01Q"),
+    (
+        Pattern::ParityFirst,
+        Syndrome::AfterQ,
+        b"PQ01 PQ01 PQ01 PQ01",
+    ),
+    (
+        Pattern::ParityLast,
+        Syndrome::AfterQ,
+        b"01PQ 01PQ 01PQ 01PQ",
+    ),
+    (Pattern::La6, Syndrome::AfterQ, b"01PQ 0P1Q P01Q 01PQ"),
+    (Pattern::Ra6, Syndrome::AfterQ, b"P01Q 0P1Q 01PQ P01Q"),
+    (Pattern::Ls6, Syndrome::AfterQ, b"01PQ 1P0Q P01Q 01PQ"),
+    (Pattern::Rs6, Syndrome::AfterQ, b"P01Q 1P0Q 01PQ P01Q"),
+    (
+        Pattern::ParityFirst6,
+        Syndrome::AfterQ,
+        b"P01Q P01Q P01Q P01Q",
+    ),
+];
+
+// What stands for a role in a drawing.
+fn drawn(role: SlotRole) -> u8 {
+    match role {
+        SlotRole::Block(item) => b'0'.wrapping_add(item),
+        SlotRole::P => b'P',
+        SlotRole::Q => b'Q',
+    }
+}
+
+// Whether the first four rows of four members of one sector a chunk are those of the drawing.
+fn is_drawn(level: Level, pattern: Pattern, syndrome: Syndrome, drawing: &Drawing) -> bool {
+    let head = Head {
+        level,
+        members: 4,
+        pattern,
+        syndrome,
+        chunk: 1,
+        offset: 0,
+    };
+    if !head.is_valid() {
+        return false;
+    }
+    for row in 0..4 {
+        for slot in 0..4u8 {
+            if drawn(role(&head, row as u64, slot)) != drawing[row * 5 + slot as usize] {
+                return false;
+            }
+        }
+    }
+    true
+}
+
+#[test]
+fn rows_of_level_0(rt: HostRuntime) {
+    let drawing = b"0123 0123 0123 0123";
+    assert!(rt; is_drawn(Level::Raid0, Pattern::Plain, Syndrome::NoQ, drawing));
+}
+
+#[test]
+fn rows_of_level_5(rt: HostRuntime) {
+    for i in 0..LEVEL_5.len() {
+        let (pattern, drawing) = LEVEL_5[i];
+        assert!(rt;
+            is_drawn(Level::Raid5, pattern, Syndrome::NoQ, drawing),
+            "drawing {i}"
+        );
+    }
+}
+
+#[test]
+fn rows_of_level_6(rt: HostRuntime) {
+    for i in 0..LEVEL_6.len() {
+        let (pattern, syndrome, drawing) = LEVEL_6[i];
+        assert!(rt;
+            is_drawn(Level::Raid6, pattern, syndrome, drawing),
+            "drawing {i}"
+        );
+    }
+}
+
+#[test]
+fn names(rt: HostRuntime) {
+    assert!(rt;
+        md_name(Level::Raid6, Pattern::NRestart, Syndrome::BySlot) == Some("ddf-N-restart")
+    );
+    assert!(rt; md_name(Level::Raid6, Pattern::Ra, Syndrome::BySlot) == Some("ddf-zero-restart"));
+    assert!(rt; md_name(Level::Raid6, Pattern::Ra, Syndrome::AfterQ) == Some("right-asymmetric"));
+    assert!(rt; md_name(Level::Raid6, Pattern::NRestart, Syndrome::AfterQ).is_none());
+}

@@ -1,0 +1,99 @@
+//! Small spaces whose lists are written out, and a large one whose length is worked out by hand.
+ghost use Rattle.std.specs.Prelude.{◌≡◌};
+
+use raid_params::Slots;
+use slot_math::Space;
+use std::process::Abort;
+
+// An empty place.
+const NO: Option<u8> = None;
+
+// The lists of the space are these, in their order, and their ranks are their numbers.
+fn are_lists<R: Abort>(rt: &R, space: &Space, lists: &[[Option<u8>; 3]; 6]) {
+    assert!(rt; space.images <= 3 && space.members == 3);
+    assert!(rt; space.total() == 6);
+    for rank in 0..6u8 {
+        let slots = space.unrank(rank as u128);
+        assert!(rt;
+            slots.as_slice() == &lists[rank as usize][..],
+            "the list of {rank}"
+        );
+        assert!(rt;
+            space.rank(&slots) == Some(rank as u128),
+            "the rank of {rank}"
+        );
+    }
+}
+
+#[test]
+fn three_images(rt: HostRuntime) {
+    let lists = [
+        [Some(0), Some(1), Some(2)],
+        [Some(0), Some(2), Some(1)],
+        [Some(1), Some(0), Some(2)],
+        [Some(1), Some(2), Some(0)],
+        [Some(2), Some(0), Some(1)],
+        [Some(2), Some(1), Some(0)],
+    ];
+    let space = Space {
+        images: 3,
+        members: 3,
+        low: 0,
+        high: 0,
+    };
+    are_lists(&rt, &space, &lists);
+}
+
+#[test]
+fn one_empty(rt: HostRuntime) {
+    let lists = [
+        [Some(0), Some(1), NO],
+        [Some(0), NO, Some(1)],
+        [Some(1), Some(0), NO],
+        [Some(1), NO, Some(0)],
+        [NO, Some(0), Some(1)],
+        [NO, Some(1), Some(0)],
+    ];
+    let space = Space {
+        images: 2,
+        members: 3,
+        low: 1,
+        high: 1,
+    };
+    are_lists(&rt, &space, &lists);
+}
+
+// How many lists over sixteen images have from `low` to `high` empty places.
+fn total(low: u8, high: u8) -> u128 {
+    sixteen(low, high).total()
+}
+
+fn sixteen(low: u8, high: u8) -> Space
+    ensures images { result.images ≡ 16 }
+    ensures members { result.members ≡ 16 }
+{
+    Space {
+        images: 16,
+        members: 16,
+        low,
+        high,
+    }
+}
+
+// How many of those with two empty places at most begin so, and the rank of this beginning as a list.
+fn begun(front: &Slots) -> (u128, Option<u128>) {
+    let space = sixteen(0, 2);
+    (space.completions(front), space.rank(front))
+}
+
+// 16! lists have all images, 256 * 15! leave one out, and 14400 * 14! two: together 77 * 16!.
+#[test]
+fn sixteen_images(rt: HostRuntime) {
+    assert!(rt; total(0, 2) == 77 * 20_922_789_888_000);
+    assert!(rt; total(3, 2) == 0);
+    let mut front = Slots::new();
+    assert!(rt; begun(&front).0 == 77 * 20_922_789_888_000);
+    front.push(Some(3));
+    front.push(Some(3));
+    assert!(rt; begun(&front) == (0, None));
+}

@@ -1,0 +1,17 @@
+//! Tests of the readers of landmark sectors.
+//!
+//! `fields` reads the fields of a sector, `gpt`, `ntfs` and `xfs` sectors that other programs wrote, and sectors at and
+//! past the bounds of these. `sectors` makes them. They stand here, since a library with tests is proved a second time
+//! with them.
+#![tactic(auto)]
+
+#[cfg(test)]
+mod fields;
+#[cfg(test)]
+mod gpt;
+#[cfg(test)]
+mod ntfs;
+#[cfg(test)]
+mod sectors;
+#[cfg(test)]
+mod xfs;

@@ -26,8 +26,8 @@ sum_byte room n place x = all_sum (room_byte room (512 * place + x)) n
 abbrev pub IsBlankAt : Room → ℕ → ℕ → Type 0
 IsBlankAt room n place = (image x : ℕ) → image < n → x < 512 → room_byte room (512 * place + x) image ≡ 0
 
--- these sectors are bytes, and it is said of them just where it is so: that their exclusive or is zeros, that all of them
--- are, and that it is the sector of an image
+-- these sectors are bytes, and it is said of them just where it is so: that their exclusive or is zeros, that all of
+-- them are, and that it is the sector of an image
 pub record IsImageSum (room : Room) (n place : ℕ) (sum : ImageSum) : Type 0 where
   pub bytes : (image x : ℕ) → image < n → x < 512 → room_byte room (512 * place + x) image < 256
   pub zero : Decides sum.is_zero ((x : ℕ) → x < 512 → sum_byte room n place x ≡ 0)

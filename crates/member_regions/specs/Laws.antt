@@ -1,4 +1,4 @@
--- How much is read for a volume.
+-- How much is read for a volume or a lost member.
 use Rattle.std.specs.Prelude.{ℕ, ◌≡◌, ◌*◌, true}
 use Rattle.raid_params.specs.declared.types.Geometry.{Geometry}
 use Rattle.raid_params.specs.Size.{area, data_blocks, volume_sectors}

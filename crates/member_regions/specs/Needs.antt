@@ -1,4 +1,4 @@
--- Which sectors of the members the volume is found by.
+-- Which sectors of the members the data are found by.
 use Rattle.std.specs.Prelude.{ℕ, ◌≡◌, ◌+◌, ◌*◌, ◌/◌, ◌<◌, Bool, true, ◌&&◌, List, length, count_by, map, slice_index, slice_index_or}
 use Rattle.std.specs.List.{range_with_len, sum}
 use Rattle.std.specs.declared.option.Option.TheVariants.{None}

@@ -22,7 +22,7 @@ pub record KeepsRoom (old new : Room) : Type 0 where
   pub members : new.members ≡ old.members
   pub stride : new.stride ≡ old.stride
 
--- the regions of those of the first n slots that hold an image hold the first `bytes` bytes of their members from sector `first` on
+-- of the first n slots, the regions of those with an image hold `bytes` bytes of their members from sector `first` on
 abbrev pub HoldRead : List (List ℕ) → Geometry → ℕ → ℕ → ℕ → ℕ → List ℕ → Type 0
 HoldRead images geo stride first bytes n sectors =
     (i y : ℕ) → i < n → y < bytes → is_none (slice_index_or geo.slots.items i None) ≡ false →

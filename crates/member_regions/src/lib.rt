@@ -20,8 +20,6 @@ mod needs;
 mod reading;
 mod regions;
 mod solving;
-#[cfg(test)]
-mod tests;
 
 pub use image_sums::{ImageSum, sum_images};
 pub use reading::{read_member, read_members};

@@ -1,4 +1,4 @@
-//! Which sectors of a member the volume is found by, and how far that goes on.
+//! Which sectors of a member the data are found by, and how far that goes on.
 ghost use Rattle.std.specs.Prelude.{ℕ, ◌≡◌, ◌≢◌, ◌/◌, ◌<◌, ◌≤◌, length};
 ghost use Rattle.std.specs.List.{list_all};
 ghost use Rattle.std.specs.Option.{is_some};

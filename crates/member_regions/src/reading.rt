@@ -43,7 +43,7 @@ pub fn read_members<I: Images>(
     Ok(())
 }
 
-/// Reads those of `count` sectors of each member from member sector `first` on that the volume is found
+/// Reads those of `count` sectors of each member from member sector `first` on that the data are found
 /// by, each into its region. A region has `stride` bytes.
 #[tactic(auto, using(pq_parity::proofs::Regions::region_inside))]
 pub(crate) fn read_needed<I: Images>(

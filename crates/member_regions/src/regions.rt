@@ -83,7 +83,7 @@ impl Regions {
         read_members(images, &mut self.sectors, geo, self.stride, first, count)
     }
 
-    /// Reads those of `count` sectors of each member, from member sector `first` on, that the volume is
+    /// Reads those of `count` sectors of each member, from member sector `first` on, that the data are
     /// found by.
     #[tactic(auto, using(crate::proofs::Room::room_inside))]
     pub fn read_needed<I: Images>(

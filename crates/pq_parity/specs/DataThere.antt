@@ -12,8 +12,8 @@ data_there cell = record { part = cell.part; missing = not (is_data cell.part) }
 abbrev pub parity_lost : List Cell → List Cell
 parity_lost cells = map data_there cells
 
--- in `count` sectors, from number `from` on, the regions of the data cells hold the bytes of these columns, and the lost ones where a
--- cell is missing
+-- in `count` sectors, from number `from` on, the regions of the data cells hold the bytes of these columns, and the
+-- lost ones where a cell is missing
 abbrev pub HoldAllData : List Cell → ℕ → ℕ → ℕ → List ℕ → (ℕ → ℕ → List ℕ) → Type 0
 HoldAllData cells stride from count sectors column =
     (place : ℕ) → IfSome (slice_get cells place) (λ cell. is_data cell.part ≡ true → (j x : ℕ) → from ≤ j → j < from + count → x < 512 →

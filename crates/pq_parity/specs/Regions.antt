@@ -19,8 +19,8 @@ abbrev pub HoldsLost : List Cell → ℕ → ℕ → List ℕ → List ℕ → �
 HoldsLost cells stride j old new place =
     (x : ℕ) → x < 512 → slice_index new (stride * place + (512 * j + x)) ≡ lost_byte cells (region_column (length cells) stride old j x) place
 
--- in `count` sectors, from number `from` on, the region of a place holds the sums of what the cells that are there add, by the regions as
--- they were before
+-- in `count` sectors, from number `from` on, the region of a place holds the sums of what the cells that are there
+-- add, by the regions as they were before
 abbrev pub HoldSums : (Part → ℕ → ℕ) → List Cell → ℕ → ℕ → ℕ → ℕ → List ℕ → List ℕ → Type 0
 HoldSums adds cells stride from count place old new =
     (j x : ℕ) → from ≤ j → j < from + count → x < 512 → slice_index new (stride * place + (512 * j + x)) ≡ sum_at adds cells (region_column (length cells) stride old j) x

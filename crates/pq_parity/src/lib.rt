@@ -12,10 +12,10 @@
 //! the two sums of the row times its factors, whose tables are made once. [`solve_parity`] finds a parity
 //! block by all data of its row: their sums go straight into the region.
 //!
-//! The equations stand in `Parity` of `raid_terms`, lost bytes in `Solving`, the two sums in
-//! `specs/Syndromes`, the regions in `specs/Regions`, what data are found by in `specs/Needs`, and what parity is in `specs/DataThere`. Sums are
-//! formed by strips of 64 columns, Q's in falling order of exponents, so that it takes doublings alone; a
-//! test is left at the first strip that fails.
+//! The equations stand in `Parity` of `raid_terms`, lost bytes in `Solving`, the two sums in `specs/Syndromes`, the
+//! regions in `specs/Regions`, what data are found by in `specs/Needs`, and what parity is found by in
+//! `specs/DataThere`. Sums are formed by strips of 64 columns, Q's in falling order of exponents, so that it takes
+//! doublings alone; a test is left at the first strip that fails.
 #![tactic(auto)]
 
 mod fills;
@@ -28,8 +28,6 @@ mod rows;
 mod solving;
 mod strips;
 mod syndromes;
-#[cfg(test)]
-mod tests;
 mod weights;
 
 pub use lost_data::solve_data;

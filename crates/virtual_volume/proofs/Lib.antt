@@ -5,5 +5,4 @@ pub mod Blocks
 pub mod Sets
 pub mod Whole
 pub mod Puts
-pub mod TestSets
 pub mod Ahead

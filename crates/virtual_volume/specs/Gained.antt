@@ -10,7 +10,7 @@ use Rattle.raid_params.specs.declared.types.Head.{Head}
 abbrev pub AppendsSectors : Option (List ℕ) → Option (List ℕ) → List ℕ → Type 0
 AppendsSectors old new bs = (n : ℕ) × (512 * n ≤ length bs) × Appends old new (take (512 * n) bs)
 
--- no more sectors were read than the sink is known to have gained, and `most` more; the counts are those of sectors read
+-- no more sectors were read than the sink is known to have gained, and `most` more; the counts are of sectors read
 abbrev pub IsAhead : ℕ → ℕ → ℕ → Option (List ℕ) → Option (List ℕ) → Type 0
 IsAhead most from to old new = IfSome old (λ before. IsSomeAnd new (λ after. 512 * to + length before ≤ 512 * (from + most) + length after))
 

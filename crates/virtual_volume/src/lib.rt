@@ -8,11 +8,7 @@
 
 mod batch;
 mod pending;
-#[cfg(test)]
-mod read_counts;
 mod sector;
-#[cfg(test)]
-mod tests;
 mod volume;
 
 pub use sector::read_volume;

@@ -1,5 +1,5 @@
 //! That the calls which may run out of memory succeed.
-use crate::Regions;
+use member_regions::Regions;
 use std::test::Fail;
 
 #[test]

@@ -1,7 +1,7 @@
 use Rattle.std.proofs.Common.{◌<◌, [], ◌∷◌, nat_eq, refl, arith}
 use Rattle.std.specs.List.{IsDistinct}
 use Rattle.std.proofs.lemmas.List.Elements.{All-from_recursion}
-use Rattle.pq_parity.proofs.tests.six.Goals as goal
+use Rattle.volume_rows.proofs.cells.six.Goals as goal
 
 apart : IsDistinct nat_eq (7 ∷ 200 ∷ 31 ∷ 254 ∷ [])
 unfolding IsDistinct

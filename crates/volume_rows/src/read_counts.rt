@@ -3,15 +3,13 @@ ghost use Rattle.std.specs.Prelude.{◌≡◌, ◌≤◌, IsTrue, OnOk, length};
 ghost use Rattle.image_source.specs.Bytes.{shelf_tells};
 ghost use Rattle.image_source.specs.Memory.{seen_of};
 
-use crate::tests::write;
+use crate::objects::{NO, are_sectors, images_of, set_of};
+use crate::volumes::write;
 use image_source::{Failed, Images, MemImages, MemSink, SECTOR};
-use raid_params::{Geometry, Head, Level, Pattern, Slots, Syndrome};
+use raid_params::{Level, Pattern, Syndrome};
 use std::alloc::Global;
 use std::process::Abort;
 use std::test::Fail;
-
-// An empty slot.
-const NO: Option<u8> = None;
 
 /// Images in memory, with the sectors that were asked for of each of the first four.
 #[derive(Drop)]
@@ -44,52 +42,32 @@ impl Images for Counted {
 }
 
 // Four images of four sectors of zeros.
-fn four_images(alloc: Global) -> Result<Counted, Fail> {
-    let mut images = MemImages::new(alloc)?;
-    images.add("zeros", &[0; 2048])?;
-    images.attach("zeros")?;
-    images.attach("zeros")?;
-    images.attach("zeros")?;
-    images.attach("zeros")?;
+fn four_images<R: Abort>(rt: &R, alloc: Global) -> Result<Counted, Fail> {
+    let zeros = [0; 4];
+    let blank = ("zeros", zeros.as_slice());
+    let images = images_of(rt, alloc, &[blank, blank, blank, blank])?;
     Ok(Counted {
         images,
         reads: [0; 4],
     })
 }
 
-// A set of four members at level 6, in chunks of a sector.
-fn four_slots(pattern: Pattern, known: [Option<u8>; 4]) -> Geometry
-    ensures { result.head.offset ≡ 0 }
-{
-    let mut slots = Slots::new();
-    slots.push(known[0]);
-    slots.push(known[1]);
-    slots.push(known[2]);
-    slots.push(known[3]);
-    let head = Head {
-        level: Level::Raid6,
-        members: 4,
-        pattern,
-        syndrome: Syndrome::AfterQ,
-        chunk: 1,
-        offset: 0,
-    };
-    Geometry { head, slots }
-}
-
-// The sectors that are read of each of the four images for the volume of eight sectors.
-fn reads_of<R: Abort>(
+// Looks how many sectors are read of each of the four images for the volume of eight sectors, of a set of four
+// members at level 6, in chunks of a sector.
+fn look<R: Abort>(
     rt: &R,
     alloc: Global,
     pattern: Pattern,
-    known: [Option<u8>; 4],
-) -> Result<[u64; 4], Fail> {
-    let mut counted = four_images(alloc)?;
+    held: [Option<u8>; 4],
+    reads: [u64; 4],
+) -> Result<(), Fail> {
+    let geo = set_of(rt, Level::Raid6, pattern, Syndrome::AfterQ, 1, &held);
+    let mut counted = four_images(rt, alloc)?;
     let mut sink = MemSink::new(alloc, 4096)?;
-    let geo = four_slots(pattern, known);
     assert!(rt; write(rt, alloc, &mut counted, 4, &geo, 4, &mut sink).is_ok());
-    assert_eq!(rt; sink.bytes(), [0; 4096].as_slice());
-    Ok(counted.reads)
+    assert!(rt; are_sectors(sink.bytes(), &[0; 8]));
+    assert!(rt; counted.reads == reads);
+    Ok(())
 }
 
 // Row by row P lies on slot 3, 2, 1 and 0, and Q after it, on slot 0, 3, 2 and 1. So each slot holds data
@@ -97,24 +75,17 @@ fn reads_of<R: Abort>(
 // where P lies on slots 2 and 1; Q is never asked.
 #[test]
 fn rotating_parity(rt: HostRuntime) -> Result<(), Fail> {
-    let alloc = rt.alloc();
-    let all = reads_of(
-        &rt,
-        alloc,
-        Pattern::Ls,
-        [Some(0), Some(1), Some(2), Some(3)],
-    )?;
-    assert_eq!(rt; all, [2, 2, 2, 2]);
-    let one_lost = reads_of(&rt, alloc, Pattern::Ls, [NO, Some(1), Some(2), Some(3)])?;
-    assert_eq!(rt; one_lost, [0, 3, 3, 2]);
-    Ok(())
+    let pattern = Pattern::Ls;
+    let all = [Some(0), Some(1), Some(2), Some(3)];
+    look(&rt, rt.alloc(), pattern, all, [2, 2, 2, 2])?;
+    let one_lost = [NO, Some(1), Some(2), Some(3)];
+    look(&rt, rt.alloc(), pattern, one_lost, [0, 3, 3, 2])
 }
 
 // Slots 0 and 1 hold data in each row, slot 2 holds P and slot 3 Q.
 #[test]
 fn parity_last(rt: HostRuntime) -> Result<(), Fail> {
-    let alloc = rt.alloc();
-    for (known, reads) in [
+    for (held, reads) in [
         ([Some(0), Some(1), Some(2), Some(3)], [4, 4, 0, 0]),
         ([NO, Some(1), Some(2), Some(3)], [0, 4, 4, 0]),
         ([Some(0), Some(1), NO, Some(3)], [4, 4, 0, 0]),
@@ -122,7 +93,7 @@ fn parity_last(rt: HostRuntime) -> Result<(), Fail> {
         ([NO, Some(1), NO, Some(3)], [0, 4, 0, 4]),
         ([NO, NO, Some(2), Some(3)], [0, 0, 4, 4]),
     ] {
-        assert_eq!(rt; reads_of(&rt, alloc, Pattern::ParityLast, known)?, reads);
+        look(&rt, rt.alloc(), Pattern::ParityLast, held, reads)?;
     }
     Ok(())
 }

@@ -4,7 +4,7 @@ use Rattle.std.proofs.lemmas.Bool.{ne_eqb}
 use Rattle.std.proofs.lemmas.List.Elements.{All-from_recursion}
 use Rattle.raid_params.specs.declared.types.Part.TheVariants.{Block, P, Q}
 use Rattle.raid_terms.specs.Parity.{IsRow}
-use Rattle.pq_parity.proofs.tests.four.Goals as goal
+use Rattle.volume_rows.proofs.cells.four.Goals as goal
 
 two_apart : (i j : ℕ) → i ≢ j → IsDistinct nat_eq (i ∷ j ∷ [])
 unfolding IsDistinct

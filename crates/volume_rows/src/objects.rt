@@ -1,0 +1,181 @@
+//! Sets, images and sinks in memory, as the tests have them.
+ghost use Rattle.std.specs.Prelude.{◌≡◌, ◌≤◌, length, All, IsSomeAnd, IsTrue, None, slice_get};
+ghost use Rattle.virtual_volume.specs.Served.{IsServed};
+
+use image_source::{Failed, Images, MemImages, MemSink, SECTOR, Sink};
+use raid_params::{Geometry, Head, Level, Pattern, Slots, Syndrome};
+use std::alloc::Global;
+use std::process::Abort;
+use std::test::Fail;
+
+/// An empty slot.
+pub const NO: Option<u8> = None;
+
+/// Sectors of a member from here on are refused.
+const FAR: u64 = 36_028_797_018_963_968;
+
+/// A set of these slots, in chunks of `chunk` sectors from sector 0 of the images on.
+pub fn set_of<R: Abort>(
+    rt: &R,
+    level: Level,
+    pattern: Pattern,
+    syndrome: Syndrome,
+    chunk: u64,
+    held: &[Option<u8>],
+) -> Geometry {
+    let mut slots = Slots::new();
+    for one in held {
+        assert!(rt; slots.try_push(*one).is_ok());
+    }
+    let members = slots.len() as u8;
+    let head = Head {
+        level,
+        members,
+        pattern,
+        syndrome,
+        chunk,
+        offset: 0,
+    };
+    Geometry { head, slots }
+}
+
+/// A sector of each byte, one after the other.
+fn sectors(alloc: Global, bytes: &[u8]) -> Result<Vec<u8>, Fail> {
+    let mut all = Vec::new(alloc);
+    for byte in bytes {
+        all.extend_from_slice(&[*byte; SECTOR])?;
+    }
+    Ok(all)
+}
+
+/// Whether these are a sector of each byte, one after the other.
+pub fn are_sectors(bytes: &[u8], want: &[u8]) -> bool {
+    if bytes.len() % SECTOR != 0 || bytes.len() / SECTOR != want.len() {
+        return false;
+    }
+    bytes
+        .chunks_exact(SECTOR)
+        .zip(want)
+        .all(|(sector, byte)| repeat(sector, *byte))
+}
+
+/// Whether each of the bytes is this one.
+pub fn repeat(bytes: &[u8], byte: u8) -> bool {
+    bytes.iter().all(|x| *x == byte)
+}
+
+/// A sink of `room` bytes, whose call number `call` fails once it has taken `taken` bytes.
+pub fn sink_of(alloc: Global, room: usize, call: u64, taken: usize) -> Result<MemSink, Fail> {
+    let mut sink = MemSink::new(alloc, room)?;
+    sink.fail_call(call, taken)?;
+    Ok(sink)
+}
+
+/// Adds an image beside at most 16, and attaches it.
+#[tactic(auto, using(crate::proofs::Joined::joined, crate::proofs::Joined::few))]
+fn join<R: Abort>(rt: &R, images: &mut MemImages, name: &str, bytes: &[u8]) -> Result<(), Fail> {
+    assert!(rt; images.length(16).is_none());
+    images.add(name, bytes)?;
+    images.attach(name)?;
+    Ok(())
+}
+
+/// The same, of a sector of each byte.
+fn join_sectors<R: Abort>(
+    rt: &R,
+    alloc: Global,
+    images: &mut MemImages,
+    name: &str,
+    each: &[u8],
+) -> Result<(), Fail> {
+    let bytes = sectors(alloc, each)?;
+    join(rt, images, name, &bytes)
+}
+
+/// Images by their names, attached in this order, of a sector of each byte.
+pub fn images_of<R: Abort>(
+    rt: &R,
+    alloc: Global,
+    named: &[(&str, &[u8])],
+) -> Result<MemImages, Fail> {
+    let mut images = MemImages::new(alloc)?;
+    for one in named {
+        join_sectors(rt, alloc, &mut images, one.0, one.1)?;
+    }
+    Ok(images)
+}
+
+/// Two images of `bytes` bytes that are 1.
+pub fn two_of_ones<R: Abort>(rt: &R, alloc: Global, bytes: usize) -> Result<MemImages, Fail> {
+    let ones = vec![in alloc; 1u8; bytes]?;
+    let mut images = MemImages::new(alloc)?;
+    join(rt, &mut images, "a", &ones)?;
+    join(rt, &mut images, "b", &ones)?;
+    Ok(images)
+}
+
+fn reaches<I: Images>(images: &I, image: u32, end: u64) -> bool
+    ensures { IsTrue result → IsSomeAnd (slice_get (I.seen images.now).attached image) (λ a. end ≤ a.sectors) }
+{
+    match images.length(image) {
+        Some(sectors) => end <= sectors,
+        None => false,
+    }
+}
+
+/// Whether `count` images are attached, and each reaches to the end.
+fn all_reach<I: Images>(images: &I, count: u8, end: u64) -> bool
+    ensures { IsTrue result → (length (I.seen images.now).attached ≡ count) × All (λ a. end ≤ a.sectors) (I.seen images.now).attached }
+{
+    for i in 0..count {
+        if !reaches(images, i as u32, end) {
+            return false;
+        }
+    }
+    images.length(count as u32).is_none()
+}
+
+/// Looks whether the volume of a set can be written, over `count` images.
+#[tactic(auto, using(crate::proofs::TestSets::long_served))]
+pub fn serve<R: Abort, I: Images>(rt: &R, images: &I, count: u8, geo: &Geometry, end: u64)
+    ensures { IsServed geo.now end (I.seen images.now).attached }
+{
+    assert!(rt; geo.head.offset < FAR && end < FAR);
+    assert!(rt; geo.validate(count, end).is_ok());
+    assert!(rt; all_reach(images, count, end));
+}
+
+/// A sink that keeps nothing and looks at each put.
+#[derive(Drop)]
+pub struct Looker {
+    /// The bytes that were put.
+    pub bytes: usize,
+    /// Whether each put held one or more whole sectors.
+    pub whole: bool,
+    /// Whether each byte was 1.
+    pub ones: bool,
+}
+
+impl Looker {
+    /// One that saw nothing yet.
+    pub fn new() -> Looker {
+        Looker {
+            bytes: 0,
+            whole: true,
+            ones: true,
+        }
+    }
+}
+
+impl Sink for Looker {
+    ghost gained = { λ _. None };
+
+    ghost faults = { λ _. 0 };
+
+    fn put(&mut self, from: &[u8]) -> Result<(), Failed> {
+        self.bytes = self.bytes.wrapping_add(from.len());
+        self.whole &= !from.is_empty() && from.len() % SECTOR == 0;
+        self.ones &= from.iter().all(|byte| *byte == 1);
+        Ok(())
+    }
+}

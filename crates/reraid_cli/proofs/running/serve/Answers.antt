@@ -196,9 +196,6 @@ returns-in-Rebuild-clause-whole g c is reading asked =
     rebuild_whole c.in-Rebuild.set c.in-Rebuild.slot c.in-Rebuild.end c.in-Rebuild.names c.args.names left reading (g.I.Images.seen c.args.images.now).attached (g.K.Sink.gained c.args.out.now) (g.K.Sink.gained c.rebuild.new.out)
     (subst P c.in-Rebuild.is asked) (c.rebuild.ensures.whole is)
 
-pub returns-in-Survey-clause-leaves : goal.returns-in-Survey-clause-leaves
-returns-in-Survey-clause-leaves g c = rw c.in-Survey.is c.survey.ensures.leaves
-
 pub returns-in-Survey-clause-end : goal.returns-in-Survey-clause-end
 returns-in-Survey-clause-end g c planned = let P : Command → Type 0 = λ k. IsPlanned (Ok k) in absurd (subst P c.in-Survey.is planned)
 
@@ -232,9 +229,6 @@ returns-in-Check-clause-unasked g c unplanned = let P : Command → Type 0 = λ 
 pub returns-in-Check-clause-own : goal.returns-in-Check-clause-own
 returns-in-Check-clause-own g c own = absurd (subst IsOwn c.in-Check.is own)
 
-pub returns-in-Map-clause-leaves : goal.returns-in-Map-clause-leaves
-returns-in-Map-clause-leaves g c = rw c.in-Map.is c.map.ensures.leaves
-
 pub returns-in-Map-clause-end : goal.returns-in-Map-clause-end
 returns-in-Map-clause-end g c planned = let P : Command → Type 0 = λ k. IsPlanned (Ok k) in absurd (subst P c.in-Map.is planned)
 
@@ -244,9 +238,6 @@ returns-in-Map-clause-unasked g c unplanned = (refl, refl)
 pub returns-in-Map-clause-own : goal.returns-in-Map-clause-own
 returns-in-Map-clause-own g c own = absurd (subst IsOwn c.in-Map.is own)
 
-pub returns-in-Write-clause-leaves : goal.returns-in-Write-clause-leaves
-returns-in-Write-clause-leaves g c = rw c.in-Write.is c.write.ensures.leaves
-
 pub returns-in-Write-clause-end : goal.returns-in-Write-clause-end
 returns-in-Write-clause-end g c planned = let P : Command → Type 0 = λ k. IsPlanned (Ok k) in absurd (subst P c.in-Write.is planned)
 
@@ -255,9 +246,6 @@ returns-in-Write-clause-unasked g c unplanned = (refl, refl)
 
 pub returns-in-Write-clause-own : goal.returns-in-Write-clause-own
 returns-in-Write-clause-own g c own = absurd (subst IsOwn c.in-Write.is own)
-
-pub returns-in-Rebuild-clause-leaves : goal.returns-in-Rebuild-clause-leaves
-returns-in-Rebuild-clause-leaves g c = rw c.in-Rebuild.is c.rebuild.ensures.leaves
 
 pub returns-in-Rebuild-clause-end : goal.returns-in-Rebuild-clause-end
 returns-in-Rebuild-clause-end g c planned = let P : Command → Type 0 = λ k. IsPlanned (Ok k) in absurd (subst P c.in-Rebuild.is planned)

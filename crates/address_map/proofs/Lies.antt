@@ -1,15 +1,16 @@
 -- What lies where.
-use Rattle.std.proofs.Common.{◌≡◌, ℕ, ◌+◌, ◌*◌, ◌%◌, ◌/◌, ◌^◌, ◌<◌, ◌≤◌, sym, arith, ap, subst, ◌∙◌}
+use Rattle.std.proofs.Common.{◌≡◌, ℕ, ◌+◌, ◌*◌, ◌%◌, ◌/◌, ◌^◌, ◌<◌, ◌≤◌, sym, arith, ap, subst, refl, ◌∙◌}
 use Rattle.std.proofs.lemmas.Nat.{mul-le, div-add-mod', div-mul-add, mod_below}
 use Rattle.std.specs.Prelude.{IsTrue}
 use Rattle.raid_params.specs.declared.types.Head.{Head}
 use Rattle.raid_terms.specs.Address.{LiesAt, home_row, home_item, home_sector}
 use Rattle.raid_params.specs.Validity.{is_valid_head}
-use Rattle.raid_terms.specs.Role.{HasRole, Item}
+use Rattle.raid_terms.specs.Role.{HasRole, Item, item_of}
 use Rattle.raid_params.specs.Size.{data_blocks, area, rows, volume_sectors}
 use Rattle.raid_layouts.proofs.Levels.{layout_of}
+use Rattle.address_map.specs.Places.{IsAt}
 use Rattle.address_map.proofs.Heads.{some_chunk, some_data, few_data, short_chunk}
-use Rattle.address_map.proofs.Sectors.{made_row, made_item, made_at, same_parts, same_place, volume_below, sector_below}
+use Rattle.address_map.proofs.Sectors.{made_row, made_item, made_at, same_parts, same_place, volume_below, sector_below, sector_small}
 
 -- a sector of the volume is numbered in 64 bits, with all that it is made of
 made_fits : (row d item c at : ℕ) → row * c + at < 2 ^ 55 → item < d → d ≤ 16 → at < c → c ≤ 32768 → (row * d + item) * c + at < 2 ^ 64
@@ -85,3 +86,29 @@ pub inside_back : (head : Head) (end slot sector v : ℕ) → IsTrue (is_valid_h
 inside_back head end slot sector v valid a h =
     let e : sector ≡ home_sector head v = a.place in
     subst (λ (t : ℕ). t < area head end) (sym e) (sector_below v head.chunk (data_blocks head) (rows head end) (some_chunk head valid) (some_data head valid) h)
+
+-- a sector of the volume lies on the slot of its item
+pub home_is : (head : Head) (end v d slot : ℕ) → IsTrue (is_valid_head head) → d ≡ data_blocks head → v < volume_sectors head end → slot ≡ item_of head (v / head.chunk / d) (v / head.chunk % d) →
+    IsAt head end v (record { row = v / head.chunk / d; item = v / head.chunk % d; slot = slot; sector = v / head.chunk / d * head.chunk + v % head.chunk })
+home_is head end v d slot valid e within there =
+    let P : ℕ → Type 0 = λ k. slot ≡ item_of head (v / head.chunk / k) (v / head.chunk % k) →
+    IsAt head end v (record { row = v / head.chunk / k; item = v / head.chunk % k; slot = slot; sector = v / head.chunk / k * head.chunk + v % head.chunk }) in
+    subst P (sym e) (λ at. record {
+      within = within;
+      row = refl;
+      item = refl;
+      lies = record { item = (mod_below (v / head.chunk) (data_blocks head) (some_data head valid), at); place = refl };
+    }) there
+
+-- and its member sector is no larger than its own number
+pub home_small : (head : Head) (v d : ℕ) → IsTrue (is_valid_head head) → d ≡ data_blocks head → v / head.chunk / d * head.chunk + v % head.chunk ≤ v
+home_small head v d valid e = sector_small v head.chunk d (rw e (some_data head valid))
+
+-- its item is one of the row's
+pub item_in_row : (head : Head) (x d : ℕ) → IsTrue (is_valid_head head) → d ≡ data_blocks head → x % d < data_blocks head
+item_in_row head x d valid e = rw e (mod_below x (data_blocks head) (some_data head valid))
+
+-- the place of a sector on a slot that holds an item
+pub place_at : (head : Head) (end slot sector item v : ℕ) → IsTrue (is_valid_head head) → sector < area head end → HasRole head (sector / head.chunk) slot (Item item) →
+    v ≡ (sector / head.chunk * data_blocks head + item) * head.chunk + sector % head.chunk → (sector < area head end) × LiesAt head slot sector v
+place_at head end slot sector item v valid below has e = (below, subst (λ (k : ℕ). LiesAt head slot sector k) (sym e) (made_lies head slot sector item valid has))

@@ -1,6 +1,6 @@
 //! Lines of JSON.
 ghost use Rattle.std.specs.Prelude.{◌≡◌, IfOk, string_bytes};
-ghost use Rattle.json_lines.specs.Objects.{level_number as level_number_of, name_data, next_data, next_object, set_data, set_object, slots_data};
+ghost use Rattle.json_lines.specs.Objects.{level_number as level_number_of, name_data, next_data, next_object, set_data, set_object, slot_data, slots_data};
 ghost use Rattle.plan_text.specs.Spelling.{line as line_of};
 ghost use Rattle.raid_layouts.specs.Names.{name_of};
 ghost use Rattle.serde_json.specs.Data.{array};
@@ -79,12 +79,10 @@ fn set_value(
 ) -> Result<Value, AllocError>
     ensures { IfOk result (λ value. view value ≡ set_data rank head.now slots.now) }
 {
-    let name = name_value(alloc, head)?;
-    let list = slots_value(alloc, slots)?;
     json!(in alloc; {
-        "chunk": head.chunk, "level": level_number(head.level), "name": name,
+        "chunk": head.chunk, "level": level_number(head.level), "name": name_value(alloc, head)?,
         "offset": head.offset, "pattern": pattern_name(head.pattern), "rank": rank,
-        "slots": list, "syndrome": syndrome_name(head.syndrome)
+        "slots": slots_value(alloc, slots)?, "syndrome": syndrome_name(head.syndrome)
     })
 }
 
@@ -107,13 +105,19 @@ fn slots_value(alloc: Global, slots: &[Option<u8>]) -> Result<Value, AllocError>
 {
     let mut values = Vec::new(alloc);
     for slot in slots {
-        let value = match slot {
-            Some(image) => Value::from(*image),
-            None => Value::Null,
-        };
-        values.push(value)?;
+        values.push(slot_value(*slot))?;
     }
     Ok(Value::Array(values))
+}
+
+/// A slot: the number of its image, or null where it is empty.
+fn slot_value(slot: Option<u8>) -> Value
+    ensures { view result ≡ slot_data slot }
+{
+    match slot {
+        Some(image) => Value::from(image),
+        None => Value::Null,
+    }
 }
 
 fn level_number(level: Level) -> u8

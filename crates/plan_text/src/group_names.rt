@@ -7,7 +7,7 @@ use crate::names::{Named, find_named};
 use crate::spelled::Spelled;
 use landmark_rules::GroupKind;
 
-/// What the marks of a group may belong to, in its order.
+/// All kinds of groups, in their order.
 const GROUPS: [GroupKind; 3] = [GroupKind::Gpt, GroupKind::Ntfs, GroupKind::Xfs];
 
 impl Named for GroupKind {

@@ -1,4 +1,4 @@
-//! The names of levels, patterns, syndromes, slots and numbers.
+//! The names of levels, patterns, orders of Q, kinds of landmark sectors, slots and numbers.
 ghost use Rattle.std.specs.Prelude.{◌≡◌, ◌<◌, ◌^◌, ◌≢◌, ℕ, List, decimal, All, IfSome, MatchOption};
 ghost use Rattle.raid_params.specs.declared.limits.TheConstants.{MOST as MOST_IMAGES};
 ghost use Rattle.plan_text.specs.Spelling.{level_name, pattern_name as pattern_spelling, syndrome_name as syndrome_spelling, kind_name, slot_name};

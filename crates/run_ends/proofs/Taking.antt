@@ -1,5 +1,5 @@
 -- Reading a source to its end.
-use Rattle.std.proofs.Common.{◌≡◌, ℕ, ◌+◌, ◌<◌, ◌≤◌, List, [], ◌++◌, length, None, Some, Result, Ok, Err, IfSome, take, refl, sym, ap, subst, arith, append_assoc, append-nil, length-append}
+use Rattle.std.proofs.Common.{◌≡◌, ℕ, ◌+◌, ◌<◌, ◌≤◌, List, [], ◌++◌, length, None, Some, Result, Ok, Err, IfSome, take, refl, sym, ap, subst, arith, append_assoc, append-nil, length-append, ◌∙◌}
 use Rattle.std.proofs.lemmas.List.{length-take, take-append-le}
 use Rattle.std.specs.Io.{ReadsAtMost}
 use Rattle.std.specs.declared.option.Option.{Option}
@@ -48,6 +48,17 @@ takes_kept (Some x) None new text few consumed kept = absurd consumed
 takes_kept (Some x) (Some y) None text few consumed kept = absurd kept
 takes_kept (Some x) (Some y) (Some z) text few consumed kept = (text, omega arith, rw kept consumed)
 
+-- a piece was asked for, whatever came of it
+pub takes_any : {E : Type 0} (old mid new : Option (List ℕ)) (text front : List ℕ) (r : Result ℕ E) → length text ≤ 4194304 → length text + length front ≤ 4194305 → Consumes old mid text → ReadConsumes mid new r front → TakesFew old new
+takes_any old mid new text front (Ok n) few room consumed gave =
+    takes_read old new (text ++ take n front) (omega (arith, length-append text (take n front), length-take n front)) (consumes_more old mid new text (take n front) consumed gave.0)
+takes_any old mid new text front (Err e) few room consumed gave = takes_kept old mid new text few consumed gave
+
+-- nothing came, though there was room: the end
+pub at_end : {E : Type 0} (mid new : Option (List ℕ)) (front : List ℕ) (r : Result ℕ E) (n : ℕ) → r ≡ Ok n → n ≡ 0 → 0 < length front → ReadConsumes mid new r front → IsAtEnd new
+at_end mid new front (Ok m) n is none room gave = let same : m ≡ n = cc in gave.1 (same ∙ none) room
+at_end mid new front (Err e) n is none room gave = absurd (cc)
+
 -- a piece more was taken
 pub takes_more : {E : Type 0} (old mid new : Option (List ℕ)) (text more : List ℕ) (r : Result ℕ E) (n : ℕ) (buffer : List ℕ) → Consumes old mid text → r ≡ Ok n → ReadConsumes mid new r buffer → more ≡ text ++ take n buffer →
     Consumes old new more
@@ -55,6 +66,12 @@ takes_more old mid new text more (Ok m) n buffer consumed is gave e =
     let same : m ≡ n = cc in
     rw e (consumes_more old mid new text (take n buffer) consumed (subst (λ (k : ℕ). Consumes mid new (take k buffer)) same gave.0))
 takes_more old mid new text more (Err f) n buffer consumed is gave e = absurd (cc)
+
+-- and then all is read
+pub all_taken : {E : Type 0} (old mid new : Option (List ℕ)) (text front : List ℕ) (r : Result ℕ E) (n : ℕ) → r ≡ Ok n → n ≡ 0 → 0 < length front → Consumes old mid text → ReadConsumes mid new r front → IfSome old (λ left. text ≡ left)
+all_taken old mid new text front r n is none room consumed gave =
+    let same : text ++ take n front ≡ text = ap (λ (k : ℕ). text ++ take k front) none ∙ append-nil text in
+    all_read old new text (subst (λ (xs : List ℕ). Consumes old new xs) same (takes_more old mid new text (text ++ take n front) r n front consumed is gave refl)) (at_end mid new front r n is none room gave)
 
 -- the same of a buffer whose first bytes were filled
 pub takes_front : {E : Type 0} (old mid new : Option (List ℕ)) (text front rest : List ℕ) (r : Result ℕ E) (n : ℕ) → Consumes old mid text → r ≡ Ok n → n ≤ length front → ReadConsumes mid new r front →

@@ -21,9 +21,9 @@ const ENTRY: u32 = 128;
 /// Origins in rising order.
 type Origins = ArrayVec<u64, MOST_ORIGINS>;
 
-/// The origins asked for and those that the headers which count give, in rising order, of all these the
-/// first `MOST_ORIGINS`. It reads at most one sector for each header
-/// that entries follow.
+/// The origins asked for and those that the headers which count give, in rising order. Where there are more
+/// than `MOST_ORIGINS`, these are the first of them. It reads at most one sector for each header that
+/// entries follow.
 pub fn origins<I: Images>(
     images: &mut I,
     asked: &[u64],

@@ -1,7 +1,7 @@
-use Rattle.std.proofs.Common.{Ok, subst, sym}
+use Rattle.std.proofs.Common.{Ok, refl, subst, sym}
 use Rattle.std.specs.Result.{is_err}
 use Rattle.run_ends.specs.Jobs.{Leaves}
-use Rattle.reraid_cli.specs.Answers.{output, streams}
+use Rattle.reraid_cli.specs.Answers.{IsOwn, IsPlanned, output, streams}
 use Rattle.command_words.specs.declared.command.Command.{Command}
 use Rattle.reraid_cli.specs.Asked.{IsAsked, counts_of}
 use Rattle.reraid_cli.proofs.Runs.{unread}
@@ -195,3 +195,72 @@ returns-in-Rebuild-clause-whole g c is reading asked =
     let P : Command → Type 0 = λ k. IsAsked k c.args.names left reading in
     rebuild_whole c.in-Rebuild.set c.in-Rebuild.slot c.in-Rebuild.end c.in-Rebuild.names c.args.names left reading (g.I.Images.seen c.args.images.now).attached (g.K.Sink.gained c.args.out.now) (g.K.Sink.gained c.rebuild.new.out)
     (subst P c.in-Rebuild.is asked) (c.rebuild.ensures.whole is)
+
+pub returns-in-Survey-clause-end : goal.returns-in-Survey-clause-end
+returns-in-Survey-clause-end g c planned = let P : Command → Type 0 = λ k. IsPlanned (Ok k) in absurd (subst P c.in-Survey.is planned)
+
+pub returns-in-Survey-clause-unasked : goal.returns-in-Survey-clause-unasked
+returns-in-Survey-clause-unasked g c unplanned = (refl, refl)
+
+pub returns-in-Survey-clause-own : goal.returns-in-Survey-clause-own
+returns-in-Survey-clause-own g c own = absurd (subst IsOwn c.in-Survey.is own)
+
+pub returns-in-List-clause-leaves : goal.returns-in-List-clause-leaves
+returns-in-List-clause-leaves g c = rw c.in-List.is c.list.ensures.leaves
+
+pub returns-in-List-clause-end : goal.returns-in-List-clause-end
+returns-in-List-clause-end g c planned = c.list.ensures.end
+
+pub returns-in-List-clause-unasked : goal.returns-in-List-clause-unasked
+returns-in-List-clause-unasked g c unplanned = let P : Command → Type 0 = λ k. IsPlanned (Ok k) → ⊥ in absurd (subst P c.in-List.is unplanned tt)
+
+pub returns-in-List-clause-own : goal.returns-in-List-clause-own
+returns-in-List-clause-own g c own = absurd (subst IsOwn c.in-List.is own)
+
+pub returns-in-Check-clause-leaves : goal.returns-in-Check-clause-leaves
+returns-in-Check-clause-leaves g c = rw c.in-Check.is c.check.ensures.leaves
+
+pub returns-in-Check-clause-end : goal.returns-in-Check-clause-end
+returns-in-Check-clause-end g c planned = c.check.ensures.end
+
+pub returns-in-Check-clause-unasked : goal.returns-in-Check-clause-unasked
+returns-in-Check-clause-unasked g c unplanned = let P : Command → Type 0 = λ k. IsPlanned (Ok k) → ⊥ in absurd (subst P c.in-Check.is unplanned tt)
+
+pub returns-in-Check-clause-own : goal.returns-in-Check-clause-own
+returns-in-Check-clause-own g c own = absurd (subst IsOwn c.in-Check.is own)
+
+pub returns-in-Map-clause-end : goal.returns-in-Map-clause-end
+returns-in-Map-clause-end g c planned = let P : Command → Type 0 = λ k. IsPlanned (Ok k) in absurd (subst P c.in-Map.is planned)
+
+pub returns-in-Map-clause-unasked : goal.returns-in-Map-clause-unasked
+returns-in-Map-clause-unasked g c unplanned = (refl, refl)
+
+pub returns-in-Map-clause-own : goal.returns-in-Map-clause-own
+returns-in-Map-clause-own g c own = absurd (subst IsOwn c.in-Map.is own)
+
+pub returns-in-Write-clause-end : goal.returns-in-Write-clause-end
+returns-in-Write-clause-end g c planned = let P : Command → Type 0 = λ k. IsPlanned (Ok k) in absurd (subst P c.in-Write.is planned)
+
+pub returns-in-Write-clause-unasked : goal.returns-in-Write-clause-unasked
+returns-in-Write-clause-unasked g c unplanned = (refl, refl)
+
+pub returns-in-Write-clause-own : goal.returns-in-Write-clause-own
+returns-in-Write-clause-own g c own = absurd (subst IsOwn c.in-Write.is own)
+
+pub returns-in-Rebuild-clause-end : goal.returns-in-Rebuild-clause-end
+returns-in-Rebuild-clause-end g c planned = let P : Command → Type 0 = λ k. IsPlanned (Ok k) in absurd (subst P c.in-Rebuild.is planned)
+
+pub returns-in-Rebuild-clause-unasked : goal.returns-in-Rebuild-clause-unasked
+returns-in-Rebuild-clause-unasked g c unplanned = (refl, refl)
+
+pub returns-in-Rebuild-clause-own : goal.returns-in-Rebuild-clause-own
+returns-in-Rebuild-clause-own g c own = absurd (subst IsOwn c.in-Rebuild.is own)
+
+pub returns-in-Sample-clause-end : goal.returns-in-Sample-clause-end
+returns-in-Sample-clause-end g c planned = let P : Command → Type 0 = λ k. IsPlanned (Ok k) in absurd (subst P c.in-Sample.is planned)
+
+pub returns-in-Sample-clause-unasked : goal.returns-in-Sample-clause-unasked
+returns-in-Sample-clause-unasked g c unplanned = (refl, refl)
+
+pub returns-in-Sample-clause-own : goal.returns-in-Sample-clause-own
+returns-in-Sample-clause-own g c own = refl

@@ -1,19 +1,13 @@
-use Rattle.std.proofs.Common.{◌≡◌, ◌++◌, ◌≤◌, Ok, drop, take, is_ok, length, true, ap, arith, rules}
+use Rattle.std.proofs.Common.{◌≡◌, ◌++◌, ◌<◌, ◌≤◌, [], Ok, drop, take, is_ok, length, true, ap, arith, rules}
 use Rattle.std.proofs.lemmas.List.{length-take}
-use Rattle.run_ends.proofs.Taking.{length_taken, read_was_left, takes_front, takes_read, within_front}
+use Rattle.run_ends.proofs.Taking.{all_taken, at_end, nothing_read, takes_any, length_taken, read_was_left, takes_front, within_front}
 use Rattle.run_ends.proofs.reading.read_all.Goals as goal
 
 pub returns-in_err-map_err-clause-takes : goal.returns-in_err-map_err-clause-takes
 returns-in_err-map_err-clause-takes g c =
-    let e : c.take.result ≡ Ok c.in_ok-count.count = search rules in
-    let n = c.in_ok-count.count in
     let left = g.S.Source.left c.args.source.now in
-    let rest = drop c.min-room.result c.loop.piece in
-    let le = within_front c.take.result n c.take.new.to e c.take.ensures.bound in
-    let piece = takes_front left (g.S.Source.left c.loop.source) (g.S.Source.left c.take.new.self) c.loop.text.items c.take.new.to rest c.take.result n c.loop.invariant.consumed e le c.take.ensures.bytes in
-    let long = length_taken c.loop.text.items c.take.new.to rest n le in
     let few : length c.take.new.to ≤ c.min-room.result = omega (arith, c.take.auto.to, length-take c.min-room.result c.loop.piece) in
-    takes_read left (g.S.Source.left c.take.new.self) (c.loop.text.items ++ take n (c.take.new.to ++ rest)) (omega arith) piece
+    takes_any left (g.S.Source.left c.loop.source) (g.S.Source.left c.take.new.self) c.loop.text.items c.take.new.to c.take.result c.loop.invariant.few (omega arith) c.loop.invariant.consumed c.take.ensures.bytes
 
 pub returns-then-len-gt-PLAN_BYTES-clause-ends : goal.returns-then-len-gt-PLAN_BYTES-clause-ends
 returns-then-len-gt-PLAN_BYTES-clause-ends g c =
@@ -30,15 +24,9 @@ returns-then-len-gt-PLAN_BYTES-clause-ends g c =
 
 pub returns-then-len-gt-PLAN_BYTES-clause-takes : goal.returns-then-len-gt-PLAN_BYTES-clause-takes
 returns-then-len-gt-PLAN_BYTES-clause-takes g c =
-    let e : c.take.result ≡ Ok c.in_ok-count.count = search rules in
-    let n = c.in_ok-count.count in
     let left = g.S.Source.left c.args.source.now in
-    let rest = drop c.min-room.result c.loop.piece in
-    let le = within_front c.take.result n c.take.new.to e c.take.ensures.bound in
-    let piece = takes_front left (g.S.Source.left c.loop.source) (g.S.Source.left c.take.new.self) c.loop.text.items c.take.new.to rest c.take.result n c.loop.invariant.consumed e le c.take.ensures.bytes in
-    let long = length_taken c.loop.text.items c.take.new.to rest n le in
     let few : length c.take.new.to ≤ c.min-room.result = omega (arith, c.take.auto.to, length-take c.min-room.result c.loop.piece) in
-    takes_read left (g.S.Source.left c.take.new.self) (c.loop.text.items ++ take n (c.take.new.to ++ rest)) (omega arith) piece
+    takes_any left (g.S.Source.left c.loop.source) (g.S.Source.left c.take.new.self) c.loop.text.items c.take.new.to c.take.result c.loop.invariant.few (omega arith) c.loop.invariant.consumed c.take.ensures.bytes
 
 pub loop-preserved : goal.loop-preserved
 loop-preserved g c =
@@ -57,3 +45,37 @@ loop-preserved g c =
       consumed = rw items piece;
       later = search rules;
     }
+
+pub returns-in_err-count-clause-takes : goal.returns-in_err-count-clause-takes
+returns-in_err-count-clause-takes g c =
+    let left = g.S.Source.left c.args.source.now in
+    let few : length c.take.new.to ≤ c.min-room.result = omega (arith, c.take.auto.to, length-take c.min-room.result c.loop.piece) in
+    takes_any left (g.S.Source.left c.loop.source) (g.S.Source.left c.take.new.self) c.loop.text.items c.take.new.to c.take.result c.loop.invariant.few (omega arith) c.loop.invariant.consumed c.take.ensures.bytes
+
+pub returns-then-count-eq0-clause-takes : goal.returns-then-count-eq0-clause-takes
+returns-then-count-eq0-clause-takes g c =
+    let left = g.S.Source.left c.args.source.now in
+    let few : length c.take.new.to ≤ c.min-room.result = omega (arith, c.take.auto.to, length-take c.min-room.result c.loop.piece) in
+    takes_any left (g.S.Source.left c.loop.source) (g.S.Source.left c.take.new.self) c.loop.text.items c.take.new.to c.take.result c.loop.invariant.few (omega arith) c.loop.invariant.consumed c.take.ensures.bytes
+
+pub loop-init : goal.loop-init
+loop-init g c =
+    let empty : c.new-text.result.items ≡ [] = c.new-text.ensures.items in
+    record {
+      some = omega arith;
+      few = rw empty (omega arith);
+      consumed = rw empty (nothing_read (g.S.Source.left c.args.source.now));
+      later = omega arith;
+    }
+
+pub returns-then-count-eq0-clause-end : goal.returns-then-count-eq0-clause-end
+returns-then-count-eq0-clause-end g c =
+    let e : c.take.result ≡ Ok c.in_ok-count.count = search rules in
+    let some : 0 < length c.take.new.to = omega (arith, c.take.auto.to, length-take c.min-room.result c.loop.piece) in
+    at_end (g.S.Source.left c.loop.source) (g.S.Source.left c.take.new.self) c.take.new.to c.take.result c.in_ok-count.count e c.if-count-eq0.true some c.take.ensures.bytes
+
+pub returns-then-count-eq0-clause-text : goal.returns-then-count-eq0-clause-text
+returns-then-count-eq0-clause-text g c =
+    let e : c.take.result ≡ Ok c.in_ok-count.count = search rules in
+    let some : 0 < length c.take.new.to = omega (arith, c.take.auto.to, length-take c.min-room.result c.loop.piece) in
+    all_taken (g.S.Source.left c.args.source.now) (g.S.Source.left c.loop.source) (g.S.Source.left c.take.new.self) c.loop.text.items c.take.new.to c.take.result c.in_ok-count.count e c.if-count-eq0.true some c.loop.invariant.consumed c.take.ensures.bytes

@@ -246,7 +246,7 @@ const OWN_TABLES: &[Placed] = &[
 /// The runs. A listing reads each image for the tables of rows, which decide at level 5, and at level 6 again in its
 /// scan; a test, a volume and a member read each image that a slot holds; a survey reads each image. All answers are
 /// one put, but for the volume's, which may be more; and so is the line of the cursor.
-const RUNS: [Run; 7] = [
+static RUNS: [Run; 7] = [
     Run {
         line: "list size=10 -- a b c",
         images: STRIPES,

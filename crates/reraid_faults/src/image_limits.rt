@@ -126,7 +126,7 @@ fn refused<R: Threads + Sync + Abort>(
 }
 
 /// Counts of images that are refused: the line, the images, and the line on the notes.
-const COUNTS: [(&str, &[&[u8]], &str); 9] = [
+static COUNTS: [(&str, &[&[u8]], &str); 9] = [
     (
         "survey --",
         NONE,
@@ -183,7 +183,7 @@ const MOST_IMAGES: [Row; 1] = [Row {
 // From none to sixteen images; for a plan, exactly as many as it has.
 #[test]
 fn images_are_too_many_or_too_few(rt: HostRuntime) -> Result<(), Fail> {
-    for (line, images, notes) in COUNTS {
+    for (line, images, notes) in &COUNTS {
         refused(&rt, rt.alloc(), line, images, 4, notes)?;
     }
     check_all(&rt, rt.alloc(), &MOST_IMAGES)
@@ -191,7 +191,7 @@ fn images_are_too_many_or_too_few(rt: HostRuntime) -> Result<(), Fail> {
 
 /// Sets over images of one sector that are refused: the line, its status, and the line on the notes. Each rule has the first value
 /// that breaks it, and the next rule where it holds.
-const SETS: [(&str, u8, &str); 28] = [
+static SETS: [(&str, u8, &str); 28] = [
     (
         "write set=0:plain:none:1:0:0 -- a",
         7,
@@ -336,8 +336,8 @@ const SETS: [(&str, u8, &str); 28] = [
 
 #[test]
 fn sets_at_the_limits_of_their_rules(rt: HostRuntime) -> Result<(), Fail> {
-    for (line, status, notes) in SETS {
-        refused(&rt, rt.alloc(), line, SIXTEEN, status, notes)?;
+    for (line, status, notes) in &SETS {
+        refused(&rt, rt.alloc(), line, SIXTEEN, *status, notes)?;
     }
     Ok(())
 }

@@ -9,7 +9,7 @@ use std::test::Fail;
 use std::thread::Threads;
 
 /// Other texts for a line of the first plan, and the line that is refused with it, or 0.
-const LINES: [(usize, &str, u64); 106] = [
+static LINES: [(usize, &str, u64); 106] = [
     (1, "reraid-plan 2", 1),
     (1, "reraid-plan 1\r", 1),
     (2, "images 0", 2),

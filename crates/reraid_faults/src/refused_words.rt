@@ -8,7 +8,7 @@ use std::thread::Threads;
 
 /// Lines with their refused words, counted from 1, or 0 where they are command lines. A refused word is the first with which no
 /// command line goes on, or the one after the last where all of them begin one.
-const LINES: [(&str, u64); 108] = [
+static LINES: [(&str, u64); 108] = [
     // no command, or another spelling of one
     ("", 1),
     (" list -- a", 1),
@@ -194,8 +194,8 @@ fn accepted<R: Threads + Sync + Abort>(rt: &R, alloc: Global, line: &str) -> Res
 
 #[test]
 fn lines_are_refused_at_their_words(rt: HostRuntime) -> Result<(), Fail> {
-    for (line, refused) in LINES {
-        check(&rt, rt.alloc(), line, refused)?;
+    for (line, refused) in &LINES {
+        check(&rt, rt.alloc(), line, *refused)?;
     }
     Ok(())
 }
@@ -232,7 +232,7 @@ fn check_list<R: Threads + Sync + Abort>(
 
 #[test]
 fn lists_have_64_elements_at_most(rt: HostRuntime) -> Result<(), Fail> {
-    for (operand, before) in LISTS {
+    for (operand, before) in &LISTS {
         check_list(&rt, rt.alloc(), operand, before)?;
     }
     Ok(())

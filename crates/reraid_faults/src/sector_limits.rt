@@ -51,7 +51,7 @@ const BEFORE: &str =
 
 /// Headers of partition tables, whose checksums were computed by zlib: MyLBA of 2^55 - 1 and of 2^55; header sizes of 512 and 513,
 /// and of 92 and 91.
-const HEADERS: [Seen; 6] = [
+static HEADERS: [Seen; 6] = [
     (
         &[
             (0, b"EFI PART"),
@@ -140,7 +140,7 @@ const HEADERS: [Seen; 6] = [
 
 /// Boot sectors of NTFS with clusters of one sector, $MFT and its copy in clusters 4 and 2, and records of 2^10 bytes: of 2^55 - 1
 /// sectors, of 2^55, and of none; with $MFT as far as record 15 may lie, 30 sectors before 2^55 - 1, and one further.
-const BOOTS: [Seen; 5] = [
+static BOOTS: [Seen; 5] = [
     (
         &[
             (3, b"NTFS    "),
@@ -205,7 +205,7 @@ const BOOTS: [Seen; 5] = [
 /// Superblocks of XFS: blocks of 65,536 bytes, and as many blocks a group and groups as their fields hold, 128 * (2^32 - 1)^2
 /// sectors, which is more than 2^55; blocks of 512 bytes, 2^27 a group, of 2^28 groups less one, with sectors of 512 bytes, whose
 /// end is 2^55 - 2^27 + 2; and one group more, whose end is 2^55 + 2.
-const SUPERS: [Seen; 3] = [
+static SUPERS: [Seen; 3] = [
     (
         &[
             (0, b"XFSB"),

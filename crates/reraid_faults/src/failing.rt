@@ -4,7 +4,7 @@ ghost use Rattle.reraid_faults.specs.Ready.{AreReady};
 
 use crate::outside::{Outside, filled, images_of, ready, run_in_pieces, run_words, words_of};
 use crate::plans::{LEVEL_SIX, LISTING, NO_LANDMARK, PLAN, bytes_of};
-use crate::rows::{STRIPES, STRIPES_LOST};
+use crate::rows::{End, STRIPES, STRIPES_LOST, compare, same_bytes, same_status};
 use crate::sector_limits::{Placed, put_all};
 use image_source::Memory;
 use reraid_cli::Word;
@@ -115,9 +115,59 @@ fn answer_of(alloc: Global, answer: Answer) -> Result<Vec<u8>, Memory> {
     }
 }
 
-/// Fails each call of an object in turn, until the run ends as without a fault, and gives how many calls it made. A run that meets
-/// a fault ends with the object's status and its line, and of a put that fails the first five bytes stay. The notes alone change
-/// no status.
+/// How a run ends where a call of this object fails: its status, the line on the notes, and how many bytes of `whole` stay.
+fn fault_of(object: Object, run: &Run, whole: usize) -> (u8, &'static str, usize) {
+    match object {
+        Object::Images => (10, "reraid: image read fault\n", 0),
+        Object::Plan => (11, "reraid: plan read fault\n", 0),
+        Object::Out => (12, "reraid: output fault\n", 5),
+        Object::Notes => (run.status, "rerai", whole),
+    }
+}
+
+/// Compares what a run left that met a fault.
+fn compare_fault<R: Abort>(
+    rt: &R,
+    status: u8,
+    met: &Outside,
+    fault: (u8, &str, usize),
+    whole: &[u8],
+    line: &str,
+) {
+    let (ends, noted, left) = fault;
+    same_status(rt, status, ends, line);
+    same_bytes(rt, met.notes.bytes(), noted.as_bytes(), line);
+    is_front(rt, met.out.bytes(), left, whole, line);
+}
+
+/// Compares bytes that a run put with the first `left` of all that it may put.
+fn is_front<R: Abort>(rt: &R, put: &[u8], left: usize, whole: &[u8], line: &str) {
+    assert_eq!(rt; put.len(), left, "{line}");
+    assert!(rt; whole.starts_with(put), "{line}");
+}
+
+/// Whether a run meets a fault where this call fails. It ends then with the object's status and its line, and of a put that fails the
+/// first five bytes stay. The notes alone change no status. Else it ends as without a fault.
+fn meets_fault<R: Threads + Sync + Abort>(
+    rt: &R,
+    alloc: Global,
+    run: &Run,
+    contents: &[Vec<u8>],
+    whole: &[u8],
+    object: Object,
+    call: u64,
+) -> Result<bool, Fail> {
+    let (ended, met) = run_failing(rt, alloc, run, contents, object, call)?;
+    if ended == run.status && met.notes.bytes() == run.notes.as_bytes() {
+        same_bytes(rt, met.out.bytes(), whole, run.line);
+        return Ok(false);
+    }
+    let fault = fault_of(object, run, whole.len());
+    compare_fault(rt, ended, &met, fault, whole, run.line);
+    Ok(true)
+}
+
+/// Fails each call of an object in turn, until the run ends as without a fault, and gives how many calls it made.
 fn each_call<R: Threads + Sync + Abort>(
     rt: &R,
     alloc: Global,
@@ -127,31 +177,10 @@ fn each_call<R: Threads + Sync + Abort>(
     let mut contents = images_of(alloc, run.images)?;
     put_all(&mut contents, run.placed);
     let whole = answer_of(alloc, run.answer)?;
-    let (status, noted, left) = match object {
-        Object::Images => (10, "reraid: image read fault\n", 0),
-        Object::Plan => (11, "reraid: plan read fault\n", 0),
-        Object::Out => (12, "reraid: output fault\n", 5),
-        Object::Notes => (run.status, "rerai", whole.len()),
-    };
     for call in 1..MANY {
-        let (ended, met) = run_failing(rt, alloc, run, &contents, object, call)?;
-        if ended == run.status && met.notes.bytes() == run.notes.as_bytes() {
-            assert_eq!(rt; met.out.bytes(), whole.as_slice(), "{}", run.line);
+        if !meets_fault(rt, alloc, run, &contents, &whole, object, call)? {
             return Ok(call - 1);
         }
-        assert_eq!(rt; ended, status, "{} at {call}", run.line);
-        assert_eq!(rt;
-            met.notes.bytes(),
-            noted.as_bytes(),
-            "{} at {call}",
-            run.line
-        );
-        assert_eq!(rt; met.out.bytes().len(), left, "{} at {call}", run.line);
-        assert!(rt;
-            whole.starts_with(met.out.bytes()),
-            "{} at {call}",
-            run.line
-        );
     }
     Ok(MANY)
 }
@@ -217,7 +246,7 @@ const OWN_TABLES: &[Placed] = &[
 /// The runs. A listing reads each image for the tables of rows, which decide at level 5, and at level 6 again in its
 /// scan; a test, a volume and a member read each image that a slot holds; a survey reads each image. All answers are
 /// one put, but for the volume's, which may be more; and so is the line of the cursor.
-const RUNS: [Run; 7] = [
+static RUNS: [Run; 7] = [
     Run {
         line: "list size=10 -- a b c",
         images: STRIPES,
@@ -290,30 +319,51 @@ const RUNS: [Run; 7] = [
     },
 ];
 
+/// Fails each call of an object in turn, at least this number of them.
+fn many_calls<R: Threads + Sync + Abort>(
+    rt: &R,
+    alloc: Global,
+    run: &Run,
+    object: Object,
+    least: u64,
+) -> Result<(), Fail> {
+    let calls = each_call(rt, alloc, run, object)?;
+    assert!(rt; least <= calls && calls < MANY, "{}", run.line);
+    Ok(())
+}
+
+/// Fails each call of an object in turn, exactly this number of them.
+fn few_calls<R: Threads + Sync + Abort>(
+    rt: &R,
+    alloc: Global,
+    run: &Run,
+    object: Object,
+    number: u64,
+) -> Result<(), Fail> {
+    let calls = each_call(rt, alloc, run, object)?;
+    assert_eq!(rt; calls, number, "{}", run.line);
+    Ok(())
+}
+
+/// Fails each call of each object in turn.
+fn each_object<R: Threads + Sync + Abort>(rt: &R, alloc: Global, run: &Run) -> Result<(), Fail> {
+    let (images, plan, out, notes) = run.calls;
+    many_calls(rt, alloc, run, Object::Images, images)?;
+    many_calls(rt, alloc, run, Object::Plan, plan)?;
+    few_calls(rt, alloc, run, Object::Out, out)?;
+    few_calls(rt, alloc, run, Object::Notes, notes)
+}
+
 #[test]
 fn each_call_that_fails_has_its_status(rt: HostRuntime) -> Result<(), Fail> {
-    let alloc = rt.alloc();
     for run in &RUNS {
-        let (images, plan, out, notes) = run.calls;
-        let calls = each_call(&rt, alloc, run, Object::Images)?;
-        assert!(rt; images <= calls && calls < MANY, "{}", run.line);
-        let calls = each_call(&rt, alloc, run, Object::Plan)?;
-        assert!(rt; plan <= calls && calls < MANY, "{}", run.line);
-        assert_eq!(rt;
-            each_call(&rt, alloc, run, Object::Out)?,
-            out,
-            "{}",
-            run.line
-        );
-        assert_eq!(rt;
-            each_call(&rt, alloc, run, Object::Notes)?,
-            notes,
-            "{}",
-            run.line
-        );
+        each_object(&rt, rt.alloc(), run)?;
     }
     Ok(())
 }
+
+/// The first listing.
+const FIRST: &str = "list size=10 -- a b c";
 
 /// The first listing with the plan in pieces of seven bytes, where this call of its source fails.
 fn listed_in_pieces<R: Threads + Sync>(
@@ -321,7 +371,7 @@ fn listed_in_pieces<R: Threads + Sync>(
     alloc: Global,
     call: u64,
 ) -> Result<(u8, Outside), Memory> {
-    let words = words_of(alloc, "list size=10 -- a b c")?;
+    let words = words_of(alloc, FIRST)?;
     let contents = images_of(alloc, STRIPES)?;
     let fault = Fault {
         object: Object::Plan,
@@ -333,48 +383,67 @@ fn listed_in_pieces<R: Threads + Sync>(
     Ok((status, met))
 }
 
+/// What a listing leaves where its source fails.
+const PLAN_FAULT: End = End {
+    status: 11,
+    out: b"",
+    notes: b"reraid: plan read fault\n",
+};
+
+/// Runs the first listing in pieces, where this call of its source fails, and compares what it leaves.
+fn check_pieces<R: Threads + Sync + Abort>(
+    rt: &R,
+    alloc: Global,
+    call: u64,
+    end: &End,
+) -> Result<(), Fail> {
+    let (status, met) = listed_in_pieces(rt, alloc, call)?;
+    compare(rt, status, &met, end, FIRST);
+    Ok(())
+}
+
 // A text of 193 bytes is 28 pieces of seven, and one more call sees its end.
 #[test]
 fn each_piece_of_a_plan_may_fail(rt: HostRuntime) -> Result<(), Fail> {
-    let alloc = rt.alloc();
     for call in 1..30 {
-        let (status, met) = listed_in_pieces(&rt, alloc, call)?;
-        assert_eq!(rt; status, 11, "at {call}");
-        assert_eq!(rt; met.out.bytes().len(), 0, "at {call}");
-        assert_eq!(rt; met.notes.bytes(), b"reraid: plan read fault\n".as_slice());
+        check_pieces(&rt, rt.alloc(), call, &PLAN_FAULT)?;
     }
-    let (status, met) = listed_in_pieces(&rt, alloc, 30)?;
-    assert_eq!(rt; status, 0);
-    assert_eq!(rt; met.out.bytes(), LISTING.as_bytes());
-    Ok(())
+    let listed = End {
+        status: 0,
+        out: LISTING.as_bytes(),
+        notes: b"",
+    };
+    check_pieces(&rt, rt.alloc(), 30, &listed)
 }
 
 /// The most bytes of a plan.
 const LONGEST: usize = 4_194_304;
 
-// Of a source that gives one byte at a time as many bytes are taken as a plan may have, and then one more, or its end
-// is seen. No further call is made: it would fail.
-#[test]
-fn a_source_is_asked_once_more_than_a_plan_is_long(rt: HostRuntime) -> Result<(), Fail> {
-    let alloc = rt.alloc();
+/// The status of a listing over a plan of `length` bytes, whose source gives one byte at a time. A call past the one that sees the end,
+/// or takes one byte more than a plan may have, fails.
+fn status_of_long<R: Threads + Sync>(rt: &R, alloc: Global, length: usize) -> Result<u8, Memory> {
     let words = words_of(alloc, "list -- a b c")?;
     let fault = Fault {
         object: Object::Plan,
         call: 4_194_306,
         taken: 0,
     };
-    for (more, status) in [(0, 2), (1, 3)] {
-        let plan = vec![in alloc; b'x'; LONGEST + more]?;
-        let mut met = ready_to_fail(alloc, &words, &[], &plan, fault)?;
-        assert_eq!(rt; run_in_pieces(&rt, alloc, &words, &mut met, 1)?, status);
-    }
+    let plan = vec![in alloc; b'x'; length].map_err(|_| Memory)?;
+    let mut met = ready_to_fail(alloc, &words, &[], &plan, fault)?;
+    run_in_pieces(rt, alloc, &words, &mut met, 1)
+}
+
+// Of a source that gives one byte at a time as many bytes are taken as a plan may have, and then one more, or its end
+// is seen. No further call is made: it would fail.
+#[test]
+fn a_source_is_asked_once_more_than_a_plan_is_long(rt: HostRuntime) -> Result<(), Fail> {
+    assert_eq!(rt; status_of_long(&rt, rt.alloc(), LONGEST)?, 2);
+    assert_eq!(rt; status_of_long(&rt, rt.alloc(), LONGEST + 1)?, 3);
     Ok(())
 }
 
-// The first put of the volume begins with the sector of 01 of row 0.
-#[test]
-fn a_front_of_the_volume_may_be_written(rt: HostRuntime) -> Result<(), Fail> {
-    let alloc = rt.alloc();
+/// A volume, and a put of it that takes 100 bytes before it fails.
+fn write_that_fails<R: Threads + Sync>(rt: &R, alloc: Global) -> Result<(u8, Outside), Memory> {
     let words = words_of(alloc, "write set=5:ls:none:1:0:0,1,2 -- a b c")?;
     let contents = images_of(alloc, STRIPES)?;
     let fault = Fault {
@@ -383,8 +452,21 @@ fn a_front_of_the_volume_may_be_written(rt: HostRuntime) -> Result<(), Fail> {
         taken: 100,
     };
     let mut met = ready_to_fail(alloc, &words, &contents, b"", fault)?;
-    assert_eq!(rt; run_words(&rt, alloc, &words, &mut met), 12);
-    assert_eq!(rt; met.out.bytes(), [1; 100].as_slice());
-    assert_eq!(rt; met.notes.bytes(), b"reraid: output fault\n".as_slice());
+    let status = run_words(rt, alloc, &words, &mut met);
+    Ok((status, met))
+}
+
+/// What it leaves.
+const FRONT: End = End {
+    status: 12,
+    out: &[1; 100],
+    notes: b"reraid: output fault\n",
+};
+
+// The first put of the volume begins with the sector of 01 of row 0.
+#[test]
+fn a_front_of_the_volume_may_be_written(rt: HostRuntime) -> Result<(), Fail> {
+    let (status, met) = write_that_fails(&rt, rt.alloc())?;
+    compare(&rt, status, &met, &FRONT, "write");
     Ok(())
 }

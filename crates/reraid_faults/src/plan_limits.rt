@@ -1,13 +1,15 @@
 //! Plans at both sides of each limit.
 use crate::outside::images_of;
 use crate::plans::with_line;
-use crate::rows::{STRIPES, run};
+use crate::rows::{End, STRIPES, ends_so, run};
 use image_source::Memory;
 use std::alloc::Global;
+use std::process::Abort;
 use std::test::Fail;
+use std::thread::Threads;
 
 /// Other texts for a line of the first plan, and the line that is refused with it, or 0.
-const LINES: [(usize, &str, u64); 106] = [
+static LINES: [(usize, &str, u64); 106] = [
     (1, "reraid-plan 2", 1),
     (1, "reraid-plan 1\r", 1),
     (2, "images 0", 2),
@@ -209,20 +211,51 @@ const LINES: [(usize, &str, u64); 106] = [
     (20, "group ntfs\nmark record 0 0 every:0:0:0\ndone", 0),
 ];
 
+/// Lists over a plan that is refused at this line.
+fn refused<R: Threads + Sync + Abort>(
+    rt: &R,
+    alloc: Global,
+    line: &str,
+    contents: &[Vec<u8>],
+    plan: &[u8],
+    refused: u64,
+) -> Result<(), Fail> {
+    let noted = format!(in alloc; "reraid: plan line {refused} is not understood\n")?;
+    let end = End {
+        status: 2,
+        out: b"",
+        notes: noted.as_bytes(),
+    };
+    ends_so(rt, alloc, line, contents, plan, &end)
+}
+
+/// Lists over a plan that is read.
+fn read<R: Threads + Sync + Abort>(
+    rt: &R,
+    alloc: Global,
+    contents: &[Vec<u8>],
+    plan: &[u8],
+    text: &str,
+) -> Result<(), Fail> {
+    let (status, _) = run(rt, alloc, LIST, contents, plan)?;
+    assert!(rt; status == 0 || status == 4, "{text}");
+    Ok(())
+}
+
+/// A listing over three images.
+const LIST: &str = "list -- a b c";
+
 // Where the text is a plan, a listing goes on to the images: to the lengths, which may differ, or to the end.
 #[test]
 fn plans_at_their_limits(rt: HostRuntime) -> Result<(), Fail> {
     let alloc = rt.alloc();
     let contents = images_of(alloc, STRIPES)?;
-    for (number, text, refused) in &LINES {
+    for (number, text, line) in &LINES {
         let plan = with_line(alloc, *number, text)?;
-        let (status, met) = run(&rt, alloc, "list -- a b c", &contents, &plan)?;
-        if *refused == 0 {
-            assert!(rt; status == 0 || status == 4, "{text}");
+        if *line == 0 {
+            read(&rt, alloc, &contents, &plan, text)?;
         } else {
-            let noted = format!(in alloc; "reraid: plan line {refused} is not understood\n")?;
-            assert_eq!(rt; status, 2, "{text}");
-            assert_eq!(rt; met.notes.bytes(), noted.as_bytes(), "{text}");
+            refused(&rt, alloc, LIST, &contents, &plan, *line)?;
         }
     }
     Ok(())
@@ -234,10 +267,12 @@ fn a_mark_may_lie_nowhere(rt: HostRuntime) -> Result<(), Fail> {
     let alloc = rt.alloc();
     let contents = images_of(alloc, STRIPES)?;
     let plan = with_line(alloc, 20, "group ntfs\nmark record 0 0 every:0:0:0\ndone")?;
-    let (status, met) = run(&rt, alloc, "list -- a b c", &contents, &plan)?;
-    assert_eq!(rt; status, 0);
-    assert_eq!(rt; met.out.bytes(), b"next 6 of 6\n".as_slice());
-    Ok(())
+    let end = End {
+        status: 0,
+        out: b"next 6 of 6\n",
+        notes: b"",
+    };
+    ends_so(&rt, alloc, LIST, &contents, &plan, &end)
 }
 
 /// The lines of a plan over one image of 20,000 sectors, before its groups.
@@ -273,17 +308,30 @@ fn push_text(plan: &mut Vec<u8>, text: &str) -> Result<(), Memory> {
     plan.extend_from_slice(text.as_bytes()).map_err(|_| Memory)
 }
 
+/// The line of a group, or the kind of marks with the first sector.
+type Part = (&'static str, Option<u64>);
+
+/// The groups of a plan, each with its marks, up to those of the last kind.
+const PARTS: [Part; 8] = [
+    ("group gpt\n", None),
+    ("gpt", Some(0)),
+    ("group ntfs\n", None),
+    ("boot", Some(0)),
+    ("record", Some(4096)),
+    ("group xfs\n", None),
+    ("super", Some(0)),
+    ("agf", Some(4096)),
+];
+
 /// A plan with 4,096 marks of each kind, and `more` further marks of the last kind.
 fn marked(alloc: Global, more: u64) -> Result<Vec<u8>, Memory> {
     let mut plan = begun(alloc)?;
-    push_text(&mut plan, "group gpt\n")?;
-    push_marks(alloc, &mut plan, "gpt", 0, 4096)?;
-    push_text(&mut plan, "group ntfs\n")?;
-    push_marks(alloc, &mut plan, "boot", 0, 4096)?;
-    push_marks(alloc, &mut plan, "record", 4096, 4096)?;
-    push_text(&mut plan, "group xfs\n")?;
-    push_marks(alloc, &mut plan, "super", 0, 4096)?;
-    push_marks(alloc, &mut plan, "agf", 4096, 4096)?;
+    for (text, first) in &PARTS {
+        match first {
+            None => push_text(&mut plan, text)?,
+            Some(sector) => push_marks(alloc, &mut plan, text, *sector, 4096)?,
+        }
+    }
     push_marks(alloc, &mut plan, "agi", 8192, more.saturating_add(4096))?;
     push_text(&mut plan, "done\n")?;
     Ok(plan)
@@ -304,29 +352,51 @@ fn grouped(alloc: Global, ntfs: u64, xfs: u64) -> Result<Vec<u8>, Memory> {
 
 const LENGTHS_DIFFER: &str = "reraid: images: length 0 given 2 planned 20000\n";
 
-// The line after the last that may stand is refused: 17 lines, three of groups, 24,576 marks, and one more; 17 lines and 33 groups;
-// 17 lines, 32 groups, and 33.
-#[test]
-fn groups_and_marks_at_their_limits(rt: HostRuntime) -> Result<(), Fail> {
-    let alloc = rt.alloc();
+/// Lists over one image and a plan that is refused at this line, or read if that is 0.
+fn listed<R: Threads + Sync + Abort>(
+    rt: &R,
+    alloc: Global,
+    plan: &[u8],
+    line: u64,
+) -> Result<(), Fail> {
     let contents = images_of(alloc, &[&[0, 0]])?;
-    let plans = [
-        (marked(alloc, 0)?, 0),
-        (marked(alloc, 1)?, LINES_BEFORE + 3 + 24_576 + 1),
-        (grouped(alloc, 32, 32)?, 0),
-        (grouped(alloc, 33, 0)?, LINES_BEFORE + 33),
-        (grouped(alloc, 32, 33)?, LINES_BEFORE + 32 + 33),
-    ];
-    for (plan, refused) in &plans {
-        let (status, met) = run(&rt, alloc, "list -- a", &contents, plan)?;
-        if *refused == 0 {
-            assert_eq!(rt; status, 4);
-            assert_eq!(rt; met.notes.bytes(), LENGTHS_DIFFER.as_bytes());
-        } else {
-            let noted = format!(in alloc; "reraid: plan line {refused} is not understood\n")?;
-            assert_eq!(rt; status, 2);
-            assert_eq!(rt; met.notes.bytes(), noted.as_bytes());
-        }
+    if line != 0 {
+        return refused(rt, alloc, "list -- a", &contents, plan, line);
+    }
+    let end = End {
+        status: 4,
+        out: b"",
+        notes: LENGTHS_DIFFER.as_bytes(),
+    };
+    ends_so(rt, alloc, "list -- a", &contents, plan, &end)
+}
+
+/// How many marks more than 4,096 a plan has of its last kind, and the line after the last that may stand, which is refused: 17 lines,
+/// three of groups, 24,576 marks, and one more.
+const MARKED: [(u64, u64); 2] = [(0, 0), (1, LINES_BEFORE + 3 + 24_576 + 1)];
+
+#[test]
+fn marks_at_their_limits(rt: HostRuntime) -> Result<(), Fail> {
+    for (more, line) in MARKED {
+        let plan = marked(rt.alloc(), more)?;
+        listed(&rt, rt.alloc(), &plan, line)?;
+    }
+    Ok(())
+}
+
+/// How many groups of NTFS and of XFS a plan has, and the line after the last that may stand, which is refused: 17 lines and 33
+/// groups; 17 lines, 32 groups, and 33.
+const GROUPED: [(u64, u64, u64); 3] = [
+    (32, 32, 0),
+    (33, 0, LINES_BEFORE + 33),
+    (32, 33, LINES_BEFORE + 32 + 33),
+];
+
+#[test]
+fn groups_at_their_limits(rt: HostRuntime) -> Result<(), Fail> {
+    for (ntfs, xfs, line) in GROUPED {
+        let plan = grouped(rt.alloc(), ntfs, xfs)?;
+        listed(&rt, rt.alloc(), &plan, line)?;
     }
     Ok(())
 }

@@ -30,13 +30,59 @@ pub fn check_all<R: Threads + Sync + Abort>(
     rows: &[Row],
 ) -> Result<(), Fail> {
     for row in rows {
-        let contents = images_of(alloc, row.images)?;
-        let (status, met) = run(rt, alloc, row.line, &contents, row.plan.as_bytes())?;
-        assert_eq!(rt; status, row.status, "{}", row.line);
-        assert_eq!(rt; met.out.bytes(), row.out.as_bytes(), "{}", row.line);
-        assert_eq!(rt; met.notes.bytes(), row.notes.as_bytes(), "{}", row.line);
+        check(rt, alloc, row)?;
     }
     Ok(())
+}
+
+/// Runs the row, and compares what it leaves.
+pub fn check<R: Threads + Sync + Abort>(rt: &R, alloc: Global, row: &Row) -> Result<(), Fail> {
+    let contents = images_of(alloc, row.images)?;
+    let end = End {
+        status: row.status,
+        out: row.out.as_bytes(),
+        notes: row.notes.as_bytes(),
+    };
+    ends_so(rt, alloc, row.line, &contents, row.plan.as_bytes(), &end)
+}
+
+/// What a run must leave: its status, and the bytes on its output and its notes.
+#[derive(Clone, Copy)]
+pub struct End<'a> {
+    pub status: u8,
+    pub out: &'a [u8],
+    pub notes: &'a [u8],
+}
+
+/// Runs the words of a line over images of these bytes, and compares what the run leaves.
+pub fn ends_so<R: Threads + Sync + Abort>(
+    rt: &R,
+    alloc: Global,
+    line: &str,
+    contents: &[Vec<u8>],
+    plan: &[u8],
+    end: &End,
+) -> Result<(), Fail> {
+    let (status, met) = run(rt, alloc, line, contents, plan)?;
+    compare(rt, status, &met, end, line);
+    Ok(())
+}
+
+/// Compares what a run left with what it must leave.
+pub fn compare<R: Abort>(rt: &R, status: u8, met: &Outside, end: &End, line: &str) {
+    same_status(rt, status, end.status, line);
+    same_bytes(rt, met.out.bytes(), end.out, line);
+    same_bytes(rt, met.notes.bytes(), end.notes, line);
+}
+
+/// Compares the status of a run with the one that it must end with.
+pub fn same_status<R: Abort>(rt: &R, status: u8, expected: u8, line: &str) {
+    assert_eq!(rt; status, expected, "{line}");
+}
+
+/// Compares the bytes that a run put with those that it must put.
+pub fn same_bytes<R: Abort>(rt: &R, put: &[u8], expected: &[u8], line: &str) {
+    assert_eq!(rt; put, expected, "{line}");
 }
 
 /// Runs the words of a line over images of these bytes.

@@ -1,9 +1,11 @@
 //! Landmark sectors at both sides of their limits, and images at the limits of a survey.
 use crate::plans::bytes_of;
-use crate::rows::run;
+use crate::rows::{End, ends_so};
 use image_source::{Memory, SECTOR};
 use std::alloc::Global;
+use std::process::Abort;
 use std::test::Fail;
+use std::thread::Threads;
 
 /// A field of a landmark sector: where it stands, and its bytes.
 pub type Field = (usize, &'static [u8]);
@@ -49,7 +51,7 @@ const BEFORE: &str =
 
 /// Headers of partition tables, whose checksums were computed by zlib: MyLBA of 2^55 - 1 and of 2^55; header sizes of 512 and 513,
 /// and of 92 and 91.
-const HEADERS: [Seen; 6] = [
+static HEADERS: [Seen; 6] = [
     (
         &[
             (0, b"EFI PART"),
@@ -138,7 +140,7 @@ const HEADERS: [Seen; 6] = [
 
 /// Boot sectors of NTFS with clusters of one sector, $MFT and its copy in clusters 4 and 2, and records of 2^10 bytes: of 2^55 - 1
 /// sectors, of 2^55, and of none; with $MFT as far as record 15 may lie, 30 sectors before 2^55 - 1, and one further.
-const BOOTS: [Seen; 5] = [
+static BOOTS: [Seen; 5] = [
     (
         &[
             (3, b"NTFS    "),
@@ -203,7 +205,7 @@ const BOOTS: [Seen; 5] = [
 /// Superblocks of XFS: blocks of 65,536 bytes, and as many blocks a group and groups as their fields hold, 128 * (2^32 - 1)^2
 /// sectors, which is more than 2^55; blocks of 512 bytes, 2^27 a group, of 2^28 groups less one, with sectors of 512 bytes, whose
 /// end is 2^55 - 2^27 + 2; and one group more, whose end is 2^55 + 2.
-const SUPERS: [Seen; 3] = [
+static SUPERS: [Seen; 3] = [
     (
         &[
             (0, b"XFSB"),
@@ -244,26 +246,50 @@ fn plan_with(alloc: Global, groups: &str) -> Result<Vec<u8>, Memory> {
     Ok(plan)
 }
 
+/// Surveys an image of two sectors, of which the first has these fields, and compares the plan.
+fn surveyed<R: Threads + Sync + Abort>(
+    rt: &R,
+    alloc: Global,
+    fields: &[Field],
+    groups: &str,
+) -> Result<(), Fail> {
+    let mut contents = Vec::new(alloc);
+    contents.push(vec![in alloc; 0u8; 1024]?)?;
+    let placed = Placed {
+        image: 0,
+        sector: 0,
+        fields,
+    };
+    put_all(&mut contents, &[placed]);
+    let plan = plan_with(alloc, groups)?;
+    let end = End {
+        status: 0,
+        out: &plan,
+        notes: b"",
+    };
+    ends_so(rt, alloc, LINE, &contents, b"", &end)
+}
+
 #[test]
-fn sectors_at_their_limits(rt: HostRuntime) -> Result<(), Fail> {
-    let alloc = rt.alloc();
-    let mut seen = Vec::new(alloc);
-    seen.extend_from_slice(&HEADERS)?;
-    seen.extend_from_slice(&BOOTS)?;
-    seen.extend_from_slice(&SUPERS)?;
-    for (place, (fields, groups)) in seen.iter().enumerate() {
-        let mut contents = Vec::new(alloc);
-        contents.push(vec![in alloc; 0u8; 1024]?)?;
-        let placed = Placed {
-            image: 0,
-            sector: 0,
-            fields,
-        };
-        put_all(&mut contents, &[placed]);
-        let plan = plan_with(alloc, groups)?;
-        let (status, met) = run(&rt, alloc, LINE, &contents, b"")?;
-        assert_eq!(rt; status, 0, "at {place}");
-        assert_eq!(rt; met.out.bytes(), plan.as_slice(), "at {place}");
+fn headers_at_their_limits(rt: HostRuntime) -> Result<(), Fail> {
+    for (fields, groups) in &HEADERS {
+        surveyed(&rt, rt.alloc(), fields, groups)?;
+    }
+    Ok(())
+}
+
+#[test]
+fn boot_sectors_at_their_limits(rt: HostRuntime) -> Result<(), Fail> {
+    for (fields, groups) in &BOOTS {
+        surveyed(&rt, rt.alloc(), fields, groups)?;
+    }
+    Ok(())
+}
+
+#[test]
+fn superblocks_at_their_limits(rt: HostRuntime) -> Result<(), Fail> {
+    for (fields, groups) in &SUPERS {
+        surveyed(&rt, rt.alloc(), fields, groups)?;
     }
     Ok(())
 }

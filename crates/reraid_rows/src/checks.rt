@@ -4,45 +4,47 @@ use crate::rows::{DOUBLE, Row, TORN, check, check_all};
 use crate::words::{Command, Operand};
 use std::test::Fail;
 
+/// The runs over sets with Q.
+const WITH_Q: [Row; 4] = [
+    Row {
+        command: Command::List(&[Operand::From(0), Operand::Size(100)]),
+        images: DOUBLE,
+        plan: LEVEL_SIX,
+        status: 0,
+        out: "0 6:ls:after-q:1:0:0,1,2,3\n24 6:ls:by-data:1:0:0,1,2,3\nnext 72 of 72\n",
+        notes: "",
+    },
+    Row {
+        command: Command::Check(&[Operand::Set("6:ls:after-q:1:0:0,1,2,3")]),
+        images: DOUBLE,
+        plan: LEVEL_SIX,
+        status: 0,
+        out: "rank 0\nunsound 0 of 1\npass\n",
+        notes: "",
+    },
+    Row {
+        command: Command::Check(&[Operand::Set("6:ls:by-slot:1:0:0,1,2,3")]),
+        images: DOUBLE,
+        plan: LEVEL_SIX,
+        status: 0,
+        out: "rank 48\nunsound 1 of 1\nfail\n",
+        notes: "",
+    },
+    Row {
+        command: Command::Check(&[Operand::Set("6:ls:after-q:1:0:0,-,1,2")]),
+        images: TORN,
+        plan: LEVEL_SIX_LOST,
+        status: 0,
+        out: "rank 4\nunsound 1 of 1\nfail\n",
+        notes: "",
+    },
+];
+
 // After Q and by data the two data blocks of the row have exponents 0 and 1; by slot they have 1
 // and 2, and Q would be 38.
 #[test]
 fn listings_and_tests_with_q(rt: HostRuntime) -> Result<(), Fail> {
-    let rows = [
-        Row {
-            command: Command::List(&[Operand::From(0), Operand::Size(100)]),
-            images: DOUBLE,
-            plan: LEVEL_SIX,
-            status: 0,
-            out: "0 6:ls:after-q:1:0:0,1,2,3\n24 6:ls:by-data:1:0:0,1,2,3\nnext 72 of 72\n",
-            notes: "",
-        },
-        Row {
-            command: Command::Check(&[Operand::Set("6:ls:after-q:1:0:0,1,2,3")]),
-            images: DOUBLE,
-            plan: LEVEL_SIX,
-            status: 0,
-            out: "rank 0\nunsound 0 of 1\npass\n",
-            notes: "",
-        },
-        Row {
-            command: Command::Check(&[Operand::Set("6:ls:by-slot:1:0:0,1,2,3")]),
-            images: DOUBLE,
-            plan: LEVEL_SIX,
-            status: 0,
-            out: "rank 48\nunsound 1 of 1\nfail\n",
-            notes: "",
-        },
-        Row {
-            command: Command::Check(&[Operand::Set("6:ls:after-q:1:0:0,-,1,2")]),
-            images: TORN,
-            plan: LEVEL_SIX_LOST,
-            status: 0,
-            out: "rank 4\nunsound 1 of 1\nfail\n",
-            notes: "",
-        },
-    ];
-    check_all(&rt, rt.alloc(), &rows)
+    check_all(&rt, rt.alloc(), &WITH_Q)
 }
 
 // Six rows of left-asymmetric, level 6, over six members: in row r P is in slot 5 - r and Q in the

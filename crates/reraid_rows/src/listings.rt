@@ -11,149 +11,155 @@ const OBJECTS: &str =
 /// `STRIPES` with the last byte changed.
 const STRIPES_BROKEN: &[&[u8]] = &[&[1, 2], &[3, 4], &[2, 7]];
 
+/// The listings, of images that pass and of others.
+const FILTERED: [Row; 7] = [
+    Row {
+        command: Command::List(&[Operand::From(0), Operand::Size(10), Operand::Span(u64::MAX)]),
+        images: STRIPES,
+        plan: PLAN,
+        status: 0,
+        out: LISTING,
+        notes: "",
+    },
+    Row {
+        command: Command::List(&[Operand::From(0), Operand::Size(10), Operand::Span(u64::MAX)]),
+        images: STRIPES_BROKEN,
+        plan: PLAN,
+        status: 0,
+        out: "next 6 of 6\n",
+        notes: "",
+    },
+    Row {
+        command: Command::List(&[Operand::From(0), Operand::Size(2), Operand::Span(u64::MAX)]),
+        images: STRIPES,
+        plan: PLAN,
+        status: 0,
+        out: "0 5:ls:none:1:0:0,1,2\n1 5:ls:none:1:0:0,2,1\nnext 2 of 6\n",
+        notes: "",
+    },
+    Row {
+        command: Command::List(&[Operand::From(2), Operand::Size(4), Operand::Span(u64::MAX)]),
+        images: STRIPES,
+        plan: PLAN,
+        status: 0,
+        out: "2 5:ls:none:1:0:1,0,2\n3 5:ls:none:1:0:1,2,0\n4 5:ls:none:1:0:2,0,1\n5 5:ls:none:1:0:2,1,0\nnext 6 of 6\n",
+        notes: "",
+    },
+    Row {
+        command: Command::List(&[Operand::From(6), Operand::Size(4), Operand::Span(u64::MAX)]),
+        images: STRIPES,
+        plan: PLAN,
+        status: 0,
+        out: "next 6 of 6\n",
+        notes: "",
+    },
+    Row {
+        command: Command::List(&[Operand::From(7), Operand::Size(4), Operand::Span(u64::MAX)]),
+        images: STRIPES,
+        plan: PLAN,
+        status: 6,
+        out: "",
+        notes: "reraid: cursor 7 is past 6\n",
+    },
+    // with one bad row allowed the images of the second listing pass
+    Row {
+        command: Command::List(&[Operand::From(0), Operand::Size(10), Operand::Span(u64::MAX)]),
+        images: STRIPES_BROKEN,
+        plan: PLAN_WITH_A_BAD_ROW,
+        status: 0,
+        out: LISTING,
+        notes: "",
+    },
+];
+
 // 1 + 3 + 2 and 2 + 4 + 6 cancel bit by bit, and so does every order of them; 2, 4 and 7 do not.
 #[test]
 fn listings_go_on_to_the_whole_filter(rt: HostRuntime) -> Result<(), Fail> {
-    let rows = [
-        Row {
-            command: Command::List(&[Operand::From(0), Operand::Size(10), Operand::Span(u64::MAX)]),
-            images: STRIPES,
-            plan: PLAN,
-            status: 0,
-            out: LISTING,
-            notes: "",
-        },
-        Row {
-            command: Command::List(&[Operand::From(0), Operand::Size(10), Operand::Span(u64::MAX)]),
-            images: STRIPES_BROKEN,
-            plan: PLAN,
-            status: 0,
-            out: "next 6 of 6\n",
-            notes: "",
-        },
-        Row {
-            command: Command::List(&[Operand::From(0), Operand::Size(2), Operand::Span(u64::MAX)]),
-            images: STRIPES,
-            plan: PLAN,
-            status: 0,
-            out: "0 5:ls:none:1:0:0,1,2\n1 5:ls:none:1:0:0,2,1\nnext 2 of 6\n",
-            notes: "",
-        },
-        Row {
-            command: Command::List(&[Operand::From(2), Operand::Size(4), Operand::Span(u64::MAX)]),
-            images: STRIPES,
-            plan: PLAN,
-            status: 0,
-            out: "2 5:ls:none:1:0:1,0,2\n3 5:ls:none:1:0:1,2,0\n4 5:ls:none:1:0:2,0,1\n5 5:ls:none:1:0:2,1,0\nnext 6 of 6\n",
-            notes: "",
-        },
-        Row {
-            command: Command::List(&[Operand::From(6), Operand::Size(4), Operand::Span(u64::MAX)]),
-            images: STRIPES,
-            plan: PLAN,
-            status: 0,
-            out: "next 6 of 6\n",
-            notes: "",
-        },
-        Row {
-            command: Command::List(&[Operand::From(7), Operand::Size(4), Operand::Span(u64::MAX)]),
-            images: STRIPES,
-            plan: PLAN,
-            status: 6,
-            out: "",
-            notes: "reraid: cursor 7 is past 6\n",
-        },
-        // with one bad row allowed the images of the second listing pass
-        Row {
-            command: Command::List(&[Operand::From(0), Operand::Size(10), Operand::Span(u64::MAX)]),
-            images: STRIPES_BROKEN,
-            plan: PLAN_WITH_A_BAD_ROW,
-            status: 0,
-            out: LISTING,
-            notes: "",
-        },
-    ];
-    check_all(&rt, rt.alloc(), &rows)
+    check_all(&rt, rt.alloc(), &FILTERED)
 }
+
+/// The listings of several pages, and as JSON.
+const PAGES: [Row; 4] = [
+    Row {
+        command: Command::List(&[Operand::Size(4), Operand::Said("pages=2")]),
+        images: STRIPES,
+        plan: PLAN,
+        status: 0,
+        out: "0 5:ls:none:1:0:0,1,2\n1 5:ls:none:1:0:0,2,1\n2 5:ls:none:1:0:1,0,2\n3 5:ls:none:1:0:1,2,0\nnext 4 of 6\n4 5:ls:none:1:0:2,0,1\n5 5:ls:none:1:0:2,1,0\nnext 6 of 6\n",
+        notes: "",
+    },
+    Row {
+        command: Command::List(&[Operand::Size(6), Operand::Said("pages=5")]),
+        images: STRIPES,
+        plan: PLAN,
+        status: 0,
+        out: LISTING,
+        notes: "",
+    },
+    Row {
+        command: Command::List(&[Operand::From(6), Operand::Said("pages=5")]),
+        images: STRIPES,
+        plan: PLAN,
+        status: 0,
+        out: "next 6 of 6\n",
+        notes: "",
+    },
+    Row {
+        command: Command::List(&[Operand::Size(10), Operand::Said("form=json")]),
+        images: STRIPES,
+        plan: PLAN,
+        status: 0,
+        out: OBJECTS,
+        notes: "",
+    },
+];
 
 // Pages of four lines, one after the other; a page that goes on at the total is the last. The same as JSON.
 #[test]
 fn pages_and_objects(rt: HostRuntime) -> Result<(), Fail> {
-    let rows = [
-        Row {
-            command: Command::List(&[Operand::Size(4), Operand::Said("pages=2")]),
-            images: STRIPES,
-            plan: PLAN,
-            status: 0,
-            out: "0 5:ls:none:1:0:0,1,2\n1 5:ls:none:1:0:0,2,1\n2 5:ls:none:1:0:1,0,2\n3 5:ls:none:1:0:1,2,0\nnext 4 of 6\n4 5:ls:none:1:0:2,0,1\n5 5:ls:none:1:0:2,1,0\nnext 6 of 6\n",
-            notes: "",
-        },
-        Row {
-            command: Command::List(&[Operand::Size(6), Operand::Said("pages=5")]),
-            images: STRIPES,
-            plan: PLAN,
-            status: 0,
-            out: LISTING,
-            notes: "",
-        },
-        Row {
-            command: Command::List(&[Operand::From(6), Operand::Said("pages=5")]),
-            images: STRIPES,
-            plan: PLAN,
-            status: 0,
-            out: "next 6 of 6\n",
-            notes: "",
-        },
-        Row {
-            command: Command::List(&[Operand::Size(10), Operand::Said("form=json")]),
-            images: STRIPES,
-            plan: PLAN,
-            status: 0,
-            out: OBJECTS,
-            notes: "",
-        },
-    ];
-    check_all(&rt, rt.alloc(), &rows)
+    check_all(&rt, rt.alloc(), &PAGES)
 }
+
+/// The listings over other numbers of members than images.
+const OTHER_MEMBERS: [Row; 4] = [
+    Row {
+        command: Command::List(&[Operand::From(0), Operand::Size(10)]),
+        images: &[&[1, 2], &[3, 4]],
+        plan: ONE_LOST,
+        status: 0,
+        out: "0 5:ls:none:1:0:0,1,-\n1 5:ls:none:1:0:0,-,1\n2 5:ls:none:1:0:1,0,-\n3 5:ls:none:1:0:1,-,0\n4 5:ls:none:1:0:-,0,1\n5 5:ls:none:1:0:-,1,0\nnext 6 of 6\n",
+        notes: "",
+    },
+    Row {
+        command: Command::List(&[Operand::From(0), Operand::Size(10)]),
+        images: &[&[1, 2], &[3, 4], &[2, 6], &[0, 0]],
+        plan: ONE_FOREIGN,
+        status: 0,
+        out: "0 5:ls:none:1:0:0,1,2\n2 5:ls:none:1:0:0,2,1\n6 5:ls:none:1:0:1,0,2\n8 5:ls:none:1:0:1,2,0\n12 5:ls:none:1:0:2,0,1\n14 5:ls:none:1:0:2,1,0\nnext 24 of 24\n",
+        notes: "",
+    },
+    Row {
+        command: Command::List(&[Operand::From(12), Operand::Size(1)]),
+        images: STRIPES,
+        plan: TWO_LEVELS,
+        status: 0,
+        out: "12 5:ls:none:1:0:0,1,2\nnext 13 of 18\n",
+        notes: "",
+    },
+    Row {
+        command: Command::List(&[Operand::From(0), Operand::Size(1)]),
+        images: STRIPES,
+        plan: TWO_LEVELS,
+        status: 0,
+        out: "0 0:plain:none:1:0:0,1\nnext 1 of 18\n",
+        notes: "",
+    },
+];
 
 // With one member lost level 5 tests nothing, so all six orders pass. Of four images one is in no
 // slot, and the six orders of the others pass. Levels 0 and 5 over two or three members of three
 // images: six pairs, and six orders at each level.
 #[test]
 fn listings_over_missing_and_foreign_members(rt: HostRuntime) -> Result<(), Fail> {
-    let rows = [
-        Row {
-            command: Command::List(&[Operand::From(0), Operand::Size(10)]),
-            images: &[&[1, 2], &[3, 4]],
-            plan: ONE_LOST,
-            status: 0,
-            out: "0 5:ls:none:1:0:0,1,-\n1 5:ls:none:1:0:0,-,1\n2 5:ls:none:1:0:1,0,-\n3 5:ls:none:1:0:1,-,0\n4 5:ls:none:1:0:-,0,1\n5 5:ls:none:1:0:-,1,0\nnext 6 of 6\n",
-            notes: "",
-        },
-        Row {
-            command: Command::List(&[Operand::From(0), Operand::Size(10)]),
-            images: &[&[1, 2], &[3, 4], &[2, 6], &[0, 0]],
-            plan: ONE_FOREIGN,
-            status: 0,
-            out: "0 5:ls:none:1:0:0,1,2\n2 5:ls:none:1:0:0,2,1\n6 5:ls:none:1:0:1,0,2\n8 5:ls:none:1:0:1,2,0\n12 5:ls:none:1:0:2,0,1\n14 5:ls:none:1:0:2,1,0\nnext 24 of 24\n",
-            notes: "",
-        },
-        Row {
-            command: Command::List(&[Operand::From(12), Operand::Size(1)]),
-            images: STRIPES,
-            plan: TWO_LEVELS,
-            status: 0,
-            out: "12 5:ls:none:1:0:0,1,2\nnext 13 of 18\n",
-            notes: "",
-        },
-        Row {
-            command: Command::List(&[Operand::From(0), Operand::Size(1)]),
-            images: STRIPES,
-            plan: TWO_LEVELS,
-            status: 0,
-            out: "0 0:plain:none:1:0:0,1\nnext 1 of 18\n",
-            notes: "",
-        },
-    ];
-    check_all(&rt, rt.alloc(), &rows)
+    check_all(&rt, rt.alloc(), &OTHER_MEMBERS)
 }

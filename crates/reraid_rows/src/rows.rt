@@ -48,10 +48,38 @@ pub fn check_all<R: Threads + Sync + Abort>(
 /// Runs the row, and compares what it leaves.
 pub fn check<R: Threads + Sync + Abort>(rt: &R, alloc: Global, row: &Row) -> Result<(), Fail> {
     let (status, met) = run(rt, alloc, &row.command, row.images, row.plan.as_bytes())?;
-    assert_eq!(rt; status, row.status);
-    assert_eq!(rt; met.out.bytes(), row.out.as_bytes());
-    assert_eq!(rt; met.notes.bytes(), row.notes.as_bytes());
+    let end = End {
+        status: row.status,
+        out: row.out.as_bytes(),
+        notes: row.notes.as_bytes(),
+    };
+    compare(rt, status, &met, &end);
     Ok(())
+}
+
+/// What a run must leave: its status, and the bytes on its output and its notes.
+#[derive(Clone, Copy)]
+pub struct End<'a> {
+    pub status: u8,
+    pub out: &'a [u8],
+    pub notes: &'a [u8],
+}
+
+/// Compares what a run left with what it must leave.
+pub fn compare<R: Abort>(rt: &R, status: u8, met: &Outside, end: &End) {
+    same_status(rt, status, end.status);
+    same_bytes(rt, met.out.bytes(), end.out);
+    same_bytes(rt, met.notes.bytes(), end.notes);
+}
+
+/// Compares the status of a run with the one that it must end with.
+pub fn same_status<R: Abort>(rt: &R, status: u8, expected: u8) {
+    assert_eq!(rt; status, expected);
+}
+
+/// Compares the bytes that a run put with those that it must put.
+pub fn same_bytes<R: Abort>(rt: &R, put: &[u8], expected: &[u8]) {
+    assert_eq!(rt; put, expected);
 }
 
 /// Runs a command over images of these sectors, all of them named.
@@ -83,11 +111,20 @@ pub fn writes_all<R: Threads + Sync + Abort>(
     rows: &[Written],
 ) -> Result<(), Fail> {
     for row in rows {
-        let (status, met) = run(rt, alloc, &row.command, row.images, b"")?;
-        let expected = filled(alloc, row.out)?;
-        assert_eq!(rt; status, 0);
-        assert_eq!(rt; met.out.bytes(), expected.as_slice());
-        assert_eq!(rt; met.notes.bytes().len(), 0);
+        writes(rt, alloc, row)?;
     }
+    Ok(())
+}
+
+/// Runs the row, and compares what it puts.
+fn writes<R: Threads + Sync + Abort>(rt: &R, alloc: Global, row: &Written) -> Result<(), Fail> {
+    let (status, met) = run(rt, alloc, &row.command, row.images, b"")?;
+    let expected = filled(alloc, row.out)?;
+    let end = End {
+        status: 0,
+        out: &expected,
+        notes: b"",
+    };
+    compare(rt, status, &met, &end);
     Ok(())
 }

@@ -1,5 +1,6 @@
 //! Generated arrays, and what is found of them. The totals were worked out by hand, the marks by another program.
 use crate::outside::{Outside, images_of, run_command};
+use crate::rows::{End, compare};
 use crate::words::{Command, Operand};
 use image_source::Memory;
 use std::alloc::Global;
@@ -35,17 +36,29 @@ const UNSAID: &[Operand] = &[
     Operand::Said("rows=2"),
 ];
 
+/// Runs `sample` with these words, and compares what it leaves.
+fn check<R: Threads + Sync + Abort>(
+    rt: &R,
+    alloc: Global,
+    operands: &[Operand],
+    end: &End,
+) -> Result<(), Fail> {
+    let (status, met) = run(rt, alloc, operands)?;
+    compare(rt, status, &met, end);
+    Ok(())
+}
+
+/// What is found of it.
+const FOUND: End = End {
+    status: 0,
+    out: b"images 3\nsectors 16\nmarks 0\ntotal 1296\nfound yes\nnext 1296 of 1296\n",
+    notes: b"",
+};
+
 #[test]
 fn an_array_without_marks(rt: HostRuntime) -> Result<(), Fail> {
-    let alloc = rt.alloc();
     for operands in [SMALL, SMALL, UNSAID] {
-        let (status, met) = run(&rt, alloc, operands)?;
-        assert_eq!(rt; status, 0);
-        assert_eq!(rt;
-            met.out.bytes(),
-            b"images 3\nsectors 16\nmarks 0\ntotal 1296\nfound yes\nnext 1296 of 1296\n".as_slice()
-        );
-        assert_eq!(rt; met.notes.bytes().len(), 0);
+        check(&rt, rt.alloc(), operands, &FOUND)?;
     }
     Ok(())
 }
@@ -59,16 +72,16 @@ const MARKED: &[Operand] = &[
     Operand::Said("marks=xfs"),
 ];
 
+/// What is found of them.
+const FOUND_MARKED: End = End {
+    status: 0,
+    out: b"images 12\nsectors 1600\nmarks 192\ntotal 103464345600\nfound yes\nnext 103464345600 of 103464345600\n",
+    notes: b"",
+};
+
 #[test]
 fn an_array_with_landmarks(rt: HostRuntime) -> Result<(), Fail> {
-    let alloc = rt.alloc();
-    let (status, met) = run(&rt, alloc, MARKED)?;
-    assert_eq!(rt; status, 0);
-    assert_eq!(rt;
-        met.out.bytes(),
-        b"images 12\nsectors 1600\nmarks 192\ntotal 103464345600\nfound yes\nnext 103464345600 of 103464345600\n".as_slice()
-    );
-    Ok(())
+    check(&rt, rt.alloc(), MARKED, &FOUND_MARKED)
 }
 
 /// A refusal by the rule of a set, and its line.
@@ -104,14 +117,25 @@ const REFUSED: &[Refusal] = &[
     ),
 ];
 
+/// Runs `sample` with words that are refused by a rule, and compares what it leaves.
+fn refused<R: Threads + Sync + Abort>(
+    rt: &R,
+    alloc: Global,
+    operands: &[Operand],
+    line: &str,
+) -> Result<(), Fail> {
+    let end = End {
+        status: 7,
+        out: b"",
+        notes: line.as_bytes(),
+    };
+    check(rt, alloc, operands, &end)
+}
+
 #[test]
 fn arrays_that_are_refused(rt: HostRuntime) -> Result<(), Fail> {
-    let alloc = rt.alloc();
     for (operands, line) in REFUSED {
-        let (status, met) = run(&rt, alloc, operands)?;
-        assert_eq!(rt; status, 7);
-        assert_eq!(rt; met.out.bytes().len(), 0);
-        assert_eq!(rt; met.notes.bytes(), line.as_bytes());
+        refused(&rt, rt.alloc(), operands, line)?;
     }
     Ok(())
 }

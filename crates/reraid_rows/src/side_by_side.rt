@@ -4,6 +4,7 @@ use crate::plans::SIX_IMAGES;
 use crate::words::{Command, Operand};
 use reraid_cli::Gate;
 use std::hint;
+use std::process::Abort;
 use std::sync::atomic::{AtomicBool, Ordering};
 use std::test::Fail;
 
@@ -53,6 +54,15 @@ impl Gate for Meeting {
     }
 }
 
+/// Compares the end of the page, and whether the pieces met.
+fn compare<R: Abort>(rt: &R, status: u8, out: &[u8], gate: &Meeting) {
+    assert_eq!(rt; status, 0);
+    assert!(rt; out.ends_with(b"\nnext 720 of 720\n"));
+    assert!(rt; gate.first.load(Ordering::SeqCst));
+    assert!(rt; gate.second.load(Ordering::SeqCst));
+    assert!(rt; !gate.gave_up.load(Ordering::SeqCst));
+}
+
 // Zero bytes satisfy every equation, and at level 6 the tables of rows do not decide. So the 720 orders of six images are
 // scanned together, in two pieces, and all of them pass.
 #[test]
@@ -62,10 +72,6 @@ fn pieces_meet(rt: HostRuntime) -> Result<(), Fail> {
     let gate = Meeting::new();
     let command = Command::List(&[Operand::Size(720)]);
     let status = run_gated(&rt, rt.alloc(), &command, names, &mut met, &gate)?;
-    assert_eq!(rt; status, 0);
-    assert!(rt; met.out.bytes().ends_with(b"\nnext 720 of 720\n"));
-    assert!(rt; gate.first.load(Ordering::SeqCst));
-    assert!(rt; gate.second.load(Ordering::SeqCst));
-    assert!(rt; !gate.gave_up.load(Ordering::SeqCst));
+    compare(&rt, status, met.out.bytes(), &gate);
     Ok(())
 }

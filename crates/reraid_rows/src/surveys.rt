@@ -1,6 +1,7 @@
 //! Surveys of images that hold landmarks, and listings over their plans.
 use crate::outside::{Outside, first_names, images_with, run_command};
 use crate::plans::XFS;
+use crate::rows::{End, compare, same_status};
 use crate::words::{Command, Operand};
 use image_source::{Memory, SECTOR};
 use std::alloc::Global;
@@ -60,20 +61,49 @@ fn run<R: Threads + Sync>(
     Ok((status, met))
 }
 
-/// Runs a survey over images of these lengths in bytes, zero but for these sectors, and compares its plan.
-fn check<R: Threads + Sync + Abort>(
+/// One survey: its command, the lengths of its images in bytes, the sectors that are not zero, and the plan that it must print.
+#[derive(Clone, Copy)]
+struct Surveyed<'a> {
+    command: Command<'a>,
+    lengths: &'a [usize],
+    placed: &'a [Placed<'a>],
+    plan: &'a str,
+}
+
+/// Runs each survey, and compares its plan.
+fn check_all<R: Threads + Sync + Abort>(
     rt: &R,
     alloc: Global,
-    survey: &Command,
-    lengths: &[usize],
-    placed: &[Placed],
-    plan: &str,
+    surveys: &[Surveyed],
 ) -> Result<(), Fail> {
-    let contents = images(alloc, lengths, placed)?;
-    let (status, met) = run(rt, alloc, survey, &contents, b"")?;
-    assert_eq!(rt; status, 0);
-    assert_eq!(rt; met.out.bytes(), plan.as_bytes());
-    assert_eq!(rt; met.notes.bytes().len(), 0);
+    for survey in surveys {
+        check(rt, alloc, survey)?;
+    }
+    Ok(())
+}
+
+/// Runs a survey, and compares its plan.
+fn check<R: Threads + Sync + Abort>(rt: &R, alloc: Global, survey: &Surveyed) -> Result<(), Fail> {
+    let contents = images(alloc, survey.lengths, survey.placed)?;
+    let end = End {
+        status: 0,
+        out: survey.plan.as_bytes(),
+        notes: b"",
+    };
+    ends_so(rt, alloc, &survey.command, &contents, b"", &end)
+}
+
+/// Runs a command over images of these bytes, and compares what it leaves.
+fn ends_so<R: Threads + Sync + Abort>(
+    rt: &R,
+    alloc: Global,
+    command: &Command,
+    contents: &[Vec<u8>],
+    plan: &[u8],
+    end: &End,
+) -> Result<(), Fail> {
+    let (status, met) = run(rt, alloc, command, contents, plan)?;
+    compare(rt, status, &met, end);
     Ok(())
 }
 
@@ -313,113 +343,144 @@ const TO_ZERO: Command<'static> = Command::Survey(&[Operand::End(0)]);
 
 const DEFAULTS: Command<'static> = Command::Survey(&[]);
 
+/// The surveys of partition tables.
+const TABLES: [Surveyed; 4] = [
+    Surveyed {
+        command: AT_ZERO,
+        lengths: SMALL,
+        placed: TABLE,
+        plan: "reraid-plan 1\nimages 2\nlength 64\nlength 64\nend 64\nlevels 0,5,6\nmembers 2\npatterns plain,la,ra,ls,rs,parity-first,parity-last,n-restart,n-continue,la-6,ra-6,ls-6,rs-6,parity-first-6\nsyndromes none,after-q,by-data,by-slot\nchunks 8,16,32,64,128,256,512,1024,2048\noffsets 0,2048,262144,264192\norigins 0,40\nmissing 0\nforeign 0\nbadrows 0\nwindow 64\nmisfits 0\nleast 1\ngroup gpt\nmark gpt 0 1 at:1\ndone\n",
+    },
+    Surveyed {
+        command: AT_ZERO,
+        lengths: SMALL,
+        placed: CHANGED_TABLE,
+        plan: "reraid-plan 1\nimages 2\nlength 64\nlength 64\nend 64\nlevels 0,5,6\nmembers 2\npatterns plain,la,ra,ls,rs,parity-first,parity-last,n-restart,n-continue,la-6,ra-6,ls-6,rs-6,parity-first-6\nsyndromes none,after-q,by-data,by-slot\nchunks 8,16,32,64,128,256,512,1024,2048\noffsets 0,2048,262144,264192\norigins 0\nmissing 0\nforeign 0\nbadrows 0\nwindow 64\nmisfits 0\nleast 1\ndone\n",
+    },
+    Surveyed {
+        command: DROPPED,
+        lengths: SMALL,
+        placed: TABLE,
+        plan: "reraid-plan 1\nimages 2\nlength 64\nlength 64\nend 64\nlevels 0,5,6\nmembers 2\npatterns plain,la,ra,ls,rs,parity-first,parity-last,n-restart,n-continue,la-6,ra-6,ls-6,rs-6,parity-first-6\nsyndromes none,after-q,by-data,by-slot\nchunks 8,16,32,64,128,256,512,1024,2048\noffsets 0,2048,262144,264192\norigins 0\nmissing 0\nforeign 0\nbadrows 0\nwindow 64\nmisfits 0\nleast 1\ndone\n",
+    },
+    Surveyed {
+        command: DEFAULTS,
+        lengths: LARGE,
+        placed: OWN_TABLES,
+        plan: "reraid-plan 1\nimages 3\nlength 10000\nlength 10000\nlength 10000\nend 10000\nlevels 0,5,6\nmembers 3\npatterns plain,la,ra,ls,rs,parity-first,parity-last,n-restart,n-continue,la-6,ra-6,ls-6,rs-6,parity-first-6\nsyndromes none,after-q,by-data,by-slot\nchunks 8,16,32,64,128,256,512,1024,2048\noffsets 0,2048,262144,264192\norigins 0,2048\nmissing 0\nforeign 0\nbadrows 0\nwindow 10000\nmisfits 0\nleast 1\ndone\n",
+    },
+];
+
 #[test]
 fn tables_become_a_plan(rt: HostRuntime) -> Result<(), Fail> {
-    let alloc = rt.alloc();
-    check(
-        &rt,
-        alloc,
-        &AT_ZERO,
-        SMALL,
-        TABLE,
-        "reraid-plan 1\nimages 2\nlength 64\nlength 64\nend 64\nlevels 0,5,6\nmembers 2\npatterns plain,la,ra,ls,rs,parity-first,parity-last,n-restart,n-continue,la-6,ra-6,ls-6,rs-6,parity-first-6\nsyndromes none,after-q,by-data,by-slot\nchunks 8,16,32,64,128,256,512,1024,2048\noffsets 0,2048,262144,264192\norigins 0,40\nmissing 0\nforeign 0\nbadrows 0\nwindow 64\nmisfits 0\nleast 1\ngroup gpt\nmark gpt 0 1 at:1\ndone\n",
-    )?;
-    check(
-        &rt,
-        alloc,
-        &AT_ZERO,
-        SMALL,
-        CHANGED_TABLE,
-        "reraid-plan 1\nimages 2\nlength 64\nlength 64\nend 64\nlevels 0,5,6\nmembers 2\npatterns plain,la,ra,ls,rs,parity-first,parity-last,n-restart,n-continue,la-6,ra-6,ls-6,rs-6,parity-first-6\nsyndromes none,after-q,by-data,by-slot\nchunks 8,16,32,64,128,256,512,1024,2048\noffsets 0,2048,262144,264192\norigins 0\nmissing 0\nforeign 0\nbadrows 0\nwindow 64\nmisfits 0\nleast 1\ndone\n",
-    )?;
-    check(
-        &rt,
-        alloc,
-        &DROPPED,
-        SMALL,
-        TABLE,
-        "reraid-plan 1\nimages 2\nlength 64\nlength 64\nend 64\nlevels 0,5,6\nmembers 2\npatterns plain,la,ra,ls,rs,parity-first,parity-last,n-restart,n-continue,la-6,ra-6,ls-6,rs-6,parity-first-6\nsyndromes none,after-q,by-data,by-slot\nchunks 8,16,32,64,128,256,512,1024,2048\noffsets 0,2048,262144,264192\norigins 0\nmissing 0\nforeign 0\nbadrows 0\nwindow 64\nmisfits 0\nleast 1\ndone\n",
-    )?;
-    check(
-        &rt,
-        alloc,
-        &DEFAULTS,
-        LARGE,
-        OWN_TABLES,
-        "reraid-plan 1\nimages 3\nlength 10000\nlength 10000\nlength 10000\nend 10000\nlevels 0,5,6\nmembers 3\npatterns plain,la,ra,ls,rs,parity-first,parity-last,n-restart,n-continue,la-6,ra-6,ls-6,rs-6,parity-first-6\nsyndromes none,after-q,by-data,by-slot\nchunks 8,16,32,64,128,256,512,1024,2048\noffsets 0,2048,262144,264192\norigins 0,2048\nmissing 0\nforeign 0\nbadrows 0\nwindow 10000\nmisfits 0\nleast 1\ndone\n",
-    )
+    check_all(&rt, rt.alloc(), &TABLES)
 }
+
+/// The surveys of file systems.
+const FILE_SYSTEMS: [Surveyed; 2] = [
+    Surveyed {
+        command: DEFAULTS,
+        lengths: ONE,
+        placed: NTFS,
+        plan: "reraid-plan 1\nimages 1\nlength 200\nend 200\nlevels 0,5,6\nmembers 2\npatterns plain,la,ra,ls,rs,parity-first,parity-last,n-restart,n-continue,la-6,ra-6,ls-6,rs-6,parity-first-6\nsyndromes none,after-q,by-data,by-slot\nchunks 8,16,32,64,128,256,512,1024,2048\noffsets 0,2048,262144,264192\norigins 0,2048\nmissing 0\nforeign 0\nbadrows 0\nwindow 200\nmisfits 0\nleast 1\ngroup ntfs\nmark boot 0 10 either:0:100\nmark record 0 44 either:34:18\nmark boot 0 110 either:0:100\ndone\n",
+    },
+    Surveyed {
+        command: DEFAULTS,
+        lengths: ONE,
+        placed: OLD_NTFS,
+        plan: "reraid-plan 1\nimages 1\nlength 200\nend 200\nlevels 0,5,6\nmembers 2\npatterns plain,la,ra,ls,rs,parity-first,parity-last,n-restart,n-continue,la-6,ra-6,ls-6,rs-6,parity-first-6\nsyndromes none,after-q,by-data,by-slot\nchunks 8,16,32,64,128,256,512,1024,2048\noffsets 0,2048,262144,264192\norigins 0,2048\nmissing 0\nforeign 0\nbadrows 0\nwindow 200\nmisfits 0\nleast 1\ngroup ntfs\nmark boot 0 10 either:0:100\nmark boot 0 110 either:0:100\ndone\n",
+    },
+];
 
 #[test]
 fn file_systems_become_a_plan(rt: HostRuntime) -> Result<(), Fail> {
-    let alloc = rt.alloc();
-    check(
-        &rt,
-        alloc,
-        &DEFAULTS,
-        ONE,
-        NTFS,
-        "reraid-plan 1\nimages 1\nlength 200\nend 200\nlevels 0,5,6\nmembers 2\npatterns plain,la,ra,ls,rs,parity-first,parity-last,n-restart,n-continue,la-6,ra-6,ls-6,rs-6,parity-first-6\nsyndromes none,after-q,by-data,by-slot\nchunks 8,16,32,64,128,256,512,1024,2048\noffsets 0,2048,262144,264192\norigins 0,2048\nmissing 0\nforeign 0\nbadrows 0\nwindow 200\nmisfits 0\nleast 1\ngroup ntfs\nmark boot 0 10 either:0:100\nmark record 0 44 either:34:18\nmark boot 0 110 either:0:100\ndone\n",
-    )?;
-    check(
-        &rt,
-        alloc,
-        &DEFAULTS,
-        ONE,
-        OLD_NTFS,
-        "reraid-plan 1\nimages 1\nlength 200\nend 200\nlevels 0,5,6\nmembers 2\npatterns plain,la,ra,ls,rs,parity-first,parity-last,n-restart,n-continue,la-6,ra-6,ls-6,rs-6,parity-first-6\nsyndromes none,after-q,by-data,by-slot\nchunks 8,16,32,64,128,256,512,1024,2048\noffsets 0,2048,262144,264192\norigins 0,2048\nmissing 0\nforeign 0\nbadrows 0\nwindow 200\nmisfits 0\nleast 1\ngroup ntfs\nmark boot 0 10 either:0:100\nmark boot 0 110 either:0:100\ndone\n",
-    )
+    check_all(&rt, rt.alloc(), &FILE_SYSTEMS)
 }
+
+/// The surveys up to sector 0, and of less than a sector.
+const SHORT: [Surveyed; 2] = [
+    Surveyed {
+        command: TO_ZERO,
+        lengths: SMALL,
+        placed: TABLE,
+        plan: "reraid-plan 1\nimages 2\nlength 64\nlength 64\nend 0\nlevels 0,5,6\nmembers 2\npatterns plain,la,ra,ls,rs,parity-first,parity-last,n-restart,n-continue,la-6,ra-6,ls-6,rs-6,parity-first-6\nsyndromes none,after-q,by-data,by-slot\nchunks 8,16,32,64,128,256,512,1024,2048\noffsets 0,2048,262144,264192\norigins 0,2048\nmissing 0\nforeign 0\nbadrows 0\nwindow 1\nmisfits 0\nleast 1\ndone\n",
+    },
+    Surveyed {
+        command: DEFAULTS,
+        lengths: TORN,
+        placed: &[],
+        plan: "reraid-plan 1\nimages 1\nlength 0\nend 0\nlevels 0,5,6\nmembers 2\npatterns plain,la,ra,ls,rs,parity-first,parity-last,n-restart,n-continue,la-6,ra-6,ls-6,rs-6,parity-first-6\nsyndromes none,after-q,by-data,by-slot\nchunks 8,16,32,64,128,256,512,1024,2048\noffsets 0,2048,262144,264192\norigins 0,2048\nmissing 0\nforeign 0\nbadrows 0\nwindow 1\nmisfits 0\nleast 1\ndone\n",
+    },
+];
 
 #[test]
 fn short_images_become_a_plan(rt: HostRuntime) -> Result<(), Fail> {
-    let alloc = rt.alloc();
-    check(
-        &rt,
-        alloc,
-        &TO_ZERO,
-        SMALL,
-        TABLE,
-        "reraid-plan 1\nimages 2\nlength 64\nlength 64\nend 0\nlevels 0,5,6\nmembers 2\npatterns plain,la,ra,ls,rs,parity-first,parity-last,n-restart,n-continue,la-6,ra-6,ls-6,rs-6,parity-first-6\nsyndromes none,after-q,by-data,by-slot\nchunks 8,16,32,64,128,256,512,1024,2048\noffsets 0,2048,262144,264192\norigins 0,2048\nmissing 0\nforeign 0\nbadrows 0\nwindow 1\nmisfits 0\nleast 1\ndone\n",
-    )?;
-    check(
-        &rt,
-        alloc,
-        &DEFAULTS,
-        TORN,
-        &[],
-        "reraid-plan 1\nimages 1\nlength 0\nend 0\nlevels 0,5,6\nmembers 2\npatterns plain,la,ra,ls,rs,parity-first,parity-last,n-restart,n-continue,la-6,ra-6,ls-6,rs-6,parity-first-6\nsyndromes none,after-q,by-data,by-slot\nchunks 8,16,32,64,128,256,512,1024,2048\noffsets 0,2048,262144,264192\norigins 0,2048\nmissing 0\nforeign 0\nbadrows 0\nwindow 1\nmisfits 0\nleast 1\ndone\n",
-    )
+    check_all(&rt, rt.alloc(), &SHORT)
 }
+
+/// Images that hold an XFS of four groups.
+fn images_of_xfs(alloc: Global) -> Result<Vec<Vec<u8>>, Memory> {
+    let mut placed = Vec::new(alloc);
+    for number in 0..4 {
+        placed
+            .extend_from_slice(&group(number))
+            .map_err(|_| Memory)?;
+    }
+    images(alloc, &[640 * SECTOR; 4], &placed)
+}
+
+/// What a survey of them is asked for.
+const ASKED: Command<'static> = Command::Survey(&[
+    Operand::Said("levels=0"),
+    Operand::Said("patterns=plain"),
+    Operand::Said("syndromes=none"),
+    Operand::Said("chunks=8,16"),
+    Operand::Said("offsets=0"),
+]);
+
+/// A page of at most a hundred sets.
+const LIST: Command<'static> = Command::List(&[]);
+
+/// What a listing over its plan leaves.
+const LISTED: End = End {
+    status: 0,
+    out: b"0 0:plain:none:8:0:0,1,2,3\nnext 48 of 48\n",
+    notes: b"",
+};
 
 // Group k begins at volume sector 2048 + 136 * k of a stripe of four with chunks of 8: the plan is that of
 // the listing with landmarks, and so is what it lists.
 #[test]
 fn a_survey_and_then_a_listing(rt: HostRuntime) -> Result<(), Fail> {
     let alloc = rt.alloc();
-    let mut placed = Vec::new(alloc);
-    for number in 0..4 {
-        placed.extend_from_slice(&group(number))?;
-    }
-    let contents = images(alloc, &[640 * SECTOR; 4], &placed)?;
-    let asked = Command::Survey(&[
-        Operand::Said("levels=0"),
-        Operand::Said("patterns=plain"),
-        Operand::Said("syndromes=none"),
-        Operand::Said("chunks=8,16"),
-        Operand::Said("offsets=0"),
-    ]);
-    let (status, met) = run(&rt, alloc, &asked, &contents, b"")?;
-    assert_eq!(rt; status, 0);
-    assert_eq!(rt; met.out.bytes(), XFS.as_bytes());
-    let (status, listed) = run(&rt, alloc, &Command::List(&[]), &contents, met.out.bytes())?;
-    assert_eq!(rt; status, 0);
-    assert_eq!(rt;
-        listed.out.bytes(),
-        b"0 0:plain:none:8:0:0,1,2,3\nnext 48 of 48\n".as_slice()
-    );
-    Ok(())
+    let contents = images_of_xfs(alloc)?;
+    let surveyed = End {
+        status: 0,
+        out: XFS.as_bytes(),
+        notes: b"",
+    };
+    let (status, met) = run(&rt, alloc, &ASKED, &contents, b"")?;
+    compare(&rt, status, &met, &surveyed);
+    ends_so(&rt, alloc, &LIST, &contents, met.out.bytes(), &LISTED)
 }
+
+/// A set of rank 3288, and none from rank 3312 on.
+const ONE_SET: Command<'static> = Command::List(&[Operand::From(3288), Operand::Size(1)]);
+
+const NO_SET: Command<'static> = Command::List(&[Operand::From(3312), Operand::Span(48)]);
+
+/// What they leave.
+const WITH_ONE: End = End {
+    status: 0,
+    out: b"3288 5:ls:none:1024:2048:0,1,2,3\nnext 3289 of 39744\n",
+    notes: b"",
+};
+
+const WITH_NONE: End = End {
+    status: 0,
+    out: b"next 3360 of 39744\n",
+    notes: b"",
+};
 
 // Four members of zeros. There are 24 slot lists a head, and 1656 heads: 36 of level 0, 216 of level 5 and
 // 1404 of level 6, each with 9 chunks and 4 offsets. At level 5 with chunk 1024 and offset 2048 pattern ls is
@@ -428,17 +489,8 @@ fn a_survey_and_then_a_listing(rt: HostRuntime) -> Result<(), Fail> {
 fn the_defaults_of_a_survey(rt: HostRuntime) -> Result<(), Fail> {
     let alloc = rt.alloc();
     let contents = images(alloc, &[8192 * SECTOR; 4], &[])?;
-    let (status, met) = run(&rt, alloc, &Command::Survey(&[]), &contents, b"")?;
-    assert_eq!(rt; status, 0);
-    let plan = met.out.bytes();
-    let one = Command::List(&[Operand::From(3288), Operand::Size(1)]);
-    let (_, first) = run(&rt, alloc, &one, &contents, plan)?;
-    assert_eq!(rt;
-        first.out.bytes(),
-        b"3288 5:ls:none:1024:2048:0,1,2,3\nnext 3289 of 39744\n".as_slice()
-    );
-    let none = Command::List(&[Operand::From(3312), Operand::Span(48)]);
-    let (_, last) = run(&rt, alloc, &none, &contents, plan)?;
-    assert_eq!(rt; last.out.bytes(), b"next 3360 of 39744\n".as_slice());
-    Ok(())
+    let (status, met) = run(&rt, alloc, &DEFAULTS, &contents, b"")?;
+    same_status(&rt, status, 0);
+    ends_so(&rt, alloc, &ONE_SET, &contents, met.out.bytes(), &WITH_ONE)?;
+    ends_so(&rt, alloc, &NO_SET, &contents, met.out.bytes(), &WITH_NONE)
 }

@@ -11,106 +11,109 @@ const LONG: &[&[u8]] = &[
     &[0, 1, 2, 3, 4],
 ];
 
+/// The sectors and their places.
+const PLACES: [Row; 4] = [
+    Row {
+        command: Command::Map(&[Operand::Set(SET), Operand::Sector(2)]),
+        images: STRIPES,
+        plan: "",
+        status: 0,
+        out: "row 1 item 0 slot 2 image 2 sector 1 p 1 q -\nname left-symmetric\n",
+        notes: "",
+    },
+    Row {
+        command: Command::Map(&[Operand::Set("6:ls:after-q:2:1:0,1,2,3"), Operand::Sector(5)]),
+        images: LONG,
+        plan: "",
+        status: 0,
+        out: "row 1 item 0 slot 0 image 0 sector 4 p 2 q 3\nname left-symmetric\n",
+        notes: "",
+    },
+    Row {
+        command: Command::Map(&[Operand::Set("6:ls:after-q:2:1:0,1,2,3"), Operand::Sector(8)]),
+        images: LONG,
+        plan: "",
+        status: 8,
+        out: "",
+        notes: "reraid: sector 8 of 8\n",
+    },
+    Row {
+        command: Command::Map(&[Operand::Set(SET), Operand::Sector(4)]),
+        images: STRIPES,
+        plan: "",
+        status: 8,
+        out: "",
+        notes: "reraid: sector 4 of 4\n",
+    },
+];
+
 // Volume sector 2 of rows 0 1 P and 3 P 2 is item 0 of row 1, which stands in slot 2.
 #[test]
 fn a_sector_is_found_on_its_member(rt: HostRuntime) -> Result<(), Fail> {
-    let rows = [
-        Row {
-            command: Command::Map(&[Operand::Set(SET), Operand::Sector(2)]),
-            images: STRIPES,
-            plan: "",
-            status: 0,
-            out: "row 1 item 0 slot 2 image 2 sector 1 p 1 q -\nname left-symmetric\n",
-            notes: "",
-        },
-        Row {
-            command: Command::Map(&[Operand::Set("6:ls:after-q:2:1:0,1,2,3"), Operand::Sector(5)]),
-            images: LONG,
-            plan: "",
-            status: 0,
-            out: "row 1 item 0 slot 0 image 0 sector 4 p 2 q 3\nname left-symmetric\n",
-            notes: "",
-        },
-        Row {
-            command: Command::Map(&[Operand::Set("6:ls:after-q:2:1:0,1,2,3"), Operand::Sector(8)]),
-            images: LONG,
-            plan: "",
-            status: 8,
-            out: "",
-            notes: "reraid: sector 8 of 8\n",
-        },
-        Row {
-            command: Command::Map(&[Operand::Set(SET), Operand::Sector(4)]),
-            images: STRIPES,
-            plan: "",
-            status: 8,
-            out: "",
-            notes: "reraid: sector 4 of 4\n",
-        },
-    ];
-    check_all(&rt, rt.alloc(), &rows)
+    check_all(&rt, rt.alloc(), &PLACES)
 }
+
+/// What is written of sets with P.
+const WITH_P: [Written; 3] = [
+    Written {
+        command: Command::Write(&[Operand::Set(SET)]),
+        images: STRIPES,
+        out: &[1, 3, 6, 2],
+    },
+    Written {
+        command: Command::Write(&[Operand::Set("5:ls:none:1:0:-,0,1")]),
+        images: STRIPES_LOST,
+        out: &[1, 3, 6, 2],
+    },
+    Written {
+        command: Command::Rebuild(&[Operand::Set("5:ls:none:1:0:-,0,1"), Operand::Slot(0)]),
+        images: STRIPES_LOST,
+        out: &[1, 2],
+    },
+];
 
 // The rows 0 1 P and 3 P 2 hold 01 03 and 06 02, also with a member lost.
 #[test]
 fn volumes_and_members_with_p(rt: HostRuntime) -> Result<(), Fail> {
-    let rows = [
-        Written {
-            command: Command::Write(&[Operand::Set(SET)]),
-            images: STRIPES,
-            out: &[1, 3, 6, 2],
-        },
-        Written {
-            command: Command::Write(&[Operand::Set("5:ls:none:1:0:-,0,1")]),
-            images: STRIPES_LOST,
-            out: &[1, 3, 6, 2],
-        },
-        Written {
-            command: Command::Rebuild(&[Operand::Set("5:ls:none:1:0:-,0,1"), Operand::Slot(0)]),
-            images: STRIPES_LOST,
-            out: &[1, 2],
-        },
-    ];
-    writes_all(&rt, rt.alloc(), &rows)
+    writes_all(&rt, rt.alloc(), &WITH_P)
 }
+
+/// What is written of sets with Q.
+const WRITTEN_WITH_Q: [Written; 6] = [
+    Written {
+        command: Command::Write(&[Operand::Set("6:ls:after-q:1:0:0,-,-,1")]),
+        images: &[&[0x1C], &[0x81]],
+        out: &[0x01, 0x80],
+    },
+    Written {
+        command: Command::Write(&[Operand::Set("6:ls:after-q:1:0:0,-,1,-")]),
+        images: &[&[0x1C], &[0x80]],
+        out: &[0x01, 0x80],
+    },
+    Written {
+        command: Command::Write(&[Operand::Set("6:ls:after-q:1:0:-,-,0,1")]),
+        images: &[&[0x80], &[0x81]],
+        out: &[0x01, 0x80],
+    },
+    Written {
+        command: Command::Write(&[Operand::Set("6:ls:after-q:1:0:-,0,1,-")]),
+        images: &[&[0x01], &[0x80]],
+        out: &[0x01, 0x80],
+    },
+    Written {
+        command: Command::Write(&[Operand::Set("6:ls:after-q:1:0:0,-,1,2")]),
+        images: TORN,
+        out: &[0x01, 0x80],
+    },
+    Written {
+        command: Command::Rebuild(&[Operand::Set("6:ls:after-q:1:0:-,0,1,2"), Operand::Slot(0)]),
+        images: &[&[0x01], &[0x80], &[0x81]],
+        out: &[0x1C],
+    },
+];
 
 // With P and Q, 01 and 80 are found from any two of the four blocks, and by P where Q differs.
 #[test]
 fn volumes_and_members_with_q(rt: HostRuntime) -> Result<(), Fail> {
-    let rows = [
-        Written {
-            command: Command::Write(&[Operand::Set("6:ls:after-q:1:0:0,-,-,1")]),
-            images: &[&[0x1C], &[0x81]],
-            out: &[0x01, 0x80],
-        },
-        Written {
-            command: Command::Write(&[Operand::Set("6:ls:after-q:1:0:0,-,1,-")]),
-            images: &[&[0x1C], &[0x80]],
-            out: &[0x01, 0x80],
-        },
-        Written {
-            command: Command::Write(&[Operand::Set("6:ls:after-q:1:0:-,-,0,1")]),
-            images: &[&[0x80], &[0x81]],
-            out: &[0x01, 0x80],
-        },
-        Written {
-            command: Command::Write(&[Operand::Set("6:ls:after-q:1:0:-,0,1,-")]),
-            images: &[&[0x01], &[0x80]],
-            out: &[0x01, 0x80],
-        },
-        Written {
-            command: Command::Write(&[Operand::Set("6:ls:after-q:1:0:0,-,1,2")]),
-            images: TORN,
-            out: &[0x01, 0x80],
-        },
-        Written {
-            command: Command::Rebuild(&[
-                Operand::Set("6:ls:after-q:1:0:-,0,1,2"),
-                Operand::Slot(0),
-            ]),
-            images: &[&[0x01], &[0x80], &[0x81]],
-            out: &[0x1C],
-        },
-    ];
-    writes_all(&rt, rt.alloc(), &rows)
+    writes_all(&rt, rt.alloc(), &WRITTEN_WITH_Q)
 }

@@ -1,7 +1,8 @@
 //! Command lines and the words at which they are refused, found by hand from the rules of the grammar.
 use command_words::{Command, Form, SurveyWords, Word, read_words};
-use raid_params::{Level, Pattern, Syndrome};
+use raid_params::{Bounds, Geometry, Level, Pattern, Syndrome};
 use std::alloc::Global;
+use std::process::Abort;
 use std::test::Fail;
 
 /// What the words of a line say. A space ends a word, so two beside each other have an empty word between
@@ -20,7 +21,7 @@ fn refused_word(alloc: Global, line: &str) -> Result<u64, Fail> {
 }
 
 /// Lines with their refused words, counted from 1.
-const REFUSED: [(&str, u64); 70] = [
+static REFUSED: [(&str, u64); 70] = [
     ("", 1),
     ("lists -- a", 1),
     ("LIST -- a", 1),
@@ -100,7 +101,7 @@ const REFUSED: [(&str, u64); 70] = [
 ];
 
 /// Lines that are command lines.
-const ACCEPTED: [&str; 30] = [
+static ACCEPTED: [&str; 30] = [
     "list --",
     "list -- a",
     "list -- -- a",
@@ -133,17 +134,31 @@ const ACCEPTED: [&str; 30] = [
     "survey drop=1:36028797018963967,2:0 -- a",
 ];
 
+/// Compares the refused word of a line, or 0.
+fn check<R: Abort>(rt: &R, alloc: Global, line: &str, word: u64) -> Result<(), Fail> {
+    assert_eq!(rt; refused_word(alloc, line)?, word, "{line}");
+    Ok(())
+}
+
 #[test]
 fn lines_are_refused_at_their_words(rt: HostRuntime) -> Result<(), Fail> {
-    let alloc = rt.alloc();
-    for (line, word) in REFUSED {
-        assert_eq!(rt; refused_word(alloc, line)?, word, "{line}");
+    for (line, word) in &REFUSED {
+        check(&rt, rt.alloc(), line, *word)?;
     }
-    for line in ACCEPTED {
-        assert_eq!(rt; refused_word(alloc, line)?, 0, "{line}");
-    }
-    assert!(rt; matches!(read_words(&[]), Err(1)));
     Ok(())
+}
+
+#[test]
+fn lines_are_command_lines(rt: HostRuntime) -> Result<(), Fail> {
+    for line in &ACCEPTED {
+        check(&rt, rt.alloc(), line, 0)?;
+    }
+    Ok(())
+}
+
+#[test]
+fn no_word_is_no_command_line(rt: HostRuntime) {
+    assert!(rt; matches!(read_words(&[]), Err(1)));
 }
 
 /// What a listing is asked for, with its form as a word.
@@ -174,20 +189,35 @@ fn operands_are_told_from_defaults(rt: HostRuntime) -> Result<(), Fail> {
         listing(alloc, "list form=json pages=3 from=7 span=9 size=2 -- a")?,
         Some((7, 2, 9, 3, true, 7))
     );
-    let written = read_text(
-        alloc,
-        "write end=8 set=6:n-restart:by-slot:128:2048:-,11,0 -- a",
-    )?;
-    assert!(rt; matches!(&written, Ok(Command::Write { .. })));
-    if let Ok(Command::Write { set, end, names }) = written {
-        assert!(rt; matches!(set.head.level, Level::Raid6));
-        assert!(rt; matches!(set.head.pattern, Pattern::NRestart));
-        assert!(rt; matches!(set.head.syndrome, Syndrome::BySlot));
-        assert_eq!(rt;
-            (set.head.members, set.head.chunk, set.head.offset),
-            (3, 128, 2048)
-        );
-        assert_eq!(rt; set.slots.as_slice(), [None, Some(11), Some(0)].as_slice());
+    Ok(())
+}
+
+/// What a volume is asked for: the set, the end, and the place of the names.
+fn volume(alloc: Global, line: &str) -> Result<Option<(Geometry, Option<u64>, usize)>, Fail> {
+    Ok(match read_text(alloc, line)? {
+        Ok(Command::Write { set, end, names }) => Some((set, end, names)),
+        _ => None,
+    })
+}
+
+/// Whether a set is `6:n-restart:by-slot:128:2048:-,11,0`.
+fn is_the_set(set: &Geometry) -> bool {
+    matches!(set.head.level, Level::Raid6)
+        && matches!(set.head.pattern, Pattern::NRestart)
+        && matches!(set.head.syndrome, Syndrome::BySlot)
+        && set.head.members == 3
+        && set.head.chunk == 128
+        && set.head.offset == 2048
+        && set.slots.as_slice() == [None, Some(11), Some(0)].as_slice()
+}
+
+#[test]
+fn a_volume_has_its_operands(rt: HostRuntime) -> Result<(), Fail> {
+    let line = "write end=8 set=6:n-restart:by-slot:128:2048:-,11,0 -- a";
+    let asked = volume(rt.alloc(), line)?;
+    assert!(rt; asked.is_some());
+    if let Some((set, end, names)) = asked {
+        assert!(rt; is_the_set(&set));
         assert_eq!(rt; (end, names), (Some(8), 4));
     }
     Ok(())
@@ -201,41 +231,57 @@ fn asked(alloc: Global, line: &str) -> Result<Option<SurveyWords>, Fail> {
     })
 }
 
+/// Compares the lists that are not given.
+fn compare_lists<R: Abort>(rt: &R, bounds: &Bounds) {
+    assert_eq!(rt; (bounds.levels.len(), bounds.members.len()), (3, 0));
+    assert_eq!(rt; (bounds.patterns.len(), bounds.syndromes.len()), (14, 4));
+    assert_eq!(rt;
+        bounds.chunks.as_slice(),
+        [8, 16, 32, 64, 128, 256, 512, 1024, 2048].as_slice()
+    );
+    assert_eq!(rt;
+        bounds.offsets.as_slice(),
+        [0, 2048, 262144, 264192].as_slice()
+    );
+}
+
+/// Compares the other operands that are not given.
+fn compare_others<R: Abort>(rt: &R, plain: &SurveyWords) {
+    assert_eq!(rt; plain.tests.origins.as_slice(), [0, 2048].as_slice());
+    assert_eq!(rt; (plain.tests.misfits, plain.tests.least), (0, 1));
+    assert_eq!(rt;
+        (plain.end, plain.window, plain.badrows, plain.names),
+        (None, None, 0, 2)
+    );
+    assert!(rt; plain.kinds.gpt && plain.kinds.ntfs && plain.kinds.xfs);
+    assert_eq!(rt; plain.drops.len(), 0);
+}
+
 #[test]
 fn a_survey_has_its_defaults(rt: HostRuntime) -> Result<(), Fail> {
-    let alloc = rt.alloc();
-    let plain = asked(alloc, "survey -- a b")?;
+    let plain = asked(rt.alloc(), "survey -- a b")?;
     assert!(rt; plain.is_some());
     if let Some(plain) = plain {
-        let bounds = &plain.bounds;
-        assert_eq!(rt; (bounds.levels.len(), bounds.members.len()), (3, 0));
-        assert_eq!(rt; (bounds.patterns.len(), bounds.syndromes.len()), (14, 4));
-        assert_eq!(rt;
-            bounds.chunks.as_slice(),
-            [8, 16, 32, 64, 128, 256, 512, 1024, 2048].as_slice()
-        );
-        assert_eq!(rt;
-            bounds.offsets.as_slice(),
-            [0, 2048, 262144, 264192].as_slice()
-        );
-        assert_eq!(rt; plain.tests.origins.as_slice(), [0, 2048].as_slice());
-        assert_eq!(rt; (plain.tests.misfits, plain.tests.least), (0, 1));
-        assert_eq!(rt;
-            (plain.end, plain.window, plain.badrows, plain.names),
-            (None, None, 0, 2)
-        );
-        assert!(rt; plain.kinds.gpt && plain.kinds.ntfs && plain.kinds.xfs);
-        assert_eq!(rt; plain.drops.len(), 0);
+        compare_lists(&rt, &plain.bounds);
+        compare_others(&rt, &plain);
     }
-    let told = asked(
-        alloc,
-        "survey drop=2:9,3:1 kinds=gpt,xfs least=4 members=3 -- a",
-    )?;
+    Ok(())
+}
+
+/// Compares operands that are given.
+fn compare_told<R: Abort>(rt: &R, told: &SurveyWords) {
+    assert!(rt; told.kinds.gpt && !told.kinds.ntfs && told.kinds.xfs);
+    assert_eq!(rt; told.bounds.members.as_slice(), [3].as_slice());
+    assert_eq!(rt; (told.tests.least, told.drops.len(), told.names), (4, 2, 6));
+}
+
+#[test]
+fn a_survey_has_its_operands(rt: HostRuntime) -> Result<(), Fail> {
+    let line = "survey drop=2:9,3:1 kinds=gpt,xfs least=4 members=3 -- a";
+    let told = asked(rt.alloc(), line)?;
     assert!(rt; told.is_some());
     if let Some(told) = told {
-        assert!(rt; told.kinds.gpt && !told.kinds.ntfs && told.kinds.xfs);
-        assert_eq!(rt; told.bounds.members.as_slice(), [3].as_slice());
-        assert_eq!(rt; (told.tests.least, told.drops.len(), told.names), (4, 2, 6));
+        compare_told(&rt, &told);
     }
     Ok(())
 }

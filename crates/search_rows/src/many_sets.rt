@@ -97,21 +97,34 @@ fn alone<R: Threads + Sync + Abort + AllocGlobal>(rt: &R, k: usize) -> Result<bo
     Ok(found.as_slice().contains(&true))
 }
 
-// Each verdict of a scan of `count` sets is that of a scan of the set alone: against those that begin at sector 0.
-fn scan_of<R: Threads + Sync + Abort + AllocGlobal>(rt: &R, count: usize) -> Result<(), Fail>
+// The verdicts of a scan of `count` sets.
+fn together<R: Threads + Sync + Abort + AllocGlobal>(rt: &R, count: usize) -> Result<Verdicts, Fail>
     requires some { 1 ≤ count }
     requires most { count ≤ MOST_SETS }
 {
     let plan = three_rows(rt.alloc(), 2, 2);
     let mut images = broken_first(rt)?;
     let sets = some_sets(rt.alloc(), 0, count)?;
-    let found = verdicts(rt, rt.alloc(), &mut images, &plan, &sets, &OpenGate)?;
-    assert_eq!(rt; found.as_slice().len(), count);
-    let one_by_one = [alone(rt, 0)?, alone(rt, 1)?, alone(rt, 2)?];
+    Ok(verdicts(rt, rt.alloc(), &mut images, &plan, &sets, &OpenGate)?)
+}
+
+// Compares the verdicts of `count` sets with those of the first three: against those that begin at sector 0.
+fn compare<R: Abort>(rt: &R, found: &[bool], count: usize, one_by_one: [bool; 3]) {
+    assert_eq!(rt; found.len(), count);
     assert!(rt; one_by_one == [false, true, true]);
-    for k in 0..found.as_slice().len() {
-        assert_eq!(rt; found.as_slice()[k], one_by_one[k % 3]);
+    for k in 0..found.len() {
+        assert_eq!(rt; found[k], one_by_one[k % 3]);
     }
+}
+
+// Each verdict of a scan of `count` sets is that of a scan of the set alone.
+fn scan_of<R: Threads + Sync + Abort + AllocGlobal>(rt: &R, count: usize) -> Result<(), Fail>
+    requires some { 1 ≤ count }
+    requires most { count ≤ MOST_SETS }
+{
+    let found = together(rt, count)?;
+    let one_by_one = [alone(rt, 0)?, alone(rt, 1)?, alone(rt, 2)?];
+    compare(rt, found.as_slice(), count, one_by_one);
     Ok(())
 }
 
@@ -132,16 +145,21 @@ fn as_many_as_may_be(rt: HostRuntime) -> Result<(), Fail> {
     scan_of(&rt, MOST_SETS)
 }
 
+// Whether a scan ends with the images' fault, where that call of theirs fails.
+fn ends_at<R: Threads + Sync + Abort + AllocGlobal>(rt: &R, call: u64) -> Result<bool, Fail> {
+    let plan = three_rows(rt.alloc(), 2, 2);
+    let sets = some_sets(rt.alloc(), 0, 2)?;
+    let mut images = broken_first(rt)?;
+    images.fail_call(call)?;
+    let found = verdicts(rt, rt.alloc(), &mut images, &plan, &sets, &OpenGate);
+    Ok(matches!(found, Err(ScanFault::ReadFault)))
+}
+
 // Three attachments come before: the fourth call is the first reading, and the fifth the second.
 #[test]
 fn a_reading_fails(rt: HostRuntime) -> Result<(), Fail> {
-    let plan = three_rows(rt.alloc(), 2, 2);
-    let sets = some_sets(rt.alloc(), 0, 2)?;
     for call in 4..6 {
-        let mut images = broken_first(&rt)?;
-        images.fail_call(call)?;
-        let found = verdicts(&rt, rt.alloc(), &mut images, &plan, &sets, &OpenGate);
-        assert!(rt; matches!(found, Err(ScanFault::ReadFault)));
+        assert!(rt; ends_at(&rt, call)?);
     }
     Ok(())
 }
@@ -186,14 +204,22 @@ impl Gate for Meeting {
     }
 }
 
+// A scan whose pieces pass a gate.
+fn gated<R: Threads + Sync + Abort + AllocGlobal>(
+    rt: &R,
+    gate: &Meeting,
+) -> Result<Verdicts, Fail> {
+    let mut images = two_rows(rt, 2)?;
+    let plan = three_rows(rt.alloc(), 2, 2);
+    let sets = some_sets(rt.alloc(), 0, 1024)?;
+    Ok(verdicts(rt, rt.alloc(), &mut images, &plan, &sets, gate)?)
+}
+
 // 1, 3 and 2 cancel bit by bit, so that all sets are tested to the end, in two pieces.
 #[test]
 fn pieces_meet(rt: HostRuntime) -> Result<(), Fail> {
-    let mut images = two_rows(&rt, 2)?;
-    let plan = three_rows(rt.alloc(), 2, 2);
-    let sets = some_sets(rt.alloc(), 0, 1024)?;
     let gate = Meeting::new();
-    let found = verdicts(&rt, rt.alloc(), &mut images, &plan, &sets, &gate)?;
+    let found = gated(&rt, &gate)?;
     assert!(rt; !gate.gave_up.load(Ordering::SeqCst));
     assert!(rt; found.as_slice().iter().all(|passes| *passes));
     Ok(())

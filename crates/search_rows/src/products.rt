@@ -4,7 +4,7 @@ ghost use Rattle.search_plan.specs.Plans.{IsPlan};
 ghost use Rattle.search_plan.specs.Sets.{total_of};
 
 use crate::plans::{largest, one_missing, two_levels};
-use raid_params::{Geometry, Level, Pattern};
+use raid_params::{Geometry, Head, Level, Pattern};
 use search_plan::Plan;
 use set_product::{Heads, product_rank, product_set, product_total};
 use std::process::Abort;
@@ -30,18 +30,25 @@ fn stands<R: Abort>(rt: &R, plan: &Plan, rank: u64, slots: &[Option<u8>]) -> boo
     geo.slots.as_slice() == slots && product_rank(plan, &geo) == Some(rank)
 }
 
+// The head of the set of this rank.
+fn head_at<R: Abort>(rt: &R, plan: &Plan, rank: u64) -> Head
+    requires { IsPlan plan.now }
+{
+    set_of(rt, plan, rank).head
+}
+
 // Two members of level 0 take 3 * 2 orders of two images, three take 3 * 2 of all, and three of
 // level 5 as many.
 #[test]
 fn two_levels_of_three_images(rt: HostRuntime) {
     let plan = two_levels(rt.alloc());
     assert_eq!(rt; product_total(&plan), Some(18));
-    let first = set_of(&rt, &plan, 0);
-    assert!(rt; matches!(first.head.level, Level::Raid0));
-    assert_eq!(rt; first.head.members, 2);
-    let last = set_of(&rt, &plan, 12);
-    assert!(rt; matches!(last.head.level, Level::Raid5));
-    assert!(rt; matches!(last.head.pattern, Pattern::Ls));
+    let first = head_at(&rt, &plan, 0);
+    assert!(rt; matches!(first.level, Level::Raid0));
+    assert_eq!(rt; first.members, 2);
+    let last = head_at(&rt, &plan, 12);
+    assert!(rt; matches!(last.level, Level::Raid5));
+    assert!(rt; matches!(last.pattern, Pattern::Ls));
     assert!(rt; stands(&rt, &plan, 0, &[Some(0), Some(1)]));
     assert!(rt; stands(&rt, &plan, 12, &[Some(0), Some(1), Some(2)]));
 }
@@ -61,6 +68,12 @@ fn too_many_sets(rt: HostRuntime) {
     assert_eq!(rt; product_total(&largest(rt.alloc())), None);
 }
 
+// The number of members of the next head, twice, and the rank of its first set.
+fn next_head<R: Abort>(rt: &R, heads: &mut Heads) -> (u8, u8, u64) {
+    let sets = heads.next().expect(rt, "a head");
+    (sets.head.members, sets.space.members, sets.first)
+}
+
 // Six sets have two members of level 0, twelve three: six of level 0 and six of level 5. The second
 // head has its sets from rank 6 on, and a walk from rank 11 on begins there.
 #[test]
@@ -68,17 +81,9 @@ fn three_heads(rt: HostRuntime) {
     let plan = two_levels(rt.alloc());
     assert_eq!(rt; product_total(&plan), Some(18));
     let mut heads = Heads::of(&plan);
-    let first = heads.next().expect(&rt, "a head");
-    assert_eq!(rt;
-        (first.head.members, first.space.members, first.first),
-        (2, 2, 0)
-    );
+    assert_eq!(rt; next_head(&rt, &mut heads), (2, 2, 0));
     heads.skip_to(11);
-    let second = heads.next().expect(&rt, "a head");
-    assert_eq!(rt;
-        (second.head.members, second.space.members, second.first),
-        (3, 3, 6)
-    );
+    assert_eq!(rt; next_head(&rt, &mut heads), (3, 3, 6));
     heads.skip_to(18);
     assert!(rt; heads.next().is_none());
 }

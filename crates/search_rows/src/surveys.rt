@@ -3,6 +3,7 @@ ghost use Rattle.std.specs.Prelude.{◌≡◌, [], ◌∷◌, ◌+◌, ◌≤◌
 ghost use Rattle.image_source.specs.Memory.{seen_of};
 ghost use Rattle.survey_engine.specs.Surveys.{IsAsk};
 
+use crate::objects::four_images;
 use arrayvec::ArrayVec;
 use image_source::{Images, MemImages};
 use landmark_rules::{Kind, Mark, MarkTests, Rule};
@@ -209,13 +210,23 @@ fn finds_nothing<R: Abort + AllocGlobal>(rt: &R, identifier: u8, ask: &Ask) -> R
     Ok(plan.groups.as_slice().is_empty() && plan.tests.origins.as_slice() == [0].as_slice())
 }
 
+// The plan of such a table of 64 sectors.
+fn plan_of_table<R: Abort + AllocGlobal>(rt: &R) -> Result<Plan, Fail> {
+    let mut images = a_table(rt, 1)?;
+    plan_of(rt, &mut images, 2, &ask(0, 64))
+}
+
 #[test]
 fn a_table_hints_at_its_partitions(rt: HostRuntime) -> Result<(), Fail> {
-    let mut images = a_table(&rt, 1)?;
-    let plan = plan_of(&rt, &mut images, 2, &ask(0, 64))?;
+    let plan = plan_of_table(&rt)?;
     assert_eq!(rt; plan.tests.origins.as_slice(), [0, 40].as_slice());
     assert!(rt; has_marks(&plan, 1, &[(Kind::Gpt, 0, 1, Rule::At(1))]));
-    // Not where the sector is dropped, lies before the smallest offset, or has a bit turned.
+    Ok(())
+}
+
+// Not where the sector is dropped, lies before the smallest offset, or has a bit turned.
+#[test]
+fn a_table_may_not_count(rt: HostRuntime) -> Result<(), Fail> {
     let mut dropped = ask(0, 64);
     dropped.drops.push(DropAt {
         image: 0,
@@ -227,49 +238,75 @@ fn a_table_hints_at_its_partitions(rt: HostRuntime) -> Result<(), Fail> {
     Ok(())
 }
 
-// Headers of the image's own table are passed over. The same header two sectors on is a mark, and no
-// entries follow it.
-#[test]
-fn own_tables_are_passed_over(rt: HostRuntime) -> Result<(), Fail> {
+// An image of 64 sectors, zero but for the headers of its own table.
+fn own_table<R: AllocGlobal>(rt: &R) -> Result<Vec<u8>, Fail> {
     let mut own = vec![in rt.alloc(); 0u8; 32_768]?;
     put(&mut own, 512, &OWN_FIRST);
     put(&mut own, 32_256, &OWN_LAST);
-    let mut images = two_images(&rt, &own, &own)?;
-    let plan = plan_of(&rt, &mut images, 2, &ask(0, 64))?;
+    Ok(own)
+}
+
+// The plan of such an image and another, of 64 sectors too.
+fn plan_beside<R: Abort + AllocGlobal>(rt: &R, other: &[u8]) -> Result<Plan, Fail> {
+    let mut images = two_images(rt, &own_table(rt)?, other)?;
+    plan_of(rt, &mut images, 2, &ask(0, 64))
+}
+
+// Headers of the image's own table are passed over.
+#[test]
+fn own_tables_are_passed_over(rt: HostRuntime) -> Result<(), Fail> {
+    let plan = plan_beside(&rt, &own_table(&rt)?)?;
     assert!(rt; plan.groups.as_slice().is_empty());
+    Ok(())
+}
+
+// The same header two sectors on is a mark, and no entries follow it.
+#[test]
+fn a_moved_header_is_a_mark(rt: HostRuntime) -> Result<(), Fail> {
     let mut moved = vec![in rt.alloc(); 0u8; 32_768]?;
     put(&mut moved, 1536, &OWN_FIRST);
-    let mut images = two_images(&rt, &own, &moved)?;
-    let plan = plan_of(&rt, &mut images, 2, &ask(0, 64))?;
+    let plan = plan_beside(&rt, &moved)?;
     assert!(rt; has_marks(&plan, 1, &[(Kind::Gpt, 1, 3, Rule::At(1))]));
     assert_eq!(rt; plan.tests.origins.as_slice(), [0].as_slice());
     Ok(())
 }
 
-// The boot sector of an NTFS of 100 sectors, 8 a cluster, its table at cluster 4 and the copy at cluster 2.
-fn put_boot(image: &mut [u8], at: usize)
-    requires { at + 512 ≤ length image.old }
-    ensures { length image.new ≡ length image.old }
-{
-    put(image, at + 3, b"NTFS    ");
-    put(image, at + 11, &[0, 2, 8]);
-    put(image, at + 40, &[100]);
-    put(image, at + 48, &[4]);
-    put(image, at + 56, &[2]);
-    put(image, at + 64, &[246]);
-    put(image, at + 510, &[0x55, 0xaa]);
+// Fields of a sector: where each stands, and its bytes.
+type Field = (usize, &'static [u8]);
+
+// Writes the fields of a sector that begins at `start`.
+fn put_all(image: &mut [u8], start: usize, fields: &[Field]) {
+    for (at, field) in fields {
+        let from = start.saturating_add(*at);
+        for (place, byte) in field.iter().enumerate() {
+            if let Some(old) = image.get_mut(from.saturating_add(place)) {
+                *old = *byte;
+            }
+        }
+    }
 }
 
-// Such an NTFS in sectors 10 to 110. Record 1, of 1,024 bytes, lies in sector 44; its update sequence
-// begins at `update`.
+// The boot sector of an NTFS of 100 sectors, 8 a cluster, its table at cluster 4 and the copy at cluster 2.
+const BOOT: &[Field] = &[
+    (3, b"NTFS    "),
+    (11, &[0, 2, 8]),
+    (40, &[100]),
+    (48, &[4]),
+    (56, &[2]),
+    (64, &[246]),
+    (510, &[0x55, 0xaa]),
+];
+
+// Record 1, of 1,024 bytes.
+const RECORD: &[Field] = &[(0, b"FILE"), (29, &[4]), (44, &[1])];
+
+// Such an NTFS in sectors 10 to 110. Record 1 lies in sector 44; its update sequence begins at `update`.
 fn an_ntfs<R: AllocGlobal>(rt: &R, update: u8) -> Result<Vec<u8>, Fail> {
     let mut bytes = vec![in rt.alloc(); 0u8; 102_400]?;
-    put_boot(&mut bytes, 5120);
-    put_boot(&mut bytes, 56_320);
-    put(&mut bytes, 22_528, b"FILE");
     put(&mut bytes, 22_532, &[update]);
-    put(&mut bytes, 22_557, &[4]);
-    put(&mut bytes, 22_572, &[1]);
+    put_all(&mut bytes, 5120, BOOT);
+    put_all(&mut bytes, 56_320, BOOT);
+    put_all(&mut bytes, 22_528, RECORD);
     Ok(bytes)
 }
 
@@ -280,59 +317,82 @@ fn one_image<R: AllocGlobal>(rt: &R, bytes: &[u8]) -> Result<MemImages, Fail> {
     Ok(images)
 }
 
+// The plan of an NTFS whose update sequence of record 1 begins at `update`.
+fn plan_of_ntfs<R: Abort + AllocGlobal>(rt: &R, update: u8) -> Result<Plan, Fail> {
+    let mut images = one_image(rt, &an_ntfs(rt, update)?)?;
+    plan_of(rt, &mut images, 1, &ask(0, 200))
+}
+
+const FIRST_BOOT: Line = (Kind::Boot, 0, 10, Rule::Either(0, 100));
+
+const COPY_OF_BOOT: Line = (Kind::Boot, 0, 110, Rule::Either(0, 100));
+
+const FILE_ONE: Line = (Kind::FileRecord, 0, 44, Rule::Either(34, 18));
+
 #[test]
 fn an_ntfs_has_its_records(rt: HostRuntime) -> Result<(), Fail> {
-    let mut images = one_image(&rt, &an_ntfs(&rt, 48)?)?;
-    let plan = plan_of(&rt, &mut images, 1, &ask(0, 200))?;
-    let first = (Kind::Boot, 0, 10, Rule::Either(0, 100));
-    let copy = (Kind::Boot, 0, 110, Rule::Either(0, 100));
-    let file = (Kind::FileRecord, 0, 44, Rule::Either(34, 18));
-    assert!(rt; has_marks(&plan, 3, &[first, file, copy]));
-    let mut images = one_image(&rt, &an_ntfs(&rt, 42)?)?;
-    let plan = plan_of(&rt, &mut images, 1, &ask(0, 200))?;
-    assert!(rt; has_marks(&plan, 2, &[first, copy]));
+    let plan = plan_of_ntfs(&rt, 48)?;
+    assert!(rt; has_marks(&plan, 3, &[FIRST_BOOT, FILE_ONE, COPY_OF_BOOT]));
     Ok(())
 }
 
-// Group `group` of an XFS: blocks of 4,096 bytes, sectors of 512, 17 blocks a group, four groups.
+#[test]
+fn an_old_record_is_no_mark(rt: HostRuntime) -> Result<(), Fail> {
+    let plan = plan_of_ntfs(&rt, 42)?;
+    assert!(rt; has_marks(&plan, 2, &[FIRST_BOOT, COPY_OF_BOOT]));
+    Ok(())
+}
+
+// The three sectors of a group of an XFS but for its number: blocks of 4,096 bytes, sectors of 512, 17 blocks a group, four groups.
+const GROUP: &[Field] = &[
+    (0, b"XFSB\x00\x00\x10\x00"),
+    (87, &[17, 0, 0, 0, 4]),
+    (102, &[2]),
+    (512, b"XAGF\x00\x00\x00\x01"),
+    (1024, b"XAGI\x00\x00\x00\x01"),
+];
+
+// An image with group `group` of it.
 fn a_member<R: AllocGlobal>(rt: &R, group: u8) -> Result<Vec<u8>, Fail>
     requires { group < 4 }
 {
     let mut bytes = vec![in rt.alloc(); 0u8; 327_680]?;
     let at = 512 * (512 + 32 * group as usize);
-    put(&mut bytes, at, b"XFSB\x00\x00\x10\x00");
-    put(&mut bytes, at + 87, &[17, 0, 0, 0, 4]);
-    put(&mut bytes, at + 102, &[2]);
-    put(&mut bytes, at + 512, b"XAGF\x00\x00\x00\x01");
     put(&mut bytes, at + 523, &[group]);
-    put(&mut bytes, at + 1024, b"XAGI\x00\x00\x00\x01");
     put(&mut bytes, at + 1035, &[group]);
+    put_all(&mut bytes, at, GROUP);
     Ok(bytes)
 }
 
+// Four images, with a group each.
+fn members<R: AllocGlobal>(rt: &R) -> Result<MemImages, Fail> {
+    let first = a_member(rt, 0)?;
+    let second = a_member(rt, 1)?;
+    let third = a_member(rt, 2)?;
+    let fourth = a_member(rt, 3)?;
+    four_images(rt, [&first, &second, &third, &fourth])
+}
+
+const EVERY: Rule = Rule::Every {
+    step: 136,
+    count: 4,
+    plus: 0,
+};
+
+// The marks of the first image, and two of the second.
+const FIRST_MARKS: [Line; 5] = [
+    (Kind::Super, 0, 512, EVERY),
+    (Kind::Agf, 0, 513, Rule::At(1)),
+    (Kind::Agi, 0, 514, Rule::At(2)),
+    (Kind::Super, 1, 544, EVERY),
+    (Kind::Agf, 1, 545, Rule::At(137)),
+];
+
 #[test]
 fn an_xfs_has_its_groups(rt: HostRuntime) -> Result<(), Fail> {
-    let mut images = MemImages::new(rt.alloc())?;
-    images.add("a", &a_member(&rt, 0)?)?;
-    images.add("b", &a_member(&rt, 1)?)?;
-    images.add("c", &a_member(&rt, 2)?)?;
-    images.add("d", &a_member(&rt, 3)?)?;
-    images.attach("a")?;
-    images.attach("b")?;
-    images.attach("c")?;
-    images.attach("d")?;
+    let mut images = members(&rt)?;
     let plan = plan_of(&rt, &mut images, 4, &ask(0, 640))?;
-    let every = Rule::Every {
-        step: 136,
-        count: 4,
-        plus: 0,
-    };
-    let first = (Kind::Super, 0, 512, every);
-    let free = (Kind::Agf, 0, 513, Rule::At(1));
-    let inodes = (Kind::Agi, 0, 514, Rule::At(2));
-    let second = (Kind::Super, 1, 544, every);
-    let second_free = (Kind::Agf, 1, 545, Rule::At(137));
-    assert!(rt; has_marks(&plan, 12, &[first, free, inodes, second, second_free]));
+    assert!(rt; has_marks(&plan, 12, &FIRST_MARKS));
     Ok(())
 }
 

@@ -1,6 +1,6 @@
 #!/usr/bin/env python3
 """Compares docs/WRONG-BODIES.md with the edits that must fail: prints the edits that the page does not have, those that it
-has and that are gone, and those whose function is another now; status 1 where there are some.
+has or speaks of and that are gone, and those whose function is another now; status 1 where there are some.
 
 Usage: bench/edits.py
 """
@@ -11,6 +11,7 @@ import sys
 
 TOP = pathlib.Path(__file__).resolve().parent.parent
 FUNCTION = re.compile(r"(?:fn|static|const)\s+(\w+)")
+CITED = re.compile(r"`(\w+)/(\w+)`")
 ROW = re.compile(r"\| `([^`]+)` \| `([^`]+)` \| .+ \|")
 
 
@@ -36,6 +37,11 @@ def listed():
     return rows
 
 
+def cited():
+    """The edits that the page speaks of by crate and name."""
+    return {found.groups() for found in CITED.finditer((TOP / "docs/WRONG-BODIES.md").read_text())}
+
+
 def main():
     there = {(edit.parent.parent.name, edit.stem): changed_function(edit)
              for edit in TOP.glob("crates/*/must-fail/*.edit")}
@@ -47,7 +53,10 @@ def main():
             print("/".join(key), "is gone")
         elif there[key] != rows[key]:
             print("/".join(key), "changes", there[key], "and not", rows[key])
-    return rows != there
+    gone = sorted(cited() - there.keys())
+    for key in gone:
+        print("/".join(key), "is spoken of and gone")
+    return rows != there or gone != []
 
 
 sys.exit(main())

@@ -46,6 +46,8 @@ fn is_removed(rt: &HostRuntime, name: &str) -> bool {
 struct Reading {
     // The sectors of each.
     lengths: [Option<u64>; 3],
+    // Whether a file that is not there was refused after them.
+    lacks: bool,
     // Sectors 1 and 2 of the last one.
     first: Option<[u8; 512]>,
     second: Option<[u8; 512]>,
@@ -60,12 +62,14 @@ fn read_files(rt: &HostRuntime) -> Result<Reading, Fail> {
         attached(&mut images, "one.img"),
         attached(&mut images, "long.img"),
     ];
+    let lacks = images.attach("missing.img").is_err();
     let first = sector_of(&mut images, 2, 1);
     let second = sector_of(&mut images, 2, 2);
     fs::write(rt, "long.img", [1; 1023].as_slice())?;
     let cut = sector_of(&mut images, 2, 1);
     Ok(Reading {
         lengths,
+        lacks,
         first,
         second,
         cut,
@@ -83,6 +87,7 @@ fn files_are_images(rt: HostRuntime) -> Result<(), Fail> {
     write_files(&rt)?;
     let reading = read_files(&rt)?;
     assert!(rt; reading.lengths == [Some(0), Some(1), Some(3)]);
+    assert!(rt; reading.lacks);
     assert!(rt; is_full(&reading.first, 2));
     assert!(rt; is_full(&reading.second, 1));
     assert!(rt; reading.cut.is_none());

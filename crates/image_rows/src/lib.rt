@@ -1,8 +1,8 @@
 //! Tests of images, sources and sinks.
 //!
-//! `memory` holds that the objects in memory get the memory that they take, `files` what images that are files give, and
-//! `streams` what sources and sinks over files do. They stand here, since a library with tests is proved a second time
-//! with them.
+//! `memory` holds that the objects in memory get the memory that they take, `files` what images that are files give,
+//! and `streams` what sources and sinks over files do. The tests stand here, since a library with tests is proved a
+//! second time with them.
 #![tactic(auto)]
 
 #[cfg(test)]

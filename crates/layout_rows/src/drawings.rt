@@ -48,7 +48,8 @@ const LEVEL_6: [(Pattern, Syndrome, &Drawing); 13] = [
 // What stands for a role in a drawing.
 fn drawn(role: SlotRole) -> u8 {
     match role {
-        SlotRole::Block(item) => b'0'.wrapping_add(item),
+        SlotRole::Block(item) if item < 10 => b'0' + item,
+        SlotRole::Block(_) => b'?',
         SlotRole::P => b'P',
         SlotRole::Q => b'Q',
     }

@@ -202,12 +202,17 @@ fn are_equal(images: &mut MemImages, others: &mut MemImages, sector: u64) -> boo
     }
 }
 
+// The first words of sectors 507 and 512 of the volume that is made from 7.
+const AFTER_GROUPS: [(u64, u64); 2] = [(507, 0xf4b4_b3b1_b6fc_832b), (512, 0x75c1_78ba_121f_dae6)];
+
 // After the group stand the words that an array without groups has.
 #[test]
 fn after_the_last_group(rt: HostRuntime) -> Result<(), Fail> {
     let mut images = both(&rt, 257, true)?;
     let mut plain = both(&rt, 257, false)?;
-    assert!(rt; are_equal(&mut images, &mut plain, 507));
-    assert!(rt; are_equal(&mut images, &mut plain, 512));
+    for (sector, word) in AFTER_GROUPS {
+        assert!(rt; has(&mut plain, sector, 0, &word.to_le_bytes()), "{sector}");
+        assert!(rt; are_equal(&mut images, &mut plain, sector), "{sector}");
+    }
     Ok(())
 }

@@ -1,8 +1,8 @@
 //! Tests of the readers of landmark sectors.
 //!
-//! `fields` reads the fields of a sector, `gpt`, `ntfs` and `xfs` sectors that other programs wrote, and sectors at and
-//! past the bounds of these. `sectors` makes them. They stand here, since a library with tests is proved a second time
-//! with them.
+//! `fields` reads the fields of a sector, `gpt`, `ntfs` and `xfs` sectors that other programs wrote, and sectors at
+//! and past the bounds of these. `sectors` makes them. The tests stand here, since a library with tests is proved a
+//! second time with them.
 #![tactic(auto)]
 
 #[cfg(test)]

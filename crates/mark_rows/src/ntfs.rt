@@ -128,7 +128,7 @@ fn bounds_of_a_boot_sector(rt: HostRuntime) {
     ] {
         assert!(rt; has_number(40, number) == read, "{number} sectors");
     }
-    // Clusters have 2 sectors here, and record 15 begins 30 sectors after record 0. Twice 2^63 is 2 to 64.
+    // Clusters have 2 sectors here, and record 15 begins 30 sectors after record 0. Twice 2^63 is 2^64.
     for (cluster, read) in [
         ((1 << 54) - 16, true),
         ((1 << 54) - 15, false),

@@ -123,7 +123,7 @@ pub fn rebuild<I: Images, K: Sink>(
     ensures write_fault { IsErrOf result VolumeFault.WriteFault → Rose (K.faults sink.old) (K.faults sink.new) }
     ensures reads { OnlyReads (I.seen images.old) (I.seen images.new) (volume_sectors geo.now.head end) }
 
-    // At most a block is read beyond what the sink gained, also where it failed.
+    // For each sector that the sink gained, and for those of one block more, at most a row's data blocks are read.
     ensures ahead { IfSome (told_all (I.seen images.old).attached)
         (λ bytes. IsAheadBy (data_blocks geo.now.head) BLOCK_SECTORS (I.seen images.old).sectors_read (I.seen images.new).sectors_read (K.gained sink.old) (K.gained sink.new)) }
     ensures later { K.faults sink.old ≤ K.faults sink.new }

@@ -1,11 +1,12 @@
 //! Tests of the libraries of volumes and parity, over objects in memory.
 //!
-//! What each answers was worked out by hand: `single_rows` the parity of one row, `region_rows` that of rows in regions,
-//! `memory` that memory is enough, `volumes` and `members` what is written, `puts` in which pieces, and `read_counts`
-//! how much is read for it. They stand here, since a library with tests is proved a second time with them. Sets,
-//! images and sinks stand in `objects`, rows in `cells`.
+//! What each answers was worked out by hand: `single_rows` the parity of one row, `region_rows` that of rows in
+//! regions, `memory` that memory is enough, `volumes` and `members` what is written, `puts` in which pieces, and
+//! `read_counts` how much is read for it. The tests stand here, since a library with tests is proved a second time
+//! with them. Sets, images and sinks stand in `objects`, rows in `cells`.
 //!
-//! Helpers have no clauses where a test needs none: then what they call costs its proof once, and not in each test.
+//! A function here has no clause where no test needs one: then what it calls is proved for it once, and not in each
+//! test.
 #![tactic(auto)]
 
 #[cfg(test)]

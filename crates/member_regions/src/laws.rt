@@ -1,4 +1,4 @@
-//! How much is read for a volume or a lost member. A function does nothing: its clause is the law.
+//! How many member sectors a volume or a lost member needs. A function does nothing: its clause is the law.
 ghost use Rattle.member_regions.specs.Laws.{NeedsAsManyAsData, NeedsAsManyAsTheVolume};
 
 /// Of each row as many sectors are needed as it has data, whichever members are lost: for each lost data

@@ -23,7 +23,7 @@ pub(crate) struct Paging<'a, R, G> {
 /// Which pages are asked for.
 #[derive(Clone, Copy)]
 pub struct PageRequest {
-    /// The rank from which the first page goes on.
+    /// The rank at which the first page begins.
     pub from: u64,
     /// The most lines of a page, from 1 on.
     pub size: u64,

@@ -419,8 +419,8 @@ fn each_piece_of_a_plan_may_fail(rt: HostRuntime) -> Result<(), Fail> {
 /// The most bytes of a plan.
 const LONGEST: usize = 4_194_304;
 
-/// The status of a listing over a plan of `length` bytes, whose source gives one byte at a time. A call past the one that sees the end,
-/// or takes one byte more than a plan may have, fails.
+/// The status of a listing over a plan of `length` bytes, whose source gives one byte at a time. The call after the one that sees the
+/// end, or after the one that takes a byte too many, fails.
 fn status_of_long<R: Threads + Sync>(rt: &R, alloc: Global, length: usize) -> Result<u8, Memory> {
     let words = words_of(alloc, "list -- a b c")?;
     let fault = Fault {

@@ -371,8 +371,8 @@ fn listed<R: Threads + Sync + Abort>(
     ends_so(rt, alloc, "list -- a", &contents, plan, &end)
 }
 
-/// How many marks more than 4,096 a plan has of its last kind, and the line after the last that may stand, which is refused: 17 lines,
-/// three of groups, 24,576 marks, and one more.
+/// How many marks more than 4,096 a plan has of its last kind, and the line after the last that may stand, which is refused, or 0
+/// where the plan is read: 17 lines, three of groups, 24,576 marks, and one more.
 const MARKED: [(u64, u64); 2] = [(0, 0), (1, LINES_BEFORE + 3 + 24_576 + 1)];
 
 #[test]
@@ -384,8 +384,8 @@ fn marks_at_their_limits(rt: HostRuntime) -> Result<(), Fail> {
     Ok(())
 }
 
-/// How many groups of NTFS and of XFS a plan has, and the line after the last that may stand, which is refused: 17 lines and 33
-/// groups; 17 lines, 32 groups, and 33.
+/// How many groups of NTFS and of XFS a plan has, and the line after the last that may stand, which is refused, or 0 where the plan
+/// is read: 17 lines and 33 groups; 17 lines, 32 groups, and 33.
 const GROUPED: [(u64, u64, u64); 3] = [
     (32, 32, 0),
     (33, 0, LINES_BEFORE + 33),

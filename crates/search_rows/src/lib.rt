@@ -2,8 +2,8 @@
 //!
 //! What each answers was worked out by hand: `products` the sets of a plan by rank, `prefixes` which beginnings of slot
 //! lists may pass, `row_counts` and `many_sets` the rows of sets, `listings` pages, `surveys` the plans of images.
-//! They stand here, since a library with tests is proved a second time with them. Their plans stand in `plans`, lists
-//! and images in `objects`.
+//! The tests stand here, since a library with tests is proved a second time with them. Their plans stand in `plans`,
+//! lists and images in `objects`.
 #![tactic(auto)]
 
 #[cfg(test)]

@@ -21,8 +21,8 @@ const ENTRY: u32 = 128;
 /// Origins in rising order.
 type Origins = ArrayVec<u64, MOST_ORIGINS>;
 
-/// The origins asked for and those that the headers which count give, in rising order. Where there are more
-/// than `MOST_ORIGINS`, these are the first of them. It reads at most one sector for each header that
+/// The origins asked for and those that the headers which count give, in rising order. Of more than
+/// `MOST_ORIGINS` the smallest are kept. It reads at most one sector for each of these headers that
 /// entries follow.
 pub fn origins<I: Images>(
     images: &mut I,

@@ -1,7 +1,7 @@
 //! Tests of the libraries that read and write texts.
 //!
 //! `plans` reads and writes plans and parameter sets, `words` reads command lines, `objects` writes lines of JSON. The
-//! texts were written out by hand. They stand here, since a library with tests is proved a second time with them.
+//! texts were written out by hand. The tests stand here, since a library with tests is proved a second time with them.
 #![tactic(auto)]
 
 #[cfg(test)]

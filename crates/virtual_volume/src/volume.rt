@@ -244,7 +244,7 @@ pub fn write_volume<I: Images, K: Sink>(
     ensures write_fault { IsErrOf result VolumeFault.WriteFault → Rose (K.faults sink.old) (K.faults sink.new) }
     ensures reads { OnlyReads (I.seen images.old) (I.seen images.new) (volume_sectors geo.now.head end) }
 
-    // At most a batch of rows and what may wait is read beyond what the sink gained, also where it failed.
+    // At most a batch of rows and what may wait are read beyond what the sink gained, also where it failed.
     ensures ahead { IfSome (told_all (I.seen images.old).attached)
         (λ bytes. IsAhead (most_ahead geo.now.head) (I.seen images.old).sectors_read (I.seen images.new).sectors_read (K.gained sink.old) (K.gained sink.new)) }
     ensures later { K.faults sink.old ≤ K.faults sink.new }

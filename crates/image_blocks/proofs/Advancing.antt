@@ -1,10 +1,10 @@
 -- A step of a sweep.
 use Rattle.std.proofs.Common.{◌≡◌, ℕ, ◌+◌, ◌-◌, ◌*◌, ◌<◌, ◌≤◌, true, nat_lt, List, [], ◌∷◌, length, take, drop, map, min, replicate, refl, ap, sym, subst, ◌∙◌, arith, IfSome, Some, None, Option, Result, Ok, Err, OnErr}
 use Rattle.std.proofs.lemmas.Bool.Decides.{nat_tests}
-use Rattle.image_source.specs.Attached.{told_all}
-use Rattle.image_source.specs.Seen.{Image, Seen, OnlyReads}
-use Rattle.image_source.proofs.Told.{told_all_length}
-use Rattle.image_source.proofs.Reading.{reads_none, reads_up}
+use Rattle.outside.specs.Attached.{told_all}
+use Rattle.outside.specs.Seen.{Image, Seen, OnlyReads}
+use Rattle.outside.proofs.Told.{told_all_length}
+use Rattle.outside.proofs.Reading.{reads_none, reads_up}
 use Rattle.image_blocks.specs.Sweep.{GoesOn, Swept, blocks_in, next_count, sectors_of}
 use Rattle.image_blocks.proofs.Blocks.{blocks_length, no_blocks}
 

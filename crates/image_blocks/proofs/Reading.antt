@@ -8,9 +8,9 @@ use Rattle.std.proofs.lemmas.List.FromFn.{map-range_with_len_more, get_or-map-ra
 use Rattle.std.proofs.lemmas.Slice.{between-put_mid, take-put_mid_below, between_is}
 use Rattle.std.proofs.lemmas.Option.{slice_get-get_or}
 use borrow.Rule.Slice.PartMut.{put_mid}
-use Rattle.image_source.specs.Attached.{told_all}
-use Rattle.image_source.specs.Seen.{Image, AreTold, AreWithin}
-use Rattle.image_source.proofs.Told.{told_all_at, told_all_length}
+use Rattle.outside.specs.Attached.{told_all}
+use Rattle.outside.specs.Seen.{Image, AreTold, AreWithin}
+use Rattle.outside.proofs.Told.{told_all_at, told_all_length}
 use Rattle.image_blocks.specs.Sweep.{blocks_in, sectors_of}
 use Rattle.image_blocks.specs.declared.sweep.TheConstants.{BLOCK, BLOCK_BYTES}
 

@@ -1,11 +1,11 @@
 //! A sweep over images.
 ghost use Rattle.std.specs.Prelude.{◌≡◌, ◌+◌, ◌-◌, ◌*◌, ◌^◌, ◌<◌, ◌≤◌, [], ◌∷◌, nat_lt, length, map, replicate, slice_index_or, slice_range, All, IfOk, OnErr, OnOk, IfSome};
-ghost use Rattle.image_source.specs.Attached.{told_all};
-ghost use Rattle.image_source.specs.Causes.{HasCause};
-ghost use Rattle.image_source.specs.Seen.{OnlyReads};
+ghost use Rattle.outside.specs.Attached.{told_all};
+ghost use Rattle.outside.specs.Causes.{HasCause};
+ghost use Rattle.outside.specs.Seen.{OnlyReads};
 ghost use Rattle.image_blocks.specs.Sweep.{blocks_in, sectors_of, next_of, next_count, GoesOn};
 
-use image_source::{Failed, Images, MOST_ATTACHED, Memory, SECTOR};
+use outside::{Failed, Images, MOST_ATTACHED, Memory, SECTOR};
 use std::alloc::Global;
 use std::marker::Model;
 
@@ -29,7 +29,7 @@ pub struct Sweep {
 
 impl Model for Sweep {
     ghost use Rattle.std.specs.Prelude.{◌≡◌, ◌+◌, ◌*◌, ◌^◌, ◌<◌, ◌≤◌, length};
-    ghost use Rattle.image_source.specs.declared.TheConstants.{MOST_ATTACHED};
+    ghost use Rattle.outside.specs.declared.TheConstants.{MOST_ATTACHED};
     ghost use Rattle.image_blocks.specs.Sweep.{Swept, blocks_in};
     ghost use Rattle.image_blocks.specs.declared.sweep.TheConstants.{BLOCK, BLOCK_BYTES};
 

@@ -7,7 +7,7 @@ use Rattle.std.specs.List.{list_all}
 use Rattle.std.specs.Option.{option_map}
 use Rattle.image_source.specs.Files.{OpenFiles, seen_of_files, untold_image}
 use Rattle.image_source.specs.Memory.{Shelf, bytes_of, image_of, seen_of}
-use Rattle.image_source.specs.Seen.{TellsBytes, whole_sectors}
+use Rattle.outside.specs.Seen.{TellsBytes, whole_sectors}
 
 -- for a list in memory
 pub image_tells : (list : List ℕ) → TellsBytes (image_of list)

@@ -1,6 +1,6 @@
 -- How readings join, for the crates above.
 use Rattle.std.proofs.Common.{ℕ, ◌+◌, ◌≤◌, refl, ◌∙◌, arith}
-use Rattle.image_source.specs.Seen.{Seen, OnlyReads}
+use Rattle.outside.specs.Seen.{Seen, OnlyReads}
 
 -- where nothing happened, nothing was read
 pub reads_none : (s : Seen) → OnlyReads s s 0

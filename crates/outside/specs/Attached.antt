@@ -3,7 +3,7 @@ use Rattle.std.specs.Prelude.{ℕ, ◌≡◌, ◌*◌, ◌≤◌, List, [], ◌�
 use Rattle.std.specs.declared.option.Option.{Option}
 use Rattle.std.specs.declared.option.Option.TheVariants.{Some}
 use Rattle.std.specs.Option.{option_map}
-use Rattle.image_source.specs.Seen.{Image, World, Seen, IsImageOf}
+use Rattle.outside.specs.Seen.{Image, World, Seen, IsImageOf}
 
 -- the bytes of all images, where those of each are known
 abbrev pub told_all : List Image → Option (List (List ℕ))

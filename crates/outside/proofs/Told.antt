@@ -6,8 +6,8 @@ use Rattle.std.proofs.Math.ListN.{get_or-eq_default}
 use Rattle.std.specs.Prelude.{option_and_then}
 use Rattle.std.specs.Option.{option_map}
 use Rattle.std.specs.declared.option.Option.{Option}
-use Rattle.image_source.specs.Seen.{Image, TellsBytes, World}
-use Rattle.image_source.specs.Attached.{told_all, IsWhole, AreWhole, AreImagesOf}
+use Rattle.outside.specs.Seen.{Image, TellsBytes, World}
+use Rattle.outside.specs.Attached.{told_all, IsWhole, AreWhole, AreImagesOf}
 
 -- where all bytes are known, those of the first image are known, and those of the others
 told_first : (first : Option (List ℕ)) (others : Option (List (List ℕ))) (all : List (List ℕ)) → option_and_then (λ bytes. option_map (λ rest. bytes ∷ rest) others) first ≡ Some all → (bytes : List ℕ) × (rest : List (List ℕ)) × (first ≡ Some bytes) × (others ≡ Some rest) × (all ≡ bytes ∷ rest)

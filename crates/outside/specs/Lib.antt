@@ -1,0 +1,4 @@
+pub mod Seen
+pub mod Attached
+pub mod Causes
+pub mod Streams

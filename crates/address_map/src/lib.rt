@@ -13,4 +13,4 @@ mod laws;
 mod map;
 
 pub use laws::{each_sector_has_one_home, each_sector_has_one_place, places_and_homes_undo};
-pub use map::{Home, MemberPlace, area, locate, place, rows, volume_sectors};
+pub use map::{Home, MemberPlace, area, data_blocks, locate, place, rows, volume_sectors};

@@ -5,7 +5,7 @@ ghost use Rattle.raid_params.specs.Validity.{is_valid_head};
 ghost use Rattle.raid_params.specs.Size.{area as area_of, data_blocks as data_blocks_of, rows as rows_of, volume_sectors as volume_sectors_of};
 
 use raid_layouts::{SlotRole, role, slot_of_item};
-use raid_params::{Head, Level};
+use raid_params::Head;
 
 /// What a sector of a member is for the volume.
 #[derive(Clone, Copy, Debug, PartialEq, Eq)]
@@ -51,15 +51,11 @@ pub fn area(head: &Head, end: u64) -> u64
 
 /// How many data items a row has.
 #[tactic(auto, using(raid_layouts::proofs::Levels::enough))]
-fn data_blocks(head: &Head) -> u8
+pub fn data_blocks(head: &Head) -> u8
     requires { IsTrue (is_valid_head head.now) }
     ensures { result ≡ data_blocks_of head.now }
 {
-    match head.level {
-        Level::Raid0 => head.members,
-        Level::Raid5 => head.members - 1,
-        Level::Raid6 => head.members - 2,
-    }
+    head.members - head.level.redundancy()
 }
 
 /// How many sectors the volume has.

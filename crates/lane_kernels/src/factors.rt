@@ -23,6 +23,7 @@ pub struct Multiplier {
     ghost high_products: { IsTable factor 16 high },
 }
 
+/// The products of a factor with the 16 values of a nibble times `unit`, twice.
 fn table(factor: u8, unit: u8) -> [u8; 32]
     requires { unit ≤ 16 }
     ensures { IsTable factor unit result }
@@ -48,6 +49,7 @@ impl Multiplier {
         }
     }
 
+    /// The products of the factor with 32 bytes.
     fn times(&self, x: u8x32) -> u8x32
         requires long { length x ≡ 32 }
         requires fits { Each1 (λ k. k < 256) x }
@@ -59,6 +61,7 @@ impl Multiplier {
     }
 }
 
+/// Adds a block of 32 bytes times a factor.
 fn scale_xor_block(a: &mut [u8], b: &[u8], at: usize, by: &Multiplier)
     requires a { at + 32 ≤ length a.old }
     requires b { at + 32 ≤ length b.now }
@@ -68,6 +71,7 @@ fn scale_xor_block(a: &mut [u8], b: &[u8], at: usize, by: &Multiplier)
     (u8x32::from_slice(&a[at..]) ^ part).copy_to_slice(&mut a[at..]);
 }
 
+/// A byte plus another one times a factor.
 fn scale_xor_byte(a: u8, b: u8, factor: u8) -> u8
     ensures { result ≡ scaled_sum factor a b }
 {
@@ -92,6 +96,7 @@ pub fn scale_xor(a: &mut [u8], b: &[u8], factor: u8)
     }
 }
 
+/// Multiplies a block of 32 bytes by a factor.
 fn scale_block(a: &mut [u8], at: usize, by: &Multiplier)
     requires { at + 32 ≤ length a.old }
     ensures { a.new ≡ put_chunk at a.old (map (product by.now.factor) (chunk at 32 a.old)) }
@@ -116,6 +121,7 @@ pub fn scale(a: &mut [u8], factor: u8)
     }
 }
 
+/// Fills a block of 32 bytes with the sum of two blocks, each times a factor.
 fn weigh_block(to: &mut [u8], p: &[u8], by_p: &Multiplier, q: &[u8], by_q: &Multiplier, at: usize)
     requires to { at + 32 ≤ length to.old }
     requires p { at + 32 ≤ length p.now }
@@ -126,6 +132,7 @@ fn weigh_block(to: &mut [u8], p: &[u8], by_p: &Multiplier, q: &[u8], by_q: &Mult
     (part ^ by_q.times(load(q, at))).copy_to_slice(&mut to[at..]);
 }
 
+/// The sum of two bytes, each times a factor.
 fn weigh_byte(p: u8, by_p: u8, q: u8, by_q: u8) -> u8
     ensures { result ≡ weighed_sum by_p by_q p q }
 {

@@ -8,6 +8,7 @@ use crate::LANES;
 use crate::blocks::load;
 use std::simd::prelude::*;
 
+/// Adds a block of 32 bytes to another one.
 fn xor_block(a: &mut [u8], b: &[u8], at: usize)
     requires a { at + 32 ≤ length a.old }
     requires b { at + 32 ≤ length b.now }
@@ -46,6 +47,7 @@ fn double_block(a: &mut [u8], b: &[u8], at: usize)
 }
 
 #[tactic(auto, using(gf256::proofs::Doubling::by_two))]
+/// Twice a byte, plus another one.
 fn double_byte(a: u8, b: u8) -> u8
     ensures { result ≡ double_sum a b }
 {

@@ -5,6 +5,7 @@ ghost use Rattle.std.specs.Prelude.{ℕ, ◌≡◌, ◌≢◌, ◌+◌, ◌≤�
 use crate::LANES;
 use std::simd::prelude::*;
 
+/// Whether a block of 32 bytes is zeros.
 fn is_zero_block(a: &[u8], at: usize) -> bool
     requires { at + 32 ≤ length a.now }
     ensures zeros { IsTrue result → (k : ℕ) → at ≤ k → k < at + 32 → slice_index a.now k ≡ 0 }

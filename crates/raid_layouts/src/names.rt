@@ -20,6 +20,7 @@ pub fn md_name(level: Level, pattern: Pattern, syndrome: Syndrome) -> Option<&'s
     }
 }
 
+/// The name of a pattern of level 0.
 fn striping_name(pattern: Pattern) -> Option<&'static str>
     ensures { option_map (λ s. s.now) result ≡ striping_name_of pattern }
 {
@@ -29,6 +30,7 @@ fn striping_name(pattern: Pattern) -> Option<&'static str>
     }
 }
 
+/// The name of a pattern of level 5, which level 6 has too.
 fn rotation_name(pattern: Pattern) -> Option<&'static str>
     ensures { option_map (λ s. s.now) result ≡ rotation_name_of pattern }
 {
@@ -43,6 +45,7 @@ fn rotation_name(pattern: Pattern) -> Option<&'static str>
     }
 }
 
+/// The name of a pattern of level 6: one that has Q on the last slot, or one that level 5 has too.
 fn last_q_name(pattern: Pattern) -> Option<&'static str>
     ensures { option_map (λ s. s.now) result ≡ last_q_name_of pattern }
 {
@@ -56,6 +59,7 @@ fn last_q_name(pattern: Pattern) -> Option<&'static str>
     }
 }
 
+/// The name of a pattern of DDF.
 fn ddf_name(pattern: Pattern) -> Option<&'static str>
     ensures { option_map (λ s. s.now) result ≡ ddf_name_of pattern }
 {

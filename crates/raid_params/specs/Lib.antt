@@ -1,3 +1,4 @@
 pub mod Size
 pub mod Slots
 pub mod Validity
+pub mod Places

@@ -5,21 +5,22 @@
 //! The layouts are those of the Linux md driver for RAID 0, 4, 5 and 6 and the DDF layouts of
 //! RAID 6 as md has them. RAID 4 places its blocks as RAID 5 with the pattern `ParityLast`.
 //!
-//! The limits of the tool stand here, each by its name, and nearly every crate above uses these types. How
+//! The limits of an array stand here, each by its name, and nearly every crate above uses these types. How
 //! large an array is stands in `specs/Size`, what slots hold in `specs/Slots`, and the rules that a set has
-//! to keep in `specs/Validity`. What the parameters mean for the sectors is in `raid_terms`.
+//! to keep in `specs/Validity`, the order of levels, patterns and orders of Q in `specs/Places`. What the parameters mean for the sectors is in `raid_terms`.
 #![tactic(auto)]
 
 mod limits;
+mod places;
 mod slots;
 mod types;
 mod validity;
 
 pub use limits::{
-    LARGEST_CHUNK, MOST, MOST_CHUNKS, MOST_DROPS, MOST_GROUPS, MOST_LESS_ONE, MOST_LEVELS,
-    MOST_MARKS, MOST_MISSING, MOST_OFFSETS, MOST_ORIGINS, MOST_PATTERNS, MOST_SYNDROMES,
-    PLAN_BYTES, SECTORS_END,
+    LARGEST_CHUNK, MOST, MOST_CHUNKS, MOST_LESS_ONE, MOST_LEVELS, MOST_MISSING, MOST_OFFSETS,
+    MOST_PATTERNS, MOST_SYNDROMES, SECTORS_END,
 };
+pub use places::Placed;
 pub use slots::{count_empty, stands_among};
 pub use types::{Bounds, Cell, GeoFault, Geometry, Head, Level, Part, Pattern, Slots, Syndrome};
 pub use validity::is_chunk;

@@ -1,4 +1,4 @@
-//! The limits of the tool, each once.
+//! The limits of an array and of a search over its parameters, each once.
 
 /// The most images, members, slots, lengths and cells.
 pub const MOST: usize = 16;
@@ -27,20 +27,5 @@ pub const LARGEST_CHUNK: u64 = 1 << (MOST_CHUNKS - 1);
 /// Every number of sectors of an image, and every data offset, is below this.
 pub const SECTORS_END: u64 = 1 << 55;
 
-/// The most origins in a plan: volume sectors at which a file system may begin.
-pub const MOST_ORIGINS: usize = 64;
-
 /// The most empty slots that a plan may allow: no level survives more.
 pub const MOST_MISSING: u8 = 2;
-
-/// The most groups of marks of one kind of file system in a plan. Of partition tables there is one at most.
-pub const MOST_GROUPS: usize = 32;
-
-/// The most marks of one kind of landmark sector in a plan.
-pub const MOST_MARKS: usize = 4096;
-
-/// The most bytes of the text of a plan.
-pub const PLAN_BYTES: usize = 4_194_304;
-
-/// The most sectors that a survey may be asked to pass over.
-pub const MOST_DROPS: usize = 64;

@@ -1,4 +1,3 @@
-pub mod SlotLists
 pub mod Role
 pub mod Exponent
 pub mod Cells
@@ -6,5 +5,3 @@ pub mod Address
 pub mod Parity
 pub mod Solving
 pub mod Volume
-pub mod Product
-pub mod Page

@@ -7,7 +7,7 @@ use Rattle.raid_params.specs.declared.types.Geometry.{Geometry}
 use Rattle.raid_params.specs.declared.types.Head.{Head}
 use Rattle.raid_params.specs.Size.{redundancy}
 use Rattle.raid_params.specs.Validity.{is_valid_head}
-use Rattle.raid_terms.specs.SlotLists.{all_lists}
+use Rattle.search_terms.specs.SlotLists.{all_lists}
 use Rattle.raid_params.specs.Slots.{is_distinct, empties}
 
 -- the heads that make sense among all combinations of the values, in nested order

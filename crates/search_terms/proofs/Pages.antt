@@ -4,7 +4,7 @@ use Rattle.std.specs.List.{range_with_len}
 use Rattle.std.proofs.lemmas.List.{take_all}
 use Rattle.std.proofs.lemmas.List.Elements.{filter-append, All-head, All-tail}
 use Rattle.std.proofs.lemmas.Bool.{leb-true, leb-false}
-use Rattle.raid_terms.specs.Page.{passing, stop_of, IsPage, Ask, ArePages, joined, AskSome, JoinedPagesAreTheFilter, JoinedPagesAreWhatPasses, PagesGoOn}
+use Rattle.search_terms.specs.Page.{passing, stop_of, IsPage, Ask, ArePages, joined, AskSome, JoinedPagesAreTheFilter, JoinedPagesAreWhatPasses, PagesGoOn}
 
 -- a range in two parts
 pub range-add : (a m n : ℕ) → range_with_len a (m + n) ≡ range_with_len a m ++ range_with_len (a + m) n

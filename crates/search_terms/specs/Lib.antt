@@ -1,0 +1,3 @@
+pub mod SlotLists
+pub mod Product
+pub mod Page

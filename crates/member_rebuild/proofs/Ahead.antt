@@ -2,8 +2,8 @@
 use Rattle.std.proofs.Common.{◌≡◌, ℕ, ◌+◌, ◌*◌, ◌≤◌, List, [], ◌++◌, length, take, Option, None, Some, IfSome, Result, Ok, Err, refl, ap, ◌∙◌, arith, length-append}
 use Rattle.std.proofs.lemmas.Nat.{mul-le}
 use Rattle.std.specs.Io.KnownBytes.{Appends}
-use Rattle.image_source.specs.Seen.{OnlyReads, Seen}
-use Rattle.image_source.specs.Streams.{AppendsFront}
+use Rattle.outside.specs.Seen.{OnlyReads, Seen}
+use Rattle.outside.specs.Streams.{AppendsFront}
 use Rattle.raid_params.specs.declared.types.Geometry.{Geometry}
 use Rattle.member_rebuild.specs.Sectors.{IsAheadBy, sectors_of}
 use Rattle.member_rebuild.proofs.Parts.{sectors_long}

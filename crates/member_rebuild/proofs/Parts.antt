@@ -3,9 +3,9 @@ use Rattle.std.proofs.Common.{◌≡◌, ℕ, zero, suc, ◌+◌, ◌-◌, ◌*�
 use Rattle.std.specs.Io.KnownBytes.{Appends}
 use Rattle.std.specs.Prelude.{MatchResult, slice_range}
 use Rattle.std.specs.Result.{IsErrAnd}
-use Rattle.image_source.proofs.Reading.{reads_up}
-use Rattle.image_source.specs.Seen.{Image, OnlyReads, Seen}
-use Rattle.image_source.specs.Streams.{AppendsFront, Puts}
+use Rattle.outside.proofs.Reading.{reads_up}
+use Rattle.outside.specs.Seen.{Image, OnlyReads, Seen}
+use Rattle.outside.specs.Streams.{AppendsFront, AppendsSectors, Puts}
 use Rattle.raid_params.specs.Size.{area, data_blocks, volume_sectors}
 use Rattle.raid_params.specs.declared.types.Geometry.{Geometry}
 use Rattle.raid_terms.specs.Volume.{member, member_sector}
@@ -15,7 +15,6 @@ use Rattle.member_regions.specs.Regions.{HoldSlot}
 use Rattle.virtual_volume.proofs.Blocks.{region_sectors, sector_long}
 use Rattle.virtual_volume.proofs.Fronts.{appends_join, appends_none, front_after, front_more, sectors_are}
 use Rattle.virtual_volume.proofs.Ranges.{flat_more, flat_same, flat_shift, flat_split}
-use Rattle.virtual_volume.specs.Gained.{AppendsSectors}
 use Rattle.member_rebuild.specs.Sectors.{sectors_of}
 
 -- the region of a slot holds its sectors

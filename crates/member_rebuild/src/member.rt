@@ -2,22 +2,21 @@
 ghost use Rattle.std.specs.Prelude.{◌≡◌, ◌+◌, ◌*◌, ◌^◌, ◌<◌, ◌≤◌, length, slice_index_or, None, All, IfErr, IfSome, OnOk};
 ghost use Rattle.std.specs.Io.KnownBytes.{Appends};
 ghost use Rattle.std.specs.Result.{IsErrOf};
-ghost use Rattle.image_source.specs.Attached.{told_all};
-ghost use Rattle.image_source.specs.Causes.{Rose};
-ghost use Rattle.image_source.specs.Seen.{OnlyReads};
-ghost use Rattle.image_source.specs.Streams.{AppendsFront, Puts};
+ghost use Rattle.outside.specs.Attached.{told_all};
+ghost use Rattle.outside.specs.Seen.{OnlyReads};
+ghost use Rattle.outside.specs.Streams.{AppendsFront, AppendsSectors, Puts};
 ghost use Rattle.raid_params.specs.Size.{data_blocks, volume_sectors};
 ghost use Rattle.raid_terms.specs.Volume.{member};
 ghost use Rattle.member_regions.specs.Members.{IsTestable, Reaches};
 ghost use Rattle.member_regions.specs.Regions.{IsRoomFor, KeepsRoom};
 ghost use Rattle.member_regions.specs.declared.regions.TheConstants.{BLOCK as BLOCK_SECTORS};
-ghost use Rattle.virtual_volume.specs.Gained.{AppendsSectors};
-ghost use Rattle.virtual_volume.specs.Served.{Ends, IsServed};
+ghost use Rattle.virtual_volume.specs.Served.{Faults, IsFault, IsServed};
 ghost use Rattle.member_rebuild.specs.Sectors.{IsAheadBy, sectors_of};
 
 use address_map::area;
-use image_source::{Images, Sink};
-use member_regions::{BLOCK, Regions};
+use lost_members::Members;
+use member_regions::BLOCK;
+use outside::{Images, Sink};
 use raid_params::Geometry;
 use std::alloc::Global;
 use virtual_volume::VolumeFault;
@@ -26,7 +25,7 @@ use virtual_volume::VolumeFault;
 fn write_block<I: Images, K: Sink>(
     images: &mut I,
     sink: &mut K,
-    regions: &mut Regions,
+    regions: &mut Members,
     geo: &Geometry,
     slot: usize,
     first: u64,
@@ -45,7 +44,8 @@ fn write_block<I: Images, K: Sink>(
     ensures unput { IsErrOf result VolumeFault.ReadFault → K.gained sink.new ≡ K.gained sink.old }
     ensures reads { OnlyReads (I.seen images.old) (I.seen images.new) (data_blocks geo.now.head * count) }
     ensures later { K.faults sink.old ≤ K.faults sink.new }
-    ensures ends { IfErr result (Ends (I.seen images.old).faults (I.seen images.new).faults (K.faults sink.old) (K.faults sink.new)) }
+    ensures faults { Faults (I.seen images.old).faults (I.seen images.new).faults (K.faults sink.old) (K.faults sink.new) result }
+    ensures ends { IfErr result IsFault }
     ensures room { KeepsRoom regions.old regions.new }
 {
     regions
@@ -61,7 +61,7 @@ fn write_block<I: Images, K: Sink>(
 fn write_sectors<I: Images, K: Sink>(
     images: &mut I,
     sink: &mut K,
-    regions: &mut Regions,
+    regions: &mut Members,
     geo: &Geometry,
     slot: usize,
     sectors: u64,
@@ -80,7 +80,8 @@ fn write_sectors<I: Images, K: Sink>(
         (λ bytes. IsAheadBy (data_blocks geo.now.head) BLOCK_SECTORS (I.seen images.old).sectors_read (I.seen images.new).sectors_read (K.gained sink.old) (K.gained sink.new)) }
     ensures reads { OnlyReads (I.seen images.old) (I.seen images.new) (data_blocks geo.now.head * sectors) }
     ensures later { K.faults sink.old ≤ K.faults sink.new }
-    ensures ends { IfErr result (Ends (I.seen images.old).faults (I.seen images.new).faults (K.faults sink.old) (K.faults sink.new)) }
+    ensures faults { Faults (I.seen images.old).faults (I.seen images.new).faults (K.faults sink.old) (K.faults sink.new) result }
+    ensures ends { IfErr result IsFault }
 {
     let mut first = 0;
     while first < sectors {
@@ -118,9 +119,7 @@ pub fn rebuild<I: Images, K: Sink>(
         (λ bytes. AppendsSectors (K.gained sink.old) (K.gained sink.new) (member bytes geo.now end slot)) }
     ensures memory { IsErrOf result VolumeFault.Memory →
         (K.gained sink.new ≡ K.gained sink.old) × (I.seen images.new ≡ I.seen images.old) }
-    ensures read_fault { IsErrOf result VolumeFault.ReadFault →
-        Rose (I.seen images.old).faults (I.seen images.new).faults }
-    ensures write_fault { IsErrOf result VolumeFault.WriteFault → Rose (K.faults sink.old) (K.faults sink.new) }
+    ensures faults { Faults (I.seen images.old).faults (I.seen images.new).faults (K.faults sink.old) (K.faults sink.new) result }
     ensures reads { OnlyReads (I.seen images.old) (I.seen images.new) (volume_sectors geo.now.head end) }
 
     // For each sector that the sink gained, and for those of one block more, at most a row's data blocks are read.
@@ -129,6 +128,6 @@ pub fn rebuild<I: Images, K: Sink>(
     ensures later { K.faults sink.old ≤ K.faults sink.new }
 {
     let sectors = area(&geo.head, end);
-    let mut regions = Regions::new(alloc, geo.slots.len(), BLOCK).map_err(|_| VolumeFault::Memory)?;
+    let mut regions = Members::new(alloc, geo.slots.len(), BLOCK).map_err(|_| VolumeFault::Memory)?;
     write_sectors(images, sink, &mut regions, geo, slot as usize, sectors)
 }

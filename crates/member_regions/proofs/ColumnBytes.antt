@@ -1,17 +1,21 @@
 -- Images and columns of members are lists of bytes.
-use Rattle.std.proofs.Common.{◌≡◌, ℕ, ◌+◌, ◌*◌, ◌<◌, List, [], ◌∷◌, map, sym, ◌∙◌, arith, refl, All, IfSome, Option, None, Some}
+use Rattle.std.proofs.Common.{ap, length, suc, ◌≡◌, ℕ, ◌+◌, ◌*◌, ◌<◌, List, [], ◌∷◌, map, sym, ◌∙◌, arith, refl, All, IfSome, Option, None, Some}
 use Rattle.std.specs.List.{AllByRecursion}
-use Rattle.image_source.specs.Attached.{told_all}
-use Rattle.image_source.specs.Seen.{Image, TellsBytes}
-use Rattle.image_source.proofs.Told.{told_below}
+use Rattle.outside.specs.Attached.{told_all}
+use Rattle.outside.specs.Seen.{Image, TellsBytes}
+use Rattle.outside.proofs.Told.{told_below}
 use Rattle.raid_params.specs.declared.types.Cell.{Cell}
 use Rattle.raid_params.specs.declared.types.Geometry.{Geometry}
 use Rattle.raid_terms.specs.Cells.{row_cells}
 use Rattle.raid_terms.specs.Parity.{member_byte, member_column}
-use Rattle.pq_parity.specs.Syndromes.{AreColumns}
+use Rattle.row_parity.specs.Syndromes.{AreColumns}
 use Rattle.member_regions.specs.Members.{HoldBytes}
-use Rattle.member_regions.proofs.DataFound.{map_length}
 use Rattle.member_regions.proofs.Sets.{row_length}
+
+-- a list has as many values as items
+pub map_length : (f : Option ℕ → ℕ) (slots : List (Option ℕ)) → length (map f slots) ≡ length slots
+map_length f [] = refl
+map_length f (held ∷ slots) = ap (λ n. suc n) (map_length f slots)
 
 byte_below : (images : List (List ℕ)) (offset t x : ℕ) (held : Option ℕ) → HoldBytes images → member_byte images offset t x held < 256
 byte_below images offset t x None bytes = omega arith

@@ -8,8 +8,8 @@ use Rattle.std.proofs.lemmas.List.Sums.{count_by-le-length, count_by_more_no, co
 use Rattle.std.specs.List.{range_with_len}
 use Rattle.std.specs.Option.{is_none, is_some}
 use Rattle.std.specs.Prelude.{count_by, ◌||◌, ◌==◌, if◌then◌else◌}
-use Rattle.image_source.proofs.Reading.{reads_join, reads_up}
-use Rattle.image_source.specs.Seen.{OnlyReads, Seen}
+use Rattle.outside.proofs.Reading.{reads_join, reads_up}
+use Rattle.outside.specs.Seen.{OnlyReads, Seen}
 use Rattle.raid_layouts.proofs.Shapes.{shaped_images, shaped_once}
 use Rattle.raid_params.specs.Slots.{stands}
 use Rattle.raid_params.specs.Validity.{is_shaped}

@@ -7,12 +7,5 @@ pub mod OneMore
 pub mod Members
 pub mod Alike
 pub mod Solved
-pub mod LostParts
-pub mod NeededParts
-pub mod ReadParts
-pub mod NeededSums
-pub mod DataFound
-pub mod NeededRows
 pub mod ImageSums
 pub mod ColumnBytes
-pub mod ParityFound

@@ -5,9 +5,9 @@ use Rattle.std.specs.Option.{is_none}
 use Rattle.std.specs.declared.option.Option.{Option}
 use Rattle.std.proofs.lemmas.List.{get_or-take, get_or-drop}
 use Rattle.std.proofs.lemmas.Option.{slice_get-get_or}
-use Rattle.image_source.specs.Attached.{told_all}
-use Rattle.image_source.specs.Seen.{Image, AreTold}
-use Rattle.image_source.proofs.Told.{told_all_at, told_all_length}
+use Rattle.outside.specs.Attached.{told_all}
+use Rattle.outside.specs.Seen.{Image, AreTold}
+use Rattle.outside.proofs.Told.{told_all_at, told_all_length}
 use Rattle.raid_terms.specs.Parity.{member_byte}
 use Rattle.member_regions.specs.Members.{Reaches}
 

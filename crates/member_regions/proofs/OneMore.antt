@@ -5,7 +5,7 @@ use Rattle.std.proofs.lemmas.Bool.{cases_lt}
 use borrow.Rule.Slice.PartMut.{put_mid}
 use Rattle.raid_params.specs.declared.types.Geometry.{Geometry}
 use Rattle.raid_terms.specs.Parity.{member_byte}
-use Rattle.pq_parity.proofs.Regions.{region_inside, mid_before, mid_inside}
+use Rattle.row_parity.proofs.Regions.{region_inside, mid_before, mid_inside}
 use Rattle.member_regions.specs.Regions.{HoldRead}
 
 -- one more member that was read

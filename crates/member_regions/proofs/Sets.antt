@@ -3,7 +3,7 @@ use Rattle.std.proofs.Common.{◌≡◌, ℕ, ◌-◌, true, refl, ◌<◌, ◌�
 use Rattle.std.proofs.lemmas.Option.{slice_get-get_or}
 use Rattle.std.specs.Prelude.{IsTrue}
 use Rattle.address_map.proofs.Heads.{some_chunk, whole_below}
-use Rattle.image_source.specs.Seen.{Image}
+use Rattle.outside.specs.Seen.{Image}
 use Rattle.raid_layouts.proofs.Counts.{cells_length}
 use Rattle.raid_layouts.proofs.Shapes.{shaped_head, shaped_images, shaped_slots}
 use Rattle.raid_layouts.proofs.Solvable.{row_is}

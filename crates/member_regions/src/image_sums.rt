@@ -8,8 +8,8 @@ ghost use Rattle.member_regions.specs.Regions.{IsRoomFor};
 ghost use Rattle.member_regions.specs.declared.regions.TheConstants.{BLOCK};
 
 use crate::regions::{BLOCK, Regions};
-use image_source::SECTOR;
 use lane_kernels::{first_nonzero, xor_into};
+use outside::SECTOR;
 use raid_params::MOST;
 
 /// What the exclusive or of the sectors of all images at a place is.

@@ -1,27 +1,19 @@
-//! The members of a set in memory: a region of sectors for each, read, tested and completed there.
+//! The members of a set in memory: a region of sectors for each, read and tested there.
 //!
-//! [`Regions`] takes its memory once, and is filled as often as need be. `row_scan` tests rows in it,
-//! `prune_filters` compares whole images in it, `virtual_volume` and `member_rebuild` find in it what lost
-//! members held. [`read_members`] reads into bytes that the caller has. What regions hold stands in
-//! `specs/Regions`, what is asked of the members in `specs/Members`.
+//! [`Regions`] takes its memory once, and is filled as often as need be. `row_scan` tests rows in it, and the tables of rows
+//! compare whole images in it. [`read_members`] reads into bytes that the caller has. What regions hold stands in
+//! `specs/Regions`, what is asked of the members in `specs/Members`. `lost_members` finds lost members in regions of its own.
 //!
-//! What members held is found by the data. [`Regions::read_needed`] reads what these are found by: the data
-//! that are there, and for each lost data block of a row one of its parity blocks. [`Regions::solve_data`]
-//! finds the lost data by it, and [`Regions::solve_parity`] the parity of a lost member by all data. What is
-//! needed stands in `specs/Needs`, and [`laws`] says how much that is.
-//!
-//! [`sum_images`] adds up the sectors of all images at each place, where each image has a region: `row_scan` and
-//! `prune_filters` test rows by these sums. What they say stands in `specs/ImageSums`.
+//! [`sum_images`] adds up the sectors of all images at each place, where each image has a region: `row_scan` and the tables
+//! of rows test rows by these sums. What they say stands in `specs/ImageSums`.
 #![tactic(auto)]
 
 mod image_sums;
-pub mod laws;
-mod needs;
 mod reading;
 mod regions;
-mod solving;
+mod turning;
 
 pub use image_sums::{ImageSum, sum_images};
 pub use reading::{read_member, read_members};
 pub use regions::{BLOCK, Regions, zeros};
-pub use solving::turn_to;
+pub use turning::turn_to;

@@ -1,19 +1,17 @@
 //! Room for regions of sectors, one a member.
 ghost use Rattle.std.specs.Prelude.{ℕ, List, ◌≡◌, ◌+◌, ◌*◌, ◌^◌, ◌<◌, ◌≤◌, All, IfOk, IfSome, None, OnOk, length, replicate, slice_index_or, slice_range};
-ghost use Rattle.image_source.specs.Attached.{told_all};
-ghost use Rattle.image_source.specs.Causes.{HasCause};
-ghost use Rattle.image_source.specs.Seen.{OnlyReads};
+ghost use Rattle.outside.specs.Attached.{told_all};
+ghost use Rattle.outside.specs.Causes.{HasCause};
+ghost use Rattle.outside.specs.Seen.{OnlyReads};
 ghost use Rattle.raid_terms.specs.Parity.{is_sound, IsRow};
-ghost use Rattle.pq_parity.specs.Regions.{region_column};
-ghost use Rattle.member_regions.specs.Members.{held, HoldBytes, IsTestable, Reaches};
-ghost use Rattle.member_regions.specs.Needs.{HoldData, HoldNeeded, needed_sectors};
-ghost use Rattle.member_regions.specs.Regions.{HoldRead, HoldSlot, IsRoomFor, KeepsRoom};
+ghost use Rattle.row_parity.specs.Regions.{region_column};
+ghost use Rattle.member_regions.specs.Members.{held, Reaches};
+ghost use Rattle.member_regions.specs.Regions.{HoldRead, IsRoomFor, KeepsRoom};
 
-use crate::reading::{read_members, read_needed};
-use crate::solving::{find_data, find_parity};
-use image_source::{Failed, Images, Memory, SECTOR};
-use pq_parity::sectors_hold;
+use crate::reading::read_members;
+use outside::{Failed, Images, Memory, SECTOR};
 use raid_params::{Cell, Geometry};
+use row_parity::sectors_hold;
 use std::alloc::Global;
 use std::marker::Model;
 
@@ -83,31 +81,6 @@ impl Regions {
         read_members(images, &mut self.sectors, geo, self.stride, first, count)
     }
 
-    /// Reads those of `count` sectors of each member, from member sector `first` on, that the data are
-    /// found by.
-    #[tactic(auto, using(crate::proofs::Room::room_inside))]
-    pub fn read_needed<I: Images>(
-        &mut self,
-        geo: &Geometry,
-        images: &mut I,
-        first: u64,
-        count: usize,
-    ) -> Result<(), Failed>
-        requires room { IsRoomFor (length geo.now.slots.items) count self.old }
-        requires set { IsTestable geo.now }
-        requires held { All (Reaches (I.seen images.old).attached (geo.now.head.offset + (first + count)))
-            geo.now.slots.items }
-        requires near { geo.now.head.offset + (first + count) < 2 ^ 55 }
-        requires some { 1 ≤ count }
-        ensures room { KeepsRoom self.old self.new }
-        ensures told { OnOk result (IfSome (told_all (I.seen images.old).attached)
-            (λ bytes. HoldNeeded bytes geo.now self.new.stride first count self.new.bytes)) }
-        ensures reads { OnlyReads (I.seen images.old) (I.seen images.new) (needed_sectors geo.now first count) }
-        ensures cause { HasCause (I.seen images.old).faults (I.seen images.new).faults result }
-    {
-        read_needed(images, geo, &mut self.sectors, self.stride, first, count)
-    }
-
     /// Whether the sectors number `j` of the regions are a sound row of these cells.
     #[tactic(auto, using(crate::proofs::Room::room_inside))]
     pub fn is_sound(&self, cells: &[Cell], j: usize) -> bool
@@ -118,40 +91,8 @@ impl Regions {
         sectors_hold(cells, &self.sectors, self.stride, j)
     }
 
-    /// Finds the lost data among the `count` sectors of each missing member, from member sector `first`
-    /// on, by the needed ones. What else the regions hold may change.
-    #[tactic(auto, using(crate::proofs::Room::room_inside))]
-    pub fn solve_data(&mut self, geo: &Geometry, first: u64, count: usize)
-        requires room { IsRoomFor (length geo.now.slots.items) count self.old }
-        requires set { IsTestable geo.now }
-        requires first { first + count < 2 ^ 55 }
-        ensures room { KeepsRoom self.old self.new }
-        ensures found { (bytes : List (List ℕ)) →
-            HoldNeeded bytes geo.now self.old.stride first count self.old.bytes →
-            HoldData bytes geo.now self.new.stride first count self.new.bytes }
-    {
-        find_data(geo, &mut self.sectors, self.stride, first, count);
-    }
-
-    /// Finds the lost parity among the `count` sectors of the missing member of a slot, from member sector
-    /// `first` on, by the data, read or found.
-    #[tactic(auto, using(crate::proofs::Room::room_inside))]
-    pub fn solve_parity(&mut self, geo: &Geometry, slot: usize, first: u64, count: usize)
-        requires room { IsRoomFor (length geo.now.slots.items) count self.old }
-        requires set { IsTestable geo.now }
-        requires slot { slot < length geo.now.slots.items }
-        requires missing { slice_index_or geo.now.slots.items slot None ≡ None }
-        requires first { first + count < 2 ^ 55 }
-        ensures room { KeepsRoom self.old self.new }
-        ensures found { (bytes : List (List ℕ)) → HoldBytes bytes →
-            HoldData bytes geo.now self.old.stride first count self.old.bytes →
-            HoldSlot bytes geo.now self.new.stride first count slot self.new.bytes }
-    {
-        find_parity(geo, slot, &mut self.sectors, self.stride, first, count);
-    }
-
     /// The `count` sectors of the region of a slot from its sector `at` on.
-    #[tactic(auto, using(crate::proofs::Room::room_inside, pq_parity::proofs::Regions::region_inside))]
+    #[tactic(auto, using(crate::proofs::Room::room_inside, row_parity::proofs::Regions::region_inside))]
     pub fn region(&self, slot: usize, at: usize, count: usize) -> &[u8]
         requires room { IsRoomFor (slot + 1) (at + count) self.now }
         ensures long { length result.now ≡ 512 * count }

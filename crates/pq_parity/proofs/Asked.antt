@@ -17,9 +17,9 @@ use Rattle.raid_params.specs.declared.types.Part.{Part}
 use Rattle.raid_params.specs.declared.types.Part.TheVariants.{Block, P, Q}
 use Rattle.raid_terms.specs.Parity.{has_p, has_q, is_q, IsRow}
 use Rattle.raid_terms.specs.Solving.{is_one_lost, is_q_lost}
-use Rattle.pq_parity.specs.LostBytes.{asks_q, first_missing, Finds}
-use Rattle.pq_parity.proofs.Fillings.{lost}
-use Rattle.pq_parity.proofs.Shapes.{length_lost, may_be_lost}
+use Rattle.row_parity.specs.LostBytes.{asks_q, first_missing, Finds}
+use Rattle.row_parity.proofs.Fillings.{lost}
+use Rattle.row_parity.proofs.Shapes.{length_lost, may_be_lost}
 use Rattle.pq_parity.proofs.LostColumns.{missing_there, other_parts}
 use Rattle.pq_parity.proofs.Places.{first, first_lost, lost_around}
 

@@ -11,14 +11,14 @@ use Rattle.raid_params.specs.declared.types.Part.TheVariants.{Block, P, Q}
 use Rattle.raid_terms.specs.Parity.{exponent_in, exponents, has_p, has_q, in_p, in_q, is_data, is_p, is_q, p_holds, q_holds, sum_of, IsRow}
 use Rattle.raid_terms.specs.Solving.{is_one_lost, is_q_lost, lost_byte, solved, solves}
 use Rattle.pq_parity.specs.DataThere.{data_there, parity_lost, HoldAllData, HoldLostAt}
-use Rattle.pq_parity.specs.Known.{no_cell}
-use Rattle.pq_parity.specs.Regions.{region_column, HoldSums}
-use Rattle.pq_parity.specs.Syndromes.{known_sum, AreColumns}
-use Rattle.pq_parity.proofs.Fillings.{lost, put}
+use Rattle.row_parity.specs.Known.{no_cell}
+use Rattle.row_parity.specs.Regions.{region_column, HoldSums}
+use Rattle.row_parity.specs.Syndromes.{known_sum, AreColumns}
+use Rattle.row_parity.proofs.Fillings.{lost, put}
 use Rattle.pq_parity.proofs.LostColumns.{solved_by}
 use Rattle.pq_parity.proofs.Needed.{both_true, by_p_alone, missing_kinds, some_counted}
 use Rattle.pq_parity.proofs.RowSteps.{from_there}
-use Rattle.pq_parity.proofs.Shapes.{count_cons, length_lost}
+use Rattle.row_parity.proofs.Shapes.{count_cons, length_lost}
 
 -- the parts stay the same
 count_parts : (test : Part → Bool) (cells : List Cell) → count_by (λ c. test c.part) (parity_lost cells) ≡ count_by (λ c. test c.part) cells

@@ -7,16 +7,16 @@ use Rattle.raid_params.specs.declared.types.Part.TheVariants.{Q}
 use Rattle.raid_terms.specs.Parity.{in_p, in_q, IsRow}
 use Rattle.raid_terms.specs.Solving.{lost_byte}
 use Rattle.pq_parity.specs.Finding.{is_lost_at}
-use Rattle.pq_parity.specs.Known.{no_cell}
+use Rattle.row_parity.specs.Known.{no_cell}
 use Rattle.pq_parity.specs.Needs.{needs, HoldLostData, KeepAllBut}
-use Rattle.pq_parity.specs.Regions.{region_column, HoldSums, KeepOthers}
-use Rattle.pq_parity.specs.Syndromes.{known_sum, sum_at, AreColumns}
+use Rattle.row_parity.specs.Regions.{region_column, HoldSums, KeepOthers}
+use Rattle.row_parity.specs.Syndromes.{known_sum, sum_at, AreColumns}
 use Rattle.pq_parity.proofs.Finding.{found_by_p, lost_here, lost_inside, lost_missing, lost_part, no_other}
 use Rattle.pq_parity.proofs.Needed.{some_case}
 use Rattle.pq_parity.proofs.Pairs.{weighed_p}
-use Rattle.pq_parity.proofs.Regions.{map_same}
+use Rattle.row_parity.proofs.Regions.{map_same}
 use Rattle.pq_parity.proofs.RowSteps.{columns_apart, columns_of, from_there, rows_apart}
-use Rattle.pq_parity.proofs.Sums.{in_p_fits, known_sum_fits}
+use Rattle.row_parity.proofs.RowSums.{in_p_fits, known_sum_fits}
 
 -- what a write to the sector number j of a region keeps
 abbrev pub KeepSector : ℕ → ℕ → ℕ → List ℕ → List ℕ → Type 0

@@ -13,18 +13,18 @@ use Rattle.raid_params.specs.declared.types.Part.TheVariants.{Block, P, Q}
 use Rattle.raid_terms.specs.Parity.{has_p, has_q, is_data, is_p, IsRow}
 use Rattle.raid_terms.specs.Solving.{is_q_lost}
 use Rattle.pq_parity.specs.Finding.{is_lost_at, AreFinders, FindsAt, IsFinder}
-use Rattle.pq_parity.specs.Known.{no_cell}
-use Rattle.pq_parity.specs.LostBytes.{first_missing, Finds}
+use Rattle.row_parity.specs.Known.{no_cell}
+use Rattle.row_parity.specs.LostBytes.{first_missing, Finds}
 use Rattle.pq_parity.specs.Needs.{is_p_lost, lost_data, needs}
 use Rattle.pq_parity.specs.declared.finders.Finder.{Finder}
 use Rattle.pq_parity.proofs.Asked.{asked_has_q, some_missing}
-use Rattle.pq_parity.proofs.Fillings.{lost}
+use Rattle.row_parity.proofs.Fillings.{lost}
 use Rattle.pq_parity.proofs.LostColumns.{lost_is, other_parts}
 use Rattle.pq_parity.proofs.Needed.{both_true, missing_kinds, none_counted, some_counted}
 use Rattle.pq_parity.proofs.Pairs.{finds_data, finds_data_beside_q}
 use Rattle.pq_parity.proofs.Places.{first, lost_around}
-use Rattle.pq_parity.proofs.Regions.{cell_there}
-use Rattle.pq_parity.proofs.Shapes.{count_cons, parity_count}
+use Rattle.row_parity.proofs.Regions.{cell_there}
+use Rattle.row_parity.proofs.Shapes.{count_cons, parity_count}
 
 -- a missing data cell
 pub lost_here : (cells : List Cell) (place : ℕ) (cell : Cell) → slice_get cells place ≡ Some cell → cell.missing ≡ true → is_data cell.part ≡ true → is_lost_at cells place ≡ true

@@ -13,13 +13,13 @@ use Rattle.raid_params.specs.declared.types.Cell.{Cell}
 use Rattle.raid_params.specs.declared.types.Part.{Part}
 use Rattle.raid_terms.specs.Parity.{filled, has_p, has_q, in_p, in_q, IsRow}
 use Rattle.raid_terms.specs.Solving.{lost_byte, solved, solves}
-use Rattle.pq_parity.specs.Syndromes.{known_sum, sum_at, AreColumns}
+use Rattle.row_parity.specs.Syndromes.{known_sum, sum_at, AreColumns}
 use Rattle.lane_kernels.specs.Formulas.{weighed_sum}
-use Rattle.pq_parity.specs.LostBytes.{first_missing, Apart, Finds, EachLostColumnHasOneSolution}
-use Rattle.pq_parity.proofs.Members.{In, In-from_Contains, Contains-from_In}
-use Rattle.pq_parity.proofs.Fillings.{lost, put, AreBytes, from_filled, put_in_filled}
-use Rattle.pq_parity.proofs.Sums.{known_sum_fits, in_p_fits, in_q_fits}
-use Rattle.pq_parity.proofs.Shapes.{MayBeLost, may_be_lost, length_lost}
+use Rattle.row_parity.specs.LostBytes.{first_missing, Apart, Finds, EachLostColumnHasOneSolution}
+use Rattle.row_parity.proofs.Members.{In, In-from_Contains, Contains-from_In}
+use Rattle.row_parity.proofs.Fillings.{lost, put, AreBytes, from_filled, put_in_filled}
+use Rattle.row_parity.proofs.RowSums.{known_sum_fits, in_p_fits, in_q_fits}
+use Rattle.row_parity.proofs.Shapes.{MayBeLost, may_be_lost, length_lost}
 use Rattle.pq_parity.proofs.Pairs.{weights_exist}
 use Rattle.pq_parity.proofs.Places.{first, first_lost, lost_around, put_at}
 use Rattle.pq_parity.proofs.Solved.{solution_test, solves_put, some_pass, found_at, apart_at}

@@ -12,7 +12,7 @@ use Rattle.raid_params.specs.declared.types.Part.TheVariants.{Block, P, Q}
 use Rattle.raid_terms.specs.Parity.{equations_hold, filled, in_p, is_data, is_p, is_q, p_holds, q_holds, sum_of, has_p, IsRow}
 use Rattle.raid_terms.specs.Solving.{is_one_lost, is_q_lost, lost_byte, solved, solves}
 use Rattle.pq_parity.specs.Needs.{is_p_lost, lost_data, needs, AgreeInNeeded}
-use Rattle.pq_parity.proofs.Shapes.{count_cons}
+use Rattle.row_parity.proofs.Shapes.{count_cons}
 
 -- two columns agree at the cells that are there, where the part is wanted
 abbrev pub AgreeAt : (Part → Bool) → List Cell → List ℕ → List ℕ → Type 0

@@ -10,7 +10,7 @@ use Rattle.gf256.proofs.Products.{product_zero_left, additive_left, additive_rig
 use Rattle.gf256.proofs.Powers.{power_fits, product_one, commutes, not_zero, sum_not_zero}
 use Rattle.gf256.proofs.Undoing.{has_inverse}
 use Rattle.lane_kernels.specs.Formulas.{weighed_sum}
-use Rattle.pq_parity.specs.LostBytes.{Apart, Finds}
+use Rattle.row_parity.specs.LostBytes.{Apart, Finds}
 
 one_times : (x : ℕ) → x < 256 → product 1 x ≡ x
 one_times x h = commutes 1 x (omega arith) h ∙ product_one x h

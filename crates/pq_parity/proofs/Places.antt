@@ -6,8 +6,8 @@ use Rattle.std.specs.declared.option.Option.{Option}
 use Rattle.std.specs.declared.option.Option.TheVariants.{None, Some}
 use Rattle.raid_params.specs.declared.types.Cell.{Cell}
 use Rattle.raid_params.specs.declared.types.Part.{Part}
-use Rattle.pq_parity.specs.LostBytes.{first_missing}
-use Rattle.pq_parity.proofs.Fillings.{lost, put, AreBytes}
+use Rattle.row_parity.specs.LostBytes.{first_missing}
+use Rattle.row_parity.proofs.Fillings.{lost, put, AreBytes}
 
 -- the first of some parts
 abbrev pub first : List Part → Option Part

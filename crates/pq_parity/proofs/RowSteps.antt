@@ -9,14 +9,14 @@ use Rattle.raid_terms.specs.Parity.{in_p, in_q, is_data, IsRow}
 use Rattle.raid_terms.specs.Solving.{lost_byte}
 use Rattle.lane_kernels.specs.Formulas.{weighed_sum}
 use Rattle.pq_parity.specs.Needs.{AgreeInRows, AreWhole, HoldLostData, KeepAllBut}
-use Rattle.pq_parity.specs.Regions.{region_column, HoldsLost}
+use Rattle.row_parity.specs.Regions.{region_column, HoldsLost}
 use Rattle.pq_parity.specs.Finding.{is_lost_at, AreFinders, FindsAt, IsFinder, IsFor}
-use Rattle.pq_parity.specs.Known.{no_cell}
+use Rattle.row_parity.specs.Known.{no_cell}
 use Rattle.pq_parity.specs.declared.finders.Finder.{Finder}
-use Rattle.pq_parity.specs.Syndromes.{AreColumns, IsSyndrome}
+use Rattle.row_parity.specs.Syndromes.{AreColumns, IsSyndrome}
 use Rattle.pq_parity.proofs.Finding.{lost_here, lost_inside, lost_missing, lost_part}
 use Rattle.pq_parity.proofs.Needed.{same_lost, some_case}
-use Rattle.pq_parity.proofs.Regions.{map_same, regions_apart}
+use Rattle.row_parity.proofs.Regions.{map_same, regions_apart}
 
 -- the columns of regions
 abbrev pub columns_of : List Cell → ℕ → List ℕ → ℕ → ℕ → List ℕ

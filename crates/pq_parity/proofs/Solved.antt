@@ -13,13 +13,13 @@ use Rattle.raid_params.specs.declared.types.Part.{Part}
 use Rattle.raid_params.specs.declared.types.Part.TheVariants.{Block, P, Q}
 use Rattle.raid_terms.specs.Parity.{has_p, has_q, in_p, in_q, is_q, p_holds, q_holds}
 use Rattle.raid_terms.specs.Solving.{is_q_lost, solves}
-use Rattle.pq_parity.specs.Syndromes.{known_sum}
-use Rattle.pq_parity.specs.LostBytes.{Apart, Found}
-use Rattle.pq_parity.proofs.Fillings.{lost, put, AreBytes}
-use Rattle.pq_parity.proofs.Sums.{part_sum}
-use Rattle.pq_parity.proofs.Shapes.{MayBeLost, length_lost}
-use Rattle.pq_parity.proofs.Columns.{p_holds_put, q_holds_put}
-use Rattle.pq_parity.proofs.Solutions.{twice, two}
+use Rattle.row_parity.specs.Syndromes.{known_sum}
+use Rattle.row_parity.specs.LostBytes.{Apart, Found}
+use Rattle.row_parity.proofs.Fillings.{lost, put, AreBytes}
+use Rattle.row_parity.proofs.RowSums.{part_sum}
+use Rattle.row_parity.proofs.Shapes.{MayBeLost, length_lost}
+use Rattle.row_parity.proofs.Columns.{p_holds_put, q_holds_put}
+use Rattle.row_parity.proofs.Solutions.{twice, two}
 use Rattle.pq_parity.proofs.Places.{first}
 
 -- the test of P's equation, and of Q's, for bytes of the missing parts

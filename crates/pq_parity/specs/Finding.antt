@@ -6,9 +6,9 @@ use Rattle.std.specs.declared.option.Option.TheVariants.{None, Some}
 use Rattle.raid_params.specs.declared.types.Cell.{Cell}
 use Rattle.raid_terms.specs.Parity.{in_p, in_q, is_data}
 use Rattle.raid_terms.specs.Solving.{lost_byte}
-use Rattle.pq_parity.specs.Known.{no_cell}
+use Rattle.row_parity.specs.Known.{no_cell}
 use Rattle.lane_kernels.specs.Formulas.{weighed_sum}
-use Rattle.pq_parity.specs.Syndromes.{known_sum}
+use Rattle.row_parity.specs.Syndromes.{known_sum}
 use Rattle.pq_parity.specs.declared.finders.Finder.{Finder}
 
 -- the cell at this place is missing and holds data

@@ -1,9 +1,3 @@
-pub mod Regions
-pub mod Syndromes
-pub mod LostBytes
-pub mod Unbreakable
-pub mod Known
-pub mod Passes
 pub mod Needs
 pub mod DataThere
 pub mod Finding

@@ -6,7 +6,7 @@ use Rattle.raid_params.specs.declared.types.Part.{Part}
 use Rattle.raid_params.specs.declared.types.Part.TheVariants.{Block, P, Q}
 use Rattle.raid_terms.specs.Parity.{is_data, is_p}
 use Rattle.raid_terms.specs.Solving.{lost_byte}
-use Rattle.pq_parity.specs.Regions.{region_column}
+use Rattle.row_parity.specs.Regions.{region_column}
 
 -- how many data blocks are missing
 abbrev pub lost_data : List Cell → ℕ

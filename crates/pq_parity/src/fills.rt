@@ -2,15 +2,13 @@
 ghost use Rattle.std.specs.Prelude.{ℕ, ◌≡◌, ◌≢◌, ◌<◌, ◌≤◌, ◌+◌, ◌*◌, length, slice_index, true};
 ghost use Rattle.raid_params.specs.declared.limits.TheConstants.{MOST};
 ghost use Rattle.raid_terms.specs.Parity.{has_q, in_p, in_q, IsRow};
-ghost use Rattle.pq_parity.specs.Known.{ArePlaces};
-ghost use Rattle.pq_parity.specs.Regions.{region_column, HoldSums, KeepOthers};
-ghost use Rattle.pq_parity.specs.Syndromes.{AreColumns, sum_at};
+ghost use Rattle.row_parity.specs.Known.{ArePlaces};
+ghost use Rattle.row_parity.specs.Regions.{region_column, HoldSums, KeepOthers};
+ghost use Rattle.row_parity.specs.Syndromes.{AreColumns, sum_at};
 
-use crate::known::{Known, known_of};
-use crate::strips::{STRIP, STRIPS, p_sum, store};
-use crate::syndromes::strip_sums;
-use image_source::SECTOR;
+use outside::SECTOR;
 use raid_params::Cell;
+use row_parity::{Known, STRIP, STRIPS, known_of, p_sum, store, strip_sums};
 
 /// Sectors of each region, where the regions lie one after the other.
 #[derive(Clone, Copy)]

@@ -14,8 +14,11 @@ use raid_params::{Cell, Part};
 /// times that of Q's.
 #[derive(Drop)]
 pub struct Finder {
+    /// The place of the cell.
     pub place: usize,
+    /// The factor of the sum of P's equation.
     pub by_p: Multiplier,
+    /// The factor of the sum of Q's equation.
     pub by_q: Multiplier,
 }
 

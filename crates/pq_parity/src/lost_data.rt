@@ -3,18 +3,17 @@ ghost use Rattle.std.specs.Prelude.{ℕ, List, ◌≡◌, ◌≢◌, ◌<◌, �
 ghost use Rattle.raid_params.specs.declared.types.Part.TheVariants.{Q};
 ghost use Rattle.raid_terms.specs.Parity.{has_q, IsRow};
 ghost use Rattle.pq_parity.specs.Finding.{is_lost_at, AreFinders};
-ghost use Rattle.pq_parity.specs.Known.{ArePlaces};
+ghost use Rattle.row_parity.specs.Known.{ArePlaces};
 ghost use Rattle.lane_kernels.specs.Formulas.{weighed_sum};
 ghost use Rattle.pq_parity.specs.Needs.{needs, AgreeInRows, AreWhole, HoldLostData, KeepAllBut};
-ghost use Rattle.pq_parity.specs.Regions.{region_column};
+ghost use Rattle.row_parity.specs.Regions.{region_column};
 
 use crate::fills::{SectorRows, fill_by_p};
 use crate::finders::{Finder, finder_after, finder_at, lost_data_from, needs_q};
-use crate::known::{Known, known_of};
-use crate::syndromes::{Sums, sums_by};
-use image_source::SECTOR;
 use lane_kernels::weigh;
+use outside::SECTOR;
 use raid_params::Cell;
+use row_parity::{Known, Sums, known_of, sums_by};
 
 /// Finds `count` lost sectors of each missing data cell, from number `from` on, and writes them into its
 /// region. The regions lie one after the other, each of `stride` bytes.

@@ -3,8 +3,8 @@ ghost use Rattle.std.specs.Prelude.{ℕ, List, ◌≡◌, ◌<◌, ◌≤◌, �
 ghost use Rattle.raid_params.specs.declared.limits.TheConstants.{MOST};
 ghost use Rattle.raid_terms.specs.Parity.{is_data, is_q, IsRow};
 ghost use Rattle.pq_parity.specs.DataThere.{data_there as data_there_of, parity_lost as parity_lost_of, HoldAllData, HoldLostAt};
-ghost use Rattle.pq_parity.specs.Regions.{KeepOthers};
-ghost use Rattle.pq_parity.specs.Syndromes.{AreColumns};
+ghost use Rattle.row_parity.specs.Regions.{KeepOthers};
+ghost use Rattle.row_parity.specs.Syndromes.{AreColumns};
 
 use crate::fills::{SectorRows, fill_by_p, fill_by_q};
 use arrayvec::ArrayVec;

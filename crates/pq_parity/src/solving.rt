@@ -4,16 +4,15 @@ ghost use Rattle.std.specs.Option.{option_or};
 ghost use Rattle.gf256.specs.Field.{product};
 ghost use Rattle.raid_terms.specs.Parity.{column_of, in_p, in_q, IsRow};
 ghost use Rattle.raid_terms.specs.Solving.{is_q_lost, lost_byte};
-ghost use Rattle.pq_parity.specs.LostBytes.{asks_q, first_missing};
-ghost use Rattle.pq_parity.specs.Regions.{region_column};
-ghost use Rattle.pq_parity.specs.Syndromes.{AreColumns, IsSyndrome};
+ghost use Rattle.row_parity.specs.LostBytes.{asks_q, first_missing};
+ghost use Rattle.row_parity.specs.Regions.{region_column};
+ghost use Rattle.row_parity.specs.Syndromes.{AreColumns, IsSyndrome};
 
-use crate::rows::{missing_count, missing_part};
-use crate::syndromes::{Sums, p_sums, sums_of};
 use crate::weights::weights_of;
-use image_source::SECTOR;
 use lane_kernels::scale_xor;
+use outside::SECTOR;
 use raid_params::{Cell, Part};
+use row_parity::{Sums, missing_count, missing_part, p_sums, sums_of};
 
 /// Writes the lost sector of the missing cell at this place. `row` holds one sector for each cell,
 /// one after the other, and what it holds for a missing cell counts for nothing. `to` holds one

@@ -1,19 +1,22 @@
 //! By which weights the sums of what is known give a lost byte.
 ghost use Rattle.std.specs.Prelude.{◌≡◌, ◌≢◌, ◌<◌};
-ghost use Rattle.pq_parity.specs.LostBytes.{Apart, Finds};
+ghost use Rattle.row_parity.specs.LostBytes.{Apart, Finds};
 
 use raid_params::Part;
 
 /// A lost byte is `p` times the sum of P's equation plus `q` times that of Q's, in the field.
 #[derive(Clone, Copy)]
 pub struct Weights {
+    /// The weight of the sum of P's equation.
     pub p: u8,
+    /// The weight of the sum of Q's equation.
     pub q: u8,
 }
 
-// The sum of P's equation, or of Q's, is the lost byte itself.
+/// The sum of P's equation is the lost byte itself.
 const BY_P: Weights = Weights { p: 1, q: 0 };
 
+/// The sum of Q's equation is the lost byte itself.
 const BY_Q: Weights = Weights { p: 0, q: 1 };
 
 /// The weights for a lost byte of this part, where another one is missing too or none is.
@@ -28,6 +31,7 @@ pub fn weights_of(part: Part, other: Option<Part>) -> Weights
     }
 }
 
+/// The weights for a lost byte of P.
 #[tactic(auto, using(crate::proofs::Pairs::finds_p, crate::proofs::Pairs::finds_p_beside_q, crate::proofs::Pairs::finds_p_beside_data, gf256::proofs::Powers::not_zero))]
 fn weights_of_p(other: Option<Part>) -> Weights
     requires { Apart Part.P other }
@@ -42,6 +46,7 @@ fn weights_of_p(other: Option<Part>) -> Weights
     }
 }
 
+/// The weights for a lost byte of Q.
 #[tactic(auto, using(crate::proofs::Pairs::finds_q, crate::proofs::Pairs::finds_q_beside_p, crate::proofs::Pairs::finds_q_beside_data))]
 fn weights_of_q(other: Option<Part>) -> Weights
     requires { Apart Part.Q other }
@@ -56,6 +61,7 @@ fn weights_of_q(other: Option<Part>) -> Weights
     }
 }
 
+/// The weights for a lost data byte with exponent `k`.
 #[tactic(auto, using(crate::proofs::Pairs::finds_data, crate::proofs::Pairs::finds_data_beside_q, crate::proofs::Pairs::finds_data_beside_p, gf256::proofs::Powers::not_zero))]
 fn weights_of_data(k: u8, other: Option<Part>) -> Weights
     requires { Apart (Part.Block k) other }

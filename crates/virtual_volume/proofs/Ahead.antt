@@ -3,16 +3,16 @@ use Rattle.std.proofs.Common.{◌≡◌, ℕ, zero, suc, ◌+◌, ◌*◌, ◌�
 use Rattle.std.proofs.lemmas.Nat.{mul-le}
 use Rattle.std.specs.List.{flat_map, range_with_len}
 use Rattle.std.specs.Io.KnownBytes.{Appends}
-use Rattle.image_source.specs.Seen.{OnlyReads, Seen}
-use Rattle.image_source.specs.Streams.{AppendsFront}
+use Rattle.outside.specs.Seen.{OnlyReads, Seen}
+use Rattle.outside.specs.Streams.{AppendsFront}
 use Rattle.raid_params.specs.Size.{data_blocks}
 use Rattle.raid_params.specs.declared.types.Geometry.{Geometry}
 use Rattle.raid_terms.specs.Role.{item_of}
 use Rattle.raid_terms.specs.Volume.{member_sector}
 use Rattle.member_regions.specs.Members.{IsTestable}
-use Rattle.member_regions.specs.Needs.{needed_sectors}
+use Rattle.lost_members.specs.Needs.{needed_sectors}
 use Rattle.member_regions.specs.declared.regions.TheConstants.{BLOCK}
-use Rattle.member_regions.proofs.NeededRows.{as_many_as_data}
+use Rattle.lost_members.proofs.NeededRows.{as_many_as_data}
 use Rattle.virtual_volume.specs.Gained.{IsAhead}
 use Rattle.virtual_volume.specs.Parts.{chunk_of, items_of, rows_of}
 use Rattle.virtual_volume.specs.Waiting.{Passed, Passes}

@@ -14,7 +14,7 @@ use Rattle.raid_terms.specs.Solving.{lost_byte}
 use Rattle.raid_terms.specs.Volume.{byte_in, member_sector}
 use Rattle.member_regions.proofs.Solved.{held_byte, row_lost}
 use Rattle.virtual_volume.specs.Parts.{chunk_of}
-use Rattle.member_regions.specs.Needs.{HoldData, is_data_at}
+use Rattle.lost_members.specs.Needs.{HoldData, is_data_at}
 use Rattle.member_regions.specs.Regions.{HoldRead, HoldSlot}
 use Rattle.virtual_volume.proofs.Ranges.{flat_more, flat_same}
 

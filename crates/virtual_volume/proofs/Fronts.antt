@@ -5,8 +5,7 @@ use Rattle.std.specs.Result.{IsErr, IsErrAnd}
 use Rattle.std.specs.Prelude.{MatchResult, IfSome, IfErr, OnOk}
 use Rattle.std.proofs.lemmas.List.{append-nil, take-append-le}
 use Rattle.std.proofs.Math.Seq.{take-append-add, take-append_seam}
-use Rattle.image_source.specs.Streams.{AppendsFront, Puts}
-use Rattle.virtual_volume.specs.Gained.{AppendsSectors}
+use Rattle.outside.specs.Streams.{AppendsFront, AppendsSectors, Puts}
 use Rattle.virtual_volume.specs.Waiting.{Passed, Passes}
 
 pub appends_none : (old : Option (List ℕ)) → Appends old old []

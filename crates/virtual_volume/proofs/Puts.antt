@@ -1,7 +1,7 @@
 -- Rows that are put item by item.
 use Rattle.std.proofs.Common.{◌≡◌, ℕ, ◌+◌, ◌-◌, ◌*◌, ◌<◌, ◌≤◌, List, [], ◌++◌, length, take, drop, Option, Result, Ok, Err, refl, sym, ap, ◌∙◌, subst, arith, append_assoc, true}
 use Rattle.std.proofs.lemmas.Nat.{mul-le}
-use Rattle.image_source.specs.Streams.{AppendsFront, Puts}
+use Rattle.outside.specs.Streams.{AppendsFront, Puts}
 use Rattle.raid_params.specs.Size.{data_blocks, rows}
 use Rattle.raid_params.specs.Validity.{is_valid_head}
 use Rattle.raid_params.specs.declared.types.Geometry.{Geometry}
@@ -14,7 +14,7 @@ use Rattle.raid_terms.specs.Role.{item_of}
 use Rattle.virtual_volume.specs.Parts.{chunk_of, items_of, rows_of}
 use Rattle.member_regions.proofs.Sets.{testable_head}
 use Rattle.member_regions.specs.Members.{IsTestable}
-use Rattle.member_regions.specs.Needs.{HoldData}
+use Rattle.lost_members.specs.Needs.{HoldData}
 use Rattle.virtual_volume.specs.Waiting.{Passed, Passes}
 use Rattle.virtual_volume.proofs.Blocks.{region_chunk}
 use Rattle.std.specs.Io.KnownBytes.{Appends}

@@ -4,8 +4,8 @@ use Rattle.std.specs.Option.{is_none}
 use Rattle.std.specs.Prelude.{IsTrue, nat_eq, if◌then◌else◌}
 use Rattle.std.proofs.lemmas.Nat.{mul-le}
 use Rattle.std.proofs.lemmas.Bool.Decides.{nat_tests}
-use Rattle.image_source.proofs.Reading.{reads_join, reads_up}
-use Rattle.image_source.specs.Seen.{Image, OnlyReads, Seen}
+use Rattle.outside.proofs.Reading.{reads_join, reads_up}
+use Rattle.outside.specs.Seen.{Image, OnlyReads, Seen}
 use Rattle.address_map.proofs.Heads.{some_chunk}
 use Rattle.address_map.proofs.Lies.{inside_back, slot_in}
 use Rattle.raid_layouts.proofs.Levels.{at_most}
@@ -16,11 +16,11 @@ use Rattle.raid_params.specs.declared.types.GeoFault.{GeoFault}
 use Rattle.raid_params.specs.declared.types.GeoFault.TheVariants.{NoRow}
 use Rattle.raid_params.specs.declared.types.Geometry.{Geometry}
 use Rattle.raid_layouts.proofs.Shapes.{shaped_head, shaped_slots}
-use Rattle.member_regions.proofs.NeededRows.{as_many_as_volume}
-use Rattle.member_regions.proofs.NeededSums.{needed_more}
+use Rattle.lost_members.proofs.NeededRows.{as_many_as_volume}
+use Rattle.lost_members.proofs.NeededSums.{needed_more}
 use Rattle.member_regions.proofs.Sets.{area_below, images_reach, reaches_less}
 use Rattle.member_regions.specs.Members.{IsTestable, Reaches}
-use Rattle.member_regions.specs.Needs.{needed_sectors}
+use Rattle.lost_members.specs.Needs.{needed_sectors}
 use Rattle.virtual_volume.specs.Served.{IsServed}
 
 ruled_shape : (r : Option GeoFault) (geo : Geometry) (end : ℕ) → row_fault geo end r ≡ None → is_none r ≡ true

@@ -1,14 +1,9 @@
--- What a sink gained, in whole sectors, and how far the reading was ahead of it.
-use Rattle.std.specs.Prelude.{ℕ, ◌+◌, ◌*◌, ◌≤◌, max, IfSome, IsSomeAnd, List, length, take}
+-- How far the reading was ahead of what a sink gained.
+use Rattle.std.specs.Prelude.{ℕ, ◌+◌, ◌*◌, ◌≤◌, max, IfSome, IsSomeAnd, List, length}
 use Rattle.std.specs.declared.option.Option.{Option}
-use Rattle.std.specs.Io.KnownBytes.{Appends}
 use Rattle.member_regions.specs.declared.regions.TheConstants.{BLOCK}
 use Rattle.raid_params.specs.Size.{data_blocks}
 use Rattle.raid_params.specs.declared.types.Head.{Head}
-
--- known bytes grow by the first sectors of bs
-abbrev pub AppendsSectors : Option (List ℕ) → Option (List ℕ) → List ℕ → Type 0
-AppendsSectors old new bs = (n : ℕ) × (512 * n ≤ length bs) × Appends old new (take (512 * n) bs)
 
 -- no more sectors were read than the sink is known to have gained, and `most` more; the counts are of sectors read
 abbrev pub IsAhead : ℕ → ℕ → ℕ → Option (List ℕ) → Option (List ℕ) → Type 0

@@ -2,7 +2,7 @@
 use Rattle.std.specs.Prelude.{ℕ, ◌≡◌, ◌%◌, List, ◌++◌, length, Result, MatchResult}
 use Rattle.std.specs.declared.option.Option.{Option}
 use Rattle.std.specs.Io.KnownBytes.{Appends}
-use Rattle.image_source.specs.Streams.{AppendsFront}
+use Rattle.outside.specs.Streams.{AppendsFront}
 
 -- of the bytes that waited and of the new ones a sink gained a front of whole sectors, and the rest waits
 pub record Passes (old new : Option (List ℕ)) (before after bytes : List ℕ) : Type 0 where

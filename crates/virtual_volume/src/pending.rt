@@ -1,10 +1,10 @@
 //! Small pieces are put many at once, and large ones as they are.
 ghost use Rattle.std.specs.Prelude.{◌≡◌, [], ◌++◌, ◌+◌, ◌%◌, ◌≤◌, length, IfOk, OnOk};
-ghost use Rattle.image_source.specs.Causes.{HasCause};
+ghost use Rattle.outside.specs.Causes.{HasCause};
 ghost use Rattle.virtual_volume.specs.Waiting.{Passed};
 
-use image_source::{Failed, Memory, SECTOR, Sink};
 use member_regions::{BLOCK, zeros};
+use outside::{Failed, Memory, SECTOR, Sink};
 use std::alloc::Global;
 use std::marker::Model;
 

@@ -1,16 +1,16 @@
 //! One sector of the volume.
 ghost use Rattle.std.specs.Prelude.{◌≡◌, ◌+◌, ◌^◌, ◌<◌, length, slice_index_or, None, All, IfSome, OnOk};
-ghost use Rattle.image_source.specs.Attached.{told_all};
-ghost use Rattle.image_source.specs.Causes.{HasCause};
-ghost use Rattle.image_source.specs.Seen.{OnlyReads};
+ghost use Rattle.outside.specs.Attached.{told_all};
+ghost use Rattle.outside.specs.Causes.{HasCause};
+ghost use Rattle.outside.specs.Seen.{OnlyReads};
 ghost use Rattle.raid_params.specs.Size.{volume_sectors};
 ghost use Rattle.raid_terms.specs.Volume.{member_sector, volume_sector};
 ghost use Rattle.member_regions.specs.Members.{IsTestable, Reaches, held};
 ghost use Rattle.virtual_volume.specs.Served.{IsServed};
 
 use address_map::locate;
-use image_source::{Failed, Images, SECTOR};
 use member_regions::{read_member, read_members};
+use outside::{Failed, Images, SECTOR};
 use pq_parity::solve;
 use raid_layouts::row_cells;
 use raid_params::{Geometry, MOST};

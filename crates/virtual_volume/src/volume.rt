@@ -1,30 +1,29 @@
 //! The volume, written out.
-ghost use Rattle.std.specs.Prelude.{ℕ, List, [], ◌≡◌, ◌+◌, ◌*◌, ◌^◌, ◌<◌, ◌≤◌, length, ◌++◌, All, IfErr, IfSome, OnOk, IsTrue};
+ghost use Rattle.std.specs.Prelude.{ℕ, List, [], ◌≡◌, ◌+◌, ◌*◌, ◌^◌, ◌<◌, ◌≤◌, length, ◌++◌, All, IfErr, IfSome, OnOk};
 ghost use Rattle.std.specs.Io.KnownBytes.{Appends};
 ghost use Rattle.std.specs.Result.{IsErrOf};
-ghost use Rattle.image_source.specs.Attached.{told_all};
-ghost use Rattle.image_source.specs.Causes.{HasCause, Rose};
-ghost use Rattle.image_source.specs.Seen.{OnlyReads};
-ghost use Rattle.image_source.specs.Streams.{AppendsFront, Puts};
+ghost use Rattle.outside.specs.Attached.{told_all};
+ghost use Rattle.outside.specs.Causes.{HasCause};
+ghost use Rattle.outside.specs.Seen.{OnlyReads};
+ghost use Rattle.outside.specs.Streams.{AppendsFront, AppendsSectors, Puts};
 ghost use Rattle.raid_params.specs.Size.{data_blocks as data_blocks_of, volume_sectors};
-ghost use Rattle.raid_params.specs.Validity.{is_valid_head};
 ghost use Rattle.raid_terms.specs.Volume.{volume};
 ghost use Rattle.member_regions.specs.Members.{IsTestable, Reaches};
-ghost use Rattle.member_regions.specs.Needs.{HoldData, needed_sectors};
+ghost use Rattle.lost_members.specs.Needs.{HoldData, needed_sectors};
 ghost use Rattle.member_regions.specs.Regions.{IsRoomFor, KeepsRoom};
-ghost use Rattle.virtual_volume.specs.Gained.{AppendsSectors, IsAhead, most_ahead};
+ghost use Rattle.virtual_volume.specs.Gained.{IsAhead, most_ahead};
 ghost use Rattle.member_regions.specs.declared.regions.TheConstants.{BLOCK as BLOCK_SECTORS};
 ghost use Rattle.virtual_volume.specs.Parts.{items_of, rows_of};
-ghost use Rattle.virtual_volume.specs.Served.{Ends, IsServed};
+ghost use Rattle.virtual_volume.specs.Served.{Faults, IsFault, IsServed};
 ghost use Rattle.virtual_volume.specs.Waiting.{Passed};
 
 use crate::batch::batch_rows;
 use crate::pending::Pending;
-use address_map::rows;
-use image_source::{Failed, Images, Sink};
-use member_regions::Regions;
+use address_map::{data_blocks, rows};
+use lost_members::Members;
+use outside::{Failed, Images, Sink};
 use raid_layouts::slot_of_item;
-use raid_params::{Geometry, Head};
+use raid_params::Geometry;
 use std::alloc::Global;
 use thiserror::Error;
 
@@ -42,22 +41,13 @@ pub enum VolumeFault {
     Memory,
 }
 
-/// The data items of a row.
-#[tactic(auto, using(raid_layouts::proofs::Levels::enough))]
-fn data_blocks(head: &Head) -> u8
-    requires { IsTrue (is_valid_head head.now) }
-    ensures { result ≡ data_blocks_of head.now }
-{
-    head.members - head.level.redundancy()
-}
-
 /// Puts the data items of a row, whose chunks lie from sector `at` of each region on.
-#[tactic(auto, using(member_regions::proofs::Sets::testable_head, member_regions::proofs::Sets::testable_slots, pq_parity::proofs::Regions::region_inside))]
+#[tactic(auto, using(member_regions::proofs::Sets::testable_head, member_regions::proofs::Sets::testable_slots, row_parity::proofs::Regions::region_inside))]
 fn put_row<K: Sink>(
     pending: &mut Pending,
     sink: &mut K,
     geo: &Geometry,
-    regions: &Regions,
+    regions: &Members,
     row: u64,
     at: usize,
 ) -> Result<(), Failed>
@@ -81,12 +71,12 @@ fn put_row<K: Sink>(
 }
 
 /// Puts the data items of `rows` rows from row `first` on, of which the regions hold the chunks.
-#[tactic(auto, using(pq_parity::proofs::Regions::region_inside))]
+#[tactic(auto, using(row_parity::proofs::Regions::region_inside))]
 fn put_rows<K: Sink>(
     pending: &mut Pending,
     sink: &mut K,
     geo: &Geometry,
-    regions: &Regions,
+    regions: &Members,
     first: u64,
     rows: usize,
 ) -> Result<(), Failed>
@@ -115,7 +105,7 @@ fn write_batch<I: Images, K: Sink>(
     images: &mut I,
     pending: &mut Pending,
     sink: &mut K,
-    regions: &mut Regions,
+    regions: &mut Members,
     geo: &Geometry,
     first: u64,
     rows: u64,
@@ -134,7 +124,8 @@ fn write_batch<I: Images, K: Sink>(
     ensures reads { OnlyReads (I.seen images.old) (I.seen images.new)
         (needed_sectors geo.now (first * geo.now.head.chunk) (rows * geo.now.head.chunk)) }
     ensures later { K.faults sink.old ≤ K.faults sink.new }
-    ensures ends { IfErr result (Ends (I.seen images.old).faults (I.seen images.new).faults (K.faults sink.old) (K.faults sink.new)) }
+    ensures faults { Faults (I.seen images.old).faults (I.seen images.new).faults (K.faults sink.old) (K.faults sink.new) result }
+    ensures ends { IfErr result IsFault }
     ensures room { KeepsRoom regions.old regions.new }
 {
     let count = (rows * geo.head.chunk) as usize;
@@ -151,7 +142,7 @@ fn write_rows<I: Images, K: Sink>(
     images: &mut I,
     pending: &mut Pending,
     sink: &mut K,
-    regions: &mut Regions,
+    regions: &mut Members,
     geo: &Geometry,
     rows: u64,
     batch: u64,
@@ -173,7 +164,8 @@ fn write_rows<I: Images, K: Sink>(
     ensures reads { OnlyReads (I.seen images.old) (I.seen images.new)
         (needed_sectors geo.now 0 (rows * geo.now.head.chunk)) }
     ensures later { K.faults sink.old ≤ K.faults sink.new }
-    ensures ends { IfErr result (Ends (I.seen images.old).faults (I.seen images.new).faults (K.faults sink.old) (K.faults sink.new)) }
+    ensures faults { Faults (I.seen images.old).faults (I.seen images.new).faults (K.faults sink.old) (K.faults sink.new) result }
+    ensures ends { IfErr result IsFault }
 {
     let mut first = 0;
     while first < rows {
@@ -190,7 +182,7 @@ fn write_all<I: Images, K: Sink>(
     images: &mut I,
     pending: &mut Pending,
     sink: &mut K,
-    regions: &mut Regions,
+    regions: &mut Members,
     geo: &Geometry,
     end: u64,
     batch: u64,
@@ -208,7 +200,8 @@ fn write_all<I: Images, K: Sink>(
         (I.seen images.old).sectors_read (I.seen images.new).sectors_read (K.gained sink.old) (K.gained sink.new)) }
     ensures reads { OnlyReads (I.seen images.old) (I.seen images.new) (volume_sectors geo.now.head end) }
     ensures later { K.faults sink.old ≤ K.faults sink.new }
-    ensures ends { IfErr result (Ends (I.seen images.old).faults (I.seen images.new).faults (K.faults sink.old) (K.faults sink.new)) }
+    ensures faults { Faults (I.seen images.old).faults (I.seen images.new).faults (K.faults sink.old) (K.faults sink.new) result }
+    ensures ends { IfErr result IsFault }
 {
     let rows = rows(&geo.head, end);
     write_rows(images, pending, sink, regions, geo, rows, batch)?;
@@ -239,9 +232,7 @@ pub fn write_volume<I: Images, K: Sink>(
         (λ bytes. AppendsSectors (K.gained sink.old) (K.gained sink.new) (volume bytes geo.now end)) }
     ensures memory { IsErrOf result VolumeFault.Memory →
         (K.gained sink.new ≡ K.gained sink.old) × (I.seen images.new ≡ I.seen images.old) }
-    ensures read_fault { IsErrOf result VolumeFault.ReadFault →
-        Rose (I.seen images.old).faults (I.seen images.new).faults }
-    ensures write_fault { IsErrOf result VolumeFault.WriteFault → Rose (K.faults sink.old) (K.faults sink.new) }
+    ensures faults { Faults (I.seen images.old).faults (I.seen images.new).faults (K.faults sink.old) (K.faults sink.new) result }
     ensures reads { OnlyReads (I.seen images.old) (I.seen images.new) (volume_sectors geo.now.head end) }
 
     // At most a batch of rows and what may wait are read beyond what the sink gained, also where it failed.
@@ -251,7 +242,7 @@ pub fn write_volume<I: Images, K: Sink>(
 {
     let batch = batch_rows(&geo.head);
     let sectors = (batch * geo.head.chunk) as usize;
-    let mut regions = Regions::new(alloc, geo.slots.len(), sectors).map_err(
+    let mut regions = Members::new(alloc, geo.slots.len(), sectors).map_err(
         |_| VolumeFault::Memory,
     )?;
     let mut pending = Pending::new(alloc).map_err(|_| VolumeFault::Memory)?;

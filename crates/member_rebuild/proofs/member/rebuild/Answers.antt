@@ -1,12 +1,11 @@
 use Rattle.std.proofs.Common.{◌+◌, List, ℕ, subst, arith}
-use Rattle.image_source.specs.Attached.{told_all}
-use Rattle.image_source.specs.Streams.{Puts}
+use Rattle.outside.specs.Attached.{told_all}
+use Rattle.outside.specs.Streams.{AppendsSectors, Puts}
 use Rattle.raid_terms.specs.Volume.{member}
 use Rattle.member_regions.proofs.Sets.{testable_chunk}
 use Rattle.virtual_volume.proofs.Fronts.{puts_front, puts_written}
 use Rattle.member_regions.proofs.IfTold.{if_told}
 use Rattle.virtual_volume.proofs.Sets.{served_end, served_held, served_testable}
-use Rattle.virtual_volume.specs.Gained.{AppendsSectors}
 use Rattle.member_rebuild.specs.Sectors.{sectors_of}
 use Rattle.member_rebuild.proofs.Parts.{reads_volume, sectors_whole}
 use Rattle.member_rebuild.proofs.member.rebuild.Goals as goal

@@ -1,12 +1,12 @@
 use Rattle.std.proofs.Common.{ℕ, List, IfSome, rules, subst}
-use Rattle.image_source.specs.Attached.{told_all}
-use Rattle.image_source.specs.Streams.{Puts}
+use Rattle.outside.specs.Attached.{told_all}
+use Rattle.outside.specs.Streams.{Puts}
 use Rattle.member_regions.specs.Members.{HoldBytes}
-use Rattle.member_regions.specs.Needs.{HoldNeeded}
+use Rattle.lost_members.specs.Needs.{HoldNeeded}
 use Rattle.member_regions.proofs.ColumnBytes.{told_bytes}
 use Rattle.virtual_volume.proofs.Fronts.{front_none, puts_err}
 use Rattle.member_regions.proofs.IfTold.{if_any, if_both}
-use Rattle.member_regions.proofs.NeededRows.{reads_data}
+use Rattle.lost_members.proofs.NeededRows.{reads_data}
 use Rattle.member_rebuild.specs.Sectors.{sectors_of}
 use Rattle.member_rebuild.proofs.Parts.{part_is, puts_as}
 use Rattle.member_rebuild.proofs.member.write_block.Goals as goal

@@ -1,13 +1,12 @@
 use Rattle.std.proofs.Common.{ℕ, ◌≡◌, ◌+◌, ◌≤◌, List, Option, IfSome, refl, sym, ◌∙◌, subst, arith, rules}
 use Rattle.std.specs.Io.KnownBytes.{Appends}
-use Rattle.image_source.specs.Attached.{told_all}
-use Rattle.image_source.specs.Streams.{AppendsFront, Puts}
-use Rattle.image_source.proofs.Reading.{reads_none, reads_up}
+use Rattle.outside.specs.Attached.{told_all}
+use Rattle.outside.specs.Streams.{AppendsFront, AppendsSectors, Puts}
+use Rattle.outside.proofs.Reading.{reads_none, reads_up}
 use Rattle.member_regions.proofs.Held.{reads_on}
 use Rattle.raid_params.specs.Size.{data_blocks}
 use Rattle.virtual_volume.proofs.Fronts.{puts_err}
 use Rattle.member_regions.proofs.IfTold.{if_any, if_both, if_told}
-use Rattle.virtual_volume.specs.Gained.{AppendsSectors}
 use Rattle.member_rebuild.specs.Sectors.{sectors_of}
 use Rattle.member_regions.specs.declared.regions.TheConstants.{BLOCK}
 use Rattle.member_rebuild.proofs.Ahead.{ahead_at_end, ahead_at_error}
@@ -21,6 +20,8 @@ loop-first-init g c = record {
       (λ bytes. Appends (g.K.Sink.gained c.args.sink.now) (g.K.Sink.gained c.args.sink.now) (sectors_of bytes c.args.geo.now c.args.slot 0 0))
       (λ bytes. sectors_start bytes c.args.geo.now c.args.slot (g.K.Sink.gained c.args.sink.now));
   reads = reads_up (g.I.Images.seen c.args.images.now) (g.I.Images.seen c.args.images.now) (reads_none (g.I.Images.seen c.args.images.now)) (omega arith);
+  images_stay = refl;
+  sink_stays = refl;
   later = omega arith;
   within = omega arith;
   room = record { members = refl; stride = refl };
@@ -77,6 +78,8 @@ loop-first-preserved g c = record {
   reads =
       reads_on (g.I.Images.seen c.args.images.now) (g.I.Images.seen c.loop-first.images) (g.I.Images.seen c.write_block.new.images) (data_blocks c.args.geo.now.head)
       c.loop-first.first c.min-count.result (c.loop-first.first + c.min-count.result) c.loop-first.invariant.reads c.write_block.ensures.reads (omega arith);
+  images_stay = (let still : (g.I.Images.seen c.write_block.new.images).faults ≡ (g.I.Images.seen c.loop-first.images).faults = search rules in still ∙ c.loop-first.invariant.images_stay);
+  sink_stays = (let still : g.K.Sink.faults c.write_block.new.sink ≡ g.K.Sink.faults c.loop-first.sink = search rules in still ∙ c.loop-first.invariant.sink_stays);
   later = omega (arith, c.write_block.ensures.later);
   within = omega arith;
   room = record { members = c.write_block.ensures.room.members ∙ c.loop-first.invariant.room.members; stride = c.write_block.ensures.room.stride ∙ c.loop-first.invariant.room.stride };

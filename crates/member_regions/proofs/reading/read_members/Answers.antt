@@ -1,11 +1,11 @@
-use Rattle.std.proofs.Common.{◌≡◌, ℕ, ◌+◌, ◌*◌, ◌<◌, ◌≤◌, IfSome, length, false, get_or, None, rules, arith, ap, sym}
+use Rattle.std.proofs.Common.{◌∙◌, ◌≡◌, ℕ, ◌+◌, ◌*◌, ◌<◌, ◌≤◌, IfSome, length, false, get_or, None, rules, arith, ap, sym}
 use Rattle.std.specs.Option.{is_none}
-use Rattle.image_source.specs.Attached.{told_all}
+use Rattle.outside.specs.Attached.{told_all}
 use Rattle.raid_terms.specs.Parity.{member_byte}
 use Rattle.member_regions.specs.Regions.{HoldRead}
 use Rattle.member_regions.proofs.IfTold.{if_both}
 use Rattle.member_regions.proofs.Held.{reads_all, reads_member}
-use Rattle.pq_parity.proofs.Regions.{region_inside}
+use Rattle.row_parity.proofs.Regions.{region_inside}
 use Rattle.member_regions.proofs.OneMore.{read_more}
 use borrow.Rule.Slice.PartMut.{put_mid}
 use Rattle.member_regions.proofs.reading.read_members.Goals as goal
@@ -18,10 +18,12 @@ loop-slot-preserved g c =
     let long : length c.read_member.new.to ≡ 512 * c.args.count = omega arith in
     let now : IfSome (told_all (g.I.Images.seen c.loop-slot.images).attached) (λ bytes. (y : ℕ) → y < length c.read_member.new.to → is_none (get_or c.args.geo.now.slots.items c.loop-slot.slot None) ≡ false →
     get_or c.read_member.new.to y 0 ≡ member_byte bytes c.args.geo.now.head.offset c.args.first y (get_or c.args.geo.now.slots.items c.loop-slot.slot None)) = search rules in
+    let stays : (g.I.Images.seen c.read_member.new.images).faults ≡ (g.I.Images.seen c.loop-slot.images).faults = search rules in
     record {
       reads =
           reads_member (g.I.Images.seen c.args.images.now) (g.I.Images.seen c.loop-slot.images) (g.I.Images.seen c.read_member.new.images) c.args.geo.now.slots.items c.loop-slot.slot c.args.count _ None _
           c.loop-slot.invariant.reads c.read_member.ensures.reads (omega (arith, long)) (omega arith) (sym (ap (λ slots. get_or slots c.loop-slot.slot None) c.deref-held-items.ensures.0));
+      stays = stays ∙ c.loop-slot.invariant.stays;
       told =
           if_both (told_all (g.I.Images.seen c.args.images.now).attached)
           (λ bytes. HoldRead bytes c.args.geo.now c.args.stride c.args.first (512 * c.args.count) c.loop-slot.slot c.loop-slot.sectors)

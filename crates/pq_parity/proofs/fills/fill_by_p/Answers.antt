@@ -1,8 +1,8 @@
 use Rattle.std.proofs.Common.{ℕ, ◌≡◌, refl, subst, arith}
 use Rattle.raid_terms.specs.Parity.{in_p}
-use Rattle.pq_parity.specs.Regions.{HoldSums, KeepOthers}
+use Rattle.row_parity.specs.Regions.{HoldSums, KeepOthers}
 use Rattle.pq_parity.proofs.FilledRows.{others_more, sums_more, sums_none}
-use Rattle.pq_parity.proofs.Soundness.{region_columns}
+use Rattle.row_parity.proofs.Soundness.{region_columns}
 use Rattle.pq_parity.proofs.fills.fill_by_p.Goals as goal
 
 pub loop-row-init : goal.loop-row-init

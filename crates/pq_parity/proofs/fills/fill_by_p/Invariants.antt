@@ -1,7 +1,7 @@
 use Rattle.std.proofs.Common.{ℕ, length}
 use Rattle.raid_terms.specs.Parity.{in_p}
-use Rattle.pq_parity.specs.Regions.{region_column, HoldSums, KeepOthers}
-use Rattle.pq_parity.specs.Syndromes.{AreColumns}
+use Rattle.row_parity.specs.Regions.{region_column, HoldSums, KeepOthers}
+use Rattle.row_parity.specs.Syndromes.{AreColumns}
 use Rattle.pq_parity.proofs.fills.fill_by_p.Given as goal
 
 abbrev pub invariant-loop-row : goal.invariant-loop-row

@@ -1,6 +1,6 @@
 use Rattle.std.proofs.Common.{ℕ, ◌≡◌, refl, subst, arith}
 use Rattle.raid_terms.specs.Parity.{in_q}
-use Rattle.pq_parity.specs.Regions.{HoldSums, KeepOthers}
+use Rattle.row_parity.specs.Regions.{HoldSums, KeepOthers}
 use Rattle.pq_parity.proofs.FilledRows.{others_more, sums_more, sums_none}
 use Rattle.pq_parity.proofs.fills.fill_by_q.Goals as goal
 

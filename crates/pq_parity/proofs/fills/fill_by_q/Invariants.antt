@@ -1,5 +1,5 @@
 use Rattle.raid_terms.specs.Parity.{in_q}
-use Rattle.pq_parity.specs.Regions.{HoldSums, KeepOthers}
+use Rattle.row_parity.specs.Regions.{HoldSums, KeepOthers}
 use Rattle.pq_parity.proofs.fills.fill_by_q.Given as goal
 
 abbrev pub invariant-loop-row : goal.invariant-loop-row

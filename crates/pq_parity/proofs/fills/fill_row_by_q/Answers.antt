@@ -1,9 +1,9 @@
 use Rattle.std.proofs.Common.{ℕ, List, ◌≡◌, ◌+◌, ◌*◌, ◌∙◌, length, slice_index, ap, refl, arith}
 use Rattle.raid_terms.specs.Parity.{in_q}
-use Rattle.pq_parity.specs.Regions.{region_column}
-use Rattle.pq_parity.specs.Syndromes.{known_sum, sum_at}
+use Rattle.row_parity.specs.Regions.{region_column}
+use Rattle.row_parity.specs.Syndromes.{known_sum, sum_at}
 use Rattle.pq_parity.proofs.FilledRows.{strip_column, strips_kept}
-use Rattle.pq_parity.proofs.StripSums.{columns_more}
+use Rattle.row_parity.proofs.StripSums.{columns_more}
 use Rattle.pq_parity.proofs.fills.fill_row_by_q.Goals as goal
 
 pub loop-strip-init : goal.loop-strip-init

@@ -1,7 +1,7 @@
 use Rattle.std.proofs.Common.{ℕ, ◌≡◌, ◌<◌, ◌+◌, ◌*◌, length, slice_index}
 use Rattle.raid_terms.specs.Parity.{in_q}
-use Rattle.pq_parity.specs.Syndromes.{sum_at}
-use Rattle.pq_parity.specs.Regions.{region_column}
+use Rattle.row_parity.specs.Syndromes.{sum_at}
+use Rattle.row_parity.specs.Regions.{region_column}
 use Rattle.pq_parity.proofs.FilledRows.{KeepStrips}
 use Rattle.pq_parity.proofs.fills.fill_row_by_q.Given as goal
 

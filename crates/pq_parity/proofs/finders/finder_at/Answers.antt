@@ -2,11 +2,11 @@ use Rattle.std.proofs.Common.{ℕ, ◌≡◌, true, get_or, subst, sym}
 use Rattle.std.specs.declared.option.Option.{Option}
 use Rattle.raid_params.specs.declared.types.Part.{Part}
 use Rattle.pq_parity.specs.Finding.{FindsAt}
-use Rattle.pq_parity.specs.LostBytes.{Finds}
-use Rattle.pq_parity.specs.Known.{no_cell}
+use Rattle.row_parity.specs.LostBytes.{Finds}
+use Rattle.row_parity.specs.Known.{no_cell}
 use Rattle.pq_parity.proofs.Finding.{found_by, lost_inside, lost_missing}
 use Rattle.pq_parity.proofs.LostColumns.{apart_there}
-use Rattle.pq_parity.proofs.Regions.{cell_there}
+use Rattle.row_parity.proofs.Regions.{cell_there}
 use Rattle.pq_parity.proofs.finders.finder_at.Goals as goal
 
 pub weights_of-weights-requires : goal.weights_of-weights-requires

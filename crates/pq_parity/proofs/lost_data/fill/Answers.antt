@@ -1,7 +1,7 @@
 use Rattle.std.proofs.Common.{ℕ, List, ◌≡◌, ◌≤◌, ◌+◌, ◌*◌, ◌∙◌, length, slice_index, ap, sym, arith}
 use Rattle.std.proofs.lemmas.Simd.{get_or-zip2, length-zip2}
 use Rattle.lane_kernels.specs.Formulas.{weighed_sum}
-use Rattle.pq_parity.proofs.Regions.{region_inside, mid_inside, mid_outside}
+use Rattle.row_parity.proofs.Regions.{region_inside, mid_inside, mid_outside}
 use Rattle.pq_parity.proofs.lost_data.fill.Goals as goal
 
 pub returns-clause-bytes : goal.returns-clause-bytes

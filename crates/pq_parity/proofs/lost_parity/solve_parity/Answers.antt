@@ -2,7 +2,7 @@ use Rattle.std.proofs.Common.{◌≡◌, ◌∙◌, List, ap, subst, sym}
 use Rattle.raid_params.specs.declared.types.Cell.{Cell}
 use Rattle.raid_terms.specs.Parity.{has_q, in_p, in_q, IsRow}
 use Rattle.pq_parity.specs.DataThere.{parity_lost}
-use Rattle.pq_parity.specs.Regions.{HoldSums}
+use Rattle.row_parity.specs.Regions.{HoldSums}
 use Rattle.pq_parity.proofs.DataSums.{any_at, lost_p_sums, lost_q_sums, misses_p, misses_q, still_q, still_row}
 use Rattle.pq_parity.proofs.lost_parity.solve_parity.Goals as goal
 

@@ -1,8 +1,8 @@
 use Rattle.std.proofs.Common.{ℕ, List, length, ap, ◌∙◌}
-use Rattle.pq_parity.specs.Regions.{region_column}
+use Rattle.row_parity.specs.Regions.{region_column}
 use Rattle.raid_terms.specs.Solving.{lost_byte}
 use Rattle.pq_parity.proofs.Asked.{some_missing}
-use Rattle.pq_parity.proofs.Regions.{row_column}
+use Rattle.row_parity.proofs.Regions.{row_column}
 use Rattle.pq_parity.proofs.solving.solve.Goals as goal
 
 pub returns-clause-lost : goal.returns-clause-lost

@@ -1,6 +1,6 @@
 use Rattle.std.proofs.Common.{◌/◌, ◌*◌, ◌∙◌, List, length, take, ap, refl, IfSome, arith, rules}
 use Rattle.std.proofs.lemmas.List.{length-take}
-use Rattle.image_source.specs.Attached.{told_all}
+use Rattle.outside.specs.Attached.{told_all}
 use Rattle.raid_params.specs.declared.types.Cell.{Cell}
 use Rattle.member_regions.specs.Regions.{HoldRead}
 use Rattle.virtual_volume.proofs.Blocks.{found_told}

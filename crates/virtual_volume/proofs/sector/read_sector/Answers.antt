@@ -1,7 +1,7 @@
 use Rattle.std.proofs.Common.{◌≡◌, ℕ, List, length, get_or, None, ap, sym, arith}
 use Rattle.std.specs.Option.{is_none}
 use Rattle.std.specs.declared.option.Option.{Option}
-use Rattle.image_source.specs.Attached.{told_all}
+use Rattle.outside.specs.Attached.{told_all}
 use Rattle.member_regions.proofs.Held.{reads_one}
 use Rattle.virtual_volume.proofs.Blocks.{read_told}
 use Rattle.virtual_volume.proofs.sector.read_sector.Goals as goal

@@ -1,4 +1,4 @@
-use Rattle.std.proofs.Common.{◌≡◌, ℕ, ◌<◌, length, subst, arith}
+use Rattle.std.proofs.Common.{◌∙◌, refl, rules, ◌≡◌, ℕ, ◌<◌, length, subst, arith}
 use Rattle.std.proofs.lemmas.Result.{err_from_is_err_and}
 use Rattle.raid_params.specs.Size.{data_blocks}
 use Rattle.member_regions.proofs.Sets.{testable_slots}
@@ -11,6 +11,7 @@ pub loop-item-init : goal.loop-item-init
 loop-item-init g c = record {
   passes = λ images first count place few hold. items_start images c.args.geo.now c.args.row (g.K.Sink.gained c.args.sink.now) c.args.pending.now;
   few = omega arith;
+  stays = refl;
   later = omega arith;
 }
 
@@ -36,6 +37,7 @@ loop-item-preserved g c =
           (item_part images c.args.geo.now c.args.regions.now.stride first count c.args.row c.loop-item.item c.slot_of_item-slot.result c.args.at c.args.regions.now.bytes c.region.result.now c.requires.set last c.slot_of_item-slot.ensures.there within hold place few c.region.ensures.long c.region.ensures.sectors)
           (c.loop-item.invariant.passes images first count place few hold) c.in_ok-put.ensures.passed;
       few = omega (arith, c.in_ok-put.ensures.few);
+      stays = (let still : g.K.Sink.faults c.put.new.sink ≡ g.K.Sink.faults c.loop-item.sink = search rules in still ∙ c.loop-item.invariant.stays);
       later = omega (arith, c.put.ensures.cause.later);
     }
 

@@ -1,6 +1,6 @@
-use Rattle.std.proofs.Common.{◌≡◌, ℕ, ◌+◌, ◌*◌, List, ◌++◌, sym, subst, refl, arith}
+use Rattle.std.proofs.Common.{◌∙◌, rules, ◌≡◌, ℕ, ◌+◌, ◌*◌, List, ◌++◌, sym, subst, refl, arith}
 use Rattle.std.proofs.lemmas.Result.{err_from_is_err_and}
-use Rattle.image_source.specs.Streams.{AppendsFront}
+use Rattle.outside.specs.Streams.{AppendsFront}
 use Rattle.virtual_volume.proofs.Puts.{one_row, row_inside, rows_cut, rows_on, rows_start}
 use Rattle.virtual_volume.proofs.volume.put_rows.Goals as goal
 
@@ -12,6 +12,7 @@ pub loop-r-init : goal.loop-r-init
 loop-r-init g c = record {
   passes = λ images hold. rows_start images c.args.geo.now c.args.first (g.K.Sink.gained c.args.sink.now) c.args.pending.now;
   few = omega arith;
+  stays = refl;
   later = omega arith;
 }
 
@@ -33,6 +34,7 @@ loop-r-preserved g c = record {
       (c.in_ok-put_row.ensures.passed images (c.args.first * c.args.geo.now.head.chunk) (c.args.rows * c.args.geo.now.head.chunk)
       (begins c.args.first c.loop-r.r c.args.geo.now.head.chunk) (row_inside c.loop-r.r c.args.rows c.args.geo.now.head.chunk c.loop-r-test.true) hold);
   few = omega (arith, c.in_ok-put_row.ensures.few);
+  stays = (let still : g.K.Sink.faults c.put_row.new.sink ≡ g.K.Sink.faults c.loop-r.sink = search rules in still ∙ c.loop-r.invariant.stays);
   later = omega (arith, c.put_row.ensures.cause.later);
 }
 

@@ -1,11 +1,10 @@
 use Rattle.std.proofs.Common.{◌≡◌, ℕ, ◌+◌, ◌*◌, List, [], ◌++◌, ap, subst, arith, rules}
-use Rattle.image_source.specs.Attached.{told_all}
-use Rattle.image_source.specs.Streams.{AppendsFront, Puts}
+use Rattle.outside.specs.Attached.{told_all}
+use Rattle.outside.specs.Streams.{AppendsFront, AppendsSectors, Puts}
 use Rattle.raid_params.specs.Size.{data_blocks, rows}
 use Rattle.member_regions.specs.declared.regions.TheConstants.{BLOCK}
 use Rattle.raid_terms.specs.Volume.{volume}
 use Rattle.member_regions.proofs.Sets.{testable_chunk}
-use Rattle.virtual_volume.specs.Gained.{AppendsSectors}
 use Rattle.virtual_volume.specs.Parts.{rows_of}
 use Rattle.virtual_volume.specs.Waiting.{Passes}
 use Rattle.virtual_volume.proofs.Ahead.{ahead_passed}

@@ -1,8 +1,8 @@
 use Rattle.std.proofs.Common.{◌*◌, ◌++◌, IfSome, rules, arith}
-use Rattle.image_source.specs.Attached.{told_all}
+use Rattle.outside.specs.Attached.{told_all}
 use Rattle.member_regions.proofs.Sets.{testable_chunk}
 use Rattle.virtual_volume.specs.Parts.{rows_of}
-use Rattle.member_regions.specs.Needs.{HoldNeeded}
+use Rattle.lost_members.specs.Needs.{HoldNeeded}
 use Rattle.virtual_volume.specs.Waiting.{Passed}
 use Rattle.virtual_volume.proofs.Fronts.{front_none, passed_as, passed_err}
 use Rattle.member_regions.proofs.IfTold.{if_any, if_told}

@@ -1,8 +1,7 @@
 use Rattle.std.proofs.Common.{ℕ, ◌≡◌, ◌+◌, ◌-◌, ◌≤◌, List, ◌++◌, Option, IfSome, refl, sym, ◌∙◌, subst, arith, rules}
-use Rattle.image_source.specs.Attached.{told_all}
-use Rattle.image_source.specs.Streams.{AppendsFront}
-use Rattle.image_source.proofs.Reading.{reads_none, reads_up}
-use Rattle.virtual_volume.specs.Gained.{AppendsSectors}
+use Rattle.outside.specs.Attached.{told_all}
+use Rattle.outside.specs.Streams.{AppendsFront, AppendsSectors}
+use Rattle.outside.proofs.Reading.{reads_none, reads_up}
 use Rattle.virtual_volume.specs.Parts.{rows_of}
 use Rattle.virtual_volume.specs.Waiting.{Passed, Passes}
 use Rattle.virtual_volume.proofs.Fronts.{passed_err, passes_join, passes_sectors}
@@ -21,6 +20,8 @@ loop-first-init g c = record {
       (λ bytes. rows_start bytes c.args.geo.now 0 (g.K.Sink.gained c.args.sink.now) c.args.pending.now);
   reads = reads_up (g.I.Images.seen c.args.images.now) (g.I.Images.seen c.args.images.now) (reads_none (g.I.Images.seen c.args.images.now)) (omega arith);
   few = omega arith;
+  images_stay = refl;
+  sink_stays = refl;
   later = omega arith;
   within = omega arith;
   room = record { members = refl; stride = refl };
@@ -89,6 +90,8 @@ loop-first-preserved g c = record {
       needed_on (g.I.Images.seen c.args.images.now) (g.I.Images.seen c.loop-first.images) (g.I.Images.seen c.write_batch.new.images) c.args.geo.now c.loop-first.first c.min-count.result (c.loop-first.first + c.min-count.result) c.args.geo.now.head.chunk
       c.loop-first.invariant.reads c.write_batch.ensures.reads (omega arith);
   few = omega (arith, c.in_ok-write_batch.ensures.few);
+  images_stay = (let still : (g.I.Images.seen c.write_batch.new.images).faults ≡ (g.I.Images.seen c.loop-first.images).faults = search rules in still ∙ c.loop-first.invariant.images_stay);
+  sink_stays = (let still : g.K.Sink.faults c.write_batch.new.sink ≡ g.K.Sink.faults c.loop-first.sink = search rules in still ∙ c.loop-first.invariant.sink_stays);
   later = omega (arith, c.write_batch.ensures.later);
   within = omega arith;
   room = record { members = c.write_batch.ensures.room.members ∙ c.loop-first.invariant.room.members; stride = c.write_batch.ensures.room.stride ∙ c.loop-first.invariant.room.stride };

@@ -1,0 +1,7 @@
+pub mod LostParts
+pub mod NeededParts
+pub mod ReadParts
+pub mod NeededSums
+pub mod DataFound
+pub mod NeededRows
+pub mod ParityFound

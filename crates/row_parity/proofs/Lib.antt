@@ -1,0 +1,13 @@
+pub mod Regions
+pub mod Lanes
+pub mod Members
+pub mod Fillings
+pub mod RowSums
+pub mod Shapes
+pub mod Columns
+pub mod Solutions
+pub mod Steps
+pub mod Soundness
+pub mod Horner
+pub mod Apart
+pub mod StripSums

@@ -16,5 +16,5 @@ abbrev pub byte_step : ℕ → ℕ → ℕ
 byte_step r b = bit_steps 8 (bit_xor r b)
 
 -- the checksum of bytes: all ones before the first byte, and all bits turned at the end
-unfoldable pub crc_32 : List ℕ → ℕ
-crc_32 bytes = bit_xor (fold byte_step 0xFFFFFFFF bytes) 0xFFFFFFFF
+unfoldable pub checksum_of : List ℕ → ℕ
+checksum_of bytes = bit_xor (fold byte_step 0xFFFFFFFF bytes) 0xFFFFFFFF

@@ -1,9 +1,8 @@
 -- The header of a GUID partition table (UEFI Specification 2.10, 5.3.2). Numbers are little-endian, and
 -- a block has 512 bytes.
-use Rattle.std.specs.Prelude.{ℕ, ◌-◌, List, ◌++◌, take, drop, replicate, Bool, ◌&&◌, ◌||◌, ◌==◌, nat_le, nat_lt, Option, Some, None, if◌then◌else◌, codes}
+use Rattle.std.specs.Prelude.{ℕ, ◌-◌, List, ◌++◌, take, drop, replicate, Bool, ◌&&◌, ◌||◌, ◌==◌, nat_le, nat_lt, Option, Some, None, if◌then◌else◌, codes, ◌^◌}
 use Rattle.sector_fields.specs.Fields.{has_bytes, u32_le, u64_le, uuid_at}
-use Rattle.sector_fields.specs.declared.TheConstants.{DISTANCE_LIMIT}
-use Rattle.gpt_marks.specs.Crc.{crc_32}
+use Rattle.gpt_marks.specs.Crc.{checksum_of}
 use Rattle.gpt_marks.specs.declared.header.GptHeader.{GptHeader}
 
 -- a sector with the four bytes of HeaderCRC32 as zero
@@ -20,8 +19,8 @@ is_gpt_header s =
     has_bytes s 0 (codes "EFI PART")  -- Signature: 8 bytes at 0
     && nat_le 92 (u32_le s 12)  -- HeaderSize: u32 at 12, 92 or more
     && nat_le (u32_le s 12) 512  --   and no more than the block
-    && (crc_32 (covered_bytes s) == u32_le s 16)  -- HeaderCRC32: u32 at 16
-    && nat_lt (u64_le s 24) DISTANCE_LIMIT  -- MyLBA: u64 at 24, below 2^55
+    && (checksum_of (covered_bytes s) == u32_le s 16)  -- HeaderCRC32: u32 at 16
+    && nat_lt (u64_le s 24) (2 ^ 55)  -- MyLBA: u64 at 24, below 2^55
 
 -- its fields
 unfoldable pub gpt_header_of : List ℕ → GptHeader

@@ -1,13 +1,13 @@
 //! The checksum CRC-32, a byte at a time by a table.
 
 ghost use Rattle.std.specs.Prelude.{◌≡◌};
-ghost use Rattle.gpt_marks.specs.Crc.{byte_step, crc_32};
+ghost use Rattle.gpt_marks.specs.Crc.{byte_step, checksum_of};
 
 /// The CRC-32 of the bytes: reflected, polynomial 0xEDB88320, started and ended by XOR with all
 /// ones. Of `123456789` it is cbf43926.
-#[tactic(auto, unfolding(crate::specs::Crc::crc_32))]
+#[tactic(auto, unfolding(crate::specs::Crc::checksum_of))]
 pub fn crc32(bytes: &[u8]) -> u32
-    ensures { result ≡ crc_32 bytes.now }
+    ensures { result ≡ checksum_of bytes.now }
 {
     let mut register = 0xFFFF_FFFFu32;
     for byte in bytes {

@@ -1,6 +1,6 @@
 //! The entries of a partition table.
 
-ghost use Rattle.std.specs.Prelude.{◌≡◌, ◌+◌, ◌≤◌, ◌<◌, All, IfSome};
+ghost use Rattle.std.specs.Prelude.{◌≡◌, ◌+◌, ◌≤◌, ◌<◌, All, IfSome, ◌^◌};
 ghost use Rattle.gpt_marks.specs.Entry.{first_lba, first_lbas, is_used_entry};
 
 use sector_fields::{DISTANCE_LIMIT, SECTOR, has_bytes, u64_le};
@@ -14,7 +14,7 @@ const ENTRY: usize = 128;
 #[tactic(auto, unfolding(crate::specs::Entry::first_lbas))]
 pub fn read_entries(sector: &[u8; SECTOR], alternate: u64) -> [Option<u64>; 4]
     ensures firsts { result ≡ first_lbas sector.now alternate }
-    ensures within { All (λ o. IfSome o (λ first. first < DISTANCE_LIMIT)) result }
+    ensures within { All (λ o. IfSome o (λ first. first < 2 ^ 55)) result }
 {
     [
         read_entry(sector, alternate, 0),
@@ -24,11 +24,12 @@ pub fn read_entries(sector: &[u8; SECTOR], alternate: u64) -> [Option<u64>; 4]
     ]
 }
 
+/// The first block of the entry that begins at byte `at` of the sector, where the entry is used.
 #[tactic(auto, unfolding(crate::specs::Entry::first_lba), using(crate::proofs::Limits::first_within))]
 fn read_entry(sector: &[u8; SECTOR], alternate: u64, at: usize) -> Option<u64>
     requires { at + ENTRY ≤ SECTOR }
     ensures first { result ≡ first_lba sector.now alternate at }
-    ensures within { IfSome result (λ first. first < DISTANCE_LIMIT) }
+    ensures within { IfSome result (λ first. first < 2 ^ 55) }
 {
     if is_used(sector, alternate, at) {
         Some(u64_le(sector, at + 32))
@@ -37,6 +38,8 @@ fn read_entry(sector: &[u8; SECTOR], alternate: u64, at: usize) -> Option<u64>
     }
 }
 
+/// Whether the entry that begins at byte `at` is used: it has a type, and its blocks lie in order up to `alternate`,
+/// the first of them below 2^55.
 #[tactic(auto, unfolding(crate::specs::Entry::is_used_entry))]
 fn is_used(sector: &[u8; SECTOR], alternate: u64, at: usize) -> bool
     requires { at + ENTRY ≤ SECTOR }

@@ -1,8 +1,8 @@
 //! The header of a partition table.
 
-ghost use Rattle.std.specs.Prelude.{◌≡◌, ◌≤◌, ◌<◌, IfSome};
+ghost use Rattle.std.specs.Prelude.{◌≡◌, ◌≤◌, ◌<◌, IfSome, ◌^◌};
 ghost use Rattle.sector_fields.specs.Fields.{u32_le};
-ghost use Rattle.gpt_marks.specs.Crc.{crc_32};
+ghost use Rattle.gpt_marks.specs.Crc.{checksum_of};
 ghost use Rattle.gpt_marks.specs.Header.{covered_bytes, gpt_header, gpt_header_of, is_gpt_header, is_own_table, with_zero_checksum};
 
 use crate::crc::crc32;
@@ -34,7 +34,7 @@ pub struct GptHeader {
 #[tactic(auto, unfolding(crate::specs::Header::gpt_header), using(crate::proofs::Limits::my_lba_within))]
 pub fn read_header(sector: &[u8; SECTOR]) -> Option<GptHeader>
     ensures header { result ≡ gpt_header sector.now }
-    ensures within { IfSome result (λ h. h.my_lba < DISTANCE_LIMIT) }
+    ensures within { IfSome result (λ h. h.my_lba < 2 ^ 55) }
 {
     if is_header(sector) {
         Some(fields_of(sector))
@@ -43,6 +43,7 @@ pub fn read_header(sector: &[u8; SECTOR]) -> Option<GptHeader>
     }
 }
 
+/// Whether the sector is a header, by its signature, its size, its checksum and its MyLBA.
 #[tactic(auto, unfolding(crate::specs::Header::is_gpt_header))]
 fn is_header(sector: &[u8; SECTOR]) -> bool
     ensures { result ≡ is_gpt_header sector.now }
@@ -60,12 +61,13 @@ fn is_header(sector: &[u8; SECTOR]) -> bool
 fn checksum(sector: &[u8; SECTOR], size: usize) -> u32
     requires size { size ≡ u32_le sector.now 12 }
     requires within { size ≤ SECTOR }
-    ensures { result ≡ crc_32 (covered_bytes sector.now) }
+    ensures { result ≡ checksum_of (covered_bytes sector.now) }
 {
     let covered = with_zero_checksum(sector);
     crc32(&covered[..size])
 }
 
+/// The sector with the four bytes of its checksum as zero.
 #[tactic(auto, unfolding(crate::specs::Header::with_zero_checksum))]
 fn with_zero_checksum(sector: &[u8; SECTOR]) -> [u8; SECTOR]
     ensures { result ≡ with_zero_checksum sector.now }
@@ -75,6 +77,7 @@ fn with_zero_checksum(sector: &[u8; SECTOR]) -> [u8; SECTOR]
     bytes
 }
 
+/// The fields of a header, by their places in the sector (UEFI 2.10, table 5.5).
 #[tactic(auto, unfolding(crate::specs::Header::gpt_header_of))]
 fn fields_of(sector: &[u8; SECTOR]) -> GptHeader
     ensures { result ≡ gpt_header_of sector.now }

@@ -3,7 +3,7 @@
 //! [`read_header`] recognizes a header by its signature, size and checksum, [`own_table`] says whether it
 //! is that of the image itself, and [`read_entries`] where the partitions of a sector of the table begin.
 //! Entries are taken to have 128 bytes. The definitions stand in `specs/Header`, `Entry` and `Crc`. The
-//! law that such a sector is of no other kind is in `mark_kinds`. `survey_engine` looks for them.
+//! law that such a sector is of no other kind is in `survey_engine`, which looks for them.
 #![tactic(auto)]
 
 mod crc;

@@ -4,17 +4,19 @@ use Rattle.std.specs.List.{flat_map, list_all}
 use Rattle.std.specs.List.Sorted.{IsNonDecreasing, IsStrictlyIncreasing}
 use Rattle.std.specs.Option.{is_some, option_map_or}
 use Rattle.std.specs.declared.option.Option.{Option}
-use Rattle.raid_params.specs.declared.limits.TheConstants.{MOST, MOST_GROUPS, MOST_MARKS}
+use Rattle.raid_params.specs.declared.limits.TheConstants.{MOST}
 use Rattle.raid_params.specs.declared.types.Geometry.{Geometry}
 use Rattle.landmark_rules.specs.Marks.{sector_of}
 use Rattle.landmark_rules.specs.Rules.{is_fit, IsRule}
 use Rattle.landmark_rules.specs.declared.marks.Group.{Group}
-use Rattle.landmark_rules.specs.declared.marks.GroupKind.{GroupKind}
-use Rattle.landmark_rules.specs.declared.marks.GroupKind.TheVariants.{Gpt as GptGroup, Ntfs, Xfs}
-use Rattle.landmark_rules.specs.declared.marks.Kind.{Kind}
-use Rattle.landmark_rules.specs.declared.marks.Kind.TheVariants.{Gpt, Boot, FileRecord, Super, Agf, Agi}
 use Rattle.landmark_rules.specs.declared.marks.Mark.{Mark}
 use Rattle.landmark_rules.specs.declared.marks.MarkTests.{MarkTests}
+use Rattle.mark_kinds.specs.declared.groups.Begin.{Begin}
+use Rattle.mark_kinds.specs.declared.groups.Begin.TheVariants.{WithVolume, AtOrigins}
+use Rattle.mark_kinds.specs.declared.groups.GroupKind.{GroupKind}
+use Rattle.mark_kinds.specs.declared.sectors.Kind.{Kind}
+use Rattle.mark_kinds.specs.Table.{group_row}
+pub use Rattle.mark_kinds.specs.Table.{group_of, group_place, kind_place, most_groups}
 
 -- a mark lies where its rule lets it, from this origin; or it lies elsewhere. A mark that lies at no
 -- volume sector does neither
@@ -40,11 +42,13 @@ abbrev pub holds_at : Geometry → ℕ → MarkTests → Group → ℕ → Bool
 holds_at geo end tests group origin =
     nat_le (misfits_of geo end group.marks origin) tests.misfits && nat_le (fits_asked tests group.marks) (fits_of geo end group.marks origin)
 
--- the origins at which a group is tried: a partition table stands at the start of the volume
+-- the origins at which a group is tried, by where groups of its kind begin
+abbrev pub origins_from : MarkTests → Begin → List ℕ
+origins_from tests WithVolume = 0 ∷ []
+origins_from tests AtOrigins = tests.origins.items
+
 abbrev pub origins_for : MarkTests → GroupKind → List ℕ
-origins_for tests GptGroup = 0 ∷ []
-origins_for tests Ntfs = tests.origins.items
-origins_for tests Xfs = tests.origins.items
+origins_for tests kind = origins_from tests (group_row kind).begin
 
 -- the first of them at which it holds
 unfoldable pub held_origin : Geometry → ℕ → MarkTests → Group → Option ℕ
@@ -53,35 +57,6 @@ held_origin geo end tests group = find (holds_at geo end tests group) (origins_f
 -- the landmark test: each group holds at one of its origins
 unfoldable pub groups_hold : Geometry → ℕ → MarkTests → List Group → Bool
 groups_hold geo end tests groups = list_all (λ group. is_some (held_origin geo end tests group)) groups
-
--- the kind of group to which a kind of landmark sector belongs
-abbrev pub group_of : Kind → GroupKind
-group_of Gpt = GptGroup
-group_of Boot = Ntfs
-group_of FileRecord = Ntfs
-group_of Super = Xfs
-group_of Agf = Xfs
-group_of Agi = Xfs
-
--- the place of a kind among the kinds of groups: groups stand in a plan in this order
-abbrev pub group_place : GroupKind → ℕ
-group_place GptGroup = 0
-group_place Ntfs = 1
-group_place Xfs = 2
-
-abbrev pub kind_place : Kind → ℕ
-kind_place Gpt = 0
-kind_place Boot = 1
-kind_place FileRecord = 2
-kind_place Super = 3
-kind_place Agf = 4
-kind_place Agi = 5
-
--- the most groups of a kind that a plan may have
-abbrev pub most_groups : GroupKind → ℕ
-most_groups GptGroup = 1
-most_groups Ntfs = MOST_GROUPS
-most_groups Xfs = MOST_GROUPS
 
 -- a mark of a group of a plan over images of these lengths
 pub record IsMark (lengths : List ℕ) (kind : GroupKind) (mark : Mark) : Type 0 where
@@ -98,10 +73,11 @@ mark_place mark = mark.sector * MOST + mark.image
 abbrev pub marks_in : List Group → List Mark
 marks_in groups = flat_map (λ group. group.marks) groups
 
--- groups of a plan over images of these lengths
+-- groups of a plan over images of these lengths: in the order of their kinds, as many of each as there may be, and at
+-- most 4,096 marks of each kind of landmark sector
 pub record AreGroups (lengths : List ℕ) (groups : List Group) : Type 0 where
   pub order : IsNonDecreasing (map (λ group. group_place group.kind) groups)
   pub few : (kind : GroupKind) → count_by (λ group. group_place group.kind == group_place kind) groups ≤ most_groups kind
   pub marks : All (λ group. All (IsMark lengths group.kind) group.marks) groups
   pub rising : All (λ group. IsStrictlyIncreasing (map mark_place group.marks)) groups
-  pub few_marks : (kind : Kind) → count_by (λ mark. kind_place mark.kind == kind_place kind) (marks_in groups) ≤ MOST_MARKS
+  pub few_marks : (kind : Kind) → count_by (λ mark. kind_place mark.kind == kind_place kind) (marks_in groups) ≤ 4096

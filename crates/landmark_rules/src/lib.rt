@@ -5,15 +5,18 @@
 //! partition table or file system form a group. [`groups_hold`] is the landmark test of a parameter set, and
 //! [`held_origin`] says from where a group holds. [`tally`] counts, and [`sector_in`] says which sector of the
 //! volume a slot holds at a sector of its image. Rules stand in `specs/Rules`, where marks lie in `specs/Marks`,
-//! the test and what a plan may hold in `specs/Groups`.
+//! the test and what a plan may hold in `specs/Groups`. Which kinds there are is `mark_kinds`' matter.
 #![tactic(auto)]
 
 mod counting;
+mod limits;
 mod marks;
 mod testing;
 
 // The tests stand in `layout_rows`.
 
 pub use counting::{fits, sector_in, tally};
-pub use marks::{Group, GroupKind, Groups, Kind, Mark, MarkCount, MarkTests, Marks, Rule};
-pub use testing::{groups_hold, held_origin};
+pub use limits::{MOST_MARKS, MOST_ORIGINS};
+pub use mark_kinds::{GROUPS, GroupKind, KINDS, Kind, MOST_GROUPS};
+pub use marks::{Group, Groups, Mark, MarkCount, MarkTests, Marks, Rule};
+pub use testing::{groups_hold, held_origin, origins_for};

@@ -1,27 +1,9 @@
 //! Marks, groups of marks, and what is asked of them.
-ghost use Rattle.std.specs.Prelude.{◌≡◌};
-ghost use Rattle.landmark_rules.specs.Groups.{group_of, group_place, kind_place};
 
+use crate::MOST_ORIGINS;
 use arrayvec::ArrayVec;
-use image_source::ListOf;
-use raid_params::MOST_ORIGINS;
-
-/// What a landmark sector is.
-#[derive(Clone, Copy)]
-pub enum Kind {
-    /// A header of a GUID partition table.
-    Gpt,
-    /// A boot sector of NTFS.
-    Boot,
-    /// A file record of NTFS.
-    FileRecord,
-    /// A superblock of XFS.
-    Super,
-    /// A header of the free space of an XFS allocation group.
-    Agf,
-    /// A header of the inodes of an XFS allocation group.
-    Agi,
-}
+use mark_kinds::{GroupKind, Kind};
+use outside::ListOf;
 
 /// Where a mark may lie: its distances, in sectors, from the sector of the volume at which its partition
 /// table or file system begins.
@@ -58,18 +40,6 @@ pub struct Mark {
 /// Marks in their order.
 pub type Marks = ListOf<Mark>;
 
-/// What the marks of a group belong to.
-#[derive(Clone, Copy, Default)]
-pub enum GroupKind {
-    /// A GUID partition table, which begins with the volume.
-    #[default]
-    Gpt,
-    /// An NTFS file system.
-    Ntfs,
-    /// An XFS file system.
-    Xfs,
-}
-
 /// The marks of one partition table or file system.
 #[derive(Drop)]
 pub struct Group {
@@ -101,44 +71,4 @@ pub struct MarkCount {
     pub fits: u64,
     /// Those that lie elsewhere.
     pub misfits: u64,
-}
-
-impl Kind {
-    /// The kind of group to which such sectors belong.
-    pub fn group(&self) -> GroupKind
-        ensures { result ≡ group_of self.now }
-    {
-        match self {
-            Kind::Gpt => GroupKind::Gpt,
-            Kind::Boot | Kind::FileRecord => GroupKind::Ntfs,
-            Kind::Super | Kind::Agf | Kind::Agi => GroupKind::Xfs,
-        }
-    }
-
-    /// The place of the kind among the kinds, from 0.
-    pub fn place(&self) -> usize
-        ensures { result ≡ kind_place self.now }
-    {
-        match self {
-            Kind::Gpt => 0,
-            Kind::Boot => 1,
-            Kind::FileRecord => 2,
-            Kind::Super => 3,
-            Kind::Agf => 4,
-            Kind::Agi => 5,
-        }
-    }
-}
-
-impl GroupKind {
-    /// The place of the kind among the kinds, from 0.
-    pub fn place(&self) -> usize
-        ensures { result ≡ group_place self.now }
-    {
-        match self {
-            GroupKind::Gpt => 0,
-            GroupKind::Ntfs => 1,
-            GroupKind::Xfs => 2,
-        }
-    }
 }

@@ -1,25 +1,33 @@
 //! The landmark test.
 ghost use Rattle.std.specs.Prelude.{◌≡◌, ◌<◌, ◌^◌, ℕ, find, true};
 ghost use Rattle.raid_params.specs.Validity.{is_shaped};
-ghost use Rattle.landmark_rules.specs.Groups.{groups_hold as all_hold, held_origin as first_origin, holds_at as group_holds_at};
+ghost use Rattle.landmark_rules.specs.Groups.{groups_hold as all_hold, held_origin as first_origin, holds_at as group_holds_at, origins_for as origins_of_kind};
 
 use crate::counting::tally;
-use crate::marks::{Group, GroupKind, Groups, MarkTests};
+use crate::marks::{Group, Groups, MarkTests};
+use mark_kinds::{Begin, GroupKind};
 use raid_params::Geometry;
 
-/// The first origin at which the group holds: as many of its marks as are asked lie where their rules let
-/// them, and not too many elsewhere. A partition table is tried at 0 alone, a file system at the origins of
-/// `tests` in their order.
+/// The origins at which groups of a kind are tried, in their order: a partition table at 0 alone, a file system at
+/// those of `tests`.
+pub fn origins_for(tests: &MarkTests, kind: GroupKind) -> &[u64]
+    ensures { result.now ≡ origins_of_kind tests.entry.now kind }
+{
+    match kind.begin() {
+        Begin::WithVolume => &[0],
+        Begin::AtOrigins => &tests.origins,
+    }
+}
+
+/// The first of its origins at which the group holds: as many of its marks as are asked lie where their rules let
+/// them, and not too many elsewhere.
 #[tactic(auto, unfolding(crate::specs::Groups::held_origin))]
 pub fn held_origin(geo: &Geometry, end: u64, group: &Group, tests: &MarkTests) -> Option<u64>
     requires shaped { (images : ℕ) × (is_shaped geo.now images ≡ true) }
     requires end { end < 2 ^ 55 }
     ensures { result ≡ first_origin geo.now end tests.now group.now }
 {
-    match group.kind {
-        GroupKind::Gpt => first_held(geo, end, group, tests, &[0]),
-        GroupKind::Ntfs | GroupKind::Xfs => first_held(geo, end, group, tests, &tests.origins),
-    }
+    first_held(geo, end, group, tests, origins_for(tests, group.kind))
 }
 
 /// The first of these origins at which the group holds.

@@ -1,1 +1,3 @@
-pub mod FourthByte
+pub mod Places
+pub mod Asked
+pub mod Counts

@@ -1,15 +1,18 @@
-//! The law that a landmark sector is of one kind at most.
+//! The one table of the kinds of landmarks: which sectors are landmarks, which groups they make, how they are
+//! named, where the groups begin and how many of them a plan may have.
 //!
-//! It runs nothing. [`no_sector_is_of_two_kinds`] says it of the definitions of `gpt_marks`, `ntfs_marks`
-//! and `xfs_marks`: GPT header, NTFS boot sector and file record, XFS superblock, AGF and AGI. The law
-//! stands in `specs/Kinds`.
+//! A landmark sector is of one [`Kind`]; the marks of one partition table or file system form a group, which is of
+//! one [`GroupKind`]. [`Kind::row`] and [`GroupKind::row`] are the table, [`KINDS`] and [`GROUPS`] its order. What
+//! surveys images, reads plans and words, and tests marks takes names, places and numbers from here, so a kind more
+//! is a row more. [`Kinds`] says which of them are looked for, [`DropAt`] which sectors are passed over.
+//!
+//! The table stands in `specs/Table`, as contracts see it.
 #![tactic(auto)]
 
-ghost use Rattle.mark_kinds.specs.Kinds.{KindsExcludeEachOther};
+mod groups;
+mod looking;
+mod sectors;
 
-/// No sector is of two of these kinds: GPT header, NTFS boot sector, NTFS file record, XFS superblock,
-/// AGF, AGI. It runs nothing: its contract is the law.
-#[tactic(auto, using(crate::proofs::FourthByte::at_most_one))]
-pub fn no_sector_is_of_two_kinds()
-    ensures { KindsExcludeEachOther }
-{}
+pub use groups::{Begin, GROUP_COUNT, GROUPS, GroupKind, GroupRow, MOST_GROUPS};
+pub use looking::{DropAt, Kinds, MOST_DROPS};
+pub use sectors::{KIND_COUNT, KINDS, Kind, KindRow};

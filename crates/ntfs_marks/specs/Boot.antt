@@ -1,9 +1,8 @@
 -- The boot sector of NTFS (NTFS on-disk layout: "How NTFS Works", NTFS Boot Sector; Linux-NTFS
 -- documentation, $Boot). Numbers are little-endian, and a sector has 512 bytes.
-use Rattle.std.specs.Prelude.{ℕ, ◌+◌, ◌*◌, ◌/◌, List, [], ◌∷◌, slice_index, Bool, ◌&&◌, ◌==◌, nat_le, nat_lt, Option, Some, None, if◌then◌else◌, codes}
+use Rattle.std.specs.Prelude.{ℕ, ◌+◌, ◌*◌, ◌/◌, List, [], ◌∷◌, slice_index, Bool, ◌&&◌, ◌==◌, nat_le, nat_lt, Option, Some, None, if◌then◌else◌, codes, ◌^◌}
 use Rattle.std.specs.Int.{w8, cast_signed, is_power_of_two}
 use Rattle.sector_fields.specs.Fields.{has_bytes, u16_le, u64_le}
-use Rattle.sector_fields.specs.declared.TheConstants.{DISTANCE_LIMIT}
 use Rattle.ntfs_marks.specs.RecordSize.{coded_bytes, is_record_size}
 use Rattle.ntfs_marks.specs.declared.boot.NtfsBoot.{NtfsBoot}
 
@@ -40,9 +39,9 @@ record_sector boot first_cluster number = first_cluster * boot.cluster + number 
 -- 2^55
 unfoldable pub is_within_limit : NtfsBoot → Bool
 is_within_limit boot =
-    nat_le 1 boot.total && nat_lt boot.total DISTANCE_LIMIT
-    && nat_lt (record_sector boot boot.mft 15) DISTANCE_LIMIT
-    && nat_lt (record_sector boot boot.mirror 15) DISTANCE_LIMIT
+    nat_le 1 boot.total && nat_lt boot.total (2 ^ 55)
+    && nat_lt (record_sector boot boot.mft 15) (2 ^ 55)
+    && nat_lt (record_sector boot boot.mirror 15) (2 ^ 55)
 
 -- the facts that make a sector a boot sector
 unfoldable pub is_ntfs_boot : List ℕ → Bool

@@ -46,6 +46,7 @@ pub fn read_boot(sector: &[u8; SECTOR]) -> Option<NtfsBoot>
     }
 }
 
+/// The fields of a boot sector whose file records have so many bytes, where it is one.
 #[tactic(auto, unfolding(crate::specs::Boot::ntfs_boot, crate::specs::Boot::is_ntfs_boot))]
 fn boot_by_size(sector: &[u8; SECTOR], bytes: u32) -> Option<NtfsBoot>
     requires size { bytes ≡ record_bytes sector.now }
@@ -60,6 +61,7 @@ fn boot_by_size(sector: &[u8; SECTOR], bytes: u32) -> Option<NtfsBoot>
     }
 }
 
+/// The bytes of a file record by what the sector says, where that is a size that records may have.
 #[tactic(auto, unfolding(crate::specs::Boot::record_bytes))]
 fn record_bytes(sector: &[u8; SECTOR]) -> Option<u32>
     ensures { result ≡ allowed_size (record_bytes sector.now) }
@@ -67,6 +69,7 @@ fn record_bytes(sector: &[u8; SECTOR]) -> Option<u32>
     record_size(sector[64].cast_signed(), sector[13])
 }
 
+/// Whether the sector has the OEM identifier, the end marker and the sizes of sectors and clusters of a boot sector.
 #[tactic(auto, unfolding(crate::specs::Boot::has_boot_form))]
 fn has_boot_form(sector: &[u8; SECTOR]) -> bool
     ensures { result ≡ has_boot_form sector.now }
@@ -79,6 +82,7 @@ fn has_boot_form(sector: &[u8; SECTOR]) -> bool
         && cluster <= LARGEST_CLUSTER
 }
 
+/// Whether the volume has a sector, and its end and the last file record of the table and of its copy lie below 2^55.
 #[tactic(auto, unfolding(crate::specs::Boot::is_within_limit))]
 fn is_within_limit(boot: &NtfsBoot) -> bool
     ensures { result ≡ is_within_limit boot.now }
@@ -99,6 +103,7 @@ fn last_record_sector(boot: &NtfsBoot, first_cluster: u64) -> u128
     first_cluster as u128 * boot.cluster as u128 + LAST_RECORD as u128 * record_sectors as u128
 }
 
+/// The fields of a boot sector whose file records have so many bytes, by their places in the sector.
 #[tactic(auto, unfolding(crate::specs::Boot::ntfs_boot_of))]
 fn fields_of(sector: &[u8; SECTOR], bytes: u32) -> NtfsBoot
     requires { bytes ≡ record_bytes sector.now }

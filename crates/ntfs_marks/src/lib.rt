@@ -2,7 +2,7 @@
 //!
 //! [`read_boot`] says where the table and its mirror begin and how large a record is, [`read_record`] the
 //! number of a record and its size. The definitions stand in `specs/Boot`, `RecordSize` and `FileRecord`.
-//! The law that such a sector is of no other kind is in `mark_kinds`. `survey_engine` looks for them.
+//! The law that such a sector is of no other kind is in `survey_engine`, which looks for them.
 #![tactic(auto)]
 
 mod boot;

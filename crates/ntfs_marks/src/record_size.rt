@@ -22,6 +22,7 @@ pub fn record_size(code: i8, cluster: u8) -> Option<u32>
     }
 }
 
+/// Two to this power as the bytes of a file record, where that is a size that records may have.
 #[tactic(auto, using(crate::proofs::Sizes::too_large))]
 fn power_size(power: u8) -> Option<u32>
     ensures { result ≡ allowed_size (2 ^ power) }
@@ -32,6 +33,7 @@ fn power_size(power: u8) -> Option<u32>
     }
 }
 
+/// The bytes, where they are a size that file records may have.
 #[tactic(auto, unfolding(crate::specs::RecordSize::allowed_size, crate::specs::RecordSize::is_record_size))]
 fn allowed_size(bytes: u32) -> Option<u32>
     ensures { result ≡ allowed_size bytes }

@@ -1,3 +1,3 @@
-pub mod Places
 pub mod Plans
 pub mod Sets
+pub use Rattle.raid_params.specs.Places

@@ -1,20 +1,16 @@
 -- Which plans there are: their numbers are within the limits of the tool, and their lists rise.
 use Rattle.std.specs.Prelude.{ℕ, ◌≡◌, ◌≤◌, ◌<◌, ◌^◌, IsTrue, List, length, map, All}
 use Rattle.std.specs.List.Sorted.{IsStrictlyIncreasing}
-use Rattle.image_source.specs.Seen.{Image, lengths_of}
-use Rattle.raid_params.specs.declared.limits.TheConstants.{MOST, MOST_MISSING, MOST_OFFSETS, MOST_ORIGINS}
+use Rattle.outside.specs.Seen.{Image, lengths_of}
+use Rattle.raid_params.specs.declared.limits.TheConstants.{MOST}
 use Rattle.raid_params.specs.declared.types.Bounds.{Bounds}
 use Rattle.raid_params.specs.Validity.{is_chunk}
 use Rattle.landmark_rules.specs.Groups.{AreGroups}
 use Rattle.landmark_rules.specs.declared.marks.MarkTests.{MarkTests}
-use Rattle.search_plan.specs.Places.{level_place, pattern_place, syndrome_place}
+use Rattle.raid_params.specs.Places.{level_place, pattern_place, syndrome_place}
+pub use Rattle.raid_params.specs.Places.{AreRising}
 use Rattle.search_plan.specs.declared.plan.Limits.{Limits}
 use Rattle.search_plan.specs.declared.plan.Plan.{Plan}
-
--- a list of a plan: it has an element, and it rises strictly
-pub record AreRising (numbers : List ℕ) : Type 0 where
-  pub some : 1 ≤ length numbers
-  pub rising : IsStrictlyIncreasing numbers
 
 -- lengths of images: from 1 to MOST of them, each below 2^55
 pub record AreLengths (lengths : List ℕ) : Type 0 where
@@ -33,9 +29,9 @@ pub record AreBounds (bounds : Bounds) : Type 0 where
   pub chunks : AreRising bounds.chunks.items
   pub powers : All (λ chunk. IsTrue (is_chunk chunk)) bounds.chunks.items
   pub offsets : AreRising bounds.offsets.items
-  pub few_offsets : length bounds.offsets.items ≤ MOST_OFFSETS
+  pub few_offsets : length bounds.offsets.items ≤ 64
   pub near_offsets : All (λ n. n < 2 ^ 55) bounds.offsets.items
-  pub missing : bounds.missing ≤ MOST_MISSING
+  pub missing : bounds.missing ≤ 2
   pub foreign : bounds.foreign ≤ MOST
 
 -- how rows are tested: numbers below 2^55, and a window of at least one sector row
@@ -44,10 +40,10 @@ pub record AreLimits (limits : Limits) : Type 0 where
   pub some_window : 1 ≤ limits.window
   pub window : limits.window < 2 ^ 55
 
--- how marks are tested: origins that rise strictly, at most MOST_ORIGINS, and numbers below 2^55
+-- how marks are tested: origins that rise strictly, at most 64, and numbers below 2^55
 pub record AreTests (tests : MarkTests) : Type 0 where
   pub origins : AreRising tests.origins.items
-  pub few_origins : length tests.origins.items ≤ MOST_ORIGINS
+  pub few_origins : length tests.origins.items ≤ 64
   pub near_origins : All (λ n. n < 2 ^ 55) tests.origins.items
   pub misfits : tests.misfits < 2 ^ 55
   pub least : tests.least < 2 ^ 55

@@ -6,10 +6,10 @@ use Rattle.raid_params.specs.Size.{rows}
 use Rattle.raid_params.specs.declared.types.Geometry.{Geometry}
 use Rattle.raid_params.specs.declared.types.Head.{Head}
 use Rattle.raid_terms.specs.Parity.{passes_parity}
-use Rattle.raid_terms.specs.Product.{product}
+use Rattle.search_terms.specs.Product.{product}
 use Rattle.slot_math.specs.Space.{same_slots}
 use Rattle.landmark_rules.specs.Groups.{groups_hold}
-use Rattle.search_plan.specs.Places.{level_place, pattern_place, syndrome_place}
+use Rattle.raid_params.specs.Places.{level_place, pattern_place, syndrome_place}
 use Rattle.search_plan.specs.declared.plan.Plan.{Plan}
 
 -- the parameter sets of a plan, in their order: a set's rank is its position here

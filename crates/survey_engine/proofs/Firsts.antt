@@ -5,16 +5,16 @@ use Rattle.std.proofs.lemmas.List.{append-nil, length-map, take_all, take_more}
 use Rattle.std.proofs.lemmas.List.Concat.{flat_map-append}
 use Rattle.std.proofs.lemmas.List.Elements.{All-get_or, filter_map-append}
 use Rattle.std.proofs.lemmas.Bool.Decides.{nat_tests}
-use Rattle.image_source.specs.Attached.{told_all}
-use Rattle.image_source.specs.Seen.{Image, AreTold, AreWithin, OnlyReads, Seen, lengths_of}
-use Rattle.image_source.proofs.Reading.{reads_join, reads_up}
-use Rattle.landmark_rules.specs.declared.marks.Kind.TheVariants.{Gpt as GptKind}
+use Rattle.outside.specs.Attached.{told_all}
+use Rattle.outside.specs.Seen.{Image, AreTold, AreWithin, OnlyReads, Seen, lengths_of}
+use Rattle.outside.proofs.Reading.{reads_join, reads_up}
+use Rattle.mark_kinds.specs.declared.sectors.Kind.TheVariants.{Gpt as GptKind}
 use Rattle.std.specs.Prelude.{count_by}
 use Rattle.std.proofs.lemmas.List.Sums.{sum_by-le-sum_by, sum_by_more, sum_by-take-le}
 use Rattle.image_blocks.proofs.Reading.{told_bytes}
 use Rattle.gpt_marks.specs.Entry.{first_lbas}
 use Rattle.gpt_marks.specs.declared.header.GptHeader.{GptHeader}
-use Rattle.raid_params.specs.declared.limits.TheConstants.{MOST_MARKS, MOST_ORIGINS}
+use Rattle.landmark_rules.specs.declared.limits.TheConstants.{MOST_MARKS, MOST_ORIGINS}
 use Rattle.survey_engine.specs.Kept.{with_number}
 use Rattle.survey_engine.specs.Origins.{has_entries, is_followed, entries_follow, hints_at, hints_by, origins_of, with_numbers}
 use Rattle.survey_engine.specs.Sightings.{is_same_kind, sector_of}

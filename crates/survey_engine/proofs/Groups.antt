@@ -1,18 +1,18 @@
 -- Owners, marks and groups, one sighting after the other.
 use Rattle.std.proofs.Common.{◌≡◌, ℕ, ◌+◌, ◌<◌, ◌≤◌, List, [], ◌∷◌, ◌++◌, Bool, length, map, take, get_or, refl, sym, ap, ◌∙◌, All, Option, Some, None}
 use Rattle.std.specs.Prelude.{◌==◌}
-use Rattle.std.specs.List.{filter_map, cons_option}
+use Rattle.std.specs.List.{filter_map, flat_map, cons_option}
+use Rattle.std.proofs.lemmas.List.Concat.{flat_map-append}
 use Rattle.std.proofs.lemmas.List.{append-nil, append_assoc, take_all, take_more, map_more}
 use Rattle.std.proofs.lemmas.List.Elements.{All-get_or, filter_map-append}
 use Rattle.std.proofs.lemmas.List.Sums.{fold-append}
 use Rattle.landmark_rules.specs.declared.marks.Group.{Group}
-use Rattle.landmark_rules.specs.declared.marks.GroupKind.{GroupKind}
-use Rattle.landmark_rules.specs.declared.marks.GroupKind.TheVariants.{Gpt as GptGroup, Ntfs as NtfsGroup, Xfs as XfsGroup}
+use Rattle.mark_kinds.specs.declared.groups.GroupKind.{GroupKind}
 use Rattle.landmark_rules.specs.declared.marks.Mark.{Mark}
 use Rattle.landmark_rules.specs.declared.marks.Rule.{Rule}
 use Rattle.survey_engine.specs.Kept.{kept, kept_with}
 use Rattle.survey_engine.specs.Landmarks.{kind_of, IsSound}
-use Rattle.survey_engine.specs.Owners.{group_for, groups_in, groups_of, is_new, mark_in, owner_among, owners_of, rule_in, IsSoundOwner}
+use Rattle.survey_engine.specs.Owners.{group_for, groups_in, is_new, mark_in, owner_among, owners_of, rule_in, IsSoundOwner}
 use Rattle.survey_engine.specs.declared.owner.Owner.{Owner}
 use Rattle.survey_engine.specs.declared.sighting.Sighting.{Sighting}
 
@@ -114,8 +114,25 @@ groups_all found kind owners alone old n all are single =
     ∙ ap (λ (b : Bool). old ++ map (group_for found b) owners) single
     ∙ ap (λ (l : List Owner). old ++ map (group_for found (length l == 1)) l) are
 
--- the groups of the three kinds
-pub three_kinds : (found : List Sighting) → (([] ++ groups_in found GptGroup) ++ groups_in found NtfsGroup) ++ groups_in found XfsGroup ≡ groups_of found
-three_kinds found =
-    append_assoc (groups_in found GptGroup) (groups_in found NtfsGroup) (groups_in found XfsGroup)
-    ∙ ap (λ (l : List Group). groups_in found GptGroup ++ (groups_in found NtfsGroup ++ l)) (sym (append-nil (groups_in found XfsGroup)))
+-- ---- kinds
+
+-- the groups of the first kinds, after others
+pub kinds_to : List Sighting → List Group → List GroupKind → ℕ → List Group
+kinds_to found old kinds n = old ++ flat_map (groups_in found) (take n kinds)
+
+pub kinds_none : (found : List Sighting) (old : List Group) (kinds : List GroupKind) → kinds_to found old kinds 0 ≡ old
+unfolding kinds_to
+kinds_none found old kinds = append-nil old
+
+pub kinds_more : (found : List Sighting) (old : List Group) (kinds : List GroupKind) (i : ℕ) (k : GroupKind) → i < length kinds →
+    kinds_to found old kinds (i + 1) ≡ kinds_to found old kinds i ++ groups_in found (get_or kinds i k)
+unfolding kinds_to
+kinds_more found old kinds i k below =
+    let one : flat_map (groups_in found) (take (i + 1) kinds) ≡ flat_map (groups_in found) (take i kinds) ++ groups_in found (get_or kinds i k) =
+    ap (flat_map (groups_in found)) (take_more kinds i k below) ∙ flat_map-append (groups_in found) (take i kinds) (get_or kinds i k ∷ [])
+    ∙ ap (λ (l : List Group). flat_map (groups_in found) (take i kinds) ++ l) (append-nil (groups_in found (get_or kinds i k))) in
+    ap (λ (l : List Group). old ++ l) one ∙ sym (append_assoc old (flat_map (groups_in found) (take i kinds)) (groups_in found (get_or kinds i k)))
+
+pub kinds_all : (found : List Sighting) (old : List Group) (kinds : List GroupKind) (n : ℕ) → length kinds ≤ n → kinds_to found old kinds n ≡ old ++ flat_map (groups_in found) kinds
+unfolding kinds_to
+kinds_all found old kinds n all = ap (λ (l : List GroupKind). old ++ flat_map (groups_in found) l) (take_all n kinds all)

@@ -6,7 +6,7 @@ use Rattle.ntfs_marks.specs.Boot.{is_ntfs_boot, ntfs_boot, ntfs_boot_of}
 use Rattle.ntfs_marks.specs.FileRecord.{is_ntfs_record, ntfs_record, ntfs_record_of}
 use Rattle.xfs_marks.specs.Superblock.{is_xfs_super, xfs_super, xfs_super_of}
 use Rattle.xfs_marks.specs.Group.{is_xfs_agf, is_xfs_agi}
-use Rattle.mark_kinds.proofs.FourthByte.{gpt_byte, boot_byte, record_byte, super_byte, agf_byte, agi_byte}
+use Rattle.survey_engine.proofs.FourthByte.{gpt_byte, boot_byte, record_byte, super_byte, agf_byte, agi_byte}
 use Rattle.survey_engine.specs.Landmarks.{landmark_in, head_in}
 use Rattle.survey_engine.specs.declared.landmark.Landmark.{Landmark}
 use Rattle.survey_engine.specs.declared.landmark.Landmark.TheVariants.{Gpt, Boot, FileRecord, Super}

@@ -1,24 +1,24 @@
 -- The groups of sightings are those of a plan.
-use Rattle.std.proofs.Common.{◌≡◌, ℕ, zero, suc, ◌+◌, ◌≤◌, List, [], ◌∷◌, ◌++◌, Bool, true, false, cond, eqb, ltb, length, map, refl, sym, ap, ◌∙◌, arith, All}
+use Rattle.std.proofs.Common.{◌≡◌, ℕ, zero, suc, ◌+◌, ◌≤◌, List, [], ◌∷◌, ◌++◌, Bool, true, false, cond, eqb, length, map, refl, sym, ap, subst, ◌<◌, ◌∙◌, arith, All}
 use Rattle.std.specs.Prelude.{count_by, ◌==◌}
 use Rattle.std.specs.List.{filter_map, flat_map}
 use Rattle.std.specs.List.Sorted.{IsNonDecreasing, IsStrictlyIncreasing}
 use Rattle.std.proofs.lemmas.Bool.{eq-eqb, eqb-true, false≢true}
+use Rattle.std.proofs.lemmas.Bool.Decides.{nat_tests}
 use Rattle.std.proofs.lemmas.List.{length-map}
 use Rattle.std.proofs.lemmas.List.Concat.{flat_map-append}
 use Rattle.std.proofs.lemmas.List.Elements.{All-append, All-head, All-map, All-nil, All-tail, All-weaker}
 use Rattle.std.proofs.lemmas.List.Sums.{sum_by-append, sum_by-cons}
-use Rattle.raid_params.specs.declared.limits.TheConstants.{MOST_GROUPS, MOST_MARKS}
-use Rattle.landmark_rules.specs.Groups.{group_of, group_place, kind_place, mark_place, marks_in, most_groups, AreGroups, IsMark}
+use Rattle.landmark_rules.specs.Groups.{mark_place, marks_in, AreGroups, IsMark}
+use Rattle.mark_kinds.specs.Table.{all_groups, group_of, group_place, kind_place, most_groups}
+use Rattle.mark_kinds.proofs.Places.{same_group, same_kind}
 use Rattle.landmark_rules.specs.declared.marks.Group.{Group}
-use Rattle.landmark_rules.specs.declared.marks.GroupKind.{GroupKind}
-use Rattle.landmark_rules.specs.declared.marks.GroupKind.TheVariants.{Gpt as GptGroup, Ntfs as NtfsGroup, Xfs as XfsGroup}
-use Rattle.landmark_rules.specs.declared.marks.Kind.{Kind}
-use Rattle.landmark_rules.specs.declared.marks.Kind.TheVariants.{Gpt, Boot, FileRecord, Super, Agf, Agi}
+use Rattle.mark_kinds.specs.declared.groups.GroupKind.{GroupKind}
+use Rattle.mark_kinds.specs.declared.sectors.Kind.{Kind}
 use Rattle.landmark_rules.specs.declared.marks.Mark.{Mark}
 use Rattle.survey_engine.specs.Landmarks.{IsSound}
 use Rattle.survey_engine.specs.Owners.{group_for, group_kind, groups_in, groups_of, mark_in, owners_of, IsSoundOwner}
-use Rattle.survey_engine.specs.Sightings.{AreSightings, IsSighting}
+use Rattle.survey_engine.specs.Sightings.{AreSightings, IsInImages}
 use Rattle.survey_engine.specs.declared.sighting.Sighting.{Sighting}
 use Rattle.survey_engine.proofs.Marks.{are_marks, are_rising}
 use Rattle.survey_engine.proofs.Once.{few_marks}
@@ -37,7 +37,7 @@ record AreOf (lengths : List ℕ) (at : ℕ) (most : ℕ) (groups : List Group) 
   few : length groups ≤ most
   marks : All (λ g. All (IsMark lengths g.kind) g.marks) groups
   rising : All (λ g. IsStrictlyIncreasing (map mark_place g.marks)) groups
-  few_marks_in : (kind : Kind) → count_by (is_of kind) (marks_in groups) ≤ MOST_MARKS
+  few_marks_in : (kind : Kind) → count_by (is_of kind) (marks_in groups) ≤ 4096
 
 flat_of_map : {X Y Z : Type 0} (f : X → Y) (g : Y → List Z) (xs : List X) → flat_map g (map f xs) ≡ flat_map (λ x. g (f x)) xs
 flat_of_map f g [] = refl
@@ -51,7 +51,7 @@ unfolding groups_in
 of_kind lengths found kind are =
     let alone = length (owners_of kind found) == 1 in
     let owners = owners_of kind found in
-    let sound = owners_sound kind found (All-weaker (IsSighting lengths) (λ s. IsSound s.landmark) (λ s is. is.sound) found are.each) in
+    let sound = owners_sound kind found (All-weaker (IsInImages lengths) (λ s. IsSound s.landmark) (λ s is. is.sound) found are.each) in
     record {
       place = All-map (λ g. place_of g ≡ group_place kind) (group_for found alone) owners (owners_kind kind found);
       few = omega (arith, length-map owners (group_for found alone), owners_few kind found);
@@ -103,123 +103,140 @@ counted_at n m false (g ∷ groups) e at =
     let none : ◌≡◌ {A = ℕ} (cond (place_of g == m) 1 0) 0 = ap (λ (k : ℕ). cond (eqb k m) 1 0) here ∙ ap (λ (t : Bool). cond t 1 0) e in
     omega (arith, sum_by-cons (λ g. cond (place_of g == m) 1 0) g groups, none, counted_at n m false groups e (All-tail (λ h. place_of h ≡ n) g groups at))
 
+other_place : (n m k : ℕ) → n ≤ k → m < n → eqb k m ≡ false
+other_place n m k le lt = grind (arith, nat_tests)
+
+-- none before the places at which they begin
+none_before : (n m : ℕ) (groups : List Group) → m < n → All (λ g. n ≤ place_of g) groups → count_by (λ g. place_of g == m) groups ≡ 0
+none_before n m [] lt above = refl
+none_before n m (g ∷ groups) lt above =
+    let none : ◌≡◌ {A = ℕ} (cond (place_of g == m) 1 0) 0 = ap (λ (t : Bool). cond t 1 0) (other_place n m (place_of g) (All-head (λ h. n ≤ place_of h) g groups above) lt) in
+    omega (arith, sum_by-cons (λ g. cond (place_of g == m) 1 0) g groups, none, none_before n m groups lt (All-tail (λ h. n ≤ place_of h) g groups above))
+
 -- ---- and of marks
 
--- the place of the group of the kind at a place
-group_at : ℕ → ℕ
-group_at n = cond (eqb n 0) 0 (cond (ltb n 3) 1 2)
+abbrev owned : Mark → ℕ
+owned m = group_place (group_of m.kind)
 
-group_at_is : (kind : Kind) → group_at (kind_place kind) ≡ group_place (group_of kind)
-unfolding group_at
-group_at_is Gpt = refl
-group_at_is Boot = refl
-group_at_is FileRecord = refl
-group_at_is Super = refl
-group_at_is Agf = refl
-group_at_is Agi = refl
-
-other_kind : (kind : Kind) (n : ℕ) (m : Mark) (b : Bool) → is_of kind m ≡ b → group_place (group_of m.kind) ≡ n → eqb n (group_place (group_of kind)) ≡ false → b ≡ false
+other_kind : (kind : Kind) (n : ℕ) (m : Mark) (b : Bool) → is_of kind m ≡ b → owned m ≡ n → eqb n (group_place (group_of kind)) ≡ false → b ≡ false
 other_kind kind n m false e at other = refl
 other_kind kind n m true e at other =
-    let same : group_place (group_of m.kind) ≡ group_place (group_of kind) = sym (group_at_is m.kind) ∙ ap group_at (eqb-true (kind_place m.kind) (kind_place kind) e) ∙ group_at_is kind in
+    let same : owned m ≡ group_place (group_of kind) = ap (λ (k : Kind). group_place (group_of k)) (same_kind m.kind kind (eqb-true (kind_place m.kind) (kind_place kind) e)) in
     absurd (false≢true (sym other ∙ eq-eqb n (group_place (group_of kind)) (sym at ∙ same)))
 
-none_of : (kind : Kind) (n : ℕ) (marks : List Mark) → All (λ m. group_place (group_of m.kind) ≡ n) marks → eqb n (group_place (group_of kind)) ≡ false → count_by (is_of kind) marks ≡ 0
-none_of kind n [] at other = refl
-none_of kind n (m ∷ marks) at other =
-    let none : ◌≡◌ {A = ℕ} (cond (is_of kind m) 1 0) 0 = ap (λ (t : Bool). cond t 1 0) (other_kind kind n m (is_of kind m) refl (All-head (λ m. group_place (group_of m.kind) ≡ n) m marks at) other) in
-    omega (arith, sum_by-cons (λ m. cond (is_of kind m) 1 0) m marks, none, none_of kind n marks (All-tail (λ m. group_place (group_of m.kind) ≡ n) m marks at) other)
+none_of : (kind : Kind) (marks : List Mark) → All (λ m. eqb (owned m) (group_place (group_of kind)) ≡ false) marks → count_by (is_of kind) marks ≡ 0
+none_of kind [] other = refl
+none_of kind (m ∷ marks) other =
+    let here = All-head (λ m. eqb (owned m) (group_place (group_of kind)) ≡ false) m marks other in
+    let none : ◌≡◌ {A = ℕ} (cond (is_of kind m) 1 0) 0 = ap (λ (t : Bool). cond t 1 0) (other_kind kind (owned m) m (is_of kind m) refl refl here) in
+    omega (arith, sum_by-cons (λ m. cond (is_of kind m) 1 0) m marks, none, none_of kind marks (All-tail (λ m. eqb (owned m) (group_place (group_of kind)) ≡ false) m marks other))
 
-marks_at : (lengths : List ℕ) (n : ℕ) (groups : List Group) → All (λ g. place_of g ≡ n) groups → All (λ g. All (IsMark lengths g.kind) g.marks) groups → All (λ m. group_place (group_of m.kind) ≡ n) (marks_in groups)
-marks_at lengths n [] at marks = All-nil (λ m. group_place (group_of m.kind) ≡ n)
-marks_at lengths n (g ∷ groups) at marks =
-    let here : place_of g ≡ n = All-head (λ h. place_of h ≡ n) g groups at in
-    All-append (λ m. group_place (group_of m.kind) ≡ n) g.marks (marks_in groups)
-    (All-weaker (IsMark lengths g.kind) (λ m. group_place (group_of m.kind) ≡ n) (λ m is. ap group_place is.kind_of ∙ here) g.marks (All-head (λ h. All (IsMark lengths h.kind) h.marks) g groups marks))
-    (marks_at lengths n groups (All-tail (λ h. place_of h ≡ n) g groups at) (All-tail (λ h. All (IsMark lengths h.kind) h.marks) g groups marks))
+-- what holds of the places of groups holds of those of their marks
+marks_at : (lengths : List ℕ) (P : ℕ → Type 0) (groups : List Group) → All (λ g. P (place_of g)) groups → All (λ g. All (IsMark lengths g.kind) g.marks) groups → All (λ m. P (owned m)) (marks_in groups)
+marks_at lengths P [] at marks = All-nil (λ m. P (owned m))
+marks_at lengths P (g ∷ groups) at marks =
+    let here : P (place_of g) = All-head (λ h. P (place_of h)) g groups at in
+    All-append (λ m. P (owned m)) g.marks (marks_in groups)
+    (All-weaker (IsMark lengths g.kind) (λ m. P (owned m)) (λ m is. subst P (sym (ap group_place is.kind_of)) here) g.marks (All-head (λ h. All (IsMark lengths h.kind) h.marks) g groups marks))
+    (marks_at lengths P groups (All-tail (λ h. P (place_of h)) g groups at) (All-tail (λ h. All (IsMark lengths h.kind) h.marks) g groups marks))
 
-marks_of : (lengths : List ℕ) (n most : ℕ) (groups : List Group) (kind : Kind) (b : Bool) → AreOf lengths n most groups → eqb n (group_place (group_of kind)) ≡ b → count_by (is_of kind) (marks_in groups) ≤ cond b MOST_MARKS 0
-marks_of lengths n most groups kind true are e = are.few_marks_in kind
-marks_of lengths n most groups kind false are e = omega (arith, none_of kind n (marks_in groups) (marks_at lengths n groups are.place are.marks) e)
+-- ---- kind after kind
 
--- ---- all together
+-- what holds of the groups of kinds that begin at a place
+record AreFrom (lengths : List ℕ) (n : ℕ) (groups : List Group) : Type 0 where
+  above : All (λ g. n ≤ place_of g) groups
+  level : Level groups
+  few : (kind : GroupKind) → count_by (λ g. place_of g == group_place kind) groups ≤ most_groups kind
+  marks : All (λ g. All (IsMark lengths g.kind) g.marks) groups
+  rising : All (λ g. IsStrictlyIncreasing (map mark_place g.marks)) groups
+  few_marks : (kind : Kind) → count_by (is_of kind) (marks_in groups) ≤ 4096
 
-three_parts : (kind : Kind) (a b c : List Group) → count_by (is_of kind) (marks_in (a ++ (b ++ (c ++ [])))) ≡ count_by (is_of kind) (marks_in a) + (count_by (is_of kind) (marks_in b) + count_by (is_of kind) (marks_in c))
-three_parts kind a b c =
-    ap (count_by (is_of kind)) (flat_map-append (λ g. g.marks) a (b ++ (c ++ [])) ∙ ap (λ (l : List Mark). marks_in a ++ l) (flat_map-append (λ g. g.marks) b (c ++ []) ∙ ap (λ (l : List Mark). marks_in b ++ l) (flat_map-append (λ g. g.marks) c [])))
-    ∙ omega (
-      arith,
-      sum_by-append (λ m. cond (is_of kind m) 1 0) (marks_in a) (marks_in b ++ (marks_in c ++ [])),
-      sum_by-append (λ m. cond (is_of kind m) 1 0) (marks_in b) (marks_in c ++ []),
-      sum_by-append (λ m. cond (is_of kind m) 1 0) (marks_in c) [],
-    )
-
-few_in_all : (x y z a b c : ℕ) (p q r : Bool) → x ≤ cond p a 0 → y ≤ cond q b 0 → z ≤ cond r c 0 → x + (y + z) ≤ cond p a 0 + (cond q b 0 + cond r c 0)
-few_in_all x y z a b c p q r h i j = omega (arith, h, i, j)
-
-abbrev IsFew : List ℕ → List Group → List Group → List Group → Kind → Type 0
-IsFew lengths a b c kind = count_by (is_of kind) (marks_in (a ++ (b ++ (c ++ [])))) ≤ MOST_MARKS
-
-marks_few : (lengths : List ℕ) (a b c : List Group) → AreOf lengths 0 1 a → AreOf lengths 1 MOST_GROUPS b → AreOf lengths 2 MOST_GROUPS c → (kind : Kind) → IsFew lengths a b c kind
-marks_few lengths a b c ga gb gc Gpt = omega (arith, three_parts Gpt a b c, marks_of lengths 0 1 a Gpt true ga refl, marks_of lengths 1 MOST_GROUPS b Gpt false gb refl, marks_of lengths 2 MOST_GROUPS c Gpt false gc refl)
-marks_few lengths a b c ga gb gc Boot = omega (arith, three_parts Boot a b c, marks_of lengths 0 1 a Boot false ga refl, marks_of lengths 1 MOST_GROUPS b Boot true gb refl, marks_of lengths 2 MOST_GROUPS c Boot false gc refl)
-marks_few lengths a b c ga gb gc FileRecord = omega (arith, three_parts FileRecord a b c, marks_of lengths 0 1 a FileRecord false ga refl, marks_of lengths 1 MOST_GROUPS b FileRecord true gb refl, marks_of lengths 2 MOST_GROUPS c FileRecord false gc refl)
-marks_few lengths a b c ga gb gc Super = omega (arith, three_parts Super a b c, marks_of lengths 0 1 a Super false ga refl, marks_of lengths 1 MOST_GROUPS b Super false gb refl, marks_of lengths 2 MOST_GROUPS c Super true gc refl)
-marks_few lengths a b c ga gb gc Agf = omega (arith, three_parts Agf a b c, marks_of lengths 0 1 a Agf false ga refl, marks_of lengths 1 MOST_GROUPS b Agf false gb refl, marks_of lengths 2 MOST_GROUPS c Agf true gc refl)
-marks_few lengths a b c ga gb gc Agi = omega (arith, three_parts Agi a b c, marks_of lengths 0 1 a Agi false ga refl, marks_of lengths 1 MOST_GROUPS b Agi false gb refl, marks_of lengths 2 MOST_GROUPS c Agi true gc refl)
-
-groups_few : (lengths : List ℕ) (a b c : List Group) → AreOf lengths 0 1 a → AreOf lengths 1 MOST_GROUPS b → AreOf lengths 2 MOST_GROUPS c → (kind : GroupKind) → count_by (λ g. place_of g == group_place kind) (a ++ (b ++ (c ++ []))) ≤ most_groups kind
-groups_few lengths a b c ga gb gc GptGroup =
-    omega (
-      arith,
-      sum_by-append (λ g. cond (place_of g == 0) 1 0) a (b ++ (c ++ [])),
-      sum_by-append (λ g. cond (place_of g == 0) 1 0) b (c ++ []),
-      sum_by-append (λ g. cond (place_of g == 0) 1 0) c [],
-      counted_at 0 0 true a refl ga.place,
-      counted_at 1 0 false b refl gb.place,
-      counted_at 2 0 false c refl gc.place,
-      ga.few,
-    )
-groups_few lengths a b c ga gb gc NtfsGroup =
-    omega (
-      arith,
-      sum_by-append (λ g. cond (place_of g == 1) 1 0) a (b ++ (c ++ [])),
-      sum_by-append (λ g. cond (place_of g == 1) 1 0) b (c ++ []),
-      sum_by-append (λ g. cond (place_of g == 1) 1 0) c [],
-      counted_at 0 1 false a refl ga.place,
-      counted_at 1 1 true b refl gb.place,
-      counted_at 2 1 false c refl gc.place,
-      gb.few,
-    )
-groups_few lengths a b c ga gb gc XfsGroup =
-    omega (
-      arith,
-      sum_by-append (λ g. cond (place_of g == 2) 1 0) a (b ++ (c ++ [])),
-      sum_by-append (λ g. cond (place_of g == 2) 1 0) b (c ++ []),
-      sum_by-append (λ g. cond (place_of g == 2) 1 0) c [],
-      counted_at 0 2 false a refl ga.place,
-      counted_at 1 2 false b refl gb.place,
-      counted_at 2 2 true c refl gc.place,
-      gc.few,
-    )
-
-each_of : (P : Group → Type 0) (a b c : List Group) → All P a → All P b → All P c → All P (a ++ (b ++ (c ++ [])))
-each_of P a b c pa pb pc = All-append P a (b ++ (c ++ [])) pa (All-append P b (c ++ []) pb (All-append P c [] pc (All-nil P)))
-
-together : (lengths : List ℕ) (a b c : List Group) → AreOf lengths 0 1 a → AreOf lengths 1 MOST_GROUPS b → AreOf lengths 2 MOST_GROUPS c → AreGroups lengths (a ++ (b ++ (c ++ [])))
+none_from : (lengths : List ℕ) (n : ℕ) → AreFrom lengths n []
 unfolding Level
-together lengths a b c ga gb gc = record {
-  order = never_falls (a ++ (b ++ (c ++ [])))
-      (level_append 0 a (b ++ (c ++ [])) ga.place
-      (All-append (λ g. 0 ≤ place_of g) b (c ++ []) (from_place 0 1 b (omega arith) gb.place) (All-append (λ g. 0 ≤ place_of g) c [] (from_place 0 2 c (omega arith) gc.place) (All-nil (λ g. 0 ≤ place_of g))))
-      (level_append 1 b (c ++ []) gb.place (All-append (λ g. 1 ≤ place_of g) c [] (from_place 1 2 c (omega arith) gc.place) (All-nil (λ g. 1 ≤ place_of g)))
-      (level_append 2 c [] gc.place (All-nil (λ g. 2 ≤ place_of g)) tt)));
-  few = groups_few lengths a b c ga gb gc;
-  marks = each_of (λ g. All (IsMark lengths g.kind) g.marks) a b c ga.marks gb.marks gc.marks;
-  rising = each_of (λ g. IsStrictlyIncreasing (map mark_place g.marks)) a b c ga.rising gb.rising gc.rising;
-  few_marks = marks_few lengths a b c ga gb gc;
+none_from lengths n = record {
+  above = All-nil (λ g. n ≤ place_of g);
+  level = tt;
+  few = λ kind. omega arith;
+  marks = All-nil (λ g. All (IsMark lengths g.kind) g.marks);
+  rising = All-nil (λ g. IsStrictlyIncreasing (map mark_place g.marks));
+  few_marks = λ kind. omega arith;
 }
+
+few_groups : (lengths : List ℕ) (kind : GroupKind) (a rest : List Group) → AreOf lengths (group_place kind) (most_groups kind) a → AreFrom lengths (group_place kind + 1) rest → (other : GroupKind) (b : Bool) → eqb (group_place kind) (group_place other) ≡ b →
+    count_by (λ g. place_of g == group_place other) (a ++ rest) ≤ most_groups other
+few_groups lengths kind a rest are from other true e =
+    let same : kind ≡ other = same_group kind other (eqb-true (group_place kind) (group_place other) e) in
+    let most : most_groups kind ≡ most_groups other = ap most_groups same in
+    let at : group_place kind ≡ group_place other = ap group_place same in
+    omega (
+      arith,
+      sum_by-append (λ g. cond (place_of g == group_place other) 1 0) a rest,
+      counted_at (group_place kind) (group_place other) true a e are.place,
+      none_before (group_place kind + 1) (group_place other) rest (omega (arith, at)) from.above,
+      are.few,
+      most,
+    )
+few_groups lengths kind a rest are from other false e =
+    omega (
+      arith,
+      sum_by-append (λ g. cond (place_of g == group_place other) 1 0) a rest,
+      counted_at (group_place kind) (group_place other) false a e are.place,
+      from.few other,
+    )
+
+few_of : (lengths : List ℕ) (kind : GroupKind) (a rest : List Group) → AreOf lengths (group_place kind) (most_groups kind) a → AreFrom lengths (group_place kind + 1) rest → (of : Kind) (b : Bool) → eqb (group_place kind) (group_place (group_of of)) ≡ b →
+    count_by (is_of of) (marks_in (a ++ rest)) ≤ 4096
+few_of lengths kind a rest are from of true e =
+    let at : group_place kind ≡ group_place (group_of of) = eqb-true (group_place kind) (group_place (group_of of)) e in
+    let others : All (λ m. eqb (owned m) (group_place (group_of of)) ≡ false) (marks_in rest) =
+    marks_at lengths (λ n. eqb n (group_place (group_of of)) ≡ false) rest
+    (All-weaker (λ g. group_place kind + 1 ≤ place_of g) (λ g. eqb (place_of g) (group_place (group_of of)) ≡ false) (λ g le. other_place (group_place kind + 1) (group_place (group_of of)) (place_of g) le (omega (arith, at))) rest from.above) from.marks in
+    omega (
+      arith,
+      ap (count_by (is_of of)) (flat_map-append (λ g. g.marks) a rest),
+      sum_by-append (λ m. cond (is_of of m) 1 0) (marks_in a) (marks_in rest),
+      are.few_marks_in of,
+      none_of of (marks_in rest) others,
+    )
+few_of lengths kind a rest are from of false e =
+    let others : All (λ m. eqb (owned m) (group_place (group_of of)) ≡ false) (marks_in a) =
+    marks_at lengths (λ n. eqb n (group_place (group_of of)) ≡ false) a
+    (All-weaker (λ g. place_of g ≡ group_place kind) (λ g. eqb (place_of g) (group_place (group_of of)) ≡ false) (λ g at. ap (λ (n : ℕ). eqb n (group_place (group_of of))) at ∙ e) a are.place) are.marks in
+    omega (
+      arith,
+      ap (count_by (is_of of)) (flat_map-append (λ g. g.marks) a rest),
+      sum_by-append (λ m. cond (is_of of m) 1 0) (marks_in a) (marks_in rest),
+      none_of of (marks_in a) others,
+      from.few_marks of,
+    )
+
+-- the groups of a kind before those of kinds that come later
+joined : (lengths : List ℕ) (n : ℕ) (kind : GroupKind) (a rest : List Group) → n ≤ group_place kind → AreOf lengths (group_place kind) (most_groups kind) a → AreFrom lengths (group_place kind + 1) rest → AreFrom lengths n (a ++ rest)
+joined lengths n kind a rest le are from = record {
+  above = All-append (λ g. n ≤ place_of g) a rest (from_place n (group_place kind) a le are.place) (All-weaker (λ g. group_place kind + 1 ≤ place_of g) (λ g. n ≤ place_of g) (λ g later. omega (arith, later, le)) rest from.above);
+  level = level_append (group_place kind) a rest are.place (All-weaker (λ g. group_place kind + 1 ≤ place_of g) (λ g. group_place kind ≤ place_of g) (λ g later. omega (arith, later)) rest from.above) from.level;
+  few = λ other. few_groups lengths kind a rest are from other (eqb (group_place kind) (group_place other)) refl;
+  marks = All-append (λ g. All (IsMark lengths g.kind) g.marks) a rest are.marks from.marks;
+  rising = All-append (λ g. IsStrictlyIncreasing (map mark_place g.marks)) a rest are.rising from.rising;
+  few_marks = λ of. few_of lengths kind a rest are from of (eqb (group_place kind) (group_place (group_of of))) refl;
+}
+
+-- kinds whose places rise, from one on
+Rise : ℕ → List GroupKind → Type 0
+Rise n [] = Unit {0}
+Rise n (kind ∷ kinds) = (n ≤ group_place kind) × Rise (group_place kind + 1) kinds
+
+are_from : (lengths : List ℕ) (found : List Sighting) → AreSightings lengths found → (n : ℕ) (kinds : List GroupKind) → Rise n kinds → AreFrom lengths n (flat_map (groups_in found) kinds)
+unfolding Rise
+are_from lengths found are n [] rise = none_from lengths n
+are_from lengths found are n (kind ∷ kinds) rise =
+    joined lengths n kind (groups_in found kind) (flat_map (groups_in found) kinds) rise.0 (of_kind lengths found kind are) (are_from lengths found are (group_place kind + 1) kinds rise.1)
+
+all_rise : Rise 0 all_groups
+unfolding Rise
+all_rise = (omega arith, (omega arith, (omega arith, tt)))
 
 pub are_groups : (lengths : List ℕ) (found : List Sighting) → AreSightings lengths found → AreGroups lengths (groups_of found)
 are_groups lengths found are =
-    together lengths (groups_in found GptGroup) (groups_in found NtfsGroup) (groups_in found XfsGroup) (of_kind lengths found GptGroup are) (of_kind lengths found NtfsGroup are) (of_kind lengths found XfsGroup are)
+    let from = are_from lengths found are 0 all_groups all_rise in
+    record { order = never_falls (groups_of found) from.level; few = from.few; marks = from.marks; rising = from.rising; few_marks = from.few_marks }

@@ -3,7 +3,7 @@ use Rattle.std.proofs.Common.{◌≡◌, ℕ, zero, suc, ◌+◌, ◌^◌, ◌<�
 use Rattle.std.specs.Option.{option_map}
 use Rattle.std.proofs.lemmas.List.{length-map, take_all}
 use Rattle.std.proofs.lemmas.List.Elements.{All-map}
-use Rattle.image_source.specs.Seen.{Image, lengths_of}
+use Rattle.outside.specs.Seen.{Image, lengths_of}
 use Rattle.search_plan.specs.Plans.{AreLengths}
 use Rattle.raid_params.specs.declared.limits.TheConstants.{MOST}
 

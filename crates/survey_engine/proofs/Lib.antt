@@ -1,3 +1,4 @@
+pub mod FourthByte
 pub mod Landmarks
 pub mod Rules
 pub mod Order

@@ -9,7 +9,7 @@ use Rattle.std.proofs.lemmas.List.Elements.{All-cons, All-head, All-nil, All-tai
 use Rattle.ntfs_marks.specs.Boot.{is_within_limit}
 use Rattle.ntfs_marks.specs.declared.boot.NtfsBoot.{NtfsBoot}
 use Rattle.ntfs_marks.specs.declared.file_record.NtfsRecord.{NtfsRecord}
-use Rattle.xfs_marks.specs.Superblock.{end_sector, group_sectors, is_sound}
+use Rattle.xfs_marks.specs.Superblock.{end_sector, ag_sectors, is_sound}
 use Rattle.xfs_marks.specs.declared.superblock.XfsSuper.{XfsSuper}
 use Rattle.landmark_rules.specs.Groups.{group_of, mark_place, IsMark}
 use Rattle.landmark_rules.specs.Rules.{IsRule}
@@ -17,8 +17,8 @@ use Rattle.landmark_rules.specs.declared.marks.Mark.{Mark}
 use Rattle.landmark_rules.specs.declared.marks.Rule.{Rule}
 use Rattle.landmark_rules.specs.declared.marks.Rule.TheVariants.{Either, Every}
 use Rattle.survey_engine.specs.Landmarks.{kind_of, IsSound}
-use Rattle.survey_engine.specs.Owners.{group_kind, group_rule, is_same_boot, is_same_super, mark_in, record_rule, rule_in, IsSoundOwner}
-use Rattle.survey_engine.specs.Sightings.{sighting_place, AreRising, IsSighting}
+use Rattle.survey_engine.specs.Owners.{group_kind, ag_rule, is_same_boot, is_same_super, mark_in, record_rule, rule_in, IsSoundOwner}
+use Rattle.survey_engine.specs.Sightings.{sighting_place, AreRising, IsInImages}
 use Rattle.survey_engine.specs.declared.landmark.Landmark.{Landmark}
 use Rattle.survey_engine.specs.declared.landmark.Landmark.TheVariants.{Gpt, Boot, FileRecord, Super, Agf, Agi}
 use Rattle.survey_engine.specs.declared.owner.Owner.{Owner}
@@ -42,30 +42,30 @@ total_near : (b : NtfsBoot) → is_within_limit b ≡ true → b.total < 2 ^ 55
 unfolding is_within_limit
 total_near b sound = grind (arith, nat_tests)
 
-some_sectors : (x : XfsSuper) → 512 ≤ x.block → 1 ≤ x.ag_blocks → 1 ≤ group_sectors x
-unfolding group_sectors
+some_sectors : (x : XfsSuper) → 512 ≤ x.block → 1 ≤ x.ag_blocks → 1 ≤ ag_sectors x
+unfolding ag_sectors
 some_sectors x block blocks =
     let most : 1 * 512 ≤ x.ag_blocks * x.block = mul-le 1 512 x.ag_blocks x.block blocks block in
     omega arith
 
-steps_near : (x : XfsSuper) → is_sound x ≡ true → (group_sectors x < 2 ^ 55) × (x.ag_count < 2 ^ 55) × (0 < 2 ^ 55) × (group_sectors x * x.ag_count + 0 < 2 ^ 55)
+steps_near : (x : XfsSuper) → is_sound x ≡ true → (ag_sectors x < 2 ^ 55) × (x.ag_count < 2 ^ 55) × (0 < 2 ^ 55) × (ag_sectors x * x.ag_count + 0 < 2 ^ 55)
 unfolding is_sound end_sector
 steps_near x sound =
     let block : 512 ≤ x.block = grind (arith, nat_tests) in
     let blocks : 1 ≤ x.ag_blocks = grind (arith, nat_tests) in
     let groups : 1 ≤ x.ag_count = grind (arith, nat_tests) in
-    let last : group_sectors x * x.ag_count + 2 * (x.sector / 512) < 2 ^ 55 = grind (arith, nat_tests) in
+    let last : ag_sectors x * x.ag_count + 2 * (x.sector / 512) < 2 ^ 55 = grind (arith, nat_tests) in
     let step = some_sectors x block blocks in
-    let by_count : group_sectors x * 1 ≤ group_sectors x * x.ag_count = mul-le (group_sectors x) 1 (group_sectors x) x.ag_count (omega arith) groups in
-    let by_step : 1 * x.ag_count ≤ group_sectors x * x.ag_count = mul-le 1 x.ag_count (group_sectors x) x.ag_count step (omega arith) in
+    let by_count : ag_sectors x * 1 ≤ ag_sectors x * x.ag_count = mul-le (ag_sectors x) 1 (ag_sectors x) x.ag_count (omega arith) groups in
+    let by_step : 1 * x.ag_count ≤ ag_sectors x * x.ag_count = mul-le 1 x.ag_count (ag_sectors x) x.ag_count step (omega arith) in
     (omega arith, omega arith, omega arith, omega arith)
 
 record_rule_is : (b : NtfsBoot) (r : NtfsRecord) → is_within_limit b ≡ true → r.number < 16 → IfSome (record_rule b r) IsRule
 unfolding record_rule
 record_rule_is b r sound below = if_passed _ _ (λ same. (in_table b r.number sound below, in_mirror b r.number sound below))
 
-group_rule_is : (x : XfsSuper) (g s : ℕ) → is_sound x ≡ true → s ≤ 2 → IfSome (group_rule x g s) IsRule
-unfolding group_rule
+group_rule_is : (x : XfsSuper) (g s : ℕ) → is_sound x ≡ true → s ≤ 2 → IfSome (ag_rule x g s) IsRule
+unfolding ag_rule
 group_rule_is x g s sound few = if_passed _ _ (λ less. head_near x g s sound (grind (arith, nat_tests)) few)
 
 if_alone : (alone : Bool) (rule : Option Rule) → IfSome rule IsRule → IfSome (cond alone rule None) IsRule
@@ -77,9 +77,9 @@ unfolding rule_in
 rule_is Table alone (Gpt h) so sl = sl
 rule_is (Ntfs b) alone (Boot c) so sl = if_passed (is_same_boot b c) (Either 0 b.total) (λ same. (omega arith, total_near b so))
 rule_is (Ntfs b) alone (FileRecord r) so sl = if_alone alone (record_rule b r) (record_rule_is b r so sl)
-rule_is (Xfs x) alone (Super y) so sl = if_passed (is_same_super x y) (Every (group_sectors x) x.ag_count 0) (λ same. steps_near x so)
-rule_is (Xfs x) alone (Agf g) so sl = if_alone alone (group_rule x g 1) (group_rule_is x g 1 so (omega arith))
-rule_is (Xfs x) alone (Agi g) so sl = if_alone alone (group_rule x g 2) (group_rule_is x g 2 so (omega arith))
+rule_is (Xfs x) alone (Super y) so sl = if_passed (is_same_super x y) (Every (ag_sectors x) x.ag_count 0) (λ same. steps_near x so)
+rule_is (Xfs x) alone (Agf g) so sl = if_alone alone (ag_rule x g 1) (group_rule_is x g 1 so (omega arith))
+rule_is (Xfs x) alone (Agi g) so sl = if_alone alone (ag_rule x g 2) (group_rule_is x g 2 so (omega arith))
 rule_is o alone l so sl = tt
 
 any_rule : (P : Type 0) (rule : Option Rule) → P → IfSome rule (λ r. P)
@@ -91,21 +91,21 @@ unfolding rule_in
 kind_is Table alone (Gpt h) = refl
 kind_is (Ntfs b) alone (Boot c) = any_rule _ (cond (is_same_boot b c) (Some (Either 0 b.total)) None) refl
 kind_is (Ntfs b) alone (FileRecord r) = any_rule _ (cond alone (record_rule b r) None) refl
-kind_is (Xfs x) alone (Super y) = any_rule _ (cond (is_same_super x y) (Some (Every (group_sectors x) x.ag_count 0)) None) refl
-kind_is (Xfs x) alone (Agf g) = any_rule _ (cond alone (group_rule x g 1) None) refl
-kind_is (Xfs x) alone (Agi g) = any_rule _ (cond alone (group_rule x g 2) None) refl
+kind_is (Xfs x) alone (Super y) = any_rule _ (cond (is_same_super x y) (Some (Every (ag_sectors x) x.ag_count 0)) None) refl
+kind_is (Xfs x) alone (Agf g) = any_rule _ (cond alone (ag_rule x g 1) None) refl
+kind_is (Xfs x) alone (Agi g) = any_rule _ (cond alone (ag_rule x g 2) None) refl
 kind_is o alone l = tt
 
 -- ---- marks
 
-of_rule : (lengths : List ℕ) (o : Owner) (s : Sighting) (rule : Option Rule) → IsSighting lengths s → IfSome rule IsRule → IfSome rule (λ r. group_of (kind_of s.landmark) ≡ group_kind o) →
+of_rule : (lengths : List ℕ) (o : Owner) (s : Sighting) (rule : Option Rule) → IsInImages lengths s → IfSome rule IsRule → IfSome rule (λ r. group_of (kind_of s.landmark) ≡ group_kind o) →
     IfSome (option_map (λ r. record { kind = kind_of s.landmark; image = s.image; sector = s.sector; rule = r }) rule) (IsMark lengths (group_kind o))
 of_rule lengths o s None is rule kind = tt
 of_rule lengths o s (Some r) is rule kind = record { kind_of = kind; image = is.image; sector = is.sector; rule = rule }
 
-pub are_marks : (lengths : List ℕ) (o : Owner) (alone : Bool) (found : List Sighting) → IsSoundOwner o → All (IsSighting lengths) found → All (IsMark lengths (group_kind o)) (filter_map (mark_in o alone) found)
+pub are_marks : (lengths : List ℕ) (o : Owner) (alone : Bool) (found : List Sighting) → IsSoundOwner o → All (IsInImages lengths) found → All (IsMark lengths (group_kind o)) (filter_map (mark_in o alone) found)
 are_marks lengths o alone found so each =
-    mapped_each (IsSighting lengths) (IsMark lengths (group_kind o)) (mark_in o alone) (λ s is. of_rule lengths o s (rule_in o alone s.landmark) is (rule_is o alone s.landmark so is.sound) (kind_is o alone s.landmark)) found each
+    mapped_each (IsInImages lengths) (IsMark lengths (group_kind o)) (mark_in o alone) (λ s is. of_rule lengths o s (rule_in o alone s.landmark) is (rule_is o alone s.landmark so is.sound) (kind_is o alone s.landmark)) found each
 
 -- ---- they rise
 

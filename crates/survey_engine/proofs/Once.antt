@@ -7,12 +7,12 @@ use Rattle.std.proofs.lemmas.Bool.{eqb-true}
 use Rattle.std.proofs.lemmas.List.Sums.{count_by-le-length, sum_by-append, sum_by-cons}
 use Rattle.ntfs_marks.specs.declared.boot.NtfsBoot.{NtfsBoot}
 use Rattle.ntfs_marks.specs.declared.file_record.NtfsRecord.{NtfsRecord}
-use Rattle.xfs_marks.specs.Superblock.{group_sectors}
+use Rattle.xfs_marks.specs.Superblock.{ag_sectors}
 use Rattle.xfs_marks.specs.declared.superblock.XfsSuper.{XfsSuper}
 use Rattle.gpt_marks.specs.declared.header.GptHeader.{GptHeader}
 use Rattle.landmark_rules.specs.Groups.{kind_place}
-use Rattle.landmark_rules.specs.declared.marks.GroupKind.{GroupKind}
-use Rattle.landmark_rules.specs.declared.marks.Kind.{Kind}
+use Rattle.mark_kinds.specs.declared.groups.GroupKind.{GroupKind}
+use Rattle.mark_kinds.specs.declared.sectors.Kind.{Kind}
 use Rattle.landmark_rules.specs.declared.marks.Mark.{Mark}
 use Rattle.landmark_rules.specs.declared.marks.Rule.{Rule}
 use Rattle.landmark_rules.specs.declared.marks.Rule.TheVariants.{Either, Every}
@@ -61,7 +61,7 @@ takes_super : (alone : Bool) (y : XfsSuper) (o : Owner) → is_some (rule_in o a
 unfolding rule_in
 takes_super alone y Table takes = takes
 takes_super alone y (Ntfs b) takes = takes
-takes_super alone y (Xfs x) takes = sym (passed (is_same_super x y) (Every (group_sectors x) x.ag_count 0)) ∙ takes
+takes_super alone y (Xfs x) takes = sym (passed (is_same_super x y) (Every (ag_sectors x) x.ag_count 0)) ∙ takes
 
 takes_header : (alone : Bool) (h : GptHeader) (o : Owner) → is_some (rule_in o alone (Gpt h)) ≡ true → is_same_owner o Table ≡ true
 unfolding rule_in

@@ -2,7 +2,7 @@
 use Rattle.std.proofs.Common.{ℕ, ◌<◌, ◌≤◌, List, [], ◌∷◌, ◌++◌, Bool, true, false, cond, arith, All}
 use Rattle.std.proofs.lemmas.List.Elements.{All-head, All-nil, All-push, All-tail, All-weaker}
 use Rattle.survey_engine.specs.Kept.{kept_with}
-use Rattle.survey_engine.specs.Sightings.{is_early, sighting_place, AreBefore, AreRising, IsSighting}
+use Rattle.survey_engine.specs.Sightings.{is_early, sighting_place, AreBefore, AreRising, IsInImages}
 use Rattle.survey_engine.specs.declared.sighting.Sighting.{Sighting}
 
 -- one more sighting, after all others
@@ -15,7 +15,7 @@ rising_push (t ∷ found) s rising below = (
 
 -- nothing is before any place
 pub before_none : (lengths : List ℕ) (place : ℕ) → AreBefore lengths place []
-before_none lengths place = record { each = All-nil (IsSighting lengths); rising = tt; below = All-nil (λ s. sighting_place s < place) }
+before_none lengths place = record { each = All-nil (IsInImages lengths); rising = tt; below = All-nil (λ s. sighting_place s < place) }
 
 -- what is before a place is before a later one
 pub before_up : (lengths : List ℕ) (place next : ℕ) (found : List Sighting) → place ≤ next → AreBefore lengths place found → AreBefore lengths next found
@@ -25,16 +25,16 @@ before_up lengths place next found le before = record {
   below = All-weaker (λ s. sighting_place s < place) (λ s. sighting_place s < next) (λ s h. omega (arith, h)) found before.below;
 }
 
-more : (lengths : List ℕ) (place next : ℕ) (found : List Sighting) (s : Sighting) (early : Bool) → place ≤ sighting_place s → sighting_place s < next → IsSighting lengths s →
+more : (lengths : List ℕ) (place next : ℕ) (found : List Sighting) (s : Sighting) (early : Bool) → place ≤ sighting_place s → sighting_place s < next → IsInImages lengths s →
     AreBefore lengths place found → AreBefore lengths next (cond early (found ++ s ∷ []) found)
 more lengths place next found s true low high is before = record {
-  each = All-push (IsSighting lengths) found s before.each is;
+  each = All-push (IsInImages lengths) found s before.each is;
   rising = rising_push found s before.rising (All-weaker (λ t. sighting_place t < place) (λ t. sighting_place t < sighting_place s) (λ t h. omega (arith, h)) found before.below);
   below = All-push (λ t. sighting_place t < next) found s (All-weaker (λ t. sighting_place t < place) (λ t. sighting_place t < next) (λ t h. omega (arith, h)) found before.below) high;
 }
 more lengths place next found s false low high is before = before_up lengths place next found (omega arith) before
 
 -- one more sighting, which may count
-pub before_more : (lengths : List ℕ) (place next : ℕ) (found : List Sighting) (s : Sighting) → place ≤ sighting_place s → sighting_place s < next → IsSighting lengths s →
+pub before_more : (lengths : List ℕ) (place next : ℕ) (found : List Sighting) (s : Sighting) → place ≤ sighting_place s → sighting_place s < next → IsInImages lengths s →
     AreBefore lengths place found → AreBefore lengths next (kept_with is_early found s)
 before_more lengths place next found s low high is before = more lengths place next found s (is_early found s) low high is before

@@ -12,7 +12,7 @@ use Rattle.std.specs.Str.{bytes_eq}
 use Rattle.ntfs_marks.specs.declared.boot.NtfsBoot.{NtfsBoot}
 use Rattle.xfs_marks.specs.declared.superblock.XfsSuper.{XfsSuper}
 use Rattle.landmark_rules.specs.Groups.{group_place, most_groups}
-use Rattle.landmark_rules.specs.declared.marks.GroupKind.{GroupKind}
+use Rattle.mark_kinds.specs.declared.groups.GroupKind.{GroupKind}
 use Rattle.survey_engine.specs.Kept.{kept_with}
 use Rattle.survey_engine.specs.Landmarks.{IsSound}
 use Rattle.survey_engine.specs.Owners.{group_kind, is_new, is_same_boot, is_same_owner, is_same_super, owner_among, owner_in, owners_of, IsSoundOwner}

@@ -10,7 +10,7 @@ use Rattle.image_blocks.specs.Sweep.{Swept}
 use Rattle.survey_engine.specs.Blocks.{found_at, found_in_block, found_in_row}
 use Rattle.survey_engine.specs.Kept.{kept_with}
 use Rattle.survey_engine.specs.Landmarks.{IsSound}
-use Rattle.survey_engine.specs.Sightings.{is_early, AreBefore, IsSighting}
+use Rattle.survey_engine.specs.Sightings.{is_early, AreBefore, IsInImages}
 use Rattle.survey_engine.specs.declared.ask.Ask.{Ask}
 use Rattle.survey_engine.specs.declared.sighting.Sighting.{Sighting}
 use Rattle.raid_params.specs.declared.limits.TheConstants.{MOST}
@@ -83,7 +83,7 @@ reaches (n ∷ lengths) zero sector below long = omega (arith, All-head (λ n. s
 reaches (n ∷ lengths) (suc i) sector below long = reaches lengths i sector (omega arith) (All-tail (λ n. sector + 1 ≤ n) n lengths long)
 
 -- a sighting at a place of the row
-pub sighting_is : (lengths : List ℕ) (s : Sighting) (image sector : ℕ) → s.image ≡ image → s.sector ≡ sector → image < length lengths → length lengths ≤ MOST → All (λ n. sector + 1 ≤ n) lengths → IsSound s.landmark → IsSighting lengths s
+pub sighting_is : (lengths : List ℕ) (s : Sighting) (image sector : ℕ) → s.image ≡ image → s.sector ≡ sector → image < length lengths → length lengths ≤ MOST → All (λ n. sector + 1 ≤ n) lengths → IsSound s.landmark → IsInImages lengths s
 sighting_is lengths s image sector at_image at_sector below few long sound = record {
   image = omega arith;
   sector = rw (at_image, at_sector) (reaches lengths image sector below long);

@@ -4,9 +4,9 @@ use Rattle.std.proofs.Math.Nat.{mul-le-mul_right}
 use Rattle.ntfs_marks.specs.Boot.{is_within_limit, record_sector}
 use Rattle.ntfs_marks.specs.declared.boot.NtfsBoot.{NtfsBoot}
 use Rattle.ntfs_marks.proofs.Limits.{record_below}
-use Rattle.xfs_marks.specs.Superblock.{is_sound, group_sectors}
+use Rattle.xfs_marks.specs.Superblock.{is_sound, ag_sectors}
 use Rattle.xfs_marks.specs.declared.superblock.XfsSuper.{XfsSuper}
-use Rattle.xfs_marks.proofs.Limits.{group_below}
+use Rattle.xfs_marks.proofs.Limits.{ag_below}
 
 -- file records
 pub in_table : (boot : NtfsBoot) (r : ℕ) → is_within_limit boot ≡ true → r < 16 → record_sector boot boot.mft r < 2 ^ 55
@@ -16,10 +16,10 @@ pub in_mirror : (boot : NtfsBoot) (r : ℕ) → is_within_limit boot ≡ true �
 in_mirror boot r sound below = (record_below boot r sound below).1
 
 -- allocation groups and their heads
-pub group_near : (x : XfsSuper) (g : ℕ) → is_sound x ≡ true → g < x.ag_count → g * group_sectors x < 2 ^ 55
-group_near x g sound below = omega (arith, group_below x g sound below)
+pub ag_near : (x : XfsSuper) (g : ℕ) → is_sound x ≡ true → g < x.ag_count → g * ag_sectors x < 2 ^ 55
+ag_near x g sound below = omega (arith, ag_below x g sound below)
 
-pub head_near : (x : XfsSuper) (g s : ℕ) → is_sound x ≡ true → g < x.ag_count → s ≤ 2 → g * group_sectors x + s * (x.sector / 512) < 2 ^ 55
+pub head_near : (x : XfsSuper) (g s : ℕ) → is_sound x ≡ true → g < x.ag_count → s ≤ 2 → g * ag_sectors x + s * (x.sector / 512) < 2 ^ 55
 head_near x g s sound below few =
     let most : s * (x.sector / 512) ≤ 2 * (x.sector / 512) = mul-le-mul_right (x.sector / 512) few in
-    omega (arith, group_below x g sound below)
+    omega (arith, ag_below x g sound below)

@@ -9,16 +9,16 @@ use Rattle.std.proofs.lemmas.List.{drop-drop, drop-take, get_or-map, take-take, 
 use Rattle.std.proofs.lemmas.List.Concat.{flat_map-append}
 use Rattle.std.proofs.lemmas.List.Elements.{filter_map-append, All-head, All-map, All-same, All-weaker}
 use Rattle.std.proofs.lemmas.List.Sums.{fold-append, sum_by_push}
-use Rattle.image_source.specs.Attached.{told_all}
-use Rattle.image_source.specs.Seen.{Image, OnlyReads, Seen, lengths_of}
-use Rattle.image_source.proofs.Reading.{reads_join, reads_up}
+use Rattle.outside.specs.Attached.{told_all}
+use Rattle.outside.specs.Seen.{Image, OnlyReads, Seen, lengths_of}
+use Rattle.outside.proofs.Reading.{reads_join, reads_up}
 use Rattle.std.proofs.lemmas.Nat.{mul-le}
-use Rattle.image_source.proofs.Told.{told_all_length}
+use Rattle.outside.proofs.Told.{told_all_length}
 use Rattle.survey_engine.specs.Surveys.{found_in}
 use Rattle.image_blocks.specs.Sweep.{next_of, sectors_of, Swept}
-use Rattle.landmark_rules.specs.declared.marks.Kind.{Kind}
+use Rattle.mark_kinds.specs.declared.sectors.Kind.{Kind}
 use Rattle.landmark_rules.specs.Groups.{kind_place}
-use Rattle.raid_params.specs.declared.limits.TheConstants.{MOST_MARKS}
+use Rattle.landmark_rules.specs.declared.limits.TheConstants.{MOST_MARKS}
 use Rattle.survey_engine.specs.Blocks.{found_at, found_in_block, found_in_row}
 use Rattle.survey_engine.specs.Kept.{kept_with}
 use Rattle.survey_engine.specs.Landmarks.{kind_of, landmark_in}

@@ -1,14 +1,13 @@
 -- What a sector may be.
-use Rattle.std.specs.Prelude.{ℕ, ◌<◌, Bool, false, IsTrue, List, Option, Some, None, if◌then◌else◌}
+use Rattle.std.specs.Prelude.{ℕ, ◌<◌, Bool, false, IsTrue, List, Option, Some, None, if◌then◌else◌, ◌^◌}
 use Rattle.sector_fields.specs.Fields.{u32_be}
-use Rattle.sector_fields.specs.declared.TheConstants.{DISTANCE_LIMIT}
 use Rattle.gpt_marks.specs.Header.{is_gpt_header, gpt_header_of, is_own_table}
 use Rattle.ntfs_marks.specs.Boot.{is_ntfs_boot, is_within_limit, ntfs_boot_of}
 use Rattle.ntfs_marks.specs.FileRecord.{is_ntfs_record, ntfs_record_of}
 use Rattle.xfs_marks.specs.Superblock.{is_sound, is_xfs_super, xfs_super_of}
 use Rattle.xfs_marks.specs.Group.{is_xfs_agf, is_xfs_agi}
-use Rattle.landmark_rules.specs.declared.marks.Kind.{Kind}
-use Rattle.landmark_rules.specs.declared.marks.Kind.TheVariants.{Gpt as GptKind, Boot as BootKind, FileRecord as RecordKind, Super as SuperKind, Agf as AgfKind, Agi as AgiKind}
+use Rattle.mark_kinds.specs.declared.sectors.Kind.{Kind}
+use Rattle.mark_kinds.specs.declared.sectors.Kind.TheVariants.{Gpt as GptKind, Boot as BootKind, FileRecord as RecordKind, Super as SuperKind, Agf as AgfKind, Agi as AgiKind}
 use Rattle.survey_engine.specs.declared.landmark.Landmark.{Landmark}
 use Rattle.survey_engine.specs.declared.landmark.Landmark.TheVariants.{Gpt, Boot, FileRecord, Super, Agf, Agi}
 
@@ -43,7 +42,7 @@ is_own (Agi g) sector length = false
 
 -- the numbers of a landmark are within the limits that its test sets
 abbrev pub IsSound : Landmark → Type 0
-IsSound (Gpt h) = h.my_lba < DISTANCE_LIMIT
+IsSound (Gpt h) = h.my_lba < 2 ^ 55
 IsSound (Boot b) = IsTrue (is_within_limit b)
 IsSound (FileRecord r) = r.number < 16
 IsSound (Super x) = IsTrue (is_sound x)

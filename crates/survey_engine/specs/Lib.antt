@@ -1,5 +1,6 @@
 pub mod Kept
 pub mod Landmarks
+pub mod Exclusion
 pub mod Sightings
 pub mod Blocks
 pub mod Owners

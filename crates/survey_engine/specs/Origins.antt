@@ -2,7 +2,6 @@
 use Rattle.search_plan.specs.Plans.{AreRising}
 use Rattle.std.specs.Prelude.{ℕ, ◌+◌, ◌^◌, ◌<◌, ◌≤◌, All, length, Bool, false, ◌&&◌, ◌==◌, nat_lt, List, [], take, fold, if◌then◌else◌, slice_index, slice_index_or}
 use Rattle.std.specs.List.{filter_map, flat_map}
-use Rattle.raid_params.specs.declared.limits.TheConstants.{MOST_ORIGINS}
 use Rattle.gpt_marks.specs.Entry.{first_lbas}
 use Rattle.gpt_marks.specs.declared.header.GptHeader.{GptHeader}
 use Rattle.survey_engine.specs.Kept.{with_number}
@@ -33,17 +32,17 @@ is_followed lengths s = entries_follow s.landmark s.sector (slice_index lengths 
 unfoldable pub hints_at : List ℕ → List (List ℕ) → Sighting → List ℕ
 hints_at lengths images s = hints_by s.landmark s.sector (slice_index lengths s.image) (slice_index_or images s.image [])
 
--- a rising list with more numbers put in their places, cut to the first MOST_ORIGINS
+-- a rising list with more numbers put in their places, cut to the first 64
 abbrev pub with_numbers : List ℕ → List ℕ → List ℕ
-with_numbers old numbers = take MOST_ORIGINS (fold with_number old numbers)
+with_numbers old numbers = take 64 (fold with_number old numbers)
 
 -- the origins asked for and those that partition tables give, in rising order, of all these the first
--- MOST_ORIGINS
+-- 64
 unfoldable pub origins_of : List ℕ → List ℕ → List (List ℕ) → List Sighting → List ℕ
 origins_of asked lengths images found = with_numbers asked (flat_map (hints_at lengths images) found)
 
 -- origins that a plan may have
 pub record AreOrigins (origins : List ℕ) : Type 0 where
   pub rising : AreRising origins
-  pub few : length origins ≤ MOST_ORIGINS
+  pub few : length origins ≤ 64
   pub near : All (λ n. n < 2 ^ 55) origins

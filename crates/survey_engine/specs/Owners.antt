@@ -1,17 +1,17 @@
 -- What sightings belong to, their groups and the rules of their marks.
-use Rattle.std.specs.Prelude.{ℕ, ◌+◌, ◌*◌, ◌/◌, Bool, true, false, IsTrue, not, ◌&&◌, ◌==◌, nat_lt, List, [], ◌∷◌, length, map, Option, Some, None, option_and_then, if◌then◌else◌}
+use Rattle.std.specs.Prelude.{ℕ, ◌+◌, ◌*◌, ◌/◌, Bool, true, false, IsTrue, not, ◌&&◌, ◌==◌, nat_lt, List, length, map, Option, Some, None, option_and_then, if◌then◌else◌}
 use Rattle.std.specs.List.{filter_map, flat_map, list_any}
 use Rattle.std.specs.Option.{option_map}
 use Rattle.std.specs.Str.{bytes_eq}
 use Rattle.ntfs_marks.specs.Boot.{is_within_limit, record_sector}
 use Rattle.ntfs_marks.specs.declared.boot.NtfsBoot.{NtfsBoot}
 use Rattle.ntfs_marks.specs.declared.file_record.NtfsRecord.{NtfsRecord}
-use Rattle.xfs_marks.specs.Superblock.{group_sectors, is_sound}
+use Rattle.xfs_marks.specs.Superblock.{ag_sectors, is_sound}
 use Rattle.xfs_marks.specs.declared.superblock.XfsSuper.{XfsSuper}
-use Rattle.landmark_rules.specs.Groups.{group_place, most_groups}
+use Rattle.mark_kinds.specs.Table.{all_groups, is_same_group, most_groups}
 use Rattle.landmark_rules.specs.declared.marks.Group.{Group}
-use Rattle.landmark_rules.specs.declared.marks.GroupKind.{GroupKind}
-use Rattle.landmark_rules.specs.declared.marks.GroupKind.TheVariants.{Gpt as GptGroup, Ntfs as NtfsGroup, Xfs as XfsGroup}
+use Rattle.mark_kinds.specs.declared.groups.GroupKind.{GroupKind}
+use Rattle.mark_kinds.specs.declared.groups.GroupKind.TheVariants.{Gpt as GptGroup, Ntfs as NtfsGroup, Xfs as XfsGroup}
 use Rattle.landmark_rules.specs.declared.marks.Mark.{Mark}
 use Rattle.landmark_rules.specs.declared.marks.Rule.{Rule}
 use Rattle.landmark_rules.specs.declared.marks.Rule.TheVariants.{At, Either, Every}
@@ -56,7 +56,7 @@ owner_in (Super x) = Some (Xfs x)
 owner_in landmark = None
 
 abbrev pub owner_among : GroupKind → Sighting → Option Owner
-owner_among kind s = option_and_then (λ owner. if group_place (group_kind owner) == group_place kind then Some owner else None) (owner_in s.landmark)
+owner_among kind s = option_and_then (λ owner. if is_same_group (group_kind owner) kind then Some owner else None) (owner_in s.landmark)
 
 -- an owner that is new, where there is room for one more of its kind
 abbrev pub is_new : GroupKind → List Owner → Owner → Bool
@@ -74,8 +74,8 @@ record_rule b r =
 
 -- where a head of allocation group g may lie, if there is such a group: `sectors` sectors of the file
 -- system after its start
-unfoldable pub group_rule : XfsSuper → ℕ → ℕ → Option Rule
-group_rule x g sectors = if nat_lt g x.ag_count then Some (At (g * group_sectors x + sectors * (x.sector / 512))) else None
+unfoldable pub ag_rule : XfsSuper → ℕ → ℕ → Option Rule
+ag_rule x g sectors = if nat_lt g x.ag_count then Some (At (g * ag_sectors x + sectors * (x.sector / 512))) else None
 
 -- where a landmark may lie as a mark of an owner: a header of a table at its MyLBA, a boot sector at the
 -- start of the volume or, its copy, after the end, a superblock at the start of each group, an AGF one
@@ -85,9 +85,9 @@ unfoldable pub rule_in : Owner → Bool → Landmark → Option Rule
 rule_in Table alone (Gpt h) = Some (At h.my_lba)
 rule_in (Ntfs b) alone (Boot c) = if is_same_boot b c then Some (Either 0 b.total) else None
 rule_in (Ntfs b) alone (FileRecord r) = if alone then record_rule b r else None
-rule_in (Xfs x) alone (Super y) = if is_same_super x y then Some (Every (group_sectors x) x.ag_count 0) else None
-rule_in (Xfs x) alone (Agf g) = if alone then group_rule x g 1 else None
-rule_in (Xfs x) alone (Agi g) = if alone then group_rule x g 2 else None
+rule_in (Xfs x) alone (Super y) = if is_same_super x y then Some (Every (ag_sectors x) x.ag_count 0) else None
+rule_in (Xfs x) alone (Agf g) = if alone then ag_rule x g 1 else None
+rule_in (Xfs x) alone (Agi g) = if alone then ag_rule x g 2 else None
 rule_in owner alone landmark = None
 
 -- the numbers of an owner are within the limits that the test of its landmark sets
@@ -108,6 +108,6 @@ group_for found alone owner = record { kind = group_kind owner; marks = filter_m
 unfoldable pub groups_in : List Sighting → GroupKind → List Group
 groups_in found kind = map (group_for found (length (owners_of kind found) == 1)) (owners_of kind found)
 
--- the groups of what was found
+-- the groups of what was found, kind after kind
 abbrev pub groups_of : List Sighting → List Group
-groups_of found = flat_map (groups_in found) (GptGroup ∷ NtfsGroup ∷ XfsGroup ∷ [])
+groups_of found = flat_map (groups_in found) all_groups

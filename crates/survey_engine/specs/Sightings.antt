@@ -1,15 +1,12 @@
 -- Which sectors of images are sightings, and which of them count.
 use Rattle.std.specs.Prelude.{ℕ, ◌+◌, ◌*◌, ◌<◌, ◌≤◌, All, IsSomeAnd, slice_get, length, Bool, not, ◌&&◌, ◌==◌, nat_le, nat_lt, List, map, count_by, Option, Some, None, option_and_then, if◌then◌else◌, slice_index, slice_index_or, slice_range, [], ◌∷◌}
 use Rattle.std.specs.List.{filter_map, flat_map, list_any, range_with_len}
-use Rattle.raid_params.specs.declared.limits.TheConstants.{MOST, MOST_MARKS}
-use Rattle.landmark_rules.specs.Groups.{group_of, kind_place}
-use Rattle.landmark_rules.specs.declared.marks.Kind.{Kind}
-use Rattle.landmark_rules.specs.declared.marks.GroupKind.{GroupKind}
-use Rattle.landmark_rules.specs.declared.marks.GroupKind.TheVariants.{Gpt as GptGroup, Ntfs, Xfs}
+use Rattle.raid_params.specs.declared.limits.TheConstants.{MOST}
+use Rattle.mark_kinds.specs.Table.{group_of, is_group_asked, kind_place}
+use Rattle.mark_kinds.specs.declared.sectors.Kind.{Kind}
 use Rattle.survey_engine.specs.Kept.{kept}
 use Rattle.survey_engine.specs.Landmarks.{kind_of, is_own, landmark_in, IsSound}
 use Rattle.survey_engine.specs.declared.ask.Ask.{Ask}
-use Rattle.search_plan.specs.declared.looking.Kinds.{Kinds}
 use Rattle.survey_engine.specs.declared.landmark.Landmark.{Landmark}
 use Rattle.survey_engine.specs.declared.sighting.Sighting.{Sighting}
 
@@ -25,12 +22,6 @@ pub record Place : Type 0 where
 -- all sectors below `end` of `images` images, in order of sector, then image
 abbrev pub places : ℕ → ℕ → List Place
 places images end = flat_map (λ sector. map (λ image. record { sector = sector; image = image }) (range_with_len 0 images)) (range_with_len 0 end)
-
--- file systems and tables of a kind are asked for
-abbrev pub is_group_asked : Kinds → GroupKind → Bool
-is_group_asked kinds GptGroup = kinds.gpt
-is_group_asked kinds Ntfs = kinds.ntfs
-is_group_asked kinds Xfs = kinds.xfs
 
 -- a sector is dropped
 abbrev pub is_dropped : Ask → Place → Bool
@@ -64,11 +55,11 @@ sightings ask lengths images number = filter_map (sighting_at ask lengths images
 abbrev pub is_same_kind : Kind → Sighting → Bool
 is_same_kind kind s = kind_place (kind_of s.landmark) == kind_place kind
 
--- fewer than MOST_MARKS sightings of its kind stand before it
+-- fewer than 4,096 sightings of its kind stand before it
 abbrev pub is_early : List Sighting → Sighting → Bool
-is_early before s = nat_lt (count_by (is_same_kind (kind_of s.landmark)) before) MOST_MARKS
+is_early before s = nat_lt (count_by (is_same_kind (kind_of s.landmark)) before) 4096
 
--- the sightings that count: of each kind the first MOST_MARKS
+-- the sightings that count: of each kind the first 4,096
 unfoldable pub counted : List Sighting → List Sighting
 counted found = kept is_early found
 
@@ -77,7 +68,7 @@ abbrev pub sighting_place : Sighting → ℕ
 sighting_place s = s.sector * MOST + s.image
 
 -- a sighting lies in an image, and its numbers are within limits
-pub record IsSighting (lengths : List ℕ) (s : Sighting) : Type 0 where
+pub record IsInImages (lengths : List ℕ) (s : Sighting) : Type 0 where
   pub image : s.image < MOST
   pub sector : IsSomeAnd (slice_get lengths s.image) (λ n. s.sector < n)
   pub sound : IsSound s.landmark
@@ -89,12 +80,12 @@ AreRising (s ∷ found) = All (λ later. sighting_place s < sighting_place later
 
 -- sightings of these images that rise, all of them before this place in the order
 pub record AreBefore (lengths : List ℕ) (place : ℕ) (found : List Sighting) : Type 0 where
-  pub each : All (IsSighting lengths) found
+  pub each : All (IsInImages lengths) found
   pub rising : AreRising found
   pub below : All (λ s. sighting_place s < place) found
 
--- sightings of these images that rise, at most MOST_MARKS of each kind
+-- sightings of these images that rise, at most 4,096 of each kind
 pub record AreSightings (lengths : List ℕ) (found : List Sighting) : Type 0 where
-  pub each : All (IsSighting lengths) found
+  pub each : All (IsInImages lengths) found
   pub rising : AreRising found
-  pub few : (kind : Kind) → count_by (is_same_kind kind) found ≤ MOST_MARKS
+  pub few : (kind : Kind) → count_by (is_same_kind kind) found ≤ 4096

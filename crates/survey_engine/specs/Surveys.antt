@@ -1,10 +1,10 @@
 -- The plan that a survey makes.
-use Rattle.std.specs.Prelude.{ℕ, ◌≡◌, ◌+◌, ◌-◌, ◌*◌, ◌^◌, ◌≤◌, ◌<◌, List, length, map, count_by, slice_index, All, Option}
+use Rattle.std.specs.Prelude.{ℕ, ◌≡◌, ◌+◌, ◌-◌, ◌*◌, ◌^◌, ◌≤◌, ◌<◌, List, length, count_by, slice_index, All, Option}
 use Rattle.std.specs.Option.{option_map_or}
-use Rattle.image_source.specs.Attached.{told_all}
-use Rattle.image_source.specs.Causes.{Rose}
-use Rattle.image_source.specs.Seen.{Image, Seen, lengths_of}
-use Rattle.raid_params.specs.declared.limits.TheConstants.{MOST, MOST_MARKS}
+use Rattle.outside.specs.Attached.{told_all}
+use Rattle.outside.specs.Causes.{Rose}
+use Rattle.outside.specs.Seen.{Image, Seen, lengths_of}
+use Rattle.raid_params.specs.declared.limits.TheConstants.{MOST}
 use Rattle.search_plan.specs.Plans.{AreBounds, AreLimits, AreTests}
 use Rattle.search_plan.specs.declared.plan.Plan.{Plan}
 use Rattle.survey_engine.specs.Origins.{is_followed, origins_of}
@@ -34,9 +34,9 @@ abbrev pub found_in : Ask → List Image → List (List ℕ) → List Sighting
 found_in ask attached images = counted (sightings ask (lengths_of attached) images (length attached))
 
 -- the most sectors of entries that a survey reads: one for each sighting that counts and that entries follow, where the
--- bytes of the images are known, and else MOST_MARKS
+-- bytes of the images are known, and else 4,096
 abbrev pub entries_read : Option (List (List ℕ)) → Ask → List Image → ℕ
-entries_read told ask attached = option_map_or (λ images. count_by (is_followed (lengths_of attached)) (found_in ask attached images)) told MOST_MARKS
+entries_read told ask attached = option_map_or (λ images. count_by (is_followed (lengths_of attached)) (found_in ask attached images)) told 4096
 
 -- the most sectors that it reads: each of each image from the smallest offset to the end once, and those of entries
 unfoldable pub survey_reads : Ask → List Image → ℕ
@@ -57,7 +57,8 @@ pub record Adds (ask : Ask) (attached : List Image) (images : List (List ℕ)) (
   pub groups : plan.groups ≡ groups_of (found_in ask attached images)
   pub origins : plan.tests.origins.items ≡ origins_of ask.tests.origins.items (lengths_of attached) images (found_in ask attached images)
 
--- a survey ends without a plan where the images failed, or memory ran out
+-- a survey ends without a plan where the images failed, and their count of faults rose, or where memory ran out, and
+-- it stayed
 abbrev pub EndsSurvey : Seen → Seen → SurveyFault → Type 0
 EndsSurvey old new ReadFault = Rose old.faults new.faults
-EndsSurvey old new Memory = Unit {0}
+EndsSurvey old new Memory = new.faults ≡ old.faults

@@ -1,8 +1,8 @@
 //! What a survey is asked for.
 use arrayvec::ArrayVec;
 use landmark_rules::MarkTests;
-use raid_params::{Bounds, MOST_DROPS};
-use search_plan::{DropAt, Kinds, Limits};
+use raid_params::Bounds;
+use search_plan::{DropAt, Kinds, Limits, MOST_DROPS};
 
 /// What a survey is asked for: what the plan repeats, and which sectors are looked at.
 #[derive(Drop)]

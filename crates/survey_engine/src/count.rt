@@ -4,26 +4,24 @@ ghost use Rattle.survey_engine.specs.Kept.{kept_with};
 ghost use Rattle.survey_engine.specs.Sightings.{is_early};
 
 use crate::sighting::Sighting;
-use image_source::{ListOf, Memory};
-use raid_params::MOST_MARKS;
+use landmark_rules::MOST_MARKS;
+use mark_kinds::KIND_COUNT;
+use outside::{ListOf, Memory};
 use std::alloc::Global;
 use std::marker::Model;
 
-/// The kinds of landmark sectors: there are six.
-pub const KINDS: usize = 6;
-
 /// The sightings that count, with how many there are of each kind. Contracts see them as their list.
 #[derive(Drop)]
-pub struct Counted {
+pub struct Counter {
     found: ListOf<Sighting>,
     /// How many there are of each kind, by the kind's place.
-    counts: [usize; KINDS],
+    counts: [usize; KIND_COUNT],
 }
 
-impl Model for Counted {
+impl Model for Counter {
     ghost use Rattle.std.specs.Prelude.{◌≡◌, List, count_by, slice_index};
     ghost use Rattle.landmark_rules.specs.Groups.{kind_place};
-    ghost use Rattle.landmark_rules.specs.declared.marks.Kind.{Kind};
+    ghost use Rattle.mark_kinds.specs.declared.sectors.Kind.{Kind};
     ghost use Rattle.survey_engine.specs.Sightings.{is_same_kind};
     ghost use Rattle.survey_engine.specs.declared.sighting.Sighting.{Sighting};
 
@@ -34,14 +32,14 @@ impl Model for Counted {
     ghost invariant = { λ c. (kind : Kind) → slice_index c.counts (kind_place kind) ≡ count_by (is_same_kind kind) c.found };
 }
 
-impl Counted {
+impl Counter {
     /// None yet. It takes no memory.
-    pub fn new(alloc: Global) -> Counted
+    pub fn new(alloc: Global) -> Counter
         ensures { result ≡ [] }
     {
-        Counted {
+        Counter {
             found: ListOf::new(alloc),
-            counts: [0; KINDS],
+            counts: [0; KIND_COUNT],
         }
     }
 

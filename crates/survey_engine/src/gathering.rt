@@ -1,19 +1,19 @@
 //! The sightings of images.
 ghost use Rattle.std.specs.Prelude.{◌≡◌, ◌+◌, ◌-◌, ◌*◌, ◌^◌, ◌<◌, ◌≤◌, fold, length, slice_index, All, IfErr, IfOk, OnOk, IfSome};
 ghost use Rattle.image_blocks.specs.Sweep.{next_of};
-ghost use Rattle.image_source.specs.Attached.{told_all};
-ghost use Rattle.image_source.specs.Seen.{OnlyReads, lengths_of};
+ghost use Rattle.outside.specs.Attached.{told_all};
+ghost use Rattle.outside.specs.Seen.{OnlyReads, lengths_of};
 ghost use Rattle.survey_engine.specs.Blocks.{found_in_block, found_in_row};
 ghost use Rattle.survey_engine.specs.Kept.{kept_with};
 ghost use Rattle.survey_engine.specs.Sightings.{is_early, AreBefore, AreSightings};
 ghost use Rattle.survey_engine.specs.Surveys.{found_in, EndsSurvey, IsSurveyable};
 
 use crate::ask::Ask;
-use crate::count::Counted;
+use crate::count::Counter;
 use crate::planning::SurveyFault;
 use crate::sighting::{Sighting, first_sector, sighting_in};
 use image_blocks::Sweep;
-use image_source::{Images, ListOf, Memory};
+use outside::{Images, ListOf, Memory};
 use raid_params::MOST;
 use std::alloc::Global;
 
@@ -33,12 +33,13 @@ pub fn gather<I: Images>(
     ensures reads { OnlyReads (I.seen images.old) (I.seen images.new)
         (length (I.seen images.old).attached * (ask.now.end - slice_index ask.now.bounds.offsets.items 0)) }
     ensures ends { IfErr result (EndsSurvey (I.seen images.old) (I.seen images.new)) }
+    ensures stays { OnOk result ((I.seen images.new).faults ≡ (I.seen images.old).faults) }
 {
     let first = first_sector(ask).min(ask.end);
     let mut sweep = Sweep::new(alloc, lengths.len(), first, ask.end).map_err(
         |_| SurveyFault::Memory,
     )?;
-    let mut counted = Counted::new(alloc);
+    let mut counted = Counter::new(alloc);
     while sweep.advance(images).map_err(|_| SurveyFault::ReadFault)? {
         look_at_block(ask, lengths, &sweep, &mut counted).map_err(|_| SurveyFault::Memory)?;
     }
@@ -51,7 +52,7 @@ fn look_at_block(
     ask: &Ask,
     lengths: &[u64],
     sweep: &Sweep,
-    counted: &mut Counted,
+    counted: &mut Counter,
 ) -> Result<(), Memory>
     requires images { length sweep.now.blocks ≡ length lengths.now }
     requires few { length lengths.now ≤ MOST }
@@ -74,7 +75,7 @@ fn look_at_row(
     lengths: &[u64],
     sweep: &Sweep,
     place: usize,
-    counted: &mut Counted,
+    counted: &mut Counter,
 ) -> Result<(), Memory>
     requires images { length sweep.now.blocks ≡ length lengths.now }
     requires few { length lengths.now ≤ MOST }

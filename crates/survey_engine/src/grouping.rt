@@ -1,30 +1,42 @@
 //! The groups of marks that sightings make.
 ghost use Rattle.std.specs.Prelude.{◌≡◌, ◌++◌, ◌==◌, length, All, IfOk, IfSome, OnOk};
-ghost use Rattle.std.specs.List.{list_any};
-ghost use Rattle.landmark_rules.specs.Groups.{most_groups};
+ghost use Rattle.std.specs.List.{flat_map, list_any};
 ghost use Rattle.survey_engine.specs.Kept.{kept_with};
 ghost use Rattle.survey_engine.specs.Landmarks.{IsSound};
 ghost use Rattle.survey_engine.specs.Owners.{group_for, groups_in, groups_of, is_new, is_same_owner, owner_among, owners_of, IsSoundOwner};
 
 use crate::owner::Owner;
 use crate::sighting::Sighting;
-use image_source::{ListOf, Memory};
-use landmark_rules::{Group, GroupKind, Groups, Mark, Marks};
-use raid_params::MOST_GROUPS;
+use landmark_rules::{Group, Groups, Mark, Marks};
+use mark_kinds::{GROUPS, GroupKind};
+use outside::{ListOf, Memory};
 use std::alloc::Global;
 
-/// The groups of the sightings that count: that of the partition table, those of NTFS, those of XFS, each
-/// kind in the order of first sightings.
-#[tactic(auto, using(crate::proofs::Groups::three_kinds))]
+/// The groups of the sightings that count: kind after kind, each kind in the order of first sightings.
 pub fn groups(alloc: Global, found: &[Sighting]) -> Result<Groups, Memory>
     requires { All (λ s. IsSound s.landmark) found.now }
     ensures { IfOk result (λ groups. groups ≡ groups_of found.now) }
 {
     let mut groups = Groups::new(alloc);
-    add_groups(alloc, GroupKind::Gpt, found, &mut groups)?;
-    add_groups(alloc, GroupKind::Ntfs, found, &mut groups)?;
-    add_groups(alloc, GroupKind::Xfs, found, &mut groups)?;
+    add_kinds(alloc, &GROUPS, found, &mut groups)?;
     Ok(groups)
+}
+
+/// Appends the groups of these kinds, one kind after the other.
+#[tactic(auto, using(crate::proofs::Groups::kinds_none, crate::proofs::Groups::kinds_more, crate::proofs::Groups::kinds_all))]
+fn add_kinds(
+    alloc: Global,
+    kinds: &[GroupKind],
+    found: &[Sighting],
+    groups: &mut Groups,
+) -> Result<(), Memory>
+    requires { All (λ s. IsSound s.landmark) found.now }
+    ensures { OnOk result (groups.new ≡ groups.old ++ flat_map (groups_in found.now) kinds.now) }
+{
+    for kind in kinds {
+        add_groups(alloc, *kind, found, groups)?;
+    }
+    Ok(())
 }
 
 /// Appends the groups of a kind.
@@ -70,37 +82,29 @@ fn add_owner(kind: GroupKind, owners: &mut ListOf<Owner>, owner: Owner) -> Resul
     ensures added { OnOk result (owners.new ≡ kept_with (is_new kind) owners.old owner) }
     ensures sound { OnOk result (All IsSoundOwner owners.new) }
 {
-    if owners.as_slice().len() < most_groups(kind) && !is_there(owners.as_slice(), &owner) {
+    if owners.as_slice().len() < kind.most() && !is_there(owners.as_slice(), &owner) {
         owners.push(owner)?;
     }
     Ok(())
 }
 
+/// The owner that a sighting names, where it is one of this kind.
 fn owner_among(kind: GroupKind, sighting: &Sighting) -> Option<Owner>
     requires { IsSound sighting.now.landmark }
     ensures owner { result ≡ owner_among kind sighting.now }
     ensures sound { IfSome result IsSoundOwner }
 {
     match Owner::of(&sighting.landmark) {
-        Some(owner) if owner.group_kind().place() == kind.place() => Some(owner),
+        Some(owner) if owner.group_kind().is_same(kind) => Some(owner),
         _ => None,
     }
 }
 
+/// Whether an owner is among these.
 fn is_there(owners: &[Owner], owner: &Owner) -> bool
     ensures { result ≡ list_any (is_same_owner owner.now) owners.now }
 {
     owners.iter().any(|other| owner.is_same(other))
-}
-
-/// The most groups of a kind: there is one partition table.
-fn most_groups(kind: GroupKind) -> usize
-    ensures { result ≡ most_groups kind }
-{
-    match kind {
-        GroupKind::Gpt => 1,
-        GroupKind::Ntfs | GroupKind::Xfs => MOST_GROUPS,
-    }
 }
 
 /// The group of an owner: the marks of its sightings, in their order.

@@ -1,19 +1,19 @@
 //! The origins of a plan: those that were asked for, and those that partition tables hint at.
 ghost use Rattle.std.specs.Prelude.{◌≡◌, ℕ, ◌+◌, ◌*◌, ◌^◌, ◌<◌, ◌≤◌, if◌then◌else◌, count_by, length, slice_index, take, All, IfOk, IfSome, MatchOption, OnOk};
-ghost use Rattle.image_source.specs.Attached.{told_all};
-ghost use Rattle.image_source.specs.Causes.{HasCause};
-ghost use Rattle.image_source.specs.Seen.{OnlyReads, lengths_of};
+ghost use Rattle.outside.specs.Attached.{told_all};
+ghost use Rattle.outside.specs.Causes.{HasCause};
+ghost use Rattle.outside.specs.Seen.{OnlyReads, lengths_of};
 ghost use Rattle.std.specs.List.{filter_map, insert};
 ghost use Rattle.survey_engine.specs.Kept.{with_number};
 ghost use Rattle.survey_engine.specs.Origins.{has_entries, is_followed, hints_at, origins_of, with_numbers, AreOrigins};
-ghost use Rattle.survey_engine.specs.Sightings.{AreSightings, IsSighting};
+ghost use Rattle.survey_engine.specs.Sightings.{AreSightings, IsInImages};
 
 use crate::landmark::Landmark;
 use crate::sighting::Sighting;
 use arrayvec::ArrayVec;
 use gpt_marks::{GptHeader, read_entries};
-use image_source::{Failed, Images, SECTOR};
-use raid_params::MOST_ORIGINS;
+use landmark_rules::MOST_ORIGINS;
+use outside::{Failed, Images, SECTOR};
 
 /// The bytes of an entry of a partition table.
 const ENTRY: u32 = 128;
@@ -58,7 +58,7 @@ fn add_hints<I: Images>(
 ) -> Result<(), Failed>
     requires lengths { lengths.now ≡ lengths_of (I.seen images.old).attached }
     requires short { All (λ n. n < 2 ^ 55) lengths.now }
-    requires sighting { IsSighting lengths.now sighting.now }
+    requires sighting { IsInImages lengths.now sighting.now }
     requires origins { AreOrigins origins.old.items }
     ensures told { OnOk result (IfSome (told_all (I.seen images.old).attached)
         (λ bytes. origins.new.items ≡ with_numbers origins.old.items (hints_at lengths.now bytes sighting.now))) }

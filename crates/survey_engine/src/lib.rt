@@ -7,11 +7,13 @@
 //!
 //! What a sector may be stands in `specs/Landmarks`, which are sightings and count in `specs/Sightings`,
 //! groups and the rules of their marks in `specs/Owners`, the origins in `specs/Origins`, and the plan in
-//! `specs/Surveys`. Each filters one list of all sectors; the code looks at each sector once.
+//! `specs/Surveys`. Each filters one list of all sectors; the code looks at each sector once. That no sector is of two
+//! kinds is the law [`no_sector_is_of_two_kinds`].
 #![tactic(auto)]
 
 mod ask;
 mod count;
+mod excluding;
 mod gathering;
 mod grouping;
 mod hints;
@@ -21,5 +23,6 @@ mod planning;
 mod sighting;
 
 pub use ask::Ask;
+pub use excluding::no_sector_is_of_two_kinds;
 pub use planning::{SurveyFault, survey};
 pub use search_plan::{DropAt, Kinds};

@@ -1,9 +1,9 @@
 //! What marks belong to, and where they may lie.
 ghost use Rattle.std.specs.Prelude.{◌≡◌, ◌+◌, ◌*◌, ◌^◌, ◌<◌, ◌≤◌, IsTrue};
 ghost use Rattle.ntfs_marks.specs.Boot.{is_within_limit, record_sector};
-ghost use Rattle.xfs_marks.specs.Superblock.{group_sectors, is_sound};
+ghost use Rattle.xfs_marks.specs.Superblock.{ag_sectors, is_sound};
 ghost use Rattle.survey_engine.specs.Landmarks.{IsSound};
-ghost use Rattle.survey_engine.specs.Owners.{group_kind, group_rule, is_same_boot, is_same_owner, is_same_super, owner_in, record_rule, rule_in, IsSoundOwner};
+ghost use Rattle.survey_engine.specs.Owners.{group_kind, ag_rule, is_same_boot, is_same_owner, is_same_super, owner_in, record_rule, rule_in, IsSoundOwner};
 
 use crate::landmark::Landmark;
 use landmark_rules::{GroupKind, Rule};
@@ -74,18 +74,19 @@ impl Owner {
             (Owner::Ntfs(boot), Landmark::FileRecord(file)) if alone => record_rule(boot, file),
             (Owner::Xfs(found), Landmark::Super(other)) if is_same_super(found, other) => {
                 Some(Rule::Every {
-                    step: group_sectors(found),
+                    step: ag_sectors(found),
                     count: found.ag_count as u64,
                     plus: 0,
                 })
             }
-            (Owner::Xfs(found), Landmark::Agf(group)) if alone => group_rule(found, *group, 1),
-            (Owner::Xfs(found), Landmark::Agi(group)) if alone => group_rule(found, *group, 2),
+            (Owner::Xfs(found), Landmark::Agf(group)) if alone => ag_rule(found, *group, 1),
+            (Owner::Xfs(found), Landmark::Agi(group)) if alone => ag_rule(found, *group, 2),
             _ => None,
         }
     }
 }
 
+/// Whether two boot sectors say the same, field by field.
 fn is_same_boot(a: &NtfsBoot, b: &NtfsBoot) -> bool
     ensures { result ≡ is_same_boot a.now b.now }
 {
@@ -93,6 +94,7 @@ fn is_same_boot(a: &NtfsBoot, b: &NtfsBoot) -> bool
         && (a.mirror == b.mirror && a.record_bytes == b.record_bytes && a.serial == b.serial)
 }
 
+/// Whether two superblocks say the same, field by field.
 fn is_same_super(a: &XfsSuper, b: &XfsSuper) -> bool
     ensures { result ≡ is_same_super a.now b.now }
 {
@@ -126,24 +128,24 @@ fn record_sector(boot: &NtfsBoot, first_cluster: u64, number: u32) -> u64
 }
 
 /// The sectors of an allocation group.
-#[tactic(auto, unfolding(xfs_marks::specs::Superblock::group_sectors))]
-fn group_sectors(found: &XfsSuper) -> u64
-    ensures { result ≡ group_sectors found.now }
+#[tactic(auto, unfolding(xfs_marks::specs::Superblock::ag_sectors))]
+fn ag_sectors(found: &XfsSuper) -> u64
+    ensures { result ≡ ag_sectors found.now }
 {
     found.ag_blocks as u64 * found.block as u64 / SECTOR as u64
 }
 
 /// Where a head of an allocation group may lie, if there is such a group: `sectors` sectors of the file
 /// system after its start.
-#[tactic(auto, unfolding(crate::specs::Owners::group_rule), using(crate::proofs::Rules::group_near, crate::proofs::Rules::head_near))]
-fn group_rule(found: &XfsSuper, group: u32, sectors: u64) -> Option<Rule>
+#[tactic(auto, unfolding(crate::specs::Owners::ag_rule), using(crate::proofs::Rules::ag_near, crate::proofs::Rules::head_near))]
+fn ag_rule(found: &XfsSuper, group: u32, sectors: u64) -> Option<Rule>
     requires found { IsTrue (is_sound found.now) }
     requires sectors { sectors ≤ 2 }
-    ensures { result ≡ group_rule found.now group sectors }
+    ensures { result ≡ ag_rule found.now group sectors }
 {
     if group >= found.ag_count {
         return None;
     }
-    let start = group as u64 * group_sectors(found);
+    let start = group as u64 * ag_sectors(found);
     Some(Rule::At(start + sectors * (found.sector / SECTOR as u32) as u64))
 }

@@ -1,7 +1,7 @@
 //! The survey.
-ghost use Rattle.std.specs.Prelude.{◌≡◌, ◌≤◌, length, IfErr, IfOk, IfSome};
-ghost use Rattle.image_source.specs.Attached.{told_all};
-ghost use Rattle.image_source.specs.Seen.{OnlyReads, lengths_of};
+ghost use Rattle.std.specs.Prelude.{◌≡◌, ◌≤◌, length, IfErr, IfOk, OnOk, IfSome};
+ghost use Rattle.outside.specs.Attached.{told_all};
+ghost use Rattle.outside.specs.Seen.{OnlyReads, lengths_of};
 ghost use Rattle.search_plan.specs.Plans.{IsPlan};
 ghost use Rattle.survey_engine.specs.Surveys.{survey_reads, Adds, EndsSurvey, IsSurveyable, Repeats};
 
@@ -10,8 +10,8 @@ use crate::gathering::gather;
 use crate::grouping::groups;
 use crate::hints::origins;
 use arrayvec::ArrayVec;
-use image_source::Images;
 use landmark_rules::MarkTests;
+use outside::Images;
 use raid_params::{Bounds, MOST};
 use search_plan::Plan;
 use std::alloc::Global;
@@ -41,6 +41,7 @@ pub fn survey<I: Images>(alloc: Global, images: &mut I, ask: &Ask) -> Result<Pla
         (λ bytes. Adds ask.now (I.seen images.old).attached bytes plan)) }
     ensures reads { OnlyReads (I.seen images.old) (I.seen images.new) (survey_reads ask.now (I.seen images.old).attached) }
     ensures ends { IfErr result (EndsSurvey (I.seen images.old) (I.seen images.new)) }
+    ensures stays { OnOk result ((I.seen images.new).faults ≡ (I.seen images.old).faults) }
 {
     let lengths = lengths(images);
     let found = gather(alloc, images, ask, &lengths)?;
@@ -78,6 +79,7 @@ fn lengths<I: Images>(images: &I) -> ArrayVec<u64, MOST>
     lengths
 }
 
+/// A copy of the bounds, list by list.
 fn copy_of_bounds(bounds: &Bounds) -> Bounds
     ensures { result ≡ bounds.now }
 {
@@ -93,6 +95,7 @@ fn copy_of_bounds(bounds: &Bounds) -> Bounds
     }
 }
 
+/// A copy of a list.
 fn copy_of<T: Copy + Default, const N: usize>(list: &ArrayVec<T, N>) -> ArrayVec<T, N>
     ensures { result ≡ list.now }
 {

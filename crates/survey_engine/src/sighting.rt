@@ -1,12 +1,10 @@
 //! Sightings: the landmark sectors that a survey takes notice of.
 ghost use Rattle.std.specs.Prelude.{◌≡◌, ◌<◌, IfSome, slice_index};
 ghost use Rattle.survey_engine.specs.Landmarks.{IsSound};
-ghost use Rattle.survey_engine.specs.Sightings.{is_dropped, is_group_asked, is_sighting, sighting_in};
+ghost use Rattle.survey_engine.specs.Sightings.{is_dropped, is_sighting, sighting_in};
 
 use crate::ask::Ask;
 use crate::landmark::{Landmark, read_landmark};
-use landmark_rules::GroupKind;
-use search_plan::Kinds;
 use sector_fields::SECTOR;
 
 /// A landmark sector that was found.
@@ -44,24 +42,16 @@ pub fn sighting_in(
     }
 }
 
+/// Whether a landmark is a sighting: its kind is looked for, and its sector neither lies before the smallest offset,
+/// nor is passed over, nor is a header of the image's own partition table.
 fn is_sighting(ask: &Ask, length: u64, image: u8, sector: u64, landmark: &Landmark) -> bool
     requires { sector < length }
     ensures { result ≡ is_sighting ask.now length (record { sector = sector; image = image }) landmark.now }
 {
-    is_asked(&ask.kinds, landmark.kind().group())
+    ask.kinds.has(landmark.kind().group())
         && first_sector(ask) <= sector
         && !is_dropped(ask, image, sector)
         && !landmark.is_own(sector, length)
-}
-
-fn is_asked(kinds: &Kinds, group: GroupKind) -> bool
-    ensures { result ≡ is_group_asked kinds.now group }
-{
-    match group {
-        GroupKind::Gpt => kinds.gpt,
-        GroupKind::Ntfs => kinds.ntfs,
-        GroupKind::Xfs => kinds.xfs,
-    }
 }
 
 /// The first sector that is looked at: the smallest offset, since offsets rise.
@@ -71,6 +61,7 @@ pub fn first_sector(ask: &Ask) -> u64
     ask.bounds.offsets.first().copied().unwrap_or(0)
 }
 
+/// Whether a sector of an image is passed over.
 fn is_dropped(ask: &Ask, image: u8, sector: u64) -> bool
     ensures { result ≡ is_dropped ask.now (record { sector = sector; image = image }) }
 {

@@ -1,8 +1,7 @@
 -- The superblock of XFS (XFS Filesystem Structure, Superblocks). Numbers are big-endian.
-use Rattle.std.specs.Prelude.{ℕ, ◌+◌, ◌*◌, ◌/◌, List, Bool, ◌&&◌, nat_le, nat_lt, Option, Some, None, if◌then◌else◌, codes}
+use Rattle.std.specs.Prelude.{ℕ, ◌+◌, ◌*◌, ◌/◌, List, Bool, ◌&&◌, nat_le, nat_lt, Option, Some, None, if◌then◌else◌, codes, ◌^◌}
 use Rattle.std.specs.Int.{is_power_of_two}
 use Rattle.sector_fields.specs.Fields.{has_bytes, u16_be, u32_be, uuid_at}
-use Rattle.sector_fields.specs.declared.TheConstants.{DISTANCE_LIMIT}
 use Rattle.xfs_marks.specs.declared.superblock.XfsSuper.{XfsSuper}
 
 -- the fields of a superblock
@@ -16,13 +15,13 @@ xfs_super_of s = record {
 }
 
 -- the sectors of 512 bytes of an allocation group
-unfoldable pub group_sectors : XfsSuper → ℕ
-group_sectors super = super.ag_blocks * super.block / 512
+unfoldable pub ag_sectors : XfsSuper → ℕ
+ag_sectors super = super.ag_blocks * super.block / 512
 
 -- the sector of 512 bytes of the AGI that would follow the last group: an AGI lies 2 sectors of the file
 -- system after the beginning of its group
 unfoldable pub end_sector : XfsSuper → ℕ
-end_sector super = group_sectors super * super.ag_count + 2 * (super.sector / 512)
+end_sector super = ag_sectors super * super.ag_count + 2 * (super.sector / 512)
 
 -- the numbers that a file system may have: blocks of 512 to 65,536 bytes, a power of two; sectors of 512
 -- to 32,768 bytes, a power of two and no more than a block; blocks in a group, and groups; and the end
@@ -33,7 +32,7 @@ is_sound super =
     && nat_le 1 super.ag_blocks && nat_le 1 super.ag_count
     && is_power_of_two super.sector && nat_le 512 super.sector && nat_le super.sector 32768
     && nat_le super.sector super.block
-    && nat_lt (end_sector super) DISTANCE_LIMIT
+    && nat_lt (end_sector super) (2 ^ 55)
 
 -- the facts that make a sector the first of a superblock
 unfoldable pub is_xfs_super : List ℕ → Bool

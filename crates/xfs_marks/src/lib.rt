@@ -2,7 +2,7 @@
 //!
 //! [`read_super`] says how large blocks and groups are, [`read_group`] which head of which group it is.
 //! The definitions stand in `specs/Superblock` and `Group`. The law that such a sector is of no other kind
-//! is in `mark_kinds`. `survey_engine` looks for them.
+//! is in `survey_engine`, which looks for them.
 #![tactic(auto)]
 
 mod group;

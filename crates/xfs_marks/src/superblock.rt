@@ -44,6 +44,7 @@ pub fn read_super(sector: &[u8; SECTOR]) -> Option<XfsSuper>
     }
 }
 
+/// Whether the numbers of a superblock are within the limits of XFS, and its end lies below sector 2^55.
 #[tactic(auto, unfolding(crate::specs::Superblock::is_sound))]
 fn is_sound(found: &XfsSuper) -> bool
     ensures { result ≡ is_sound found.now }
@@ -61,7 +62,7 @@ fn is_sound(found: &XfsSuper) -> bool
 }
 
 // The sector of the AGI that would follow the last group, which may pass 64 bits.
-#[tactic(auto, unfolding(crate::specs::Superblock::end_sector, crate::specs::Superblock::group_sectors))]
+#[tactic(auto, unfolding(crate::specs::Superblock::end_sector, crate::specs::Superblock::ag_sectors))]
 fn end_sector(found: &XfsSuper) -> u128
     ensures { result ≡ end_sector found.now }
 {
@@ -69,6 +70,7 @@ fn end_sector(found: &XfsSuper) -> u128
     group * found.ag_count as u128 + 2 * (found.sector / SECTOR as u32) as u128
 }
 
+/// The fields of a superblock, by their places in the sector.
 #[tactic(auto, unfolding(crate::specs::Superblock::xfs_super_of))]
 fn fields_of(sector: &[u8; SECTOR]) -> XfsSuper
     ensures { result ≡ xfs_super_of sector.now }

@@ -1,9 +1,9 @@
-use Rattle.std.proofs.Common.{◌≡◌, ◌-◌, ℕ, ◌*◌, ◌≤◌, List, IfSome, length, slice_index, map, fold, replicate, [], ltb, ap, sym, ◌∙◌, arith, rules}
+use Rattle.std.proofs.Common.{◌≡◌, ◌-◌, ℕ, ◌*◌, ◌≤◌, List, IfSome, length, slice_index, map, fold, replicate, [], ltb, refl, ap, sym, ◌∙◌, arith, rules}
 use Rattle.std.proofs.lemmas.Bool.Decides.{nat_tests}
 use Rattle.std.proofs.lemmas.List.{length-map}
-use Rattle.image_source.specs.Attached.{told_all}
-use Rattle.image_source.specs.Seen.{Image, lengths_of}
-use Rattle.image_source.proofs.Reading.{reads_none, reads_up}
+use Rattle.outside.specs.Attached.{told_all}
+use Rattle.outside.specs.Seen.{Image, lengths_of}
+use Rattle.outside.proofs.Reading.{reads_none, reads_up}
 use Rattle.image_blocks.specs.Sweep.{next_count, next_of, sectors_of, GoesOn}
 use Rattle.raid_params.specs.declared.limits.TheConstants.{MOST}
 use Rattle.survey_engine.specs.Blocks.{found_in_block}
@@ -33,6 +33,7 @@ loop-counted-init g c =
       images = begun.2;
       within = begun.3;
       after = omega (arith, begun.0);
+      stays = refl;
     }
 
 pub returns-in_err-map_err-clause-reads : goal.returns-in_err-map_err-clause-reads
@@ -73,6 +74,7 @@ loop-counted-preserved g c =
       images = goes.images ∙ c.loop-counted.invariant.images;
       within = omega arith;
       after = omega arith;
+      stays = let now : (g.I.Images.seen c.advance.new.images).faults ≡ (g.I.Images.seen c.loop-counted.images).faults = search rules in now ∙ c.loop-counted.invariant.stays;
     }
 
 pub returns-in_err-map_err-2-clause-reads : goal.returns-in_err-map_err-2-clause-reads

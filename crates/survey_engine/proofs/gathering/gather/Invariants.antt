@@ -1,6 +1,6 @@
 use Rattle.std.proofs.Common.{◌≡◌, ◌-◌, ◌*◌, ◌≤◌, length}
 use Rattle.image_blocks.specs.Sweep.{next_of}
-use Rattle.image_source.specs.Seen.{OnlyReads}
+use Rattle.outside.specs.Seen.{OnlyReads}
 use Rattle.raid_params.specs.declared.limits.TheConstants.{MOST}
 use Rattle.survey_engine.specs.Sightings.{AreBefore}
 use Rattle.survey_engine.proofs.Sweeping.{Few, Told}
@@ -16,6 +16,7 @@ invariant-loop-counted g l = record {
   images : length l.sweep.blocks ≡ length l.lengths;
   within : next_of l.sweep ≤ l.ask.end;
   after : l.first ≤ next_of l.sweep;
+  stays : (g.I.Images.seen l.images).faults ≡ (g.I.Images.seen l.fn.images).faults;
 }
 
 abbrev pub decreases-loop-counted : goal.decreases-loop-counted

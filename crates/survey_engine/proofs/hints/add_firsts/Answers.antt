@@ -1,5 +1,5 @@
 use Rattle.std.proofs.Common.{◌∙◌, ℕ, List, take, ap, sym, arith}
-use Rattle.raid_params.specs.declared.limits.TheConstants.{MOST_ORIGINS}
+use Rattle.landmark_rules.specs.declared.limits.TheConstants.{MOST_ORIGINS}
 use Rattle.survey_engine.specs.Kept.{with_number}
 use Rattle.survey_engine.proofs.Firsts.{firsts_same, firsts_some, near_at}
 use Rattle.survey_engine.proofs.Numbers.{origins_with}

@@ -1,6 +1,6 @@
 use Rattle.std.proofs.Common.{◌+◌, arith, rules}
-use Rattle.image_source.specs.Seen.{AreTold}
-use Rattle.image_source.proofs.Reading.{reads_none, reads_up}
+use Rattle.outside.specs.Seen.{AreTold}
+use Rattle.outside.proofs.Reading.{reads_none, reads_up}
 use Rattle.survey_engine.proofs.Firsts.{image_there, next_within, no_entries, no_header, one_read, told_none, told_read}
 use Rattle.survey_engine.proofs.hints.add_hints.Goals as goal
 

@@ -1,5 +1,5 @@
 use Rattle.std.proofs.Common.{◌≡◌, ◌∙◌, ℕ, ◌≤◌, List, length, take, subst, ap, sym, arith}
-use Rattle.raid_params.specs.declared.limits.TheConstants.{MOST_ORIGINS}
+use Rattle.landmark_rules.specs.declared.limits.TheConstants.{MOST_ORIGINS}
 use Rattle.survey_engine.proofs.Numbers.{all_taken}
 use Rattle.survey_engine.specs.Kept.{with_number}
 use Rattle.survey_engine.proofs.hints.add_origin.Goals as goal

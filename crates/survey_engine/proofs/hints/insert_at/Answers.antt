@@ -1,7 +1,7 @@
 use Rattle.std.proofs.Common.{◌≡◌, ◌∙◌, ◌<◌, length, ap, sym, arith}
 use Rattle.std.proofs.lemmas.Bool.Decides.{nat_tests}
 use Rattle.std.specs.List.{insert}
-use Rattle.raid_params.specs.declared.limits.TheConstants.{MOST_ORIGINS}
+use Rattle.landmark_rules.specs.declared.limits.TheConstants.{MOST_ORIGINS}
 use Rattle.survey_engine.proofs.Numbers.{past_all, put_in, put_in_full}
 use Rattle.survey_engine.proofs.hints.insert_at.Goals as goal
 

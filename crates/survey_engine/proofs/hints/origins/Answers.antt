@@ -1,6 +1,6 @@
-use Rattle.std.proofs.Common.{◌≡◌, ◌+◌, IfSome, arith, rules}
-use Rattle.image_source.specs.Attached.{told_all}
-use Rattle.image_source.proofs.Reading.{reads_none}
+use Rattle.std.proofs.Common.{◌≡◌, ◌+◌, ◌∙◌, IfSome, refl, arith, rules}
+use Rattle.outside.specs.Attached.{told_all}
+use Rattle.outside.proofs.Reading.{reads_none}
 use Rattle.survey_engine.specs.Origins.{hints_at, with_numbers}
 use Rattle.survey_engine.proofs.Firsts.{hinted_all, hinted_more, hinted_none, one_more_read, reads_some}
 use Rattle.survey_engine.proofs.hints.origins.Goals as goal
@@ -12,6 +12,7 @@ loop-sighting-init g c =
       reads = reads_none (g.I.Images.seen c.args.images.now);
       told = hinted_none (g.I.Images.seen c.args.images.now).attached c.args.asked.now c.args.lengths.now c.args.found.now c.try_extend_from_slice.new.self.items c.requires.asked.few same;
       origins = rw same c.requires.asked;
+      stays = refl;
     }
 
 pub returns-in_err-add_hints-clause-reads : goal.returns-in_err-add_hints-clause-reads
@@ -29,6 +30,7 @@ loop-sighting-preserved g c =
       told = hinted_more (g.I.Images.seen c.args.images.now).attached c.args.asked.now c.args.lengths.now c.args.found.now c.loop-sighting.sighting-index c.sighting-item.result c.loop-sighting.origins.items c.add_hints.new.origins.items (omega arith) c.sighting-item.is
           c.loop-sighting.invariant.told (rw (← c.loop-sighting.invariant.reads.attached) adds);
       origins = search rules;
+      stays = let now : (g.I.Images.seen c.add_hints.new.images).faults ≡ (g.I.Images.seen c.loop-sighting.images).faults = search rules in now ∙ c.loop-sighting.invariant.stays;
     }
 
 pub returns-clause-told : goal.returns-clause-told

@@ -1,5 +1,5 @@
 use Rattle.std.proofs.Common.{◌≡◌, take}
-use Rattle.image_source.specs.Seen.{lengths_of}
+use Rattle.outside.specs.Seen.{lengths_of}
 use Rattle.survey_engine.proofs.planning.lengths.Given as goal
 
 abbrev pub invariant-loop-image : goal.invariant-loop-image

@@ -1,10 +1,10 @@
 use Rattle.std.proofs.Common.{◌≡◌, ◌^◌, ◌<◌, ◌≤◌, rules}
 use Rattle.std.proofs.lemmas.List.Elements.{All-same}
-use Rattle.landmark_rules.specs.declared.marks.Kind.TheVariants.{Gpt as GptKind}
+use Rattle.mark_kinds.specs.declared.sectors.Kind.TheVariants.{Gpt as GptKind}
 use Rattle.survey_engine.specs.Origins.{AreOrigins}
 use Rattle.survey_engine.specs.Owners.{groups_of}
 use Rattle.survey_engine.specs.Sightings.{AreSightings}
-use Rattle.image_source.specs.Seen.{lengths_of}
+use Rattle.outside.specs.Seen.{lengths_of}
 use Rattle.survey_engine.proofs.Firsts.{survey_read, sweep_read}
 use Rattle.survey_engine.proofs.Law.{are_groups}
 use Rattle.survey_engine.proofs.Lengths.{are_lengths, are_short, reach_end}

@@ -6,7 +6,7 @@ use Rattle.ntfs_marks.specs.Boot.{has_boot_form, is_ntfs_boot}
 use Rattle.ntfs_marks.specs.FileRecord.{is_ntfs_record}
 use Rattle.xfs_marks.specs.Superblock.{is_xfs_super}
 use Rattle.xfs_marks.specs.Group.{is_xfs_agf, is_xfs_agi}
-use Rattle.mark_kinds.specs.Kinds.{KindsExcludeEachOther}
+use Rattle.survey_engine.specs.Exclusion.{KindsExcludeEachOther}
 
 pub gpt_byte : (s : List ℕ) → is_gpt_header s ≡ true → slice_index s 3 ≡ 32
 unfolding is_gpt_header

@@ -1,4 +1,4 @@
--- The six kinds of landmark sectors together.
+-- No sector is of two kinds of landmark sectors.
 use Rattle.std.specs.Prelude.{ℕ, ◌≤◌, List, [], ◌∷◌, Bool, count_by}
 use Rattle.gpt_marks.specs.Header.{is_gpt_header}
 use Rattle.ntfs_marks.specs.Boot.{is_ntfs_boot}

@@ -1,0 +1,80 @@
+-- The table of the kinds of landmarks.
+use Rattle.std.specs.Prelude.{ℕ, Bool, true, ◌==◌, List, [], ◌∷◌, codes}
+use Rattle.std.specs.List.{list_any}
+use Rattle.mark_kinds.specs.declared.groups.Begin.{Begin}
+use Rattle.mark_kinds.specs.declared.groups.Begin.TheVariants.{WithVolume, AtOrigins}
+use Rattle.mark_kinds.specs.declared.groups.GroupKind.{GroupKind}
+use Rattle.mark_kinds.specs.declared.groups.GroupKind.TheVariants.{Gpt as GptGroup, Ntfs, Xfs}
+use Rattle.mark_kinds.specs.declared.looking.Kinds.{Kinds}
+use Rattle.mark_kinds.specs.declared.sectors.Kind.{Kind}
+use Rattle.mark_kinds.specs.declared.sectors.Kind.TheVariants.{Gpt, Boot, FileRecord, Super, Agf, Agi}
+
+-- what holds of all groups of a kind: its place among the kinds of groups, which is the order in which groups stand
+-- in plans, its name, where such groups begin on the volume, and how many of them a plan may have
+pub record GroupFacts : Type 0 where
+  pub place : ℕ
+  pub name : List ℕ
+  pub begin : Begin
+  pub most : ℕ
+
+-- there is one partition table, at the start of the volume; file systems begin at the origins that are tried
+abbrev pub group_row : GroupKind → GroupFacts
+group_row GptGroup = record { place = 0; name = codes "gpt"; begin = WithVolume; most = 1 }
+group_row Ntfs = record { place = 1; name = codes "ntfs"; begin = AtOrigins; most = 32 }
+group_row Xfs = record { place = 2; name = codes "xfs"; begin = AtOrigins; most = 32 }
+
+-- what holds of all landmark sectors of a kind: its place among these kinds, its name, and the kind of groups to
+-- which they belong
+pub record KindFacts : Type 0 where
+  pub place : ℕ
+  pub name : List ℕ
+  pub group : GroupKind
+
+abbrev pub kind_row : Kind → KindFacts
+kind_row Gpt = record { place = 0; name = codes "gpt"; group = GptGroup }
+kind_row Boot = record { place = 1; name = codes "boot"; group = Ntfs }
+kind_row FileRecord = record { place = 2; name = codes "record"; group = Ntfs }
+kind_row Super = record { place = 3; name = codes "super"; group = Xfs }
+kind_row Agf = record { place = 4; name = codes "agf"; group = Xfs }
+kind_row Agi = record { place = 5; name = codes "agi"; group = Xfs }
+
+-- columns of the table
+abbrev pub group_place : GroupKind → ℕ
+group_place kind = (group_row kind).place
+
+abbrev pub most_groups : GroupKind → ℕ
+most_groups kind = (group_row kind).most
+
+abbrev pub kind_place : Kind → ℕ
+kind_place kind = (kind_row kind).place
+
+abbrev pub group_of : Kind → GroupKind
+group_of kind = (kind_row kind).group
+
+-- all kinds of groups, in their order
+abbrev pub all_groups : List GroupKind
+all_groups = GptGroup ∷ Ntfs ∷ Xfs ∷ []
+
+abbrev pub is_same_group : GroupKind → GroupKind → Bool
+is_same_group kind other = group_place kind == group_place other
+
+-- a kind of groups is among these
+abbrev pub has_group : GroupKind → List GroupKind → Bool
+has_group kind kinds = list_any (is_same_group kind) kinds
+
+-- which kinds are looked for: all of them, or those among others
+abbrev pub every_kind : Kinds
+every_kind = record { gpt = true; ntfs = true; xfs = true }
+
+abbrev pub kinds_among : List GroupKind → Kinds
+kinds_among kinds = record { gpt = has_group GptGroup kinds; ntfs = has_group Ntfs kinds; xfs = has_group Xfs kinds }
+
+-- a kind is looked for
+abbrev pub is_group_asked : Kinds → GroupKind → Bool
+is_group_asked kinds GptGroup = kinds.gpt
+is_group_asked kinds Ntfs = kinds.ntfs
+is_group_asked kinds Xfs = kinds.xfs
+
+-- some kind is looked for
+abbrev pub some_asked : Kinds → Bool
+some_asked kinds = list_any (is_group_asked kinds) all_groups

@@ -1,0 +1,70 @@
+//! What a survey looks for, and what it passes over.
+ghost use Rattle.std.specs.Prelude.{◌≡◌};
+ghost use Rattle.mark_kinds.specs.Table.{has_group, every_kind, is_group_asked, kinds_among};
+
+use crate::groups::GroupKind;
+
+/// Which kinds of landmarks are looked for.
+#[derive(Clone, Copy)]
+pub struct Kinds {
+    /// GUID partition tables.
+    pub gpt: bool,
+    /// NTFS file systems.
+    pub ntfs: bool,
+    /// XFS file systems.
+    pub xfs: bool,
+}
+
+/// The most sectors that a survey may be asked to pass over.
+pub const MOST_DROPS: usize = 64;
+
+/// A sector of an image that is passed over.
+#[derive(Clone, Copy, Default)]
+pub struct DropAt {
+    /// The number of the image.
+    pub image: u8,
+    /// The sector of the image.
+    pub sector: u64,
+}
+
+impl Kinds {
+    /// All kinds.
+    pub fn every() -> Kinds
+        ensures { result ≡ every_kind }
+    {
+        Kinds {
+            gpt: true,
+            ntfs: true,
+            xfs: true,
+        }
+    }
+
+    /// The kinds that are among these, and no others.
+    pub fn among(kinds: &[GroupKind]) -> Kinds
+        ensures { result ≡ kinds_among kinds.now }
+    {
+        Kinds {
+            gpt: has_group(kinds, GroupKind::Gpt),
+            ntfs: has_group(kinds, GroupKind::Ntfs),
+            xfs: has_group(kinds, GroupKind::Xfs),
+        }
+    }
+
+    /// Whether landmarks of this kind are looked for.
+    pub fn has(&self, kind: GroupKind) -> bool
+        ensures { result ≡ is_group_asked self.now kind }
+    {
+        match kind {
+            GroupKind::Gpt => self.gpt,
+            GroupKind::Ntfs => self.ntfs,
+            GroupKind::Xfs => self.xfs,
+        }
+    }
+}
+
+/// Whether a kind of groups is among these.
+fn has_group(kinds: &[GroupKind], kind: GroupKind) -> bool
+    ensures { result ≡ has_group kind kinds.now }
+{
+    kinds.iter().any(|other| kind.is_same(*other))
+}

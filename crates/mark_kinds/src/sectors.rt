@@ -1,0 +1,94 @@
+//! The kinds of landmark sectors.
+ghost use Rattle.std.specs.Prelude.{◌≡◌};
+ghost use Rattle.mark_kinds.specs.Table.{group_of, kind_place, kind_row};
+
+use crate::groups::GroupKind;
+
+/// What a landmark sector is.
+#[derive(Clone, Copy)]
+pub enum Kind {
+    /// A header of a GUID partition table.
+    Gpt,
+    /// A boot sector of NTFS.
+    Boot,
+    /// A file record of NTFS.
+    FileRecord,
+    /// A superblock of XFS.
+    Super,
+    /// A header of the free space of an XFS allocation group.
+    Agf,
+    /// A header of the inodes of an XFS allocation group.
+    Agi,
+}
+
+/// How many kinds of landmark sectors there are.
+pub const KIND_COUNT: usize = 6;
+
+/// All kinds of landmark sectors, in their order.
+pub const KINDS: [Kind; KIND_COUNT] = [
+    Kind::Gpt,
+    Kind::Boot,
+    Kind::FileRecord,
+    Kind::Super,
+    Kind::Agf,
+    Kind::Agi,
+];
+
+/// What holds of all landmark sectors of a kind: a row of the table.
+#[derive(Clone, Copy)]
+pub struct KindRow {
+    /// The place of the kind among all kinds of landmark sectors, from 0.
+    pub place: usize,
+    /// The name of the kind in plans.
+    pub name: &'static str,
+    /// The kind of group to which such sectors belong.
+    pub group: GroupKind,
+}
+
+impl Kind {
+    /// The row of the kind in the table.
+    pub fn row(self) -> KindRow
+        ensures place { result.place ≡ (kind_row self).place }
+        ensures name { result.name.now ≡ (kind_row self).name }
+        ensures group { result.group ≡ (kind_row self).group }
+    {
+        match self {
+            Kind::Gpt => row_of(0, "gpt", GroupKind::Gpt),
+            Kind::Boot => row_of(1, "boot", GroupKind::Ntfs),
+            Kind::FileRecord => row_of(2, "record", GroupKind::Ntfs),
+            Kind::Super => row_of(3, "super", GroupKind::Xfs),
+            Kind::Agf => row_of(4, "agf", GroupKind::Xfs),
+            Kind::Agi => row_of(5, "agi", GroupKind::Xfs),
+        }
+    }
+
+    /// The place of the kind among all kinds of landmark sectors, from 0.
+    pub fn place(self) -> usize
+        ensures { result ≡ kind_place self }
+    {
+        self.row().place
+    }
+
+    /// The name of the kind in plans.
+    pub fn name(self) -> &'static str
+        ensures { result.now ≡ (kind_row self).name }
+    {
+        self.row().name
+    }
+
+    /// The kind of group to which such sectors belong.
+    pub fn group(self) -> GroupKind
+        ensures { result ≡ group_of self }
+    {
+        self.row().group
+    }
+}
+
+/// A row of the table.
+fn row_of(place: usize, name: &'static str, group: GroupKind) -> KindRow
+    ensures place { result.place ≡ place }
+    ensures name { result.name.now ≡ name.entry.now }
+    ensures group { result.group ≡ group }
+{
+    KindRow { place, name, group }
+}

@@ -11,7 +11,7 @@ use Rattle.raid_params.specs.declared.types.Geometry.{Geometry}
 use Rattle.raid_params.specs.declared.types.Level.TheVariants.{Raid0}
 use Rattle.raid_params.specs.declared.types.Pattern.TheVariants.{Plain}
 use Rattle.raid_params.specs.declared.types.Syndrome.TheVariants.{NoQ}
-use Rattle.plan_text.specs.SetText.{HasWord}
+use Rattle.value_text.specs.SetText.{HasWord}
 use Rattle.command_words.specs.Commands.{BeginsLine, MayFollow, command_of, form_or, marks_or, number_in, number_or, set_in, survey_of, verb_word}
 use Rattle.command_words.specs.Steps.{lines_fit}
 use Rattle.command_words.specs.Operands.{AreFitting, AreOperands, IsOperand, IsValueOf, kind_of, operand_word, operands_of, same_name, value_of}

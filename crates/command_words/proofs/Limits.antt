@@ -4,23 +4,23 @@ use Rattle.std.specs.List.{list_all}
 use Rattle.std.specs.List.Sorted.{IsStrictlyIncreasing}
 use Rattle.std.proofs.lemmas.Bool.{and_parts, leb-true}
 use Rattle.std.proofs.lemmas.Bool.Decides.{nat_tests}
+use Rattle.std.proofs.lemmas.List.{length-map}
 use Rattle.std.proofs.lemmas.List.Elements.{All-cons, All-nil}
 use Rattle.arrayvec.specs.ArrayVec.{ArrayVec}
 use Rattle.raid_params.specs.Validity.{is_chunk}
 use Rattle.raid_params.specs.declared.limits.TheConstants.{MOST, MOST_MISSING}
 use Rattle.raid_params.specs.declared.types.Geometry.{Geometry}
-use Rattle.plan_text.specs.Parts.{AreMembers}
-use Rattle.plan_text.specs.SetText.{HasWord}
-use Rattle.search_plan.specs.Places.{level_place, pattern_place, syndrome_place}
+use Rattle.value_text.specs.Bounded.{AreMembers}
+use Rattle.value_text.specs.SetText.{HasWord}
+use Rattle.raid_params.specs.Places.{level_place, pattern_place, syndrome_place}
 use Rattle.search_plan.specs.Plans.{AreBounds, AreRising, AreTests}
-use Rattle.command_words.specs.Commands.{AreAsked, IsCommandLine, IsWithin, bounds_of, chunks_or, command_of, drops_or, has_landmark, kinds_or, levels_or, members_or, number_in, number_or, patterns_or, plain_survey, sectors_or, set_in, survey_of, syndromes_or, tests_of}
-use Rattle.landmark_rules.specs.Groups.{group_place}
+use Rattle.command_words.specs.Commands.{AreAsked, IsCommandLine, IsWithin, bounds_of, chunks_or, command_of, drops_or, kinds_or, levels_or, members_or, number_in, number_or, patterns_or, plain_survey, sectors_or, set_in, survey_of, syndromes_or, tests_of}
+use Rattle.mark_kinds.proofs.Asked.{among_some}
+use Rattle.mark_kinds.specs.Table.{group_place, some_asked}
 use Rattle.command_words.specs.Operands.{AreDrops, AreFitting, IsFitting, IsValueOf, kind_of, value_of}
 use Rattle.command_words.specs.declared.command.Command.{Command}
 use Rattle.command_words.specs.declared.command.Verb.{Verb}
 use Rattle.command_words.specs.declared.command.Verb.TheVariants.{Survey, List as ListVerb, Check, Map, Write, Rebuild, Sample}
-use Rattle.landmark_rules.specs.declared.marks.GroupKind.{GroupKind}
-use Rattle.landmark_rules.specs.declared.marks.GroupKind.TheVariants.{Gpt, Ntfs, Xfs}
 use Rattle.command_words.specs.declared.operands.Operand.{Operand}
 use Rattle.command_words.specs.declared.table.Name.{Name}
 use Rattle.command_words.specs.declared.table.Name.TheVariants.{Levels as LevelsName, Members as MembersName, Patterns as PatternsName, Syndromes as SyndromesName, Chunks as ChunksName, Offsets as OffsetsName, Origins as OriginsName, Missing as MissingName, Foreign as ForeignName, Badrows as BadrowsName, Misfits as MisfitsName, Least as LeastName, Window as WindowName, End as EndName, Kinds as KindsName, Dropped as DropName, Size as SizeName, Span as SpanName, Pages as PagesName, Set as SetName, Slot as SlotName, Rows as RowsName}
@@ -119,26 +119,14 @@ drops_are (Some v) fits = let is = fits v refl in subst (λ w. ((drops_or (Some 
 
 -- some landmark is looked for
 abbrev AreSought : Option Value → Type 0
-AreSought r = IsTrue ((kinds_or r).gpt || (kinds_or r).ntfs || (kinds_or r).xfs)
-
-second_of : (b c : Bool) → (b || true || c) ≡ true
-second_of true c = refl
-second_of false c = refl
-
-third_of : (b c : Bool) → (b || c || true) ≡ true
-third_of true c = refl
-third_of false true = refl
-third_of false false = refl
-
-one_sought : (xs : List GroupKind) → 1 ≤ length (map group_place xs) → (has_landmark Gpt xs || has_landmark Ntfs xs || has_landmark Xfs xs) ≡ true
-one_sought [] some = absurd (omega arith)
-one_sought (Gpt ∷ xs) some = refl
-one_sought (Ntfs ∷ xs) some = second_of (has_landmark Gpt xs) (has_landmark Xfs (Ntfs ∷ xs))
-one_sought (Xfs ∷ xs) some = third_of (has_landmark Gpt xs) (has_landmark Ntfs xs)
+AreSought r = IsTrue (some_asked (kinds_or r))
 
 kinds_are : (r : Option Value) → Fits r LandmarksKind → AreSought r
 kinds_are None fits = refl
-kinds_are (Some v) fits = let is = fits v refl in subst (λ w. AreSought (Some w)) (sym is.1) (one_sought is.0.items is.2.rising.some)
+kinds_are (Some v) fits =
+    let is = fits v refl in
+    let some : 1 ≤ length is.0.items = omega (arith, is.2.rising.some, length-map is.0.items group_place) in
+    subst (λ w. AreSought (Some w)) (sym is.1) (among_some is.0.items some)
 
 -- a number that was given, or its default
 or_within : (r : Option ℕ) (other : ℕ) (P : ℕ → Type 0) → IfSome r P → P other → P (unwrap_or r other)

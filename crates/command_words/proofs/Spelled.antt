@@ -6,21 +6,21 @@ use Rattle.std.proofs.lemmas.List.Elements.{All-head, All-tail}
 use Rattle.raid_params.specs.declared.types.Level.{Level}
 use Rattle.raid_params.specs.declared.types.Pattern.{Pattern}
 use Rattle.raid_params.specs.declared.types.Syndrome.{Syndrome}
-use Rattle.plan_text.specs.DropLaws.{drop_law}
-use Rattle.plan_text.specs.NameLaws.{byte_law, group_law, in_lists, level_law, number_law, pattern_law, syndrome_law}
-use Rattle.plan_text.specs.Spelling.{IsDrop, drop_name, drop_place, group_name, level_name, pattern_name, syndrome_name}
-use Rattle.plan_text.proofs.Fits.{chunks_are_short, members_are_bytes, offsets_are_short}
-use Rattle.plan_text.proofs.Lists.{some_value}
-use Rattle.plan_text.proofs.SetWords.{one_spelling}
-use Rattle.plan_text.proofs.Spellings.{same_list}
-use Rattle.search_plan.specs.Places.{level_place, pattern_place, syndrome_place}
-use Rattle.search_plan.specs.declared.looking.DropAt.{DropAt}
-use Rattle.landmark_rules.specs.Groups.{group_place}
+use Rattle.value_text.specs.DropLaws.{drop_law}
+use Rattle.value_text.specs.NameLaws.{byte_law, group_law, in_lists, level_law, number_law, pattern_law, syndrome_law}
+use Rattle.value_text.specs.Spelling.{IsDrop, drop_name, drop_place, group_name, level_name, pattern_name, syndrome_name}
+use Rattle.value_text.proofs.Fits.{chunks_are_short, members_are_bytes, offsets_are_short}
+use Rattle.value_text.proofs.Lists.{some_value}
+use Rattle.value_text.proofs.SetWords.{one_spelling}
+use Rattle.value_text.proofs.Spellings.{same_list}
+use Rattle.raid_params.specs.Places.{level_place, pattern_place, syndrome_place}
+use Rattle.mark_kinds.specs.declared.looking.DropAt.{DropAt}
+use Rattle.mark_kinds.specs.Table.{group_place}
 use Rattle.command_words.specs.Operands.{IsOperand, IsValueOf, form_text, kind_of, marks_text, name_text, operand_word, operands_of, value_text}
 use Rattle.command_words.specs.declared.command.Form.{Form}
 use Rattle.command_words.specs.declared.command.Form.TheVariants.{Text, Json}
 use Rattle.command_words.specs.declared.command.Verb.{Verb}
-use Rattle.landmark_rules.specs.declared.marks.GroupKind.{GroupKind}
+use Rattle.mark_kinds.specs.declared.groups.GroupKind.{GroupKind}
 use Rattle.command_words.specs.declared.operands.Operand.{Operand}
 use Rattle.command_words.specs.declared.table.Name.{Name}
 use Rattle.command_words.specs.declared.table.ValueKind.{ValueKind}

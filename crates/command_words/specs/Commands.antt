@@ -15,12 +15,12 @@ use Rattle.raid_params.specs.declared.types.Pattern.TheVariants.{Plain, La, Ra, 
 use Rattle.raid_params.specs.declared.types.Syndrome.{Syndrome}
 use Rattle.raid_params.specs.declared.types.Syndrome.TheVariants.{NoQ, AfterQ, ByData, BySlot}
 use Rattle.landmark_rules.specs.declared.marks.MarkTests.{MarkTests}
-use Rattle.plan_text.specs.Parts.{AreMembers}
-use Rattle.plan_text.specs.SetText.{HasWord}
+use Rattle.value_text.specs.Bounded.{AreMembers}
+use Rattle.value_text.specs.SetText.{HasWord}
 use Rattle.search_plan.specs.Plans.{AreBounds, AreTests}
-use Rattle.search_plan.specs.declared.looking.DropAt.{DropAt}
-use Rattle.search_plan.specs.declared.looking.Kinds.{Kinds}
-use Rattle.landmark_rules.specs.Groups.{group_place}
+use Rattle.mark_kinds.specs.declared.looking.DropAt.{DropAt}
+use Rattle.mark_kinds.specs.declared.looking.Kinds.{Kinds}
+use Rattle.mark_kinds.specs.Table.{every_kind, kinds_among, some_asked}
 use Rattle.command_words.specs.Operands.{AreDrops, AreOperands, operand_word, value_of}
 use Rattle.command_words.specs.declared.command.Command.{Command}
 use Rattle.command_words.specs.declared.command.Command.TheVariants.{Survey as SurveyCommand, List as ListCommand, Check as CheckCommand, Map as MapCommand, Write as WriteCommand, Rebuild as RebuildCommand, Sample as SampleCommand}
@@ -29,8 +29,6 @@ use Rattle.command_words.specs.declared.command.Form.TheVariants.{Text}
 use Rattle.command_words.specs.declared.command.SurveyWords.{SurveyWords}
 use Rattle.command_words.specs.declared.command.Verb.{Verb}
 use Rattle.command_words.specs.declared.command.Verb.TheVariants.{Survey, List as ListVerb, Check, Map, Write, Rebuild, Sample}
-use Rattle.landmark_rules.specs.declared.marks.GroupKind.{GroupKind}
-use Rattle.landmark_rules.specs.declared.marks.GroupKind.TheVariants.{Gpt, Ntfs, Xfs}
 use Rattle.command_words.specs.declared.operands.Operand.{Operand}
 use Rattle.command_words.specs.declared.table.Name.TheVariants.{Levels as LevelsName, Members as MembersName, Patterns as PatternsName, Syndromes as SyndromesName, Chunks as ChunksName, Offsets as OffsetsName, Origins as OriginsName, Missing as MissingName, Foreign as ForeignName, Badrows as BadrowsName, Misfits as MisfitsName, Least as LeastName, Window as WindowName, End as EndName, Kinds as KindsName, Dropped as DropName, From as FromName, Size as SizeName, Span as SpanName, Pages as PagesName, Form as FormName, Set as SetName, Sector as SectorName, Slot as SlotName, Number as NumberName, Rows as RowsName, Marks as MarksName}
 use Rattle.command_words.specs.declared.values.Value.{Value}
@@ -83,13 +81,9 @@ abbrev pub drops_or : Option Value → ArrayVec DropAt
 drops_or (Some (Drops ds)) = ds
 drops_or _ = record { items = [] }
 
--- a landmark is among these
-abbrev pub has_landmark : GroupKind → List GroupKind → Bool
-has_landmark landmark landmarks = list_any (λ other. nat_eq (group_place landmark) (group_place other)) landmarks
-
 abbrev pub kinds_or : Option Value → Kinds
-kinds_or (Some (Landmarks xs)) = record { gpt = has_landmark Gpt xs.items; ntfs = has_landmark Ntfs xs.items; xfs = has_landmark Xfs xs.items }
-kinds_or _ = record { gpt = true; ntfs = true; xfs = true }
+kinds_or (Some (Landmarks xs)) = kinds_among xs.items
+kinds_or _ = every_kind
 
 abbrev pub form_or : Option Value → Form
 form_or (Some (FormValue form)) = form
@@ -223,7 +217,7 @@ pub record AreAsked (asked : SurveyWords) : Type 0 where
   pub badrows : asked.badrows < 2 ^ 55
   pub window : IfSome asked.window (λ n. (1 ≤ n) × (n < 2 ^ 55))
   pub tests : AreTests asked.tests
-  pub kinds : IsTrue (asked.kinds.gpt || asked.kinds.ntfs || asked.kinds.xfs)
+  pub kinds : IsTrue (some_asked asked.kinds)
   pub drops : (asked.drops.items ≡ []) ⊎ AreDrops asked.drops.items
 
 -- the values of a command are within the limits of its operands

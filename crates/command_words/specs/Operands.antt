@@ -5,23 +5,24 @@ use Rattle.std.specs.Str.{bytes_eq}
 use Rattle.std.specs.declared.option.Option.{Option}
 use Rattle.std.specs.declared.option.Option.TheVariants.{None, Some}
 use Rattle.arrayvec.specs.ArrayVec.{ArrayVec}
-use Rattle.raid_params.specs.declared.limits.TheConstants.{MOST, MOST_DROPS, MOST_LEVELS, MOST_MISSING, MOST_OFFSETS, MOST_PATTERNS, MOST_SYNDROMES}
+use Rattle.raid_params.specs.declared.limits.TheConstants.{MOST, MOST_LEVELS, MOST_PATTERNS, MOST_SYNDROMES}
 use Rattle.raid_params.specs.declared.types.Geometry.{Geometry}
 use Rattle.raid_params.specs.declared.types.Level.{Level}
 use Rattle.raid_params.specs.declared.types.Pattern.{Pattern}
 use Rattle.raid_params.specs.declared.types.Syndrome.{Syndrome}
-use Rattle.plan_text.specs.SetText.{HasWord, set_word}
-use Rattle.plan_text.specs.Parts.{AreChunks, AreMembers, AreSectors}
-use Rattle.plan_text.specs.Spelling.{IsDrop, level_name, pattern_name, syndrome_name, group_name, commas, drop_name, drop_place}
-use Rattle.search_plan.specs.Places.{level_place, pattern_place, syndrome_place}
+use Rattle.value_text.specs.SetText.{HasWord, set_word}
+use Rattle.value_text.specs.Bounded.{AreChunks, AreMembers, AreSectors}
+use Rattle.value_text.specs.Spelling.{IsDrop, level_name, pattern_name, syndrome_name, group_name, commas, drop_name, drop_place}
+use Rattle.raid_params.specs.Places.{level_place, pattern_place, syndrome_place}
 use Rattle.search_plan.specs.Plans.{AreRising}
-use Rattle.search_plan.specs.declared.looking.DropAt.{DropAt}
-use Rattle.landmark_rules.specs.Groups.{group_place}
+use Rattle.mark_kinds.specs.declared.looking.DropAt.{DropAt}
+use Rattle.mark_kinds.specs.Table.{group_place}
+use Rattle.mark_kinds.specs.declared.groups.TheConstants.{GROUP_COUNT}
 use Rattle.command_words.specs.declared.command.Form.{Form}
 use Rattle.command_words.specs.declared.command.Form.TheVariants.{Text, Json}
 use Rattle.command_words.specs.declared.command.Verb.{Verb}
 use Rattle.command_words.specs.declared.command.Verb.TheVariants.{Survey, List as ListVerb, Check, Map, Write, Rebuild, Sample}
-use Rattle.landmark_rules.specs.declared.marks.GroupKind.{GroupKind}
+use Rattle.mark_kinds.specs.declared.groups.GroupKind.{GroupKind}
 use Rattle.command_words.specs.declared.operands.Operand.{Operand}
 use Rattle.command_words.specs.declared.table.Name.{Name}
 use Rattle.command_words.specs.declared.table.Name.TheVariants.{Levels as LevelsName, Members as MembersName, Patterns as PatternsName, Syndromes as SyndromesName, Chunks as ChunksName, Offsets as OffsetsName, Origins as OriginsName, Missing as MissingName, Foreign as ForeignName, Badrows as BadrowsName, Misfits as MisfitsName, Least as LeastName, Window as WindowName, End as EndName, Kinds as KindsName, Dropped as DropName, From as FromName, Size as SizeName, Span as SpanName, Pages as PagesName, Form as FormName, Set as SetName, Sector as SectorName, Slot as SlotName, Number as NumberName, Rows as RowsName, Marks as MarksName}
@@ -68,7 +69,7 @@ kind_of SyndromesName = SyndromesKind
 kind_of ChunksName = ChunksKind
 kind_of OffsetsName = SectorsKind
 kind_of OriginsName = SectorsKind
-kind_of MissingName = NumberKind 0 MOST_MISSING
+kind_of MissingName = NumberKind 0 2
 kind_of ForeignName = NumberKind 0 MOST
 kind_of BadrowsName = NumberKind 0 (2 ^ 55 - 1)
 kind_of MisfitsName = NumberKind 0 (2 ^ 55 - 1)
@@ -115,7 +116,7 @@ pub record IsList {A : Type 0} (place : A → ℕ) (most : ℕ) (xs : List A) : 
 
 -- sectors of images
 pub record AreDrops (drops : List DropAt) : Type 0 where
-  pub list : IsList drop_place MOST_DROPS drops
+  pub list : IsList drop_place 64 drops
   pub all : All IsDrop drops
 
 -- the values of a kind
@@ -126,8 +127,8 @@ IsValueOf value MembersKind = (ns : ArrayVec ℕ) × (value ≡ Members ns) × A
 IsValueOf value PatternsKind = (xs : ArrayVec Pattern) × (value ≡ Patterns xs) × IsList pattern_place MOST_PATTERNS xs.items
 IsValueOf value SyndromesKind = (xs : ArrayVec Syndrome) × (value ≡ Syndromes xs) × IsList syndrome_place MOST_SYNDROMES xs.items
 IsValueOf value ChunksKind = (ns : ArrayVec ℕ) × (value ≡ Chunks ns) × AreChunks ns.items
-IsValueOf value SectorsKind = (ns : ArrayVec ℕ) × (value ≡ Sectors ns) × AreSectors MOST_OFFSETS ns.items
-IsValueOf value LandmarksKind = (xs : ArrayVec GroupKind) × (value ≡ Landmarks xs) × IsList group_place 3 xs.items
+IsValueOf value SectorsKind = (ns : ArrayVec ℕ) × (value ≡ Sectors ns) × AreSectors 64 ns.items
+IsValueOf value LandmarksKind = (xs : ArrayVec GroupKind) × (value ≡ Landmarks xs) × IsList group_place GROUP_COUNT xs.items
 IsValueOf value DropsKind = (ds : ArrayVec DropAt) × (value ≡ Drops ds) × AreDrops ds.items
 IsValueOf value FormKind = (form : Form) × (value ≡ FormValue form)
 IsValueOf value MarksKind = (xfs : Bool) × (value ≡ Marks xfs)

@@ -1,6 +1,6 @@
 //! The commands, from their operands and defaults.
 ghost use Rattle.std.specs.Prelude.{◌≡◌, ◌≤◌, ◌<◌, ◌^◌, IfSome, length};
-ghost use Rattle.command_words.specs.Commands.{AreAsked, plain_survey as plain_survey_words, bounds_of, chunks_or, command_of, drops_or, form_or, kinds_or, levels_or, marks_or, members_or, number_in, patterns_or, sectors_or, set_in, survey_of, syndromes_or, tests_of, has_landmark};
+ghost use Rattle.command_words.specs.Commands.{AreAsked, plain_survey as plain_survey_words, bounds_of, chunks_or, command_of, drops_or, form_or, kinds_or, levels_or, marks_or, members_or, number_in, patterns_or, sectors_or, set_in, survey_of, syndromes_or, tests_of};
 ghost use Rattle.command_words.specs.Operands.{AreFitting, value_of};
 ghost use Rattle.command_words.specs.Steps.{lines_fit};
 
@@ -9,13 +9,13 @@ use crate::operands::{Operand, find_value};
 use crate::table::Name;
 use crate::values::Value;
 use arrayvec::ArrayVec;
-use landmark_rules::{GroupKind, MarkTests};
-use plan_text::{LEVELS, PATTERNS, SYNDROMES};
+use landmark_rules::MarkTests;
+use mark_kinds::{DropAt, Kinds, MOST_DROPS};
 use raid_params::{
-    Bounds, Geometry, Level, MOST_CHUNKS, MOST_DROPS, MOST_LESS_ONE, MOST_LEVELS, MOST_OFFSETS,
-    MOST_PATTERNS, MOST_SYNDROMES, Pattern, Syndrome,
+    Bounds, Geometry, Level, MOST_CHUNKS, MOST_LESS_ONE, MOST_LEVELS, MOST_OFFSETS, MOST_PATTERNS,
+    MOST_SYNDROMES, Pattern, Syndrome,
 };
-use search_plan::{DropAt, Kinds};
+use value_text::{LEVELS, PATTERNS, SYNDROMES};
 
 /// The most lines of a page where `size` is not given: few enough to look through.
 const DEFAULT_PAGE: u64 = 100;
@@ -172,25 +172,10 @@ fn kinds(operands: &[Operand]) -> Kinds
     ensures { result ≡ kinds_or (value_of Name.Kinds operands.now) }
 {
     if let Some(Value::Landmarks(landmarks)) = find_value(operands, Name::Kinds) {
-        Kinds {
-            gpt: is_among(GroupKind::Gpt, landmarks),
-            ntfs: is_among(GroupKind::Ntfs, landmarks),
-            xfs: is_among(GroupKind::Xfs, landmarks),
-        }
+        Kinds::among(landmarks)
     } else {
-        Kinds {
-            gpt: true,
-            ntfs: true,
-            xfs: true,
-        }
+        Kinds::every()
     }
-}
-
-/// Whether this landmark is among the others.
-fn is_among(landmark: GroupKind, others: &[GroupKind]) -> bool
-    ensures { result ≡ has_landmark landmark others.now }
-{
-    others.iter().any(|other| other.place() == landmark.place())
 }
 
 /// All where `levels` is not given.

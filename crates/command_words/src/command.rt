@@ -1,8 +1,8 @@
 //! The commands.
 use arrayvec::ArrayVec;
 use landmark_rules::MarkTests;
-use raid_params::{Bounds, Geometry, MOST_DROPS};
-use search_plan::{DropAt, Kinds};
+use mark_kinds::{DropAt, Kinds, MOST_DROPS};
+use raid_params::{Bounds, Geometry};
 
 /// The first word: which command it is.
 #[derive(Clone, Copy)]

@@ -7,7 +7,7 @@ use crate::command::Verb;
 use crate::table::{MOST_OPERANDS, Name};
 use crate::values::{Value, read_value};
 use arrayvec::ArrayVec;
-use plan_text::cut;
+use value_text::cut;
 
 /// An operand.
 #[derive(Drop)]

@@ -7,16 +7,12 @@ ghost use Rattle.command_words.specs.declared.values.Value.{Value as ValueOf};
 use crate::command::Form;
 use crate::table::ValueKind;
 use arrayvec::ArrayVec;
-use landmark_rules::GroupKind;
-use plan_text::{read_chunks, read_members, read_number, read_sectors, read_set, rising};
+use mark_kinds::{DropAt, GROUP_COUNT, GroupKind, MOST_DROPS};
 use raid_params::{
-    Geometry, Level, MOST_CHUNKS, MOST_DROPS, MOST_LESS_ONE, MOST_LEVELS, MOST_OFFSETS,
-    MOST_PATTERNS, MOST_SYNDROMES, Pattern, Syndrome,
+    Geometry, Level, MOST_CHUNKS, MOST_LESS_ONE, MOST_LEVELS, MOST_OFFSETS, MOST_PATTERNS,
+    MOST_SYNDROMES, Pattern, Syndrome,
 };
-use search_plan::DropAt;
-
-/// The kinds of landmarks: there are three.
-pub const MOST_LANDMARKS: usize = 3;
+use value_text::{read_chunks, read_members, read_number, read_sectors, read_set, rising};
 
 /// The value of an operand.
 #[derive(Drop)]
@@ -36,7 +32,7 @@ pub enum Value {
     /// Places on an image or on the volume, in sectors: as many as a plan may have offsets or origins.
     Sectors(ArrayVec<u64, MOST_OFFSETS>),
     /// Kinds of landmarks.
-    Landmarks(ArrayVec<GroupKind, MOST_LANDMARKS>),
+    Landmarks(ArrayVec<GroupKind, GROUP_COUNT>),
     /// Sectors of images.
     Drops(ArrayVec<DropAt, MOST_DROPS>),
     /// A form of listings.

@@ -1,7 +1,7 @@
 //! A word of the command line.
 ghost use Rattle.std.specs.Prelude.{◌≡◌, IfOk};
 
-use image_source::Memory;
+use outside::Memory;
 use std::alloc::Global;
 use std::marker::Model;
 

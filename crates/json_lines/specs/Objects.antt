@@ -8,7 +8,7 @@ use Rattle.raid_params.specs.declared.types.Head.{Head}
 use Rattle.raid_params.specs.declared.types.Level.{Level}
 use Rattle.raid_params.specs.declared.types.Level.TheVariants.{Raid0, Raid5, Raid6}
 use Rattle.raid_layouts.specs.Names.{name_of}
-use Rattle.plan_text.specs.Spelling.{line, pattern_name, syndrome_name}
+use Rattle.value_text.specs.Spelling.{line, pattern_name, syndrome_name}
 
 -- the number of a level
 abbrev pub level_number : Level → ℕ

@@ -1,18 +1,18 @@
 //! Lines of JSON.
 ghost use Rattle.std.specs.Prelude.{◌≡◌, IfOk, string_bytes};
 ghost use Rattle.json_lines.specs.Objects.{level_number as level_number_of, name_data, next_data, next_object, set_data, set_object, slot_data, slots_data};
-ghost use Rattle.plan_text.specs.Spelling.{line as line_of};
+ghost use Rattle.value_text.specs.Spelling.{line as line_of};
 ghost use Rattle.raid_layouts.specs.Names.{name_of};
 ghost use Rattle.serde_json.specs.Data.{array};
 ghost use Rattle.serde_json.specs.View.{view};
 ghost use Rattle.serde_json.specs.Written.{compact_text};
 
-use image_source::Memory;
-use plan_text::{Text, pattern_name, syndrome_name};
+use outside::Memory;
 use raid_layouts::md_name;
 use raid_params::{Geometry, Head, Level};
 use serde_json::{Value, json};
 use std::alloc::{AllocError, Global};
+use value_text::{Text, pattern_name, syndrome_name};
 
 /// The line of a parameter set with its rank, and its line feed: an object with the keys chunk, level, name,
 /// offset, pattern, rank, slots and syndrome. `name` is mdadm's or DDF's name of the layout, or null; an empty
@@ -52,6 +52,7 @@ fn next_text(alloc: Global, next: u64, total: u64) -> Result<String, AllocError>
     value.to_string(alloc)
 }
 
+/// The JSON value of where the next page begins.
 fn next_value(alloc: Global, next: u64, total: u64) -> Result<Value, AllocError>
     ensures { IfOk result (λ value. view value ≡ next_data next total) }
 {
@@ -71,6 +72,7 @@ fn set_text(
     value.to_string(alloc)
 }
 
+/// The JSON value of a parameter set with its rank.
 fn set_value(
     alloc: Global,
     rank: u64,
@@ -120,6 +122,7 @@ fn slot_value(slot: Option<u8>) -> Value
     }
 }
 
+/// The number by which a level is known.
 fn level_number(level: Level) -> u8
     ensures { result ≡ level_number_of level }
 {

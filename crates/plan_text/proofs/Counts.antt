@@ -3,7 +3,7 @@ use Rattle.std.proofs.Common.{◌≤◌, ℕ, List, [], ◌∷◌, drop, codes, 
 use Rattle.raid_params.specs.declared.limits.TheConstants.{MOST, MOST_MISSING}
 use Rattle.plan_text.specs.declared.parts.Counts.{Counts}
 use Rattle.plan_text.specs.Parts.{AreCounts, lines_of_counts}
-use Rattle.plan_text.specs.Spelling.{named}
+use Rattle.value_text.specs.Spelling.{named}
 use Rattle.plan_text.proofs.Refusals.{StandsIn, one_line}
 
 abbrev pub counts_with : ℕ → ℕ → ℕ → ℕ → ℕ → ℕ → Counts

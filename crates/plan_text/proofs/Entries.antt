@@ -2,8 +2,8 @@
 use Rattle.std.proofs.Common.{◌≡◌, ◌≢◌, ◌<◌, ◌^◌, ℕ, List, ◌∷◌, ◌++◌, get_or, codes, decimal, refl, sym, ap, ◌∙◌, arith, Option, None, Some, MatchOption}
 use Rattle.std.proofs.lemmas.Fmt.{decimal_injective}
 use Rattle.std.proofs.lemmas.List.{append_cancel_left}
-use Rattle.landmark_rules.specs.declared.marks.GroupKind.{GroupKind}
-use Rattle.landmark_rules.specs.declared.marks.Kind.{Kind}
+use Rattle.mark_kinds.specs.declared.groups.GroupKind.{GroupKind}
+use Rattle.mark_kinds.specs.declared.sectors.Kind.{Kind}
 use Rattle.landmark_rules.specs.declared.marks.Mark.{Mark}
 use Rattle.landmark_rules.specs.declared.marks.Rule.{Rule}
 use Rattle.landmark_rules.specs.declared.marks.Rule.TheVariants.{At, Either, Every}
@@ -11,10 +11,10 @@ use Rattle.landmark_rules.specs.Rules.{IsRule}
 use Rattle.plan_text.specs.declared.entry.Entry.{Entry}
 use Rattle.plan_text.specs.declared.entry.Entry.TheVariants.{Done, Group as GroupEntry, Mark as MarkEntry}
 use Rattle.plan_text.specs.Drafts.{IsEntry, IsSpelledMark, entry_line}
-use Rattle.plan_text.specs.NameLaws.{group_law, kind_law, byte_law, number_law}
+use Rattle.value_text.specs.NameLaws.{group_law, kind_law, byte_law, number_law}
 use Rattle.plan_text.specs.PlanText.{mark_text, rule_text}
-use Rattle.plan_text.specs.Spelling.{group_name, kind_name}
-use Rattle.plan_text.proofs.Spellings.{next_value}
+use Rattle.value_text.specs.Spelling.{group_name, kind_name}
+use Rattle.value_text.proofs.Spellings.{next_value}
 
 abbrev Same : ℕ → ℕ → Type 0
 Same m n = m ≡ n

@@ -1,8 +1,8 @@
 -- An entry stands on one line.
 use Rattle.std.proofs.Common.{◌≢◌, ◌<◌, ◌^◌, ℕ, List, ◌∷◌, ◌++◌, codes, decimal, refl, arith}
 use Rattle.std.proofs.lemmas.List.Elements.{All-cons, All-append}
-use Rattle.landmark_rules.specs.declared.marks.GroupKind.{GroupKind}
-use Rattle.landmark_rules.specs.declared.marks.GroupKind.TheVariants.{Gpt as GptGroup, Ntfs, Xfs}
+use Rattle.mark_kinds.specs.declared.groups.GroupKind.{GroupKind}
+use Rattle.mark_kinds.specs.declared.groups.GroupKind.TheVariants.{Gpt as GptGroup, Ntfs, Xfs}
 use Rattle.landmark_rules.specs.declared.marks.Mark.{Mark}
 use Rattle.landmark_rules.specs.declared.marks.Rule.{Rule}
 use Rattle.landmark_rules.specs.declared.marks.Rule.TheVariants.{At, Either, Every}
@@ -10,10 +10,10 @@ use Rattle.landmark_rules.specs.Rules.{IsRule}
 use Rattle.plan_text.specs.declared.entry.Entry.{Entry}
 use Rattle.plan_text.specs.declared.entry.Entry.TheVariants.{Done, Group as GroupEntry, Mark as MarkEntry}
 use Rattle.plan_text.specs.Drafts.{IsEntry, IsSpelledMark, entry_line}
-use Rattle.plan_text.specs.NameLaws.{kind_law, without_mark}
+use Rattle.value_text.specs.NameLaws.{kind_law, without_separator}
 use Rattle.plan_text.specs.PlanText.{IsLine, mark_text, rule_text}
-use Rattle.plan_text.specs.Spelling.{group_name, kind_name, named}
-use Rattle.plan_text.proofs.Lists.{decimal_line}
+use Rattle.value_text.specs.Spelling.{group_name, kind_name, named}
+use Rattle.value_text.proofs.Lists.{decimal_line}
 use Rattle.plan_text.proofs.OneLine.{a_line}
 
 abbrev IsNoFeed : ℕ → Type 0
@@ -41,7 +41,7 @@ rule_line (Every s c p) is =
 
 pub a_mark_line : (mark : Mark) → IsSpelledMark mark → IsLine (mark_text mark)
 a_mark_line mark is =
-    joined (kind_name mark.kind) (decimal mark.image ++ 32 ∷ (decimal mark.sector ++ 32 ∷ rule_text mark.rule)) 32 space (without_mark 10 (kind_name mark.kind) refl (kind_law.has_no_mark mark.kind tt))
+    joined (kind_name mark.kind) (decimal mark.image ++ 32 ∷ (decimal mark.sector ++ 32 ∷ rule_text mark.rule)) 32 space (without_separator 10 (kind_name mark.kind) refl (kind_law.has_no_separator mark.kind tt))
     (joined (decimal mark.image) (decimal mark.sector ++ 32 ∷ rule_text mark.rule) 32 space (decimal_line mark.image (let small = is.image in omega arith))
     (joined (decimal mark.sector) (rule_text mark.rule) 32 space (decimal_line mark.sector is.sector) (rule_line mark.rule is.rule)))
 

@@ -1,16 +1,14 @@
--- The texts tried on a small plan and a small parameter set, whose spelling was written out by hand.
-use Rattle.std.proofs.Common.{◌≡◌, [], ◌∷◌, codes, refl, Some, None}
+-- The text of a plan tried on a small one, whose spelling was written out by hand.
+use Rattle.std.proofs.Common.{◌≡◌, [], ◌∷◌, codes, refl}
 use Rattle.std.specs.Fmt.{digits}
-use Rattle.raid_params.specs.declared.types.Geometry.{Geometry}
-use Rattle.raid_params.specs.declared.types.Level.TheVariants.{Raid5, Raid6}
-use Rattle.raid_params.specs.declared.types.Pattern.TheVariants.{Ls, NRestart}
-use Rattle.raid_params.specs.declared.types.Syndrome.TheVariants.{NoQ, BySlot}
-use Rattle.landmark_rules.specs.declared.marks.Kind.TheVariants.{Super, Agf}
-use Rattle.landmark_rules.specs.declared.marks.GroupKind.TheVariants.{Xfs}
+use Rattle.raid_params.specs.declared.types.Level.TheVariants.{Raid5}
+use Rattle.raid_params.specs.declared.types.Pattern.TheVariants.{Ls}
+use Rattle.raid_params.specs.declared.types.Syndrome.TheVariants.{NoQ}
+use Rattle.mark_kinds.specs.declared.sectors.Kind.TheVariants.{Super, Agf}
+use Rattle.mark_kinds.specs.declared.groups.GroupKind.TheVariants.{Xfs}
 use Rattle.landmark_rules.specs.declared.marks.Rule.TheVariants.{At, Every}
 use Rattle.search_plan.specs.declared.plan.Plan.{Plan}
 use Rattle.plan_text.specs.PlanText.{plan_text}
-use Rattle.plan_text.specs.SetText.{set_line}
 
 -- three images of two sectors, left-symmetric, one sector a chunk, with two marks of an XFS
 plan : Plan
@@ -38,24 +36,3 @@ plan = record {
 text_of_plan : plan_text plan ≡ codes "reraid-plan 1\nimages 3\nlength 2\nlength 2\nlength 2\nend 2\nlevels 5\nmembers 3\npatterns ls\nsyndromes none\nchunks 1\noffsets 0\norigins 0\nmissing 0\nforeign 0\nbadrows 0\nwindow 2\nmisfits 0\nleast 1\ngroup xfs\nmark super 0 0 every:64:4:0\nmark agf 2 1 at:65\ndone\n"
 unfolding plan digits
 text_of_plan = refl
-
-in_order : Geometry
-in_order = record {
-  head = record { level = Raid5; members = 3; pattern = Ls; syndrome = NoQ; chunk = 1; offset = 0 };
-  slots = record { items = Some 0 ∷ Some 1 ∷ Some 2 ∷ [] };
-}
-
-line_in_order : set_line 0 in_order ≡ codes "0 5:ls:none:1:0:0,1,2\n"
-unfolding in_order digits
-line_in_order = refl
-
--- the first of four members is missing
-one_missing : Geometry
-one_missing = record {
-  head = record { level = Raid6; members = 4; pattern = NRestart; syndrome = BySlot; chunk = 128; offset = 2048 };
-  slots = record { items = None ∷ Some 11 ∷ Some 0 ∷ Some 3 ∷ [] };
-}
-
-line_one_missing : set_line 907 one_missing ≡ codes "907 6:n-restart:by-slot:128:2048:-,11,0,3\n"
-unfolding one_missing digits
-line_one_missing = refl

@@ -12,11 +12,10 @@ use Rattle.std.proofs.lemmas.List.Sums.{sum_by-append}
 use Rattle.std.proofs.Math.Seq.{get_or-append_seam}
 use Rattle.raid_params.specs.declared.limits.TheConstants.{MOST}
 use Rattle.landmark_rules.specs.declared.marks.Group.{Group}
-use Rattle.landmark_rules.specs.declared.marks.GroupKind.{GroupKind}
-use Rattle.landmark_rules.specs.declared.marks.GroupKind.TheVariants.{Gpt as GptGroup, Ntfs, Xfs}
-use Rattle.landmark_rules.specs.declared.marks.Kind.{Kind}
-use Rattle.landmark_rules.specs.declared.marks.Kind.TheVariants.{Gpt, Boot, FileRecord, Super, Agf, Agi}
+use Rattle.mark_kinds.specs.declared.groups.GroupKind.{GroupKind}
+use Rattle.mark_kinds.specs.declared.sectors.Kind.{Kind}
 use Rattle.landmark_rules.specs.declared.marks.Mark.{Mark}
+use Rattle.mark_kinds.proofs.Places.{same_group, group_below, kind_below}
 use Rattle.landmark_rules.specs.Groups.{AreGroups, IsMark, group_place, kind_place, mark_place, marks_in, most_groups}
 use Rattle.plan_text.specs.declared.draft.Draft.{Draft}
 use Rattle.plan_text.specs.Drafts.{IsBefore, IsDraft, MayAddTo, MayBegin, empty_group, with_mark, with_open}
@@ -109,31 +108,6 @@ bit_no : {A : Type 0} (p : A → Bool) (x : A) → p x ≡ false → bit p x ≡
 unfolding bit
 bit_no p x e = ap (λ (b : Bool). cond b 1 0) e
 
--- kinds by their places
-same_group_place : (k l : GroupKind) → group_place k ≡ group_place l → k ≡ l
-same_group_place GptGroup GptGroup e = refl
-same_group_place GptGroup Ntfs e = absurd (omega (arith, e))
-same_group_place GptGroup Xfs e = absurd (omega (arith, e))
-same_group_place Ntfs GptGroup e = absurd (omega (arith, e))
-same_group_place Ntfs Ntfs e = refl
-same_group_place Ntfs Xfs e = absurd (omega (arith, e))
-same_group_place Xfs GptGroup e = absurd (omega (arith, e))
-same_group_place Xfs Ntfs e = absurd (omega (arith, e))
-same_group_place Xfs Xfs e = refl
-
-group_below : (k : GroupKind) → group_place k < 3
-group_below GptGroup = omega arith
-group_below Ntfs = omega arith
-group_below Xfs = omega arith
-
-kind_below : (k : Kind) → kind_place k < 6
-kind_below Gpt = omega arith
-kind_below Boot = omega arith
-kind_below FileRecord = omega arith
-kind_below Super = omega arith
-kind_below Agf = omega arith
-kind_below Agi = omega arith
-
 abbrev is_of : ℕ → Group → Bool
 is_of place group = group_place group.kind == place
 
@@ -214,7 +188,7 @@ started lengths gs kind are order few = record {
       let a = count_push (is_of (group_place k)) gs (empty_group kind) in
       elim (cases_Bool (group_place kind == group_place k)) [
         | inl equal ↦ (
-            let same : kind ≡ k = same_group_place kind k (eqb-true (group_place kind) (group_place k) equal) in
+            let same : kind ≡ k = same_group kind k (eqb-true (group_place kind) (group_place k) equal) in
             let one = bit_yes (is_of (group_place k)) (empty_group kind) equal in
             let below : count_by (is_of (group_place k)) gs < most_groups k = subst (λ (l : GroupKind). count_by (is_of (group_place l)) gs < most_groups l) same few in
             omega (arith, a, one, below)

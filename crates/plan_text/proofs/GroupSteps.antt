@@ -5,7 +5,7 @@ use Rattle.std.proofs.lemmas.List.{map-append}
 use Rattle.std.proofs.lemmas.List.Elements.{All-head, All-tail}
 use Rattle.std.proofs.lemmas.List.Concat.{flat_map-append}
 use Rattle.landmark_rules.specs.declared.marks.Group.{Group}
-use Rattle.landmark_rules.specs.declared.marks.GroupKind.{GroupKind}
+use Rattle.mark_kinds.specs.declared.groups.GroupKind.{GroupKind}
 use Rattle.landmark_rules.specs.declared.marks.Mark.{Mark}
 use Rattle.landmark_rules.specs.Groups.{AreGroups, IsMark}
 use Rattle.search_plan.specs.Plans.{AreLengths}

@@ -4,11 +4,11 @@ use Rattle.std.specs.List.{flat_map}
 use Rattle.std.proofs.lemmas.List.{append_cancel_left}
 use Rattle.std.proofs.lemmas.List.Elements.{All-head, All-tail}
 use Rattle.landmark_rules.specs.declared.marks.Group.{Group}
-use Rattle.landmark_rules.specs.declared.marks.GroupKind.{GroupKind}
+use Rattle.mark_kinds.specs.declared.groups.GroupKind.{GroupKind}
 use Rattle.landmark_rules.specs.declared.marks.Mark.{Mark}
 use Rattle.plan_text.specs.Drafts.{IsSpelledMark}
 use Rattle.plan_text.specs.PlanText.{group_lines, groups_lines, mark_line, mark_text}
-use Rattle.plan_text.specs.Spelling.{group_name, named}
+use Rattle.value_text.specs.Spelling.{group_name, named}
 use Rattle.plan_text.proofs.Entries.{same_group, same_mark}
 
 abbrev Same : ℕ → ℕ → Type 0

@@ -7,7 +7,7 @@ use Rattle.arrayvec.specs.declared.array_vec.ArrayVec.{ArrayVec}
 use Rattle.raid_params.specs.declared.limits.TheConstants.{MOST}
 use Rattle.search_plan.specs.Plans.{AreLengths}
 use Rattle.plan_text.specs.PlanText.{image_lines}
-use Rattle.plan_text.specs.Spelling.{named}
+use Rattle.value_text.specs.Spelling.{named}
 use Rattle.plan_text.proofs.Refusals.{StandsIn, one_line}
 
 abbrev pub Lengths : Type 0

@@ -1,9 +1,3 @@
-pub mod Numbers
-pub mod Commas
-pub mod Spellings
-pub mod SetWords
-pub mod Lists
-pub mod Fits
 pub mod Refusals
 pub mod OneLine
 pub mod Counts
@@ -20,5 +14,3 @@ pub mod RefusedLines
 pub mod PlanEnds
 pub mod Written
 pub mod Examples
-pub mod Drops
-pub mod AllValues

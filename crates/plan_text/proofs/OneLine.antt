@@ -8,7 +8,7 @@ use Rattle.plan_text.specs.declared.fault.PlanFault.{PlanFault}
 use Rattle.plan_text.specs.declared.fault.PlanFault.TheVariants.{Line}
 use Rattle.plan_text.specs.PlanText.{IsLine}
 use Rattle.plan_text.specs.Reading.{Cursor, IsOff, IsRefusal, IsRead, Reads, is_line}
-use Rattle.plan_text.proofs.Spellings.{has_mark, first_mark, IsWithout}
+use Rattle.value_text.proofs.Spellings.{has_separator, first_separator, IsWithout}
 
 -- a reader took this line
 abbrev pub IsAt : Cursor → Cursor → List ℕ → Type 0
@@ -42,7 +42,7 @@ no_line {X = X} IsX name x is_x from fault h =
         is_value = is_x;
         more = name x ∷ [];
         begins = refl;
-        off = λ y others is e. subst (IsOff from.rest) e (λ after same. has_mark 10 (name y) after (subst (IsWithout 10) same h.1));
+        off = λ y others is e. subst (IsOff from.rest) e (λ after same. has_separator 10 (name y) after (subst (IsWithout 10) same h.1));
       },
     ) in
     subst (IsRefusal IsX (λ x. name x ∷ []) from) (sym h.0) none
@@ -63,7 +63,7 @@ off_line IsX name x is_x are_lines from to line at none = (
     is_value = is_x;
     more = name x ∷ [];
     begins = refl;
-    off = λ y others is e. subst (IsOff from.rest) e (λ after same. none y is (first_mark 10 line (name y) to.rest after at.0 (are_lines y is) (sym at.1 ∙ same)).0);
+    off = λ y others is e. subst (IsOff from.rest) e (λ after same. none y is (first_separator 10 line (name y) to.rest after at.0 (are_lines y is) (sym at.1 ∙ same)).0);
   },
 )
 

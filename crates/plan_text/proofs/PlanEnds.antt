@@ -14,17 +14,17 @@ use Rattle.search_plan.specs.Places.{level_place, pattern_place, syndrome_place}
 use Rattle.search_plan.specs.Plans.{IsPlan}
 use Rattle.plan_text.specs.declared.fault.PlanFault.{PlanFault}
 use Rattle.plan_text.specs.declared.fault.PlanFault.TheVariants.{Line}
-use Rattle.plan_text.specs.NameLaws.{in_lists, level_law, pattern_law, syndrome_law, byte_law, number_law}
+use Rattle.value_text.specs.NameLaws.{in_lists, level_law, pattern_law, syndrome_law, byte_law, number_law}
 use Rattle.plan_text.specs.PlanText.{IsFault, IsRefusedLine, groups_lines, image_lines, plan_lines, plan_text, search_lines}
 use Rattle.plan_text.specs.Reading.{Cursor, followed}
-use Rattle.plan_text.specs.Spelling.{IsFieldName, level_name, pattern_name, syndrome_name, commas}
-use Rattle.plan_text.proofs.Fits.{members_are_bytes, chunks_are_short, offsets_are_short}
+use Rattle.value_text.specs.Spelling.{IsFieldName, level_name, pattern_name, syndrome_name, commas}
+use Rattle.value_text.proofs.Fits.{members_are_bytes, chunks_are_short, offsets_are_short}
 use Rattle.plan_text.proofs.GroupSteps.{are_spelled}
-use Rattle.plan_text.proofs.Lists.{some_value}
+use Rattle.value_text.proofs.Lists.{some_value}
 use Rattle.plan_text.proofs.PlanLines.{one_end, same_groups, same_images}
 use Rattle.plan_text.proofs.RefusedLines.{IsOther, end_is_short, following, plain_lines, refused_line, text_of}
 use Rattle.plan_text.proofs.Refusals.{Went}
-use Rattle.plan_text.proofs.Spellings.{same_list}
+use Rattle.value_text.proofs.Spellings.{same_list}
 
 -- no plan goes on after the last line of another
 no_more : (p q : Plan) (l : List ℕ) (ls : List (List ℕ)) → IsPlan p → IsPlan q → plan_lines q ≡ plan_lines p ++ l ∷ ls → ⊥

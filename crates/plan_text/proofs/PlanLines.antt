@@ -8,7 +8,7 @@ use Rattle.landmark_rules.specs.Groups.{AreGroups}
 use Rattle.search_plan.specs.declared.plan.Plan.{Plan}
 use Rattle.search_plan.specs.Plans.{AreLengths, IsPlan}
 use Rattle.plan_text.specs.declared.parts.Search.{Search}
-use Rattle.plan_text.specs.NameLaws.{number_law}
+use Rattle.value_text.specs.NameLaws.{number_law}
 use Rattle.plan_text.specs.Parts.{IsSearch, lines_of_search}
 use Rattle.plan_text.specs.PlanText.{group_lines, groups_lines, image_lines, plan_lines}
 use Rattle.plan_text.proofs.GroupSteps.{are_spelled}

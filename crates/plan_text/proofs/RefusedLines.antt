@@ -12,19 +12,19 @@ use Rattle.search_plan.specs.Plans.{AreLengths, IsPlan}
 use Rattle.plan_text.specs.declared.fault.PlanFault.{PlanFault}
 use Rattle.plan_text.specs.declared.fault.PlanFault.TheVariants.{Line, Memory}
 use Rattle.plan_text.specs.Drafts.{IsSpelledMark}
-use Rattle.plan_text.specs.NameLaws.{level_law, pattern_law, syndrome_law, byte_law, number_law}
+use Rattle.value_text.specs.NameLaws.{level_law, pattern_law, syndrome_law, byte_law, number_law}
 use Rattle.plan_text.specs.PlanText.{Begins, IsFault, IsLine, IsRefusedLine, group_lines, groups_lines, image_lines, mark_line, plan_lines, plan_text, search_lines}
 use Rattle.plan_text.specs.Reading.{Cursor, IsOff, IsRefusal, followed}
-use Rattle.plan_text.specs.Spelling.{level_name, pattern_name, syndrome_name, line}
+use Rattle.value_text.specs.Spelling.{level_name, pattern_name, syndrome_name, line}
 use Rattle.plan_text.specs.declared.entry.Entry.TheVariants.{Done, Group as GroupEntry, Mark as MarkEntry}
 use Rattle.plan_text.proofs.EntryLines.{an_entry_line}
-use Rattle.plan_text.proofs.Fits.{members_are_bytes, chunks_are_short, offsets_are_short}
+use Rattle.value_text.proofs.Fits.{members_are_bytes, chunks_are_short, offsets_are_short}
 use Rattle.plan_text.proofs.GroupSteps.{are_spelled}
 use Rattle.plan_text.proofs.Grouping.{AreSpelled}
 use Rattle.plan_text.proofs.ImageLines.{length_line}
-use Rattle.plan_text.proofs.Lists.{number_line, word_line}
+use Rattle.value_text.proofs.Lists.{number_line, word_line}
 use Rattle.plan_text.proofs.OneLine.{a_line}
-use Rattle.plan_text.proofs.Spellings.{first_mark}
+use Rattle.value_text.proofs.Spellings.{first_separator}
 
 pub in_lines : (lines : List (List ℕ)) (rest : List ℕ) → flat_map line lines ++ rest ≡ followed lines rest
 in_lines [] rest = refl
@@ -39,7 +39,7 @@ pub following : (xs ys : List (List ℕ)) (rest : List ℕ) → All IsLine xs �
 following [] ys rest p q e = (ys, refl, e)
 following (x ∷ xs) [] rest p q e = let same = ap length e in let more = length-append x (10 ∷ followed xs rest) in absurd (omega arith)
 following (x ∷ xs) (y ∷ ys) rest p q e =
-    let both = first_mark 10 x y (followed xs rest) (followed ys []) (All-head IsLine x xs p) (All-head IsLine y ys q) e in
+    let both = first_separator 10 x y (followed xs rest) (followed ys []) (All-head IsLine x xs p) (All-head IsLine y ys q) e in
     let more = following xs ys rest (All-tail IsLine x xs p) (All-tail IsLine y ys q) both.1 in
     let head : x ≡ y = both.0 in
     let tail : ys ≡ xs ++ more.0 = more.1 in
@@ -51,7 +51,7 @@ one_more [] (y ∷ []) rest after p q many e = (y, refl, e)
 one_more [] (y ∷ z ∷ ys) rest after p q many e = absurd (omega arith)
 one_more (x ∷ xs) [] rest after p q many e = absurd (omega arith)
 one_more (x ∷ xs) (y ∷ ys) rest after p q many e =
-    let both = first_mark 10 x y (followed xs rest) (followed ys after) (All-head IsLine x xs p) (All-head IsLine y ys q) e in
+    let both = first_separator 10 x y (followed xs rest) (followed ys after) (All-head IsLine x xs p) (All-head IsLine y ys q) e in
     let more = one_more xs ys rest after (All-tail IsLine x xs p) (All-tail IsLine y ys q) (omega arith) both.1 in
     let head : x ≡ y = both.0 in
     let tail : ys ≡ xs ++ more.0 ∷ [] = more.1 in

@@ -5,16 +5,16 @@ use Rattle.raid_params.specs.declared.types.Level.TheVariants.{Raid0}
 use Rattle.raid_params.specs.declared.types.Pattern.TheVariants.{Plain}
 use Rattle.raid_params.specs.declared.types.Syndrome.TheVariants.{NoQ}
 use Rattle.plan_text.specs.declared.parts.Counts.{Counts}
-use Rattle.plan_text.specs.declared.parts.Kinds.{Kinds}
+use Rattle.plan_text.specs.declared.parts.Arrays.{Arrays}
 use Rattle.plan_text.specs.declared.parts.Search.{Search}
 use Rattle.plan_text.specs.declared.parts.Sizes.{Sizes}
-use Rattle.plan_text.specs.Parts.{AreKinds, AreSizes, AreCounts, IsSearch, lines_of_kinds, lines_of_sizes, lines_of_counts, lines_of_search}
-use Rattle.plan_text.specs.Spelling.{named}
+use Rattle.plan_text.specs.Parts.{AreArrays, AreSizes, AreCounts, IsSearch, lines_of_arrays, lines_of_sizes, lines_of_counts, lines_of_search}
+use Rattle.value_text.specs.Spelling.{named}
 use Rattle.plan_text.proofs.Counts.{counts_with, are_counts}
 use Rattle.plan_text.proofs.Refusals.{StandsIn, one_line}
 use Rattle.plan_text.proofs.SectionLines.{one_rises, are_members, are_chunks, are_sectors}
 
-abbrev pub search_with : ℕ → Kinds → Sizes → Counts → Search
+abbrev pub search_with : ℕ → Arrays → Sizes → Counts → Search
 search_with end k s c = record {
   end = end;
   bounds = record {
@@ -31,7 +31,7 @@ search_with end k s c = record {
   tests = record { origins = s.origins; misfits = c.misfits; least = c.least };
 }
 
-pub is_search : (shortest end : ℕ) (k : Kinds) (s : Sizes) (c : Counts) → end ≤ shortest → AreKinds k → AreSizes s → AreCounts c → IsSearch shortest (search_with end k s c)
+pub is_search : (shortest end : ℕ) (k : Arrays) (s : Sizes) (c : Counts) → end ≤ shortest → AreArrays k → AreSizes s → AreCounts c → IsSearch shortest (search_with end k s c)
 is_search shortest end k s c within p q r = record {
   ends = within;
   bounds = record {
@@ -52,8 +52,8 @@ is_search shortest end k s c within p q r = record {
   tests = record { origins = q.origins.0; few_origins = q.origins.1; near_origins = q.origins.2; misfits = r.misfits; least = r.least };
 }
 
-abbrev pub kinds_of : Search → Kinds
-kinds_of w = record { levels = w.bounds.levels; members = w.bounds.members; patterns = w.bounds.patterns; syndromes = w.bounds.syndromes }
+abbrev pub arrays_of : Search → Arrays
+arrays_of w = record { levels = w.bounds.levels; members = w.bounds.members; patterns = w.bounds.patterns; syndromes = w.bounds.syndromes }
 
 abbrev pub sizes_of : Search → Sizes
 sizes_of w = record { chunks = w.bounds.chunks; offsets = w.bounds.offsets; origins = w.tests.origins }
@@ -61,8 +61,8 @@ sizes_of w = record { chunks = w.bounds.chunks; offsets = w.bounds.offsets; orig
 abbrev pub counts_of : Search → Counts
 counts_of w = record { missing = w.bounds.missing; foreign = w.bounds.foreign; badrows = w.limits.badrows; window = w.limits.window; misfits = w.tests.misfits; least = w.tests.least }
 
-pub kinds_are : (shortest : ℕ) (w : Search) → IsSearch shortest w → AreKinds (kinds_of w)
-kinds_are shortest w is = record { levels = is.bounds.levels; members = (is.bounds.members, is.bounds.few_members); patterns = is.bounds.patterns; syndromes = is.bounds.syndromes }
+pub arrays_are : (shortest : ℕ) (w : Search) → IsSearch shortest w → AreArrays (arrays_of w)
+arrays_are shortest w is = record { levels = is.bounds.levels; members = (is.bounds.members, is.bounds.few_members); patterns = is.bounds.patterns; syndromes = is.bounds.syndromes }
 
 pub sizes_are : (shortest : ℕ) (w : Search) → IsSearch shortest w → AreSizes (sizes_of w)
 sizes_are shortest w is = record {
@@ -83,12 +83,12 @@ counts_are shortest w is = record {
 }
 
 -- some of each
-kinds : Kinds
-kinds = record { levels = record { items = Raid0 ∷ [] }; members = record { items = 2 ∷ [] }; patterns = record { items = Plain ∷ [] }; syndromes = record { items = NoQ ∷ [] } }
+arrays : Arrays
+arrays = record { levels = record { items = Raid0 ∷ [] }; members = record { items = 2 ∷ [] }; patterns = record { items = Plain ∷ [] }; syndromes = record { items = NoQ ∷ [] } }
 
-some_kinds : AreKinds kinds
-unfolding kinds
-some_kinds = record { levels = one_rises 0; members = are_members; patterns = one_rises 0; syndromes = one_rises 0 }
+some_arrays : AreArrays arrays
+unfolding arrays
+some_arrays = record { levels = one_rises 0; members = are_members; patterns = one_rises 0; syndromes = one_rises 0 }
 
 sizes : Sizes
 sizes = record { chunks = record { items = 1 ∷ [] }; offsets = record { items = 0 ∷ [] }; origins = record { items = 0 ∷ [] } }
@@ -106,15 +106,15 @@ some_counts = are_counts 0 0 0 1 0 0 (lit≤ tt) (lit≤ tt) (lit≤ tt) (lit≤
 
 -- a search of no sectors
 pub search_of_none : Search
-search_of_none = search_with 0 kinds sizes counts
+search_of_none = search_with 0 arrays sizes counts
 
 pub is_search_of_none : (shortest : ℕ) → IsSearch shortest search_of_none
 unfolding search_of_none
-is_search_of_none shortest = is_search shortest 0 kinds sizes counts (omega arith) some_kinds some_sizes some_counts
+is_search_of_none shortest = is_search shortest 0 arrays sizes counts (omega arith) some_arrays some_sizes some_counts
 
 pub stands_end : (shortest : ℕ) → StandsIn (λ n. (0 ≤ n) × (n ≤ shortest)) (λ n. named (codes "end") (decimal n) ∷ []) (IsSearch shortest) lines_of_search []
 stands_end shortest = record {
-  made = λ x p. (search_with x kinds sizes counts, _, is_search shortest x kinds sizes counts p.1 some_kinds some_sizes some_counts, refl);
+  made = λ x p. (search_with x arrays sizes counts, _, is_search shortest x arrays sizes counts p.1 some_arrays some_sizes some_counts, refl);
   shape = λ w tail is e. (w.end, _, (omega arith, is.ends), sym e);
   apart = λ x y m more p q e. one_line (λ n. named (codes "end") (decimal n)) x y m more e;
 }
@@ -122,21 +122,21 @@ stands_end shortest = record {
 abbrev end_line : ℕ → List ℕ
 end_line end = named (codes "end") (decimal end)
 
-pub stands_kinds : (shortest end : ℕ) → end ≤ shortest → StandsIn AreKinds lines_of_kinds (IsSearch shortest) lines_of_search (end_line end ∷ [])
-stands_kinds shortest end within = record {
+pub stands_arrays : (shortest end : ℕ) → end ≤ shortest → StandsIn AreArrays lines_of_arrays (IsSearch shortest) lines_of_search (end_line end ∷ [])
+stands_arrays shortest end within = record {
   made = λ x p. (search_with end x sizes counts, lines_of_sizes sizes ++ lines_of_counts counts, is_search shortest end x sizes counts within p some_sizes some_counts, refl);
-  shape = λ w tail is e. (kinds_of w, lines_of_sizes (sizes_of w) ++ lines_of_counts (counts_of w), kinds_are shortest w is, ap (λ (ls : List (List ℕ)). drop 1 ls) (sym e));
+  shape = λ w tail is e. (arrays_of w, lines_of_sizes (sizes_of w) ++ lines_of_counts (counts_of w), arrays_are shortest w is, ap (λ (ls : List (List ℕ)). drop 1 ls) (sym e));
   apart = λ x y m more p q e. let same = ap length e in absurd (omega arith);
 }
 
-pub stands_sizes : (shortest end : ℕ) (k : Kinds) → end ≤ shortest → AreKinds k → StandsIn AreSizes lines_of_sizes (IsSearch shortest) lines_of_search (end_line end ∷ lines_of_kinds k)
+pub stands_sizes : (shortest end : ℕ) (k : Arrays) → end ≤ shortest → AreArrays k → StandsIn AreSizes lines_of_sizes (IsSearch shortest) lines_of_search (end_line end ∷ lines_of_arrays k)
 stands_sizes shortest end k within pk = record {
   made = λ x p. (search_with end k x counts, lines_of_counts counts, is_search shortest end k x counts within pk p some_counts, refl);
   shape = λ w tail is e. (sizes_of w, lines_of_counts (counts_of w), sizes_are shortest w is, ap (λ (ls : List (List ℕ)). drop 5 ls) (sym e));
   apart = λ x y m more p q e. let same = ap length e in absurd (omega arith);
 }
 
-pub stands_counts : (shortest end : ℕ) (k : Kinds) (s : Sizes) → end ≤ shortest → AreKinds k → AreSizes s → StandsIn AreCounts lines_of_counts (IsSearch shortest) lines_of_search (end_line end ∷ (lines_of_kinds k ++ lines_of_sizes s))
+pub stands_counts : (shortest end : ℕ) (k : Arrays) (s : Sizes) → end ≤ shortest → AreArrays k → AreSizes s → StandsIn AreCounts lines_of_counts (IsSearch shortest) lines_of_search (end_line end ∷ (lines_of_arrays k ++ lines_of_sizes s))
 stands_counts shortest end k s within pk ps = record {
   made = λ x p. (search_with end k s x, [], is_search shortest end k s x within pk ps p, refl);
   shape = λ w tail is e. (counts_of w, [], counts_are shortest w is, ap (λ (ls : List (List ℕ)). drop 8 ls) (sym e));

@@ -2,7 +2,8 @@
 use Rattle.std.proofs.Common.{◌≡◌, ◌≢◌, ◌≤◌, ◌<◌, ◌^◌, ℕ, IsTrue, List, [], ◌∷◌, All, drop, length, map, codes, decimal, refl, sym, ap, arith, lit≤, lit<, Option, None, Some, MatchOption}
 use Rattle.std.proofs.lemmas.List.Elements.{All-nil, All-cons}
 use Rattle.arrayvec.specs.declared.array_vec.ArrayVec.{ArrayVec}
-use Rattle.raid_params.specs.declared.limits.TheConstants.{MOST, MOST_CHUNKS, MOST_LESS_ONE, MOST_LEVELS, MOST_OFFSETS, MOST_ORIGINS, MOST_PATTERNS, MOST_SYNDROMES}
+use Rattle.landmark_rules.specs.declared.limits.TheConstants.{MOST_ORIGINS}
+use Rattle.raid_params.specs.declared.limits.TheConstants.{MOST, MOST_CHUNKS, MOST_LESS_ONE, MOST_LEVELS, MOST_OFFSETS, MOST_PATTERNS, MOST_SYNDROMES}
 use Rattle.raid_params.specs.declared.types.Level.{Level}
 use Rattle.raid_params.specs.declared.types.Pattern.{Pattern}
 use Rattle.raid_params.specs.declared.types.Pattern.TheVariants.{Plain}
@@ -11,11 +12,12 @@ use Rattle.raid_params.specs.declared.types.Syndrome.TheVariants.{NoQ}
 use Rattle.raid_params.specs.Validity.{is_chunk}
 use Rattle.search_plan.specs.Places.{level_place, pattern_place, syndrome_place}
 use Rattle.search_plan.specs.Plans.{AreRising}
-use Rattle.plan_text.specs.declared.parts.Kinds.{Kinds}
+use Rattle.plan_text.specs.declared.parts.Arrays.{Arrays}
 use Rattle.plan_text.specs.declared.parts.Sizes.{Sizes}
-use Rattle.plan_text.specs.Parts.{AreMembers, AreChunks, AreSectors, AreKinds, AreSizes, lines_of_kinds, lines_of_sizes}
-use Rattle.plan_text.specs.Spelling.{level_name, pattern_name, syndrome_name, commas, named}
-use Rattle.plan_text.proofs.Fits.{levels_fit, patterns_fit, syndromes_fit}
+use Rattle.plan_text.specs.Parts.{AreArrays, AreSizes, lines_of_arrays, lines_of_sizes}
+use Rattle.value_text.specs.Bounded.{AreMembers, AreChunks, AreSectors}
+use Rattle.value_text.specs.Spelling.{level_name, pattern_name, syndrome_name, commas, named}
+use Rattle.value_text.proofs.Fits.{levels_fit, patterns_fit, syndromes_fit}
 use Rattle.plan_text.proofs.Refusals.{StandsIn, one_line}
 
 pub one_rises : (n : ℕ) → AreRising (n ∷ [])
@@ -49,11 +51,11 @@ Chunks = ArrayVec ℕ MOST_CHUNKS (Unit {0})
 abbrev Sectors : Type 0
 Sectors = ArrayVec ℕ MOST_OFFSETS (Unit {0})
 
-abbrev kinds_with : Levels → Members → Patterns → Syndromes → Kinds
-kinds_with l m p s = record { levels = l; members = m; patterns = p; syndromes = s }
+abbrev arrays_with : Levels → Members → Patterns → Syndromes → Arrays
+arrays_with l m p s = record { levels = l; members = m; patterns = p; syndromes = s }
 
-pub are_kinds : (l : Levels) (m : Members) (p : Patterns) (s : Syndromes) → AreRising (map level_place l.items) → AreMembers m.items → AreRising (map pattern_place p.items) → AreRising (map syndrome_place s.items) → AreKinds (kinds_with l m p s)
-are_kinds l m p s a b c d = record { levels = a; members = b; patterns = c; syndromes = d }
+pub are_arrays : (l : Levels) (m : Members) (p : Patterns) (s : Syndromes) → AreRising (map level_place l.items) → AreMembers m.items → AreRising (map pattern_place p.items) → AreRising (map syndrome_place s.items) → AreArrays (arrays_with l m p s)
+are_arrays l m p s a b c d = record { levels = a; members = b; patterns = c; syndromes = d }
 
 members : Members
 members = record { items = 2 ∷ [] }
@@ -70,38 +72,38 @@ syndromes = record { items = NoQ ∷ [] }
 abbrev AreListed : {A : Type 0} (most : ℕ) (place : A → ℕ) → List A → Type 0
 AreListed most place xs = AreRising (map place xs) × (length xs ≤ most) × All (λ x. Unit {0}) xs
 
-pub stands_levels : StandsIn {X = Levels} (λ xs. AreListed MOST_LEVELS level_place xs.items) (λ xs. named (codes "levels") (commas (map level_name xs.items)) ∷ []) AreKinds lines_of_kinds []
+pub stands_levels : StandsIn {X = Levels} (λ xs. AreListed MOST_LEVELS level_place xs.items) (λ xs. named (codes "levels") (commas (map level_name xs.items)) ∷ []) AreArrays lines_of_arrays []
 unfolding members patterns syndromes
 stands_levels = record {
-  made = λ x p. (kinds_with x members patterns syndromes, _, are_kinds x members patterns syndromes p.0 are_members (one_rises 0) (one_rises 0), refl);
+  made = λ x p. (arrays_with x members patterns syndromes, _, are_arrays x members patterns syndromes p.0 are_members (one_rises 0) (one_rises 0), refl);
   shape = λ w tail is e. (w.levels, _, (is.levels, levels_fit w.levels.items is.levels, λ k d lt. tt), sym e);
   apart = λ x y m more p q e. one_line (λ (xs : Levels). named (codes "levels") (commas (map level_name xs.items))) x y m more e;
 }
 
 pub stands_members : (l : Levels) → AreRising (map level_place l.items) →
-    StandsIn {X = Members} (λ xs. AreMembers xs.items) (λ xs. named (codes "members") (commas (map decimal xs.items)) ∷ []) AreKinds lines_of_kinds (named (codes "levels") (commas (map level_name l.items)) ∷ [])
+    StandsIn {X = Members} (λ xs. AreMembers xs.items) (λ xs. named (codes "members") (commas (map decimal xs.items)) ∷ []) AreArrays lines_of_arrays (named (codes "levels") (commas (map level_name l.items)) ∷ [])
 unfolding patterns syndromes
 stands_members l pl = record {
-  made = λ x p. (kinds_with l x patterns syndromes, _, are_kinds l x patterns syndromes pl p (one_rises 0) (one_rises 0), refl);
+  made = λ x p. (arrays_with l x patterns syndromes, _, are_arrays l x patterns syndromes pl p (one_rises 0) (one_rises 0), refl);
   shape = λ w tail is e. (w.members, _, is.members, ap (λ (ls : List (List ℕ)). drop 1 ls) (sym e));
   apart = λ x y m more p q e. one_line (λ (xs : Members). named (codes "members") (commas (map decimal xs.items))) x y m more e;
 }
 
 pub stands_patterns : (l : Levels) (n : Members) → AreRising (map level_place l.items) → AreMembers n.items →
-    StandsIn {X = Patterns} (λ xs. AreListed MOST_PATTERNS pattern_place xs.items) (λ xs. named (codes "patterns") (commas (map pattern_name xs.items)) ∷ []) AreKinds lines_of_kinds
+    StandsIn {X = Patterns} (λ xs. AreListed MOST_PATTERNS pattern_place xs.items) (λ xs. named (codes "patterns") (commas (map pattern_name xs.items)) ∷ []) AreArrays lines_of_arrays
     (named (codes "levels") (commas (map level_name l.items)) ∷ named (codes "members") (commas (map decimal n.items)) ∷ [])
 unfolding syndromes
 stands_patterns l n pl pn = record {
-  made = λ x p. (kinds_with l n x syndromes, _, are_kinds l n x syndromes pl pn p.0 (one_rises 0), refl);
+  made = λ x p. (arrays_with l n x syndromes, _, are_arrays l n x syndromes pl pn p.0 (one_rises 0), refl);
   shape = λ w tail is e. (w.patterns, _, (is.patterns, patterns_fit w.patterns.items is.patterns, λ k d lt. tt), ap (λ (ls : List (List ℕ)). drop 2 ls) (sym e));
   apart = λ x y m more p q e. one_line (λ (xs : Patterns). named (codes "patterns") (commas (map pattern_name xs.items))) x y m more e;
 }
 
 pub stands_syndromes : (l : Levels) (n : Members) (o : Patterns) → AreRising (map level_place l.items) → AreMembers n.items → AreRising (map pattern_place o.items) →
-    StandsIn {X = Syndromes} (λ xs. AreListed MOST_SYNDROMES syndrome_place xs.items) (λ xs. named (codes "syndromes") (commas (map syndrome_name xs.items)) ∷ []) AreKinds lines_of_kinds
+    StandsIn {X = Syndromes} (λ xs. AreListed MOST_SYNDROMES syndrome_place xs.items) (λ xs. named (codes "syndromes") (commas (map syndrome_name xs.items)) ∷ []) AreArrays lines_of_arrays
     (named (codes "levels") (commas (map level_name l.items)) ∷ named (codes "members") (commas (map decimal n.items)) ∷ named (codes "patterns") (commas (map pattern_name o.items)) ∷ [])
 stands_syndromes l n o pl pn po = record {
-  made = λ x p. (kinds_with l n o x, _, are_kinds l n o x pl pn po p.0, refl);
+  made = λ x p. (arrays_with l n o x, _, are_arrays l n o x pl pn po p.0, refl);
   shape = λ w tail is e. (w.syndromes, _, (is.syndromes, syndromes_fit w.syndromes.items is.syndromes, λ k d lt. tt), ap (λ (ls : List (List ℕ)). drop 3 ls) (sym e));
   apart = λ x y m more p q e. one_line (λ (xs : Syndromes). named (codes "syndromes") (commas (map syndrome_name xs.items))) x y m more e;
 }

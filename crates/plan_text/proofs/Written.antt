@@ -2,7 +2,7 @@
 use Rattle.std.proofs.Common.{◌≡◌, ℕ, List, [], ◌∷◌, ◌++◌, sym, ap, ◌∙◌, append_assoc, append-nil}
 use Rattle.std.specs.List.{flat_map}
 use Rattle.std.proofs.lemmas.List.Concat.{flat_map-append}
-use Rattle.plan_text.specs.Spelling.{line}
+use Rattle.value_text.specs.Spelling.{line}
 
 one_line : (text old : List ℕ) (l : List ℕ) → text ≡ old ++ line l → text ≡ old ++ flat_map line (l ∷ [])
 one_line text old l e = e ∙ ap (λ (ds : List ℕ). old ++ ds) (sym (append-nil (line l)))

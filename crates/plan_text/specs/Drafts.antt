@@ -2,17 +2,18 @@
 use Rattle.std.specs.Prelude.{ℕ, ◌≡◌, ◌^◌, ◌<◌, ◌≤◌, ◌-◌, ◌⊎◌, ◌==◌, List, [], ◌∷◌, ◌++◌, codes, count_by, length, slice_index, slice_index_or, IfSome, MatchOption}
 use Rattle.std.specs.declared.option.Option.{Option}
 use Rattle.std.specs.declared.option.Option.TheVariants.{None, Some}
-use Rattle.raid_params.specs.declared.limits.TheConstants.{MOST_MARKS}
 use Rattle.landmark_rules.specs.declared.marks.Group.{Group}
-use Rattle.landmark_rules.specs.declared.marks.GroupKind.{GroupKind}
+use Rattle.mark_kinds.specs.declared.groups.GroupKind.{GroupKind}
 use Rattle.landmark_rules.specs.declared.marks.Mark.{Mark}
 use Rattle.landmark_rules.specs.Groups.{IsMark, group_place, kind_place, marks_in, most_groups}
 use Rattle.landmark_rules.specs.Rules.{IsRule}
+use Rattle.mark_kinds.specs.declared.groups.TheConstants.{GROUP_COUNT}
+use Rattle.mark_kinds.specs.declared.sectors.TheConstants.{KIND_COUNT}
 use Rattle.plan_text.specs.declared.draft.Draft.{Draft}
 use Rattle.plan_text.specs.declared.entry.Entry.{Entry}
 use Rattle.plan_text.specs.declared.entry.Entry.TheVariants.{Done, Group as GroupEntry, Mark as MarkEntry}
 use Rattle.plan_text.specs.PlanText.{mark_line}
-use Rattle.plan_text.specs.Spelling.{group_name, named}
+use Rattle.value_text.specs.Spelling.{group_name, named}
 
 -- a group of no marks
 abbrev pub empty_group : GroupKind → Group
@@ -34,9 +35,9 @@ drafted draft = with_open draft.closed draft.last
 -- what a draft counts: groups and marks, by the place of their kind. Without an open group there is none
 pub record IsDraft (draft : Draft) : Type 0 where
   pub none : draft.last ≡ None → draft.closed ≡ []
-  pub kinds : length draft.marks ≡ 6
-  pub groups : (place : ℕ) → place < 3 → slice_index draft.groups place ≡ count_by (λ group. group_place group.kind == place) (drafted draft)
-  pub marks : (place : ℕ) → place < 6 → slice_index draft.marks place ≡ count_by (λ mark. kind_place mark.kind == place) (marks_in (drafted draft))
+  pub kinds : length draft.marks ≡ KIND_COUNT
+  pub groups : (place : ℕ) → place < GROUP_COUNT → slice_index draft.groups place ≡ count_by (λ group. group_place group.kind == place) (drafted draft)
+  pub marks : (place : ℕ) → place < KIND_COUNT → slice_index draft.marks place ≡ count_by (λ mark. kind_place mark.kind == place) (marks_in (drafted draft))
 
 -- the numbers of a mark have a spelling
 pub record IsSpelledMark (mark : Mark) : Type 0 where
@@ -68,7 +69,7 @@ IsBefore mark other = (mark.sector < other.sector) ⊎ ((mark.sector ≡ other.s
 pub record MayAddTo (lengths : List ℕ) (draft : Draft) (group : Group) (mark : Mark) : Type 0 where
   pub is_mark : IsMark lengths group.kind mark
   pub rises : 0 < length group.marks → IsBefore (slice_index_or group.marks (length group.marks - 1) mark) mark
-  pub few : slice_index draft.marks (kind_place mark.kind) < MOST_MARKS
+  pub few : slice_index draft.marks (kind_place mark.kind) < 4096
 
 abbrev pub MayAdd : List ℕ → Draft → Mark → Type 0
 MayAdd lengths draft mark = MatchOption draft.last ⊥ (λ group. MayAddTo lengths draft group mark)

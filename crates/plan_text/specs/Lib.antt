@@ -1,9 +1,9 @@
-pub mod Spelling
-pub mod NameLaws
-pub mod DropLaws
-pub mod SetText
 pub mod PlanText
 pub mod Reading
 pub mod Parts
 pub mod Drafts
 pub mod Laws
+pub use Rattle.value_text.specs.Spelling
+pub use Rattle.value_text.specs.NameLaws
+pub use Rattle.value_text.specs.DropLaws
+pub use Rattle.value_text.specs.SetText

@@ -1,44 +1,35 @@
 -- Parts of a plan that stand on lines one after the other.
 use Rattle.std.specs.Prelude.{ℕ, ◌≤◌, ◌<◌, ◌^◌, IsTrue, List, [], ◌∷◌, length, map, All, codes, decimal}
-use Rattle.raid_params.specs.declared.limits.TheConstants.{MOST, MOST_MISSING, MOST_OFFSETS, MOST_ORIGINS}
+use Rattle.raid_params.specs.declared.limits.TheConstants.{MOST}
 use Rattle.raid_params.specs.Validity.{is_chunk}
 use Rattle.search_plan.specs.Places.{level_place, pattern_place, syndrome_place}
 use Rattle.search_plan.specs.Plans.{AreRising, AreBounds, AreLimits, AreTests}
+pub use Rattle.value_text.specs.Bounded.{AreChunks, AreMembers, AreSectors}
 use Rattle.plan_text.specs.declared.parts.Counts.{Counts}
-use Rattle.plan_text.specs.declared.parts.Kinds.{Kinds}
+use Rattle.plan_text.specs.declared.parts.Arrays.{Arrays}
 use Rattle.plan_text.specs.declared.parts.Search.{Search}
 use Rattle.plan_text.specs.declared.parts.Sizes.{Sizes}
 use Rattle.plan_text.specs.PlanText.{search_lines}
-use Rattle.plan_text.specs.Spelling.{level_name, pattern_name, syndrome_name, commas, named}
+use Rattle.value_text.specs.Spelling.{level_name, pattern_name, syndrome_name, commas, named}
 
--- numbers that rise, each within the limits of members, chunks or sectors
-abbrev pub AreMembers : List ℕ → Type 0
-AreMembers ns = AreRising ns × All (λ n. (2 ≤ n) × (n ≤ MOST)) ns
+pub record AreArrays (arrays : Arrays) : Type 0 where
+  pub levels : AreRising (map level_place arrays.levels.items)
+  pub members : AreMembers arrays.members.items
+  pub patterns : AreRising (map pattern_place arrays.patterns.items)
+  pub syndromes : AreRising (map syndrome_place arrays.syndromes.items)
 
-abbrev pub AreChunks : List ℕ → Type 0
-AreChunks ns = AreRising ns × All (λ n. IsTrue (is_chunk n)) ns
-
-abbrev pub AreSectors : ℕ → List ℕ → Type 0
-AreSectors most ns = AreRising ns × (length ns ≤ most) × All (λ n. n < 2 ^ 55) ns
-
-pub record AreKinds (kinds : Kinds) : Type 0 where
-  pub levels : AreRising (map level_place kinds.levels.items)
-  pub members : AreMembers kinds.members.items
-  pub patterns : AreRising (map pattern_place kinds.patterns.items)
-  pub syndromes : AreRising (map syndrome_place kinds.syndromes.items)
-
-abbrev pub lines_of_kinds : Kinds → List (List ℕ)
-lines_of_kinds kinds =
-    named (codes "levels") (commas (map level_name kinds.levels.items))
-    ∷ named (codes "members") (commas (map decimal kinds.members.items))
-    ∷ named (codes "patterns") (commas (map pattern_name kinds.patterns.items))
-    ∷ named (codes "syndromes") (commas (map syndrome_name kinds.syndromes.items))
+abbrev pub lines_of_arrays : Arrays → List (List ℕ)
+lines_of_arrays arrays =
+    named (codes "levels") (commas (map level_name arrays.levels.items))
+    ∷ named (codes "members") (commas (map decimal arrays.members.items))
+    ∷ named (codes "patterns") (commas (map pattern_name arrays.patterns.items))
+    ∷ named (codes "syndromes") (commas (map syndrome_name arrays.syndromes.items))
     ∷ []
 
 pub record AreSizes (sizes : Sizes) : Type 0 where
   pub chunks : AreChunks sizes.chunks.items
-  pub offsets : AreSectors MOST_OFFSETS sizes.offsets.items
-  pub origins : AreSectors MOST_ORIGINS sizes.origins.items
+  pub offsets : AreSectors 64 sizes.offsets.items
+  pub origins : AreSectors 64 sizes.origins.items
 
 abbrev pub lines_of_sizes : Sizes → List (List ℕ)
 lines_of_sizes sizes =
@@ -48,7 +39,7 @@ lines_of_sizes sizes =
     ∷ []
 
 pub record AreCounts (counts : Counts) : Type 0 where
-  pub missing : counts.missing ≤ MOST_MISSING
+  pub missing : counts.missing ≤ 2
   pub foreign : counts.foreign ≤ MOST
   pub badrows : counts.badrows < 2 ^ 55
   pub some_window : 1 ≤ counts.window

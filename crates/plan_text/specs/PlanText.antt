@@ -12,7 +12,7 @@ use Rattle.search_plan.specs.declared.plan.Plan.{Plan}
 use Rattle.search_plan.specs.Plans.{IsPlan}
 use Rattle.plan_text.specs.declared.fault.PlanFault.{PlanFault}
 use Rattle.plan_text.specs.declared.fault.PlanFault.TheVariants.{Line, Memory}
-use Rattle.plan_text.specs.Spelling.{level_name, pattern_name, syndrome_name, group_name, kind_name, commas, colons, spaces, named, line}
+use Rattle.value_text.specs.Spelling.{level_name, pattern_name, syndrome_name, group_name, kind_name, commas, colons, spaces, named, line}
 
 -- the number of images, and the length of each
 abbrev pub image_lines : List ℕ → List (List ℕ)
@@ -22,8 +22,8 @@ image_lines lengths =
     ∷ map (λ n. named (codes "length") (decimal n)) lengths
 
 -- the arrays to try
-abbrev pub kinds_lines : Bounds → List (List ℕ)
-kinds_lines bounds =
+abbrev pub arrays_lines : Bounds → List (List ℕ)
+arrays_lines bounds =
     named (codes "levels") (commas (map level_name bounds.levels.items))
     ∷ named (codes "members") (commas (map decimal bounds.members.items))
     ∷ named (codes "patterns") (commas (map pattern_name bounds.patterns.items))
@@ -52,7 +52,7 @@ counts_lines bounds limits tests =
 -- what is searched in the images, and how it is tested
 abbrev pub search_lines : ℕ → Bounds → Limits → MarkTests → List (List ℕ)
 search_lines end bounds limits tests =
-    named (codes "end") (decimal end) ∷ (kinds_lines bounds ++ (sizes_lines bounds tests ++ counts_lines bounds limits tests))
+    named (codes "end") (decimal end) ∷ (arrays_lines bounds ++ (sizes_lines bounds tests ++ counts_lines bounds limits tests))
 
 -- the rule of a mark
 abbrev pub rule_text : Rule → List ℕ

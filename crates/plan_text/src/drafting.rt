@@ -1,15 +1,15 @@
 //! Which line may follow the groups that were read, and what it adds to them.
 ghost use Rattle.std.specs.Prelude.{◌≡◌, ◌<◌, ◌≤◌, ◌-◌, ◌↔◌, ◌∷◌, ◌++◌, [], IsTrue, OnOk, IfOk, IfSome, IsSomeAnd, Some, length, slice_get, slice_index, slice_index_or, option_map};
 ghost use Rattle.search_plan.specs.Plans.{AreLengths};
-ghost use Rattle.landmark_rules.specs.Groups.{IsMark, group_place, kind_place, most_groups as most_groups_of};
+ghost use Rattle.landmark_rules.specs.Groups.{IsMark, group_place, kind_place};
 ghost use Rattle.landmark_rules.specs.Rules.{IsRule};
 ghost use Rattle.plan_text.specs.Drafts.{IsBefore, IsDraft, IsEntry, MayAdd, MayBegin, MayFollow, drafted, empty_group, with_mark, with_open};
 
 use crate::draft::Draft;
 use crate::entry::Entry;
-use image_source::Memory;
-use landmark_rules::{Group, GroupKind, Groups, Mark, Marks};
-use raid_params::{MOST_GROUPS, MOST_MARKS};
+use landmark_rules::{Group, Groups, MOST_MARKS, Mark, Marks};
+use mark_kinds::{GROUP_COUNT, GroupKind, KIND_COUNT};
+use outside::Memory;
 use std::alloc::Global;
 
 /// No groups.
@@ -20,8 +20,8 @@ pub fn no_groups(alloc: Global) -> Draft
     Draft {
         closed: Groups::new(alloc),
         last: None,
-        groups: [0; 3],
-        marks: [0; 6],
+        groups: [0; GROUP_COUNT],
+        marks: [0; KIND_COUNT],
     }
 }
 
@@ -44,7 +44,7 @@ fn may_begin(draft: &Draft, kind: GroupKind) -> bool
     requires { IsDraft draft.now }
     ensures { IsTrue result ↔ MayBegin draft.now kind }
 {
-    comes_after(&draft.last, kind) && draft.groups[kind.place()] < most_groups(kind)
+    comes_after(&draft.last, kind) && draft.groups[kind.place()] < kind.most()
 }
 
 /// Whether a group of this kind may come after the open one.
@@ -54,16 +54,6 @@ fn comes_after(last: &Option<Group>, kind: GroupKind) -> bool
     match last {
         None => true,
         Some(group) => group.kind.place() <= kind.place(),
-    }
-}
-
-/// The most groups of a kind.
-fn most_groups(kind: GroupKind) -> usize
-    ensures { result ≡ most_groups_of kind }
-{
-    match kind {
-        GroupKind::Gpt => 1,
-        GroupKind::Ntfs | GroupKind::Xfs => MOST_GROUPS,
     }
 }
 
@@ -97,7 +87,7 @@ fn is_mark(lengths: &[u64], kind: GroupKind, mark: &Mark) -> bool
     requires rule { IsRule mark.now.rule }
     ensures { IsTrue result ↔ IsMark lengths.now kind mark.now }
 {
-    mark.kind.group().place() == kind.place() && is_inside(lengths, mark)
+    mark.kind.group().is_same(kind) && is_inside(lengths, mark)
 }
 
 /// Whether there is the image of a mark, and its sector.

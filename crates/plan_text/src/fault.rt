@@ -2,7 +2,7 @@
 ghost use Rattle.std.specs.Prelude.{◌≡◌};
 ghost use Rattle.plan_text.specs.declared.fault.PlanFault.TheVariants.{Memory as OutOfMemory};
 
-use image_source::Memory;
+use outside::Memory;
 use thiserror::Error;
 
 /// Why a text gives no plan.

@@ -1,5 +1,5 @@
-//! What holds of the texts of all plans and of all parameter sets.
-ghost use Rattle.plan_text.specs.Laws.{OneLineIsRefused, PlansHaveOneSpelling, SetWordsHaveOneSpelling};
+//! What holds of the texts of all plans.
+ghost use Rattle.plan_text.specs.Laws.{OneLineIsRefused, PlansHaveOneSpelling};
 
 /// Two plans with the same text are the same plan, field by field.
 pub fn one_spelling()
@@ -9,9 +9,4 @@ pub fn one_spelling()
 /// A text is refused at one line at most, and a refused text is no plan's.
 pub fn one_refused_line()
     ensures { OneLineIsRefused }
-{}
-
-/// Two parameter sets with the same word are the same set, field by field.
-pub fn set_words_have_one_spelling()
-    ensures { SetWordsHaveOneSpelling }
 {}

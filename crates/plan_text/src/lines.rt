@@ -1,14 +1,12 @@
 //! The value that a line spells after its name.
 ghost use Rattle.std.specs.Prelude.{◌≡◌, ◌≢◌, ◌≤◌, ◌++◌, ℕ, List, All, decimal, length, map, MatchOption};
 ghost use Rattle.search_plan.specs.Plans.{AreRising};
-ghost use Rattle.plan_text.specs.Parts.{AreChunks, AreMembers, AreSectors};
-ghost use Rattle.plan_text.specs.Spelling.{commas};
+ghost use Rattle.value_text.specs.Bounded.{AreChunks, AreMembers, AreSectors};
+ghost use Rattle.value_text.specs.Spelling.{commas};
 
-use crate::bounded::{read_chunks, read_members, read_sectors};
-use crate::number::{after, read_number};
-use crate::spelled::{Listed, rising};
 use arrayvec::ArrayVec;
 use raid_params::{MOST_CHUNKS, MOST_LESS_ONE};
+use value_text::{Listed, after, read_chunks, read_members, read_number, read_sectors, rising};
 
 /// The number from `least` to `most` that a line spells after the word.
 pub fn number_after(line: &[u8], word: &[u8], least: u64, most: u64) -> Option<u64>

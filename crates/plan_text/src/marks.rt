@@ -9,10 +9,9 @@ ghost use Rattle.plan_text.specs.Drafts.{IsEntry, IsSpelledMark, entry_line};
 ghost use Rattle.plan_text.specs.PlanText.{mark_text, rule_text};
 
 use crate::entry::Entry;
-use crate::number::{after, read_number};
-use crate::spelled::{Spelled, value_until};
 use landmark_rules::{GroupKind, Mark, Rule};
 use raid_params::SECTORS_END;
+use value_text::{Spelled, after, read_number, value_until};
 
 /// The line of groups that a line is.
 pub fn read_entry(line: &[u8]) -> Option<Entry>

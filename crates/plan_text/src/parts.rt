@@ -1,15 +1,15 @@
 //! Parts of a plan that stand on lines one after the other.
 use arrayvec::ArrayVec;
-use landmark_rules::MarkTests;
+use landmark_rules::{MOST_ORIGINS, MarkTests};
 use raid_params::{
-    Bounds, Level, MOST_CHUNKS, MOST_LESS_ONE, MOST_LEVELS, MOST_OFFSETS, MOST_ORIGINS,
-    MOST_PATTERNS, MOST_SYNDROMES, Pattern, Syndrome,
+    Bounds, Level, MOST_CHUNKS, MOST_LESS_ONE, MOST_LEVELS, MOST_OFFSETS, MOST_PATTERNS,
+    MOST_SYNDROMES, Pattern, Syndrome,
 };
 use search_plan::Limits;
 
 /// The arrays to try: their levels, members and layouts.
 #[derive(Drop)]
-pub struct Kinds {
+pub struct Arrays {
     pub levels: ArrayVec<Level, MOST_LEVELS>,
     pub members: ArrayVec<u8, MOST_LESS_ONE>,
     pub patterns: ArrayVec<Pattern, MOST_PATTERNS>,

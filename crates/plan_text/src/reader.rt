@@ -4,8 +4,8 @@ ghost use Rattle.plan_text.specs.declared.fault.PlanFault.TheVariants.{Line};
 ghost use Rattle.plan_text.specs.PlanText.{IsLine};
 
 use crate::fault::PlanFault;
-use crate::front::cut;
 use std::marker::Model;
+use value_text::cut;
 
 /// A cursor over the lines of a text. Contracts see what is left of the text, and how many lines were taken.
 #[derive(Drop)]

@@ -1,20 +1,21 @@
 //! The lines of a plan before its groups, one after the other.
 ghost use Rattle.std.specs.Prelude.{◌≡◌, ◌≤◌, ◌++◌, ◌∷◌, [], All, IsTrue, codes, decimal, length, map};
 ghost use Rattle.search_plan.specs.Plans.{AreRising, AreLengths};
-ghost use Rattle.plan_text.specs.Parts.{AreMembers, AreChunks, AreSectors, AreKinds, AreSizes, AreCounts, IsSearch, lines_of_kinds, lines_of_sizes, lines_of_counts, lines_of_search};
+ghost use Rattle.plan_text.specs.Parts.{AreArrays, AreSizes, AreCounts, IsSearch, lines_of_arrays, lines_of_sizes, lines_of_counts, lines_of_search};
+ghost use Rattle.value_text.specs.Bounded.{AreMembers, AreChunks, AreSectors};
 ghost use Rattle.plan_text.specs.PlanText.{image_lines};
 ghost use Rattle.plan_text.specs.Reading.{Reads, is_line};
-ghost use Rattle.plan_text.specs.Spelling.{commas, named};
+ghost use Rattle.value_text.specs.Spelling.{commas, named};
 
 use crate::fault::PlanFault;
 use crate::lines::{chunks_after, list_after, members_after, number_after, sectors_after};
-use crate::parts::{Counts, Kinds, Search, Sizes};
+use crate::parts::{Arrays, Counts, Search, Sizes};
 use crate::reader::PlanReader;
-use crate::spelled::{Field, Listed};
 use arrayvec::ArrayVec;
 use landmark_rules::MarkTests;
 use raid_params::{Bounds, MOST, MOST_CHUNKS, MOST_LESS_ONE, MOST_MISSING, SECTORS_END};
 use search_plan::Limits;
+use value_text::{Field, Listed};
 
 impl<'a> PlanReader<'a> {
     /// The number of images, from 1 to `MOST`, and their lengths in sectors.
@@ -35,14 +36,14 @@ impl<'a> PlanReader<'a> {
         ensures { Reads (IsSearch shortest) lines_of_search self.old self.new result }
     {
         let end = self.number(b"end ", 0, shortest)?;
-        let kinds = self.kinds()?;
+        let arrays = self.arrays()?;
         let sizes = self.sizes()?;
         let counts = self.counts()?;
         let bounds = Bounds {
-            levels: kinds.levels,
-            members: kinds.members,
-            patterns: kinds.patterns,
-            syndromes: kinds.syndromes,
+            levels: arrays.levels,
+            members: arrays.members,
+            patterns: arrays.patterns,
+            syndromes: arrays.syndromes,
             chunks: sizes.chunks,
             offsets: sizes.offsets,
             missing: counts.missing,
@@ -66,14 +67,14 @@ impl<'a> PlanReader<'a> {
     }
 
     /// The levels, members, patterns and orders of Q.
-    fn kinds(&mut self) -> Result<Kinds, PlanFault>
-        ensures { Reads AreKinds lines_of_kinds self.old self.new result }
+    fn arrays(&mut self) -> Result<Arrays, PlanFault>
+        ensures { Reads AreArrays lines_of_arrays self.old self.new result }
     {
         let levels = self.list(b"levels ")?;
         let members = self.members()?;
         let patterns = self.list(b"patterns ")?;
         let syndromes = self.list(b"syndromes ")?;
-        Ok(Kinds {
+        Ok(Arrays {
             levels,
             members,
             patterns,

@@ -1,17 +1,15 @@
 //! The text of a plan.
 ghost use Rattle.std.specs.Prelude.{◌≡◌, ◌∷◌, ◌++◌, [], IfOk, OnOk, codes, decimal, map};
 ghost use Rattle.std.specs.List.{flat_map};
-ghost use Rattle.plan_text.specs.PlanText.{plan_text, image_lines, search_lines, kinds_lines, sizes_lines, counts_lines, groups_lines, mark_line, mark_text, rule_text};
-ghost use Rattle.plan_text.specs.Spelling.{commas, group_name as group_spelling, line as line_of, named};
+ghost use Rattle.plan_text.specs.PlanText.{plan_text, image_lines, search_lines, arrays_lines, sizes_lines, counts_lines, groups_lines, mark_line, mark_text, rule_text};
+ghost use Rattle.value_text.specs.Spelling.{commas, group_name as group_spelling, line as line_of, named};
 
-use crate::group_names::group_name;
-use crate::spelled::{Field, add_list};
-use crate::text::{Text, add_number};
-use image_source::Memory;
 use landmark_rules::{Group, GroupKind, Mark, MarkTests, Rule};
+use outside::Memory;
 use raid_params::Bounds;
 use search_plan::{Limits, Plan};
 use std::alloc::Global;
+use value_text::{Field, Text, add_list, add_number, group_name};
 
 /// The one text of a plan, from which `read_plan` gives the plan again. It fails only out of memory.
 pub fn write_plan(alloc: Global, plan: &Plan) -> Result<Text, Memory>
@@ -41,14 +39,14 @@ fn add_search(text: &mut Text, plan: &Plan) -> Result<(), Memory>
     ensures { OnOk result (text.new ≡ text.old ++ flat_map line_of (search_lines plan.now.end plan.now.bounds plan.now.limits plan.now.tests)) }
 {
     add_number_line(text, b"end ", plan.end)?;
-    add_kinds(text, &plan.bounds)?;
+    add_arrays(text, &plan.bounds)?;
     add_sizes(text, &plan.bounds, &plan.tests)?;
     add_counts(text, &plan.bounds, &plan.limits, &plan.tests)
 }
 
 /// Appends the lines of levels, members, patterns and orders of Q.
-fn add_kinds(text: &mut Text, bounds: &Bounds) -> Result<(), Memory>
-    ensures { OnOk result (text.new ≡ text.old ++ flat_map line_of (kinds_lines bounds.now)) }
+fn add_arrays(text: &mut Text, bounds: &Bounds) -> Result<(), Memory>
+    ensures { OnOk result (text.new ≡ text.old ++ flat_map line_of (arrays_lines bounds.now)) }
 {
     add_list_line(text, b"levels ", &bounds.levels)?;
     add_list_line(text, b"members ", &bounds.members)?;

@@ -1,4 +1,4 @@
-use Rattle.plan_text.proofs.Spellings.{none_then}
+use Rattle.value_text.proofs.Spellings.{none_then}
 use Rattle.command_words.proofs.Spelled.{another_name, another_value, name_and_value, without_equals}
 use Rattle.command_words.proofs.operands.read_operand.Goals as goal
 

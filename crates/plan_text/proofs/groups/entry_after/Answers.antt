@@ -1,7 +1,7 @@
 use Rattle.std.proofs.Common.{◌≡◌, sym, subst, ◌∙◌}
 use Rattle.plan_text.specs.Drafts.{MayFollow}
 use Rattle.plan_text.proofs.Entries.{same_entry}
-use Rattle.plan_text.proofs.Spellings.{none_then}
+use Rattle.value_text.proofs.Spellings.{none_then}
 use Rattle.plan_text.proofs.groups.entry_after.Goals as goal
 
 pub returns-in_err-entry : goal.returns-in_err-entry

@@ -1,7 +1,7 @@
 use Rattle.std.proofs.Common.{◌≤◌, All, length, map}
 use Rattle.search_plan.specs.Plans.{AreRising}
-use Rattle.plan_text.specs.Spelling.{commas}
-use Rattle.plan_text.proofs.Lists.{after_word}
+use Rattle.value_text.specs.Spelling.{commas}
+use Rattle.value_text.proofs.Lists.{after_word}
 use Rattle.plan_text.proofs.lines.list_after.Goals as goal
 
 pub returns : goal.returns

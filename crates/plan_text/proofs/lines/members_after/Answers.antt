@@ -1,7 +1,7 @@
 use Rattle.std.proofs.Common.{decimal, map}
-use Rattle.plan_text.specs.Parts.{AreMembers}
-use Rattle.plan_text.specs.Spelling.{commas}
-use Rattle.plan_text.proofs.Lists.{after_word}
+use Rattle.value_text.specs.Bounded.{AreMembers}
+use Rattle.value_text.specs.Spelling.{commas}
+use Rattle.value_text.proofs.Lists.{after_word}
 use Rattle.plan_text.proofs.lines.members_after.Goals as goal
 
 pub returns : goal.returns

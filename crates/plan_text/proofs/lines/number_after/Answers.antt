@@ -1,7 +1,7 @@
 use Rattle.std.proofs.Common.{◌≡◌, sym, ◌∙◌, arith, decimal}
 use Rattle.std.proofs.lemmas.Fmt.{decimal_injective}
 use Rattle.std.proofs.lemmas.List.{append_cancel_left}
-use Rattle.plan_text.proofs.Spellings.{none_then}
+use Rattle.value_text.proofs.Spellings.{none_then}
 use Rattle.plan_text.proofs.lines.number_after.Goals as goal
 use Rattle.plan_text.proofs.lines.number_after.Goals.{else-least-number-via-then-least-number+else-number-most, else-least-number-via-else-least-number}
 

@@ -1,5 +1,5 @@
 use Rattle.plan_text.proofs.Entries.{same_number}
-use Rattle.plan_text.proofs.Spellings.{none_then}
+use Rattle.value_text.proofs.Spellings.{none_then}
 use Rattle.plan_text.proofs.marks.read_either.Goals as goal
 
 pub returns-in_err-second : goal.returns-in_err-second

@@ -1,7 +1,7 @@
 use Rattle.std.proofs.Common.{◌≡◌, arith, sym, ◌∙◌}
 use Rattle.std.proofs.lemmas.Fmt.{decimal_injective}
 use Rattle.plan_text.proofs.Entries.{same_number}
-use Rattle.plan_text.proofs.Spellings.{none_then}
+use Rattle.value_text.proofs.Spellings.{none_then}
 use Rattle.plan_text.proofs.marks.read_every.Goals as goal
 
 pub returns-in_err-count : goal.returns-in_err-count

@@ -1,5 +1,5 @@
 use Rattle.plan_text.proofs.Entries.{after_kind, after_image, after_sector}
-use Rattle.plan_text.proofs.Spellings.{none_then}
+use Rattle.value_text.proofs.Spellings.{none_then}
 use Rattle.plan_text.proofs.marks.read_mark.Goals as goal
 
 pub returns-in_err-sector : goal.returns-in_err-sector

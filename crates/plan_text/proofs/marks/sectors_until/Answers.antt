@@ -1,6 +1,6 @@
 use Rattle.std.proofs.Common.{◌<◌, ◌^◌, arith, decimal, refl}
-use Rattle.plan_text.specs.NameLaws.{number_law}
-use Rattle.plan_text.proofs.Spellings.{next_value}
+use Rattle.value_text.specs.NameLaws.{number_law}
+use Rattle.value_text.proofs.Spellings.{next_value}
 use Rattle.plan_text.proofs.marks.sectors_until.Goals as goal
 
 pub returns-else-number-lt-SECTORS_END : goal.returns-else-number-lt-SECTORS_END

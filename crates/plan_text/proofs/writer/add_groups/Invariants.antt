@@ -1,7 +1,7 @@
 use Rattle.std.proofs.Common.{◌≡◌, ◌++◌, take}
 use Rattle.std.specs.List.{flat_map}
 use Rattle.plan_text.specs.PlanText.{group_lines}
-use Rattle.plan_text.specs.Spelling.{line}
+use Rattle.value_text.specs.Spelling.{line}
 use Rattle.plan_text.proofs.writer.add_groups.Given as goal
 
 abbrev pub invariant-loop-group : goal.invariant-loop-group

@@ -1,7 +1,7 @@
 use Rattle.std.proofs.Common.{◌≡◌, ◌++◌, List, ℕ, map, take, length, ap, ◌∙◌, arith}
 use Rattle.std.specs.List.{flat_map}
 use Rattle.std.proofs.lemmas.List.{take_all}
-use Rattle.plan_text.specs.Spelling.{line}
+use Rattle.value_text.specs.Spelling.{line}
 use Rattle.plan_text.proofs.ImageLines.{first_line, images_line, length_line}
 use Rattle.plan_text.proofs.Written.{two_and_more}
 use Rattle.plan_text.proofs.writer.add_images.Goals as goal

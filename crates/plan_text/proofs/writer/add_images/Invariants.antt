@@ -1,6 +1,6 @@
 use Rattle.std.proofs.Common.{◌≡◌, ◌++◌, map, take}
 use Rattle.std.specs.List.{flat_map}
-use Rattle.plan_text.specs.Spelling.{line}
+use Rattle.value_text.specs.Spelling.{line}
 use Rattle.plan_text.proofs.ImageLines.{length_line}
 use Rattle.plan_text.proofs.writer.add_images.Given as goal
 

@@ -2,8 +2,8 @@ use Rattle.std.proofs.Common.{◌≤◌, ◌++◌, ◌∙◌, [], ◌∷◌, All
 use Rattle.std.specs.Option.{ok_or}
 use Rattle.std.proofs.lemmas.Result.{err_from_is_err_and}
 use Rattle.search_plan.specs.Plans.{AreRising}
-use Rattle.plan_text.specs.Spelling.{commas}
-use Rattle.plan_text.proofs.Lists.{word_line}
+use Rattle.value_text.specs.Spelling.{commas}
+use Rattle.value_text.proofs.Lists.{word_line}
 use Rattle.plan_text.proofs.OneLine.{a_line, no_line, line_answer}
 use Rattle.plan_text.proofs.SectionLines.{of_items, of_one, one_rises}
 use Rattle.plan_text.proofs.reader.PlanReader.list.Goals as goal

@@ -1,11 +1,11 @@
 use Rattle.std.proofs.Common.{◌<◌, ◌^◌, ◌++◌, ◌∙◌, [], ◌∷◌, ap, map, codes, decimal, refl}
 use Rattle.std.specs.Option.{ok_or}
 use Rattle.std.proofs.lemmas.Result.{err_from_is_err_and}
-use Rattle.plan_text.specs.NameLaws.{byte_law}
-use Rattle.plan_text.specs.Parts.{AreMembers}
-use Rattle.plan_text.specs.Spelling.{commas}
-use Rattle.plan_text.proofs.Fits.{members_are_bytes}
-use Rattle.plan_text.proofs.Lists.{word_line}
+use Rattle.value_text.specs.NameLaws.{byte_law}
+use Rattle.value_text.specs.Bounded.{AreMembers}
+use Rattle.value_text.specs.Spelling.{commas}
+use Rattle.value_text.proofs.Fits.{members_are_bytes}
+use Rattle.value_text.proofs.Lists.{word_line}
 use Rattle.plan_text.proofs.OneLine.{a_line, no_line, line_answer}
 use Rattle.plan_text.proofs.SectionLines.{of_items, are_members}
 use Rattle.plan_text.proofs.reader.PlanReader.members.Goals as goal

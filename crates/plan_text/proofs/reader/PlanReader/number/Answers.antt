@@ -1,7 +1,7 @@
 use Rattle.std.proofs.Common.{◌≤◌, ◌++◌, ◌∙◌, ap, decimal, arith}
 use Rattle.std.specs.Option.{ok_or}
 use Rattle.std.proofs.lemmas.Result.{err_from_is_err_and}
-use Rattle.plan_text.proofs.Lists.{number_line}
+use Rattle.value_text.proofs.Lists.{number_line}
 use Rattle.plan_text.proofs.OneLine.{a_line, no_line, line_answer}
 use Rattle.plan_text.proofs.reader.PlanReader.number.Goals as goal
 

@@ -1,11 +1,11 @@
 use Rattle.std.proofs.Common.{◌<◌, ◌^◌, ◌++◌, ◌∙◌, [], ◌∷◌, ap, map, decimal}
 use Rattle.std.specs.Option.{ok_or}
 use Rattle.std.proofs.lemmas.Result.{err_from_is_err_and}
-use Rattle.plan_text.specs.NameLaws.{number_law}
-use Rattle.plan_text.specs.Parts.{AreSectors}
-use Rattle.plan_text.specs.Spelling.{commas}
-use Rattle.plan_text.proofs.Fits.{offsets_are_short}
-use Rattle.plan_text.proofs.Lists.{word_line}
+use Rattle.value_text.specs.NameLaws.{number_law}
+use Rattle.value_text.specs.Bounded.{AreSectors}
+use Rattle.value_text.specs.Spelling.{commas}
+use Rattle.value_text.proofs.Fits.{offsets_are_short}
+use Rattle.value_text.proofs.Lists.{word_line}
 use Rattle.plan_text.proofs.OneLine.{a_line, no_line, line_answer}
 use Rattle.plan_text.proofs.SectionLines.{of_items, are_sectors}
 use Rattle.plan_text.proofs.reader.PlanReader.sectors.Goals as goal

@@ -1,0 +1,29 @@
+-- The word of a set tried on two small ones, whose spelling was written out by hand.
+use Rattle.std.proofs.Common.{◌≡◌, [], ◌∷◌, codes, refl, Some, None}
+use Rattle.std.specs.Fmt.{digits}
+use Rattle.raid_params.specs.declared.types.Geometry.{Geometry}
+use Rattle.raid_params.specs.declared.types.Level.TheVariants.{Raid5, Raid6}
+use Rattle.raid_params.specs.declared.types.Pattern.TheVariants.{Ls, NRestart}
+use Rattle.raid_params.specs.declared.types.Syndrome.TheVariants.{NoQ, BySlot}
+use Rattle.value_text.specs.SetText.{set_line}
+
+in_order : Geometry
+in_order = record {
+  head = record { level = Raid5; members = 3; pattern = Ls; syndrome = NoQ; chunk = 1; offset = 0 };
+  slots = record { items = Some 0 ∷ Some 1 ∷ Some 2 ∷ [] };
+}
+
+line_in_order : set_line 0 in_order ≡ codes "0 5:ls:none:1:0:0,1,2\n"
+unfolding in_order digits
+line_in_order = refl
+
+-- the first of four members is missing
+one_missing : Geometry
+one_missing = record {
+  head = record { level = Raid6; members = 4; pattern = NRestart; syndrome = BySlot; chunk = 128; offset = 2048 };
+  slots = record { items = None ∷ Some 11 ∷ Some 0 ∷ Some 3 ∷ [] };
+}
+
+line_one_missing : set_line 907 one_missing ≡ codes "907 6:n-restart:by-slot:128:2048:-,11,0,3\n"
+unfolding one_missing digits
+line_one_missing = refl

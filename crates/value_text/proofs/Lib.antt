@@ -1,0 +1,9 @@
+pub mod Numbers
+pub mod Commas
+pub mod Spellings
+pub mod SetWords
+pub mod Lists
+pub mod Fits
+pub mod Examples
+pub mod Drops
+pub mod AllValues

@@ -1,0 +1,15 @@
+-- Lists of numbers within the limits of what they count.
+use Rattle.std.specs.Prelude.{ℕ, ◌≤◌, ◌<◌, ◌^◌, IsTrue, List, length, All}
+use Rattle.raid_params.specs.declared.limits.TheConstants.{MOST}
+use Rattle.raid_params.specs.Places.{AreRising}
+use Rattle.raid_params.specs.Validity.{is_chunk}
+
+-- numbers that rise, each within the limits of members, chunks or sectors
+abbrev pub AreMembers : List ℕ → Type 0
+AreMembers ns = AreRising ns × All (λ n. (2 ≤ n) × (n ≤ MOST)) ns
+
+abbrev pub AreChunks : List ℕ → Type 0
+AreChunks ns = AreRising ns × All (λ n. IsTrue (is_chunk n)) ns
+
+abbrev pub AreSectors : ℕ → List ℕ → Type 0
+AreSectors most ns = AreRising ns × (length ns ≤ most) × All (λ n. n < 2 ^ 55) ns

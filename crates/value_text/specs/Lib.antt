@@ -1,0 +1,6 @@
+pub mod Spelling
+pub mod NameLaws
+pub mod DropLaws
+pub mod Bounded
+pub mod SetText
+pub mod Laws

@@ -4,7 +4,7 @@ use Rattle.std.specs.List.{range_with_len, sum_by}
 use Rattle.std.proofs.lemmas.List.{take_more, get_or_append_left, get_or-append-add}
 use Rattle.std.proofs.lemmas.List.Sums.{sum_by-append, sum_by-cons}
 use Rattle.std.proofs.lemmas.List.FromFn.{get_or-map-range_with_len, length-map-range_with_len}
-use Rattle.raid_terms.specs.SlotLists.{fillings}
+use Rattle.search_terms.specs.SlotLists.{fillings}
 use Rattle.slot_math.specs.Ways.{ends, before, images_before, IsPlace}
 use Rattle.slot_math.specs.declared.space.Space.{Space}
 use Rattle.slot_math.proofs.Steps.{all_ends}

@@ -3,7 +3,7 @@ use Rattle.std.proofs.Common.{ℕ, ◌≡◌, ◌<◌, ◌≤◌, ◌+◌, ◌-�
 use Rattle.std.specs.List.{sum_by}
 use Rattle.std.proofs.lemmas.Bool.{cases_lt, ltb-true}
 use Rattle.std.proofs.lemmas.List.{take-append-le, take_at, take_all}
-use Rattle.raid_terms.specs.SlotLists.{fillings}
+use Rattle.search_terms.specs.SlotLists.{fillings}
 use Rattle.raid_params.specs.Slots.{is_distinct}
 use Rattle.slot_math.specs.Space.{lists_of}
 use Rattle.slot_math.specs.Ways.{ends, IsPlace}

@@ -1,8 +1,8 @@
 -- What a turn of a walk does, and where a walk begins.
-use Rattle.std.proofs.Common.{ℕ, ◌≡◌, ◌<◌, ◌≤◌, ◌+◌, ◌-◌, ◌^◌, min, max, List, [], ◌∷◌, ◌++◌, length, reverse, filter, refl, sym, ap, ap₂, ◌∙◌, arith, suc, Bool, true, false, cond, Option, Some, None, slice_get, subst, add-zero, add_comm}
+use Rattle.std.proofs.Common.{ℕ, zero, ◌≡◌, ◌<◌, ◌≤◌, ◌+◌, ◌-◌, ◌^◌, min, max, List, [], ◌∷◌, ◌++◌, length, reverse, filter, refl, sym, ap, ap₂, ◌∙◌, arith, suc, Bool, true, false, cond, Option, Some, None, slice_get, subst, add-zero, add_comm}
 use Rattle.raid_params.specs.declared.limits.TheConstants.{MOST}
 use Rattle.std.proofs.lemmas.Bool.{ltb-false}
-use Rattle.raid_terms.specs.SlotLists.{is_kept, all_lists}
+use Rattle.search_terms.specs.SlotLists.{is_kept, all_lists}
 use Rattle.raid_params.specs.Slots.{is_distinct}
 use Rattle.slot_math.specs.Space.{lists_of, begins}
 use Rattle.slot_math.specs.Ways.{ends, before, IsPlace}
@@ -115,12 +115,23 @@ pub first_leaves : (q : Question) (p : List (Option ℕ)) → p ≡ [] → (left
 unfolding left_at
 first_leaves q p e = leaves_start q
 
-pub first_allowance : (q : Question) (p : List (Option ℕ)) → p ≡ [] → (left_at q p 0).allowance ≤ tests q q.space.members []
+pub first_allowance : (q : Question) (p : List (Option ℕ)) → p ≡ [] → (left_at q p 0).allowance ≡ tests q q.space.members []
 unfolding left_at after_back
 first_allowance q p e =
-    let same : (left_at q p 0).allowance ≡ tests q q.space.members [] = ap (λ (t : List (Option ℕ)). tests q (q.space.members - length t) t + after_back q (reverse t)) e
-    ∙ ap (λ (k : ℕ). tests q k [] + 0) (let f : q.space.members - 0 ≡ q.space.members = omega arith in f) ∙ add-zero (tests q q.space.members []) in
-    omega arith
+    ap (λ (t : List (Option ℕ)). tests q (q.space.members - length t) t + after_back q (reverse t)) e
+    ∙ ap (λ (k : ℕ). tests q k [] + 0) (let f : q.space.members - 0 ≡ q.space.members = omega arith in f) ∙ add-zero (tests q q.space.members [])
+
+unmet_tests : (q : Question) (places : ℕ) → meets q [] ≡ false → tests q places [] ≡ 0
+unfolding tests
+unmet_tests q zero e = rw e refl
+unmet_tests q (suc places) e = rw e refl
+
+-- with no rank in the range nothing is tested
+pub no_tests : (q : Question) (total : ℕ) → IsSearch q.space q.from q.stop → total ≡ length (lists_of q.space) → overlaps q.from q.stop 0 total ≡ false → 0 ≡ tests q q.space.members []
+unfolding base_back
+no_tests q total w e o =
+    let none : meets q [] ≡ false = meets_is q [] w tt (omega arith) ∙ ap (overlaps q.from q.stop 0) (ap length (ends_of_nothing q.space) ∙ sym e) ∙ o in
+    sym (unmet_tests q q.space.members none)
 
 pub first_stands : (q : Question) (p : List (Option ℕ)) (total : ℕ) → p ≡ [] → total ≡ length (lists_of q.space) → overlaps q.from q.stop 0 total ≡ true → StandsAt q p 0
 unfolding base_back is_distinct

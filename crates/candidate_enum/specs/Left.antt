@@ -1,7 +1,7 @@
 -- What a walk has before it, and where it stands.
 use Rattle.std.specs.Prelude.{ℕ, suc, ◌≡◌, ◌+◌, ◌-◌, ◌<◌, ◌≤◌, min, max, Bool, true, nat_lt, List, [], ◌∷◌, ◌++◌, length, take, drop, reverse, sum_by, Option, Some, None}
 use Rattle.raid_params.specs.declared.limits.TheConstants.{MOST}
-use Rattle.raid_terms.specs.SlotLists.{fillings}
+use Rattle.search_terms.specs.SlotLists.{fillings}
 use Rattle.slot_math.specs.Space.{lists_of}
 use Rattle.slot_math.specs.Ways.{ends, before, IsStart}
 use Rattle.slot_math.specs.declared.space.Space.{Space}

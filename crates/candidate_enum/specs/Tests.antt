@@ -2,7 +2,7 @@
 use Rattle.std.specs.Prelude.{ℕ, zero, suc, ◌+◌, Bool, if◌then◌else◌, List, [], ◌∷◌, ◌++◌, slice_range, sum_by}
 use Rattle.std.specs.List.{list_any}
 use Rattle.std.specs.declared.option.Option.{Option}
-use Rattle.raid_terms.specs.SlotLists.{fillings}
+use Rattle.search_terms.specs.SlotLists.{fillings}
 use Rattle.slot_math.specs.Space.{begins, lists_of}
 use Rattle.candidate_enum.specs.Survivors.{Question}
 

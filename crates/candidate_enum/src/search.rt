@@ -14,13 +14,17 @@ use slot_math::Space;
 /// What is searched: the lists of a family's space of ranks from `from` up to `stop`.
 #[derive(Drop)]
 pub struct Search<'a, F: Family> {
+    /// Which prefixes are admitted.
     pub family: &'a F,
+    /// The lists.
     pub space: Space,
+    /// The first rank of the range.
     pub from: u64,
+    /// The rank after the range.
     pub stop: u64,
 }
 
-// Some rank of the range is among `count` ranks from `rank` on.
+/// Some rank of the range is among `count` ranks from `rank` on.
 fn meets_range(from: u64, stop: u64, rank: u128, count: u128) -> bool
     requires { rank + count ≤ (MOST + 1) ^ MOST }
     ensures { result ≡ overlaps from stop rank count }
@@ -28,8 +32,8 @@ fn meets_range(from: u64, stop: u64, rank: u128, count: u128) -> bool
     rank.max(from as u128) < (rank + count).min(stop as u128)
 }
 
-// A copy of the list.
-fn copied(slots: &Slots) -> Slots
+/// A copy of the list.
+fn copy_of(slots: &Slots) -> Slots
     ensures { result.items ≡ slots.now.items }
 {
     let mut copy = Slots::new();
@@ -39,7 +43,7 @@ fn copied(slots: &Slots) -> Slots
     copy
 }
 
-// Which of the fillings of a place comes after this one.
+/// Which of the fillings of a place comes after this one.
 fn next_filling(images: u8, place: Option<u8>) -> u8
     requires images { images ≤ MOST }
     requires place { IsPlace images place }
@@ -52,8 +56,8 @@ fn next_filling(images: u8, place: Option<u8>) -> u8
 }
 
 impl<'a, F: Family> Search<'a, F> {
-    // The first prefix of one place more than `parent`, from filling `first` on, with which a
-    // list of the range begins.
+    /// The first prefix of one place more than `parent`, from filling `first` on, with which a
+    /// list of the range begins.
     #[tactic(auto, using(crate::proofs::Looks::look_done))]
     fn next_child(&self, parent: &Slots, first: u8, rank: u128) -> Child
         requires search { IsSearch self.now.space self.now.from self.now.stop }
@@ -78,7 +82,7 @@ impl<'a, F: Family> Search<'a, F> {
         Child::Nowhere(at + count)
     }
 
-    // Where a walk stands that is done with a prefix, where the next list has this rank.
+    /// Where a walk stands that is done with a prefix, where the next list has this rank.
     #[tactic(auto, using(crate::proofs::Moves::popped, crate::proofs::Moves::at_end))]
     fn climb(&self, mut slots: Slots, rank: u128) -> Option<Place>
         requires search { IsSearch self.now.space self.now.from self.now.stop }
@@ -100,7 +104,7 @@ impl<'a, F: Family> Search<'a, F> {
         None
     }
 
-    // Where a walk stands that goes on below an admitted prefix.
+    /// Where a walk stands that goes on below an admitted prefix.
     fn descend(&self, mut slots: Slots, rank: u128) -> Option<Place>
         requires search { IsSearch self.now.space self.now.from self.now.stop }
         requires parent { IsParent (question self.now.space (F.admits self.now.family.now) self.now.from self.now.stop) slots.items 0 rank }
@@ -116,12 +120,12 @@ impl<'a, F: Family> Search<'a, F> {
         }
     }
 
-    // Where a walk begins: at the empty prefix, if there is a rank in the range.
+    /// Where a walk begins: at the empty prefix, if there is a rank in the range.
     #[tactic(auto, using(crate::proofs::Turns::total_sum, crate::proofs::Turns::first_stands, crate::proofs::Turns::first_leaves, crate::proofs::Turns::first_allowance, crate::proofs::Turns::first_nothing))]
     pub(crate) fn first_place(&self) -> Option<Place>
         requires search { IsSearch self.now.space self.now.from self.now.stop }
         ensures leaves { (left_from (question self.now.space (F.admits self.now.family.now) self.now.from self.now.stop) result).leaves ≡ survivors (question self.now.space (F.admits self.now.family.now) self.now.from self.now.stop) }
-        ensures allowance { (left_from (question self.now.space (F.admits self.now.family.now) self.now.from self.now.stop) result).allowance ≤ tests (question self.now.space (F.admits self.now.family.now) self.now.from self.now.stop) self.now.space.members [] }
+        ensures allowance { (left_from (question self.now.space (F.admits self.now.family.now) self.now.from self.now.stop) result).allowance ≡ tests (question self.now.space (F.admits self.now.family.now) self.now.from self.now.stop) self.now.space.members [] }
         ensures stands { MayStand (question self.now.space (F.admits self.now.family.now) self.now.from self.now.stop) result }
     {
         if meets_range(self.from, self.stop, 0, self.space.total()) {
@@ -133,7 +137,7 @@ impl<'a, F: Family> Search<'a, F> {
         None
     }
 
-    // Tests the prefix at which the walk stands.
+    /// Tests the prefix at which the walk stands.
     #[tactic(auto, using(crate::proofs::Turns::refused, crate::proofs::Turns::met, crate::proofs::Turns::deeper, crate::proofs::Turns::turn_to, crate::proofs::Turns::begins_some, crate::proofs::Turns::done_fits, crate::proofs::Turns::rank_below))]
     pub(crate) fn take_turn(&self, place: Place) -> Turn
         requires family { self.now.space ≡ F.space_of self.now.family.now }
@@ -158,7 +162,7 @@ impl<'a, F: Family> Search<'a, F> {
         }
         let leaf = Leaf {
             rank: rank as u64,
-            slots: copied(&slots),
+            slots: copy_of(&slots),
         };
         Turn {
             leaf: Some(leaf),

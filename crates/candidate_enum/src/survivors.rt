@@ -34,14 +34,14 @@ impl<'a, F: Family> Model for Survivors<'a, F> {
 
 impl<'a, F: Family> Survivors<'a, F> {
     /// The walk of the ranks from `from` up to and not including `stop`, which is at most the
-    /// total of the space. Its allowance is at most the tests of the empty prefix.
+    /// total of the space. Its allowance is the number of tests of the empty prefix.
     pub fn start(family: &'a F, from: u64, stop: u64) -> Survivors<'a, F>
         requires images { (F.space_of family.now).images ≤ MOST }
         requires members { (F.space_of family.now).members ≤ MOST }
         requires ordered { from ≤ stop }
         requires ranks { stop ≤ length (lists_of (F.space_of family.now)) }
         ensures leaves { result.leaves ≡ survivors (question (F.space_of family.now) (F.admits family.now) from stop) }
-        ensures allowance { result.allowance ≤ tests (question (F.space_of family.now) (F.admits family.now) from stop) (F.space_of family.now).members [] }
+        ensures allowance { result.allowance ≡ tests (question (F.space_of family.now) (F.admits family.now) from stop) (F.space_of family.now).members [] }
     {
         let space = family.space();
         let search = Search {
@@ -54,7 +54,7 @@ impl<'a, F: Family> Survivors<'a, F> {
         Survivors { search, place }
     }
 
-    // One test, or none where the walk is at its end.
+    /// One test, or none where the walk is at its end.
     fn go_on(&mut self) -> Option<Option<Leaf>>
         ensures { MatchOption result ((self.old ≡ nothing_left) × (self.new ≡ nothing_left)) (λ leaf. IsTurn self.old leaf self.new) }
     {
@@ -69,10 +69,10 @@ impl<'a, F: Family> Survivors<'a, F> {
     }
 
     /// The next leaf, or None exactly where none is left. It counts a step for each test of a
-    /// prefix, and lowers the allowance by as much: so a whole walk takes no more tests than its
-    /// allowance at the start.
+    /// prefix, and lowers the allowance by as much, to 0 where no leaf is left: so a whole walk takes
+    /// as many steps as its allowance at the start.
     pub fn advance<L: Ledger>(&mut self, steps: &mut Steps<L>) -> Option<Leaf>
-        ensures leaf { MatchOption result ((self.old.leaves ≡ []) × (self.new.leaves ≡ [])) (λ r. self.old.leaves ≡ r ∷ self.new.leaves) }
+        ensures leaf { MatchOption result ((self.old.leaves ≡ []) × (self.new ≡ nothing_left)) (λ r. self.old.leaves ≡ r ∷ self.new.leaves) }
         ensures cost { (steps.new - steps.old) + self.new.allowance ≡ self.old.allowance }
         ensures counts { steps.old ≤ steps.new }
     {

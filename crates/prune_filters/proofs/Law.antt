@@ -8,13 +8,13 @@ use Rattle.raid_terms.specs.Parity.{passes_parity}
 use Rattle.landmark_rules.specs.Groups.{groups_hold}
 use Rattle.search_plan.specs.declared.plan.Plan.{Plan}
 use Rattle.prune_filters.specs.Laws.{PassingSetsAreHopeful, RowsDecideLevelFive, WholeListsTakeTheLandmarkTest}
-use Rattle.prune_filters.specs.Marks.{groups_may_hold}
-use Rattle.prune_filters.specs.Rows.{rows_may_hold}
-use Rattle.prune_filters.proofs.Broken.{rows_at}
-use Rattle.prune_filters.proofs.Decided.{rows_decided}
-use Rattle.prune_filters.proofs.Landmarks.{AreSlots, groups_at, whole_groups}
-use Rattle.prune_filters.proofs.Sets.{IsSetOf, set_at}
-use Rattle.prune_filters.proofs.Passing.{true_and}
+use Rattle.mark_tables.specs.Marks.{groups_may_hold}
+use Rattle.xor_tables.specs.Rows.{rows_may_hold}
+use Rattle.xor_tables.proofs.Broken.{rows_at}
+use Rattle.xor_tables.proofs.Decided.{rows_decided}
+use Rattle.mark_tables.proofs.Landmarks.{AreSlots, groups_at, whole_groups}
+use Rattle.xor_tables.proofs.Sets.{IsSetOf, set_at}
+use Rattle.mark_tables.proofs.Passing.{true_and}
 
 slots_of : (plan : Plan) (geo : Geometry) → IsSetOf plan geo → AreSlots plan geo
 slots_of plan geo set = record {

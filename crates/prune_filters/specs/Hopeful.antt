@@ -1,13 +1,13 @@
 -- When a prefix of a slot list may still lead to a parameter set that passes.
-use Rattle.std.specs.Prelude.{ℕ, ◌≤◌, Bool, ◌&&◌, nat_le, List, length}
+use Rattle.std.specs.Prelude.{ℕ, Bool, ◌&&◌, nat_le, List, length}
 use Rattle.std.specs.declared.option.Option.{Option}
 use Rattle.raid_params.specs.Size.{rows}
 use Rattle.raid_params.specs.declared.types.Head.{Head}
-use Rattle.slot_math.specs.Ways.{AllImages}
+use Rattle.slot_math.specs.Ways.{IsPrefixOf}
 use Rattle.search_plan.specs.declared.plan.Plan.{Plan}
-use Rattle.prune_filters.specs.Marks.{groups_may_hold}
-use Rattle.prune_filters.specs.Rows.{rows_may_hold}
-use Rattle.prune_filters.specs.Xors.{rows_hold_by, RowTable}
+use Rattle.mark_tables.specs.Marks.{groups_may_hold}
+use Rattle.xor_tables.specs.Rows.{rows_may_hold}
+use Rattle.xor_tables.specs.Xors.{rows_hold_by, RowTable}
 
 -- a prefix is hopeful for a plan and a head, over the bytes of the images: there is a whole row, each group may
 -- still hold, and no more rows are broken already than may be
@@ -21,6 +21,5 @@ is_hopeful_by xors plan head prefix =
     nat_le 1 (rows head plan.end) && (groups_may_hold plan head prefix && rows_hold_by xors plan head prefix)
 
 -- a prefix of a slot list of the head: no more places than members, with images of the plan
-pub record IsPrefix (plan : Plan) (head : Head) (prefix : List (Option ℕ)) : Type 0 where
-  pub short : length prefix ≤ head.members
-  pub images : AllImages (length plan.lengths.items) prefix
+abbrev pub IsPrefix : Plan → Head → List (Option ℕ) → Type 0
+IsPrefix plan head prefix = IsPrefixOf (length plan.lengths.items) head.members prefix

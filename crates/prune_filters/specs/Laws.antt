@@ -7,8 +7,8 @@ use Rattle.raid_terms.specs.Parity.{passes_parity}
 use Rattle.search_plan.specs.Sets.{passes, sets_of}
 use Rattle.search_plan.specs.declared.plan.Plan.{Plan}
 use Rattle.prune_filters.specs.Hopeful.{is_hopeful}
-use Rattle.prune_filters.specs.Marks.{groups_may_hold}
-use Rattle.prune_filters.specs.Rows.{rows_decide, rows_may_hold}
+use Rattle.mark_tables.specs.Marks.{groups_may_hold}
+use Rattle.xor_tables.specs.Rows.{rows_decide, rows_may_hold}
 
 -- where a set of the plan passes, over any bytes of the images, each prefix of its slots is hopeful
 abbrev pub PassingSetsAreHopeful : Type 0

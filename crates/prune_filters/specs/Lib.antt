@@ -1,7 +1,8 @@
-pub mod Marks
-pub mod Rows
 pub mod Hopeful
 pub mod Laws
-pub mod Tables
-pub mod Xors
-pub mod Reading
+pub use Rattle.mark_tables.specs.Marks
+pub use Rattle.mark_tables.specs.Tables
+pub use Rattle.xor_tables.specs.Rows
+pub use Rattle.xor_tables.specs.Xors
+pub use Rattle.xor_tables.specs.Early
+pub use Rattle.xor_tables.specs.Reading

@@ -3,23 +3,21 @@ ghost use Rattle.std.specs.Prelude.{◌≡◌, List, ℕ, Contains, IsSome, IsTr
 ghost use Rattle.std.specs.Option.{option_map};
 ghost use Rattle.raid_params.specs.Validity.{is_valid_head};
 ghost use Rattle.search_plan.specs.Plans.{IsPlan};
+ghost use Rattle.xor_tables.specs.Early.{HasEarlyTable};
 ghost use Rattle.prune_filters.specs.Hopeful.{is_hopeful, is_hopeful_by, IsPrefix};
-ghost use Rattle.prune_filters.specs.Rows.{needs_table};
-ghost use Rattle.prune_filters.specs.Tables.{IsMarkTable};
-ghost use Rattle.prune_filters.specs.Xors.{AreXors};
+ghost use Rattle.xor_tables.specs.Rows.{needs_table};
+ghost use Rattle.mark_tables.specs.Tables.{IsMarkTable};
+ghost use Rattle.xor_tables.specs.Xors.{HasXorTable};
 
-use crate::groups::groups_may_hold;
-use crate::mark_table::MarkTable;
-use crate::rows::rows_may_hold;
-use crate::xor_table::XorTable;
 use address_map::rows;
+use mark_tables::{MarkTable, groups_may_hold};
 use raid_params::{Head, Slots};
 use search_plan::Plan;
+use xor_tables::{EarlyTable, XorTable, early_rows_may_hold, rows_may_hold};
 
 /// Whether a parameter set of the head whose slots begin with the prefix may still pass: where it may not, none
 /// does. `marks` is the table of this plan and head. `xors` is that of the plan and the head's chunk and offset,
-/// over the images' bytes; it is looked at only where the head needs one. The head's level is among the plan's: a
-/// table is settled for these. It takes no memory.
+/// over the images' bytes; it is looked at only where the head needs one. It takes no memory.
 pub fn prefix_may_pass(
     marks: &MarkTable,
     xors: Option<&XorTable>,
@@ -31,13 +29,39 @@ pub fn prefix_may_pass(
     requires head { IsTrue (is_valid_head head.now) }
     requires marks { IsMarkTable plan.now head.now marks.now }
     requires xors { needs_table plan.now head.now ≡ true → IsSome xors }
-    requires level { Contains plan.now.bounds.levels.items head.now.level }
     requires prefix { IsPrefix plan.now head.now prefix.now.items }
     ensures tables { result ≡ is_hopeful_by (option_map (λ table. table.now) xors.entry) plan.now head.now prefix.now.items }
-    ensures bytes { (bytes : List (List ℕ)) → AreXors bytes plan.now head.now (option_map (λ table. table.now) xors.entry) →
+    ensures bytes { (bytes : List (List ℕ)) → HasXorTable bytes plan.now head.now (option_map (λ table. table.now) xors.entry) →
         result ≡ is_hopeful bytes plan.now head.now prefix.now.items }
 {
     rows(head, plan.end) >= 1
         && groups_may_hold(marks, plan, head, prefix)
         && rows_may_hold(xors, plan, head, prefix)
+}
+
+/// Whether a parameter set of the head whose slots begin with the prefix may still pass, by a table of rows that may
+/// have ended early. `early` is one of the plan and the head's chunk and offset, over the images' bytes; it is looked
+/// at only where the head needs one. The head's level is among the plan's: the table is settled for these. It takes
+/// no memory.
+pub fn early_may_pass(
+    marks: &MarkTable,
+    early: Option<&EarlyTable>,
+    plan: &Plan,
+    head: &Head,
+    prefix: &Slots,
+) -> bool
+    requires plan { IsPlan plan.now }
+    requires head { IsTrue (is_valid_head head.now) }
+    requires marks { IsMarkTable plan.now head.now marks.now }
+    requires early { needs_table plan.now head.now ≡ true → IsSome early }
+    requires level { Contains plan.now.bounds.levels.items head.now.level }
+    requires prefix { IsPrefix plan.now head.now prefix.now.items }
+    ensures tables { result ≡ is_hopeful_by (option_map (λ table. table.now) early.entry) plan.now head.now prefix.now.items }
+    ensures bytes { (bytes : List (List ℕ)) →
+        HasEarlyTable bytes plan.now head.now (option_map (λ table. table.now) early.entry) →
+        result ≡ is_hopeful bytes plan.now head.now prefix.now.items }
+{
+    rows(head, plan.end) >= 1
+        && groups_may_hold(marks, plan, head, prefix)
+        && early_rows_may_hold(early, plan, head, prefix)
 }

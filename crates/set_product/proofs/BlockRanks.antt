@@ -1,9 +1,8 @@
 -- A block by rank: how many heads and sets it has, which one stands where, and where one stands.
-use Rattle.std.proofs.Common.{ℕ, ◌≡◌, ◌<◌, ◌≤◌, ◌*◌, ◌/◌, ◌%◌, ◌==◌, ◌&&◌, Bool, true, false, List, length, map, sym, ap, ap₂, ◌∙◌, arith, Option, Some, None, slice_get, option_map, IfSome}
+use Rattle.std.proofs.Common.{ℕ, ◌≡◌, ◌<◌, ◌≤◌, ◌+◌, ◌*◌, ◌/◌, ◌%◌, ◌^◌, ◌==◌, ◌&&◌, Bool, true, false, List, length, map, refl, sym, ap, ap₂, ◌∙◌, arith, Option, Some, None, slice_get, option_map}
 use Rattle.std.specs.List.{position}
 use Rattle.std.proofs.lemmas.Nat.{mul-le}
 use Rattle.raid_params.specs.declared.limits.TheConstants.{MOST_CHUNKS, MOST_OFFSETS, MOST_PATTERNS, MOST_SYNDROMES}
-use Rattle.set_product.specs.declared.block.TheConstants.{MOST_HEADS}
 use Rattle.raid_params.specs.declared.types.Geometry.{Geometry}
 use Rattle.raid_params.specs.declared.types.Head.{Head}
 use Rattle.raid_params.specs.declared.types.Pattern.{Pattern}
@@ -113,21 +112,33 @@ set_place plan block geo is_plan is_block =
     ∙ position_map (is_same_set geo) set_of (pairs heads all)
     ∙ position_pairs (is_same_head geo.head) (same_slots geo.slots.items) heads all
 
-pub few_heads : (p s c o : ℕ) → p ≤ MOST_PATTERNS → s ≤ MOST_SYNDROMES → c ≤ MOST_CHUNKS → o ≤ MOST_OFFSETS → p * s * (c * o) ≤ MOST_HEADS
-few_heads p s c o hp hs hc ho =
+-- the heads of a block can be ranked
+pub few_heads : (p s ends : ℕ) → p ≤ MOST_PATTERNS → s ≤ MOST_SYNDROMES → ends ≤ MOST_CHUNKS * MOST_OFFSETS → p * s * ends < 2 ^ 64
+few_heads p s ends hp hs few =
     let a : p * s ≤ MOST_PATTERNS * MOST_SYNDROMES = mul-le p s MOST_PATTERNS MOST_SYNDROMES hp hs in
-    let b : c * o ≤ MOST_CHUNKS * MOST_OFFSETS = mul-le c o MOST_CHUNKS MOST_OFFSETS hc ho in
-    let d : p * s * (c * o) ≤ MOST_PATTERNS * MOST_SYNDROMES * (MOST_CHUNKS * MOST_OFFSETS) = mul-le (p * s) (c * o) (MOST_PATTERNS * MOST_SYNDROMES) (MOST_CHUNKS * MOST_OFFSETS) a b in
+    let d : p * s * ends ≤ MOST_PATTERNS * MOST_SYNDROMES * (MOST_CHUNKS * MOST_OFFSETS) = mul-le (p * s) ends (MOST_PATTERNS * MOST_SYNDROMES) (MOST_CHUNKS * MOST_OFFSETS) a few in
     omega arith
 
--- a place in a list of at most n elements is below n
-pub place_few : {A : Type 0} (p : A → Bool) (xs : List A) (n : ℕ) (o : Option ℕ) → o ≡ position p xs → length xs ≤ n → IfSome o (λ k. k < n)
-place_few p xs n None e few = tt
-place_few p xs n (Some k) e few = let below = place_within p xs k (sym e) in omega arith
+-- where one part of a pair has no place, the pair has none
+pub joined_none : (count : ℕ) (first : Option ℕ) → joined count first None ≡ None
+joined_none count None = refl
+joined_none count (Some first) = refl
 
--- a place in a list of fewer than n elements is below n
-pub place_below : {A : Type 0} (p : A → Bool) (xs : List A) (n : ℕ) (o : Option ℕ) → o ≡ position p xs → length xs < n → IfSome o (λ k. k < n)
-place_below p xs n o e few = place_few p xs n o e (omega arith)
+-- where a head and a slot list are found, and no more sets than can be ranked, there are as few slot lists
+pub found_fits : (plan : Plan) (block : Block) (geo : Geometry) (head slots : ℕ) → IsPlan plan → IsBlock plan block →
+    position (is_same_head geo.head) (heads_with plan.bounds block.level block.members) ≡ Some head → position (same_slots geo.slots.items) (lists_of block.space) ≡ Some slots →
+    length (sets_with plan (block.level, block.members)) < 2 ^ 64 → (length (lists_of block.space) < 2 ^ 64) × (slots < length (lists_of block.space)) × (head * length (lists_of block.space) + slots < 2 ^ 64)
+found_fits plan block geo head slots is_plan is_block at_head at_slots few =
+    let lists = length (lists_of block.space) in
+    let heads = length (heads_with plan.bounds block.level block.members) in
+    let count = sets_count plan block is_plan is_block in
+    let some = place_within (is_same_head geo.head) (heads_with plan.bounds block.level block.members) head at_head in
+    let within = place_within (same_slots geo.slots.items) (lists_of block.space) slots at_slots in
+    let more : 1 * lists ≤ heads * lists = mul-le 1 lists heads lists (omega arith) (omega arith) in
+    let there : position (is_same_set geo) (sets_with plan (block.level, block.members)) ≡ Some (head * length (lists_of block.space) + slots)
+    = set_place plan block geo is_plan is_block ∙ ap₂ (joined (length (lists_of block.space))) at_head at_slots in
+    let below = place_within (is_same_set geo) (sets_with plan (block.level, block.members)) (head * length (lists_of block.space) + slots) there in
+    ((omega arith), within, (omega arith))
 
 pub set_split : (plan : Plan) (block : Block) (rank lists : ℕ) → IsPlan plan → IsBlock plan block → lists ≡ length (lists_of block.space) → rank < length (sets_with plan (block.level, block.members)) →
     rank < length (heads_with plan.bounds block.level block.members) * lists

@@ -10,7 +10,7 @@ use Rattle.raid_params.specs.declared.types.Level.{Level}
 use Rattle.raid_params.specs.declared.types.Pattern.{Pattern}
 use Rattle.raid_params.specs.declared.types.Syndrome.{Syndrome}
 use Rattle.raid_params.specs.Validity.{has_members, has_pattern, has_syndrome, is_chunk, is_valid_head}
-use Rattle.raid_terms.specs.Product.{sets_of as sets_of_head}
+use Rattle.search_terms.specs.Product.{sets_of as sets_of_head}
 use Rattle.slot_math.specs.Space.{lists_of}
 use Rattle.slot_math.specs.declared.space.Space.{Space}
 use Rattle.slot_math.proofs.Bound.{ways_fit}

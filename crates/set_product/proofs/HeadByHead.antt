@@ -8,7 +8,7 @@ use Rattle.raid_params.specs.declared.types.Geometry.{Geometry}
 use Rattle.raid_params.specs.declared.types.Head.{Head}
 use Rattle.raid_params.specs.declared.types.Level.{Level}
 use Rattle.raid_params.specs.Validity.{is_valid_head}
-use Rattle.raid_terms.specs.Product.{heads, sets_of as sets_of_head}
+use Rattle.search_terms.specs.Product.{heads, sets_of as sets_of_head}
 use Rattle.search_plan.specs.Plans.{IsPlan}
 use Rattle.search_plan.specs.Sets.{sets_of, total_of}
 use Rattle.search_plan.specs.declared.plan.Plan.{Plan}
@@ -174,13 +174,13 @@ each_dropped P (x ∷ xs) (suc n) a = each_dropped P xs n a.1
 
 -- those of a block have as many as the block says
 pub block_alike : (plan : Plan) (opened : Opened) (next : ℕ) → IsPlan plan → IsOpened plan opened → Alike plan opened.lists (drop next (heads_with plan.bounds opened.block.level opened.block.members))
-block_alike plan opened next is_plan is_opened =
+block_alike plan opened next is_plan opened_is =
     let make = head_of opened.block.level opened.block.members in
     let P : Head → Type 0 = λ head. length (lists_of (space_of plan head.level head.members)) ≡ opened.lists in
     let Q : List Head → Type 0 = λ hs. AllByRecursion P hs in
-    let same : length (lists_of (space_of plan opened.block.level opened.block.members)) ≡ opened.lists = sym (is_opened.lists ∙ ap (λ s. length (lists_of s)) is_opened.block.space_is) in
+    let same : length (lists_of (space_of plan opened.block.level opened.block.members)) ≡ opened.lists = sym (opened_is.lists ∙ ap (λ s. length (lists_of s)) opened_is.block.space_is) in
     each_dropped P (heads_with plan.bounds opened.block.level opened.block.members) next
-    (subst Q (sym (block_heads plan opened.block is_plan is_opened.block))
+    (subst Q (sym (block_heads plan opened.block is_plan opened_is.block))
     (each_map P make (choices plan opened.block) (each_any (λ (c : Choice). P (make c)) (λ c. same) (choices plan opened.block))))
 
 -- the sets of the heads left: those of the first k of them, and those of the rest
@@ -244,10 +244,10 @@ keep_alike plan first lists rank (head ∷ own) rest alike some low =
 pub left_counts : (plan : Plan) (opened : Opened) (k : ℕ) → IsPlan plan → IsOpened plan opened → opened.next + k ≤ opened.heads →
     count_in plan (heads_from plan opened opened.next) ≡ k * opened.lists + count_in plan (heads_from plan opened (opened.next + k))
 unfolding heads_from
-left_counts plan opened k is_plan is_opened few =
+left_counts plan opened k is_plan opened_is few =
     let own = heads_with plan.bounds opened.block.level opened.block.members in
-    let heads : opened.heads ≡ length (heads_with plan.bounds opened.block.level opened.block.members) = is_opened.heads in
-    count_some plan opened.lists k (drop opened.next own) (heads_after plan opened.after) (block_alike plan opened opened.next is_plan is_opened)
+    let heads : opened.heads ≡ length (heads_with plan.bounds opened.block.level opened.block.members) = opened_is.heads in
+    count_some plan opened.lists k (drop opened.next own) (heads_after plan opened.after) (block_alike plan opened opened.next is_plan opened_is)
     (omega (arith, length-drop opened.next (heads_with plan.bounds opened.block.level opened.block.members)))
     ∙ ap (λ (hs : List Head). k * opened.lists + count_in plan (hs ++ heads_after plan opened.after)) (drop-drop k opened.next own)
 
@@ -256,46 +256,46 @@ pub next_is : (plan : Plan) (first : ℕ) (opened : Opened) (head : Head) → Is
     head.level ≡ opened.block.level → head.members ≡ opened.block.members →
     numbered plan first (heads_from plan opened opened.next) ≡ record { head = head; space = opened.block.space; first = first; count = opened.lists } ∷ numbered plan (first + opened.lists) (heads_from plan opened (opened.next + 1))
 unfolding numbered heads_from
-next_is plan first opened head is_opened e at_level at_members =
+next_is plan first opened head opened_is e at_level at_members =
     let own = heads_with plan.bounds opened.block.level opened.block.members in
     let later = drop (opened.next + 1) own ++ heads_after plan opened.after in
-    let same : space_of plan head.level head.members ≡ opened.block.space = ap₂ (space_of plan) at_level at_members ∙ sym is_opened.block.space_is in
+    let same : space_of plan head.level head.members ≡ opened.block.space = ap₂ (space_of plan) at_level at_members ∙ sym opened_is.block.space_is in
     ap (λ (hs : List Head). numbered plan first (hs ++ heads_after plan opened.after)) (from_here own opened.next head e)
     ∙ ap (λ (s : Space). (let sets : HeadSets = record { head = head; space = s; first = first; count = length (lists_of s) } in sets) ∷ numbered plan (first + length (lists_of s)) later) same
-    ∙ ap (λ (n : ℕ). (let sets : HeadSets = record { head = head; space = opened.block.space; first = first; count = n } in sets) ∷ numbered plan (first + n) later) (sym is_opened.lists)
+    ∙ ap (λ (n : ℕ). (let sets : HeadSets = record { head = head; space = opened.block.space; first = first; count = n } in sets) ∷ numbered plan (first + n) later) (sym opened_is.lists)
 
 -- k heads of a block end at the rank or before, and the next one after it
 pub skip_within : (plan : Plan) (opened : Opened) (first rank k : ℕ) → IsPlan plan → IsOpened plan opened → opened.next + k < opened.heads → (k ≡ 0) ⊎ (first + k * opened.lists ≤ rank) → rank < first + (k + 1) * opened.lists →
     numbered plan (first + k * opened.lists) (heads_from plan opened (opened.next + k)) ≡ ending_after rank (numbered plan first (heads_from plan opened opened.next))
 unfolding heads_from
-skip_within plan opened first rank k is_plan is_opened few (inl none) high =
+skip_within plan opened first rank k is_plan opened_is few (inl none) high =
     let own = heads_with plan.bounds opened.block.level opened.block.members in
-    let heads : opened.heads ≡ length (heads_with plan.bounds opened.block.level opened.block.members) = is_opened.heads in
+    let heads : opened.heads ≡ length (heads_with plan.bounds opened.block.level opened.block.members) = opened_is.heads in
     let one : (k + 1) * opened.lists ≡ 1 * opened.lists = ap (λ (n : ℕ). (n + 1) * opened.lists) none in
     let zero_sets : k * opened.lists ≡ 0 = ap (λ (n : ℕ). n * opened.lists) none ∙ zero-mul opened.lists in
     ap₂ (λ (n m : ℕ). numbered plan n (drop m own ++ heads_after plan opened.after)) (let e : first + k * opened.lists ≡ first = omega arith in e) (let e : opened.next + k ≡ opened.next = omega arith in e)
-    ∙ sym (keep_alike plan first opened.lists rank (drop opened.next own) (heads_after plan opened.after) (block_alike plan opened opened.next is_plan is_opened)
+    ∙ sym (keep_alike plan first opened.lists rank (drop opened.next own) (heads_after plan opened.after) (block_alike plan opened opened.next is_plan opened_is)
     (omega (arith, length-drop opened.next (heads_with plan.bounds opened.block.level opened.block.members))) (omega arith))
-skip_within plan opened first rank k is_plan is_opened few (inr low) high =
+skip_within plan opened first rank k is_plan opened_is few (inr low) high =
     let own = heads_with plan.bounds opened.block.level opened.block.members in
-    let heads : opened.heads ≡ length (heads_with plan.bounds opened.block.level opened.block.members) = is_opened.heads in
+    let heads : opened.heads ≡ length (heads_with plan.bounds opened.block.level opened.block.members) = opened_is.heads in
     let more : (k + 1) * opened.lists ≡ k * opened.lists + opened.lists = ap (λ (n : ℕ). n * opened.lists) (add-one k) ∙ suc-mul k opened.lists in
-    sym (skip_some plan first opened.lists rank k (drop opened.next own) (heads_after plan opened.after) (block_alike plan opened opened.next is_plan is_opened)
+    sym (skip_some plan first opened.lists rank k (drop opened.next own) (heads_after plan opened.after) (block_alike plan opened opened.next is_plan opened_is)
     (omega (arith, length-drop opened.next (heads_with plan.bounds opened.block.level opened.block.members))) low
     ∙ ap (λ (hs : List Head). ending_after rank (numbered plan (first + k * opened.lists) (hs ++ heads_after plan opened.after))) (drop-drop k opened.next own)
-    ∙ keep_alike plan (first + k * opened.lists) opened.lists rank (drop (opened.next + k) own) (heads_after plan opened.after) (block_alike plan opened (opened.next + k) is_plan is_opened)
+    ∙ keep_alike plan (first + k * opened.lists) opened.lists rank (drop (opened.next + k) own) (heads_after plan opened.after) (block_alike plan opened (opened.next + k) is_plan opened_is)
     (omega (arith, length-drop (opened.next + k) (heads_with plan.bounds opened.block.level opened.block.members))) (omega arith))
 
 -- all heads of a block end at the rank or before
 pub skip_past : (plan : Plan) (opened : Opened) (first rank : ℕ) → IsPlan plan → IsOpened plan opened → first + (opened.heads - opened.next) * opened.lists ≤ rank →
     ending_after rank (numbered plan first (heads_from plan opened opened.next)) ≡ ending_after rank (numbered plan (first + (opened.heads - opened.next) * opened.lists) (heads_after plan opened.after))
 unfolding heads_from
-skip_past plan opened first rank is_plan is_opened low =
+skip_past plan opened first rank is_plan opened_is low =
     let own = heads_with plan.bounds opened.block.level opened.block.members in
     let k = opened.heads - opened.next in
-    let heads : opened.heads ≡ length (heads_with plan.bounds opened.block.level opened.block.members) = is_opened.heads in
-    let next : opened.next < opened.heads = is_opened.next in
-    skip_some plan first opened.lists rank k (drop opened.next own) (heads_after plan opened.after) (block_alike plan opened opened.next is_plan is_opened)
+    let heads : opened.heads ≡ length (heads_with plan.bounds opened.block.level opened.block.members) = opened_is.heads in
+    let next : opened.next < opened.heads = opened_is.next in
+    skip_some plan first opened.lists rank k (drop opened.next own) (heads_after plan opened.after) (block_alike plan opened opened.next is_plan opened_is)
     (omega (arith, length-drop opened.next (heads_with plan.bounds opened.block.level opened.block.members))) low
     ∙ ap (λ (hs : List Head). ending_after rank (numbered plan (first + k * opened.lists) (hs ++ heads_after plan opened.after)))
     (drop-drop k opened.next own ∙ drop_all (opened.next + k) own (omega arith))
@@ -303,10 +303,10 @@ skip_past plan opened first rank is_plan is_opened low =
 -- the sets left when all heads of a block are passed
 pub left_past : (plan : Plan) (opened : Opened) → IsPlan plan → IsOpened plan opened →
     count_in plan (heads_from plan opened opened.next) ≡ (opened.heads - opened.next) * opened.lists + count_in plan (heads_after plan opened.after)
-left_past plan opened is_plan is_opened =
-    let next : opened.next < opened.heads = is_opened.next in
-    let heads : opened.heads ≡ length (heads_with plan.bounds opened.block.level opened.block.members) = is_opened.heads in
-    left_counts plan opened (opened.heads - opened.next) is_plan is_opened (omega arith)
+left_past plan opened is_plan opened_is =
+    let next : opened.next < opened.heads = opened_is.next in
+    let heads : opened.heads ≡ length (heads_with plan.bounds opened.block.level opened.block.members) = opened_is.heads in
+    left_counts plan opened (opened.heads - opened.next) is_plan opened_is (omega arith)
     ∙ ap (λ (hs : List Head). (opened.heads - opened.next) * opened.lists + count_in plan hs) (sym (at_last plan opened (opened.next + (opened.heads - opened.next)) (omega arith)))
 
 -- at most how many blocks are left
@@ -317,11 +317,11 @@ blocks_left plan (Some opened) = suc (length (shapes plan) - opened.after)
 pub blocks_less : (plan : Plan) (opened : Opened) (next : Option Opened) → IsOpened plan opened → MayBeOpened plan next → IfSome next (λ other. opened.after < other.after) →
     blocks_left plan next < blocks_left plan (Some opened)
 unfolding blocks_left
-blocks_less plan opened None is_opened is_next later = omega arith
-blocks_less plan opened (Some other) is_opened is_next later = let few : other.after ≤ length (shapes plan) = is_next.after in omega arith
+blocks_less plan opened None opened_is is_next later = omega arith
+blocks_less plan opened (Some other) opened_is is_next later = let few : other.after ≤ length (shapes plan) = is_next.after in omega arith
 
-pub is_opened : (plan : Plan) (there : Option Opened) (opened : Opened) → Some opened ≡ there → MayBeOpened plan there → IsOpened plan opened
-is_opened plan there opened e may = let P : Option Opened → Type 0 = λ o. MayBeOpened plan o in subst P (sym e) may
+pub opened_is : (plan : Plan) (there : Option Opened) (opened : Opened) → Some opened ≡ there → MayBeOpened plan there → IsOpened plan opened
+opened_is plan there opened e may = let P : Option Opened → Type 0 = λ o. MayBeOpened plan o in subst P (sym e) may
 
 -- the sets left at a block that a walk stands in
 pub count_here : (plan : Plan) (first : ℕ) (there : Option Opened) (opened : Opened) → Some opened ≡ there → first + count_in plan (left_heads plan there) ≡ total_of plan →
@@ -332,14 +332,14 @@ pub fits_here : (plan : Plan) (first : ℕ) (there : Option Opened) (opened : Op
     first + (opened.heads - opened.next) * opened.lists ≤ total_of plan
 fits_here plan first there opened is_plan e may all =
     let here = count_here plan first there opened e all in
-    let past = left_past plan opened is_plan (is_opened plan there opened e may) in
+    let past = left_past plan opened is_plan (opened_is plan there opened e may) in
     omega arith
 
 -- the sets left after the next head of the block that a walk stands in
 pub count_next : (plan : Plan) (first : ℕ) (there : Option Opened) (opened : Opened) → IsPlan plan → Some opened ≡ there → MayBeOpened plan there → first + count_in plan (left_heads plan there) ≡ total_of plan →
     first + opened.lists + count_in plan (heads_from plan opened (opened.next + 1)) ≡ total_of plan
 count_next plan first there opened is_plan e may all =
-    let block = is_opened plan there opened e may in
+    let block = opened_is plan there opened e may in
     let next : opened.next < opened.heads = block.next in
     let here = count_here plan first there opened e all in
     let more = left_counts plan opened 1 is_plan block (omega arith) in

@@ -8,3 +8,4 @@ pub mod Shaped
 pub mod Equal
 pub mod Ranked
 pub mod Uniqueness
+mod Counts

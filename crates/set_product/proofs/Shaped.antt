@@ -12,8 +12,8 @@ use Rattle.raid_params.specs.declared.types.Level.{Level}
 use Rattle.raid_params.specs.Size.{redundancy}
 use Rattle.raid_params.specs.Slots.{empties, is_distinct, stands}
 use Rattle.raid_params.specs.Validity.{first_absent, first_repeat, has_members, has_pattern, has_syndrome, is_absent, is_chunk, is_met_again, is_shaped, is_valid_head, slots_fault}
-use Rattle.raid_terms.specs.Product.{fits, heads, sets_of as sets_of_head}
-use Rattle.raid_terms.specs.SlotLists.{all_lists}
+use Rattle.search_terms.specs.Product.{fits, heads, sets_of as sets_of_head}
+use Rattle.search_terms.specs.SlotLists.{all_lists}
 use Rattle.slot_math.proofs.Kept.{turned}
 use Rattle.slot_math.proofs.Listed.{each_flat, each_get, each_kept, each_list, each_map, each_more}
 use Rattle.slot_math.specs.Ways.{AllImages}

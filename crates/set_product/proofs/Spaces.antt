@@ -7,8 +7,8 @@ use Rattle.raid_params.specs.declared.types.Head.{Head}
 use Rattle.raid_params.specs.declared.types.Level.{Level}
 use Rattle.raid_params.specs.Size.{redundancy}
 use Rattle.raid_params.specs.Slots.{is_distinct, empties}
-use Rattle.raid_terms.specs.Product.{fits}
-use Rattle.raid_terms.specs.SlotLists.{all_lists, is_kept, slot_lists}
+use Rattle.search_terms.specs.Product.{fits}
+use Rattle.search_terms.specs.SlotLists.{all_lists, is_kept, slot_lists}
 use Rattle.slot_math.proofs.Listed.{each_list, each_more}
 use Rattle.slot_math.specs.Ways.{AllImages}
 use Rattle.slot_math.specs.Space.{lists_of}

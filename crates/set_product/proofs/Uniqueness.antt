@@ -13,8 +13,8 @@ use Rattle.raid_params.specs.declared.types.Level.{Level}
 use Rattle.raid_params.specs.declared.types.Pattern.{Pattern}
 use Rattle.raid_params.specs.declared.types.Syndrome.{Syndrome}
 use Rattle.raid_params.specs.Validity.{has_syndrome, is_valid_head}
-use Rattle.raid_terms.specs.Product.{fits, sets_of as sets_of_head}
-use Rattle.raid_terms.specs.SlotLists.{all_lists}
+use Rattle.search_terms.specs.Product.{fits, sets_of as sets_of_head}
+use Rattle.search_terms.specs.SlotLists.{all_lists}
 use Rattle.slot_math.proofs.Listed.{each_flat, each_kept, each_map, each_more}
 use Rattle.slot_math.proofs.Positions.{rank_of_element}
 use Rattle.slot_math.specs.Space.{lists_of, same_slots}

@@ -1,5 +1,5 @@
 -- A walk over the blocks of the product.
-use Rattle.std.proofs.Common.{rules, ℕ, zero, suc, ◌≡◌, ◌<◌, ◌≤◌, ◌+◌, ◌-◌, ◌*◌, ◌^◌, min, List, [], ◌∷◌, ◌++◌, length, take, drop, refl, sym, ap, ap₂, ◌∙◌, arith, append_assoc, append-nil, length-append, Option, Some, None, slice_get}
+use Rattle.std.proofs.Common.{rules, ℕ, zero, suc, ◌≡◌, ◌<◌, ◌≤◌, ◌+◌, ◌-◌, ◌*◌, List, [], ◌∷◌, ◌++◌, length, take, drop, refl, sym, ap, ap₂, ◌∙◌, arith, append_assoc, append-nil, length-append, Option, Some, None, slice_get}
 use Rattle.std.specs.List.{flat_map, position}
 use Rattle.std.proofs.lemmas.List.{take_all}
 use Rattle.std.proofs.lemmas.Nat.{mul-le}
@@ -29,11 +29,6 @@ at_end at end n low high is = omega arith
 
 pub few_shapes : (levels members : ℕ) → levels ≤ MOST_LEVELS → members ≤ MOST_LESS_ONE → levels * members ≤ MOST_LEVELS * MOST_LESS_ONE
 few_shapes levels members a b = mul-le levels members MOST_LEVELS MOST_LESS_ONE a b
-
--- a sum of numbers that stop at a limit stops there
-pub sum_stopped : (sum own next before all_own after : ℕ) → sum ≡ min before (2 ^ 128 - 1) → own ≡ min all_own (2 ^ 128 - 1) → next ≡ min (sum + own) (2 ^ 128 - 1) → after ≡ before + all_own →
-    next ≡ min after (2 ^ 128 - 1)
-sum_stopped sum own next before all_own after a b c d = omega arith
 
 flat_append : {A B : Type 0} (f : A → List B) (xs ys : List A) → flat_map f (xs ++ ys) ≡ flat_map f xs ++ flat_map f ys
 flat_append f [] ys = refl

@@ -8,8 +8,8 @@ use Rattle.raid_params.specs.declared.types.Head.{Head}
 use Rattle.raid_params.specs.declared.types.Level.{Level}
 use Rattle.raid_params.specs.declared.types.Pattern.{Pattern}
 use Rattle.raid_params.specs.Validity.{has_members, has_pattern, has_syndrome, is_valid_head}
-use Rattle.raid_terms.specs.Product.{fits, sets_of as sets_of_head}
-use Rattle.raid_terms.specs.SlotLists.{all_lists}
+use Rattle.search_terms.specs.Product.{fits, sets_of as sets_of_head}
+use Rattle.search_terms.specs.SlotLists.{all_lists}
 use Rattle.slot_math.specs.Space.{lists_of}
 use Rattle.slot_math.specs.declared.space.Space.{Space}
 use Rattle.search_plan.specs.declared.plan.Plan.{Plan}

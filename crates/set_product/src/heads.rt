@@ -6,7 +6,7 @@ ghost use Rattle.search_plan.specs.Sets.{total_of};
 ghost use Rattle.set_product.specs.Heads.{count_in, end_of, heads_of, numbered};
 ghost use Rattle.set_product.specs.Left.{left_heads, MayBeOpened};
 
-use crate::opened::{Opened, opened_from, passed};
+use crate::opened::{Opened, open_from, pass_heads};
 use raid_params::Head;
 use search_plan::Plan;
 use slot_math::Space;
@@ -50,9 +50,9 @@ impl<'a> Model for Heads<'a> {
     ghost invariant = { λ s. IsPlan s.plan.now × (total_of s.plan.now < 2 ^ 64) × MayBeOpened s.plan.now s.opened × (s.first + count_in s.plan.now (left_heads s.plan.now s.opened) ≡ total_of s.plan.now) };
 }
 
-// How many of `heads` heads, with `lists` slot lists each and the first set at rank `first`, end at the
-// rank or before. The last of them ends after the rank.
-fn heads_before(first: u64, rank: u64, lists: u64, heads: usize) -> usize
+/// How many of `heads` heads, with `lists` slot lists each and the first set at rank `first`, end at the
+/// rank or before. The last of them ends after the rank.
+fn heads_before(first: u64, rank: u64, lists: u64, heads: u64) -> u64
     requires some { 0 < heads }
     requires rank { rank < first + heads * lists }
     ensures few { result < heads }
@@ -62,11 +62,11 @@ fn heads_before(first: u64, rank: u64, lists: u64, heads: usize) -> usize
     if rank <= first {
         return 0;
     }
-    ((rank - first) / lists) as usize
+    (rank - first) / lists
 }
 
-// Where a walk that stands here has passed over the heads that end at this rank or before.
-fn skipped(
+/// Where a walk that stands here has passed over the heads that end at this rank or before.
+fn skip_heads(
     plan: &Plan,
     mut opened: Option<Opened>,
     mut first: u64,
@@ -76,19 +76,20 @@ fn skipped(
     requires few { total_of plan.now < 2 ^ 64 }
     requires opened { MayBeOpened plan.now opened }
     requires first { first + count_in plan.now (left_heads plan.now opened) ≡ total_of plan.now }
-    ensures left { numbered plan.now result.1 (left_heads plan.now result.0) ≡ filter (λ sets. nat_lt rank (end_of sets)) (numbered plan.now first (left_heads plan.now opened)) }
+    ensures left { numbered plan.now result.1 (left_heads plan.now result.0)
+        ≡ filter (λ sets. nat_lt rank (end_of sets)) (numbered plan.now first (left_heads plan.now opened)) }
     ensures opened { MayBeOpened plan.now result.0 }
     ensures first { result.1 + count_in plan.now (left_heads plan.now result.0) ≡ total_of plan.now }
 {
     while let Some(block) = opened.take() {
-        let sets = (block.heads - block.next) as u64 * block.lists;
+        let sets = (block.heads - block.next) * block.lists;
         if rank < first + sets {
             let count = heads_before(first, rank, block.lists, block.heads - block.next);
-            let start = first + count as u64 * block.lists;
-            return (passed(plan, block, count), start);
+            let start = first + count * block.lists;
+            return (pass_heads(plan, block, count), start);
         }
         first += sets;
-        opened = opened_from(plan, block.after);
+        opened = open_from(plan, block.after);
     }
     (None, first)
 }
@@ -104,7 +105,7 @@ impl<'a> Heads<'a> {
     {
         Heads {
             plan,
-            opened: opened_from(plan, 0),
+            opened: open_from(plan, 0),
             first: 0,
         }
     }
@@ -115,7 +116,7 @@ impl<'a> Heads<'a> {
     pub fn skip_to(&mut self, rank: u64)
         ensures { self.new ≡ filter (λ sets. nat_lt rank (end_of sets)) self.old }
     {
-        let (opened, first) = skipped(self.plan, self.opened.take(), self.first, rank);
+        let (opened, first) = skip_heads(self.plan, self.opened.take(), self.first, rank);
         self.opened = opened;
         self.first = first;
     }
@@ -133,13 +134,13 @@ impl<'a> Iterator for Heads<'a> {
             None => None,
             Some(block) => {
                 let sets = HeadSets {
-                    head: block.block.head_at(self.plan, block.next as u128),
+                    head: block.block.head_at(self.plan, block.next),
                     space: block.block.space,
                     first: self.first,
                     count: block.lists,
                 };
                 self.first += block.lists;
-                self.opened = passed(self.plan, block, 1);
+                self.opened = pass_heads(self.plan, block, 1);
                 Some(sets)
             }
         }

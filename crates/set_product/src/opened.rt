@@ -9,20 +9,24 @@ use crate::block::Block;
 use crate::product::{block_at, shape_count};
 use search_plan::Plan;
 
-// A block; the place of the pair of a level and a number of members after its own; how many heads it
-// has, and how many slot lists each head; and the place of the next head.
+/// A block with heads that a walk has come to.
 #[derive(Drop)]
 pub(crate) struct Opened {
+    /// The place of the pair of a level and a number of members after its own.
     pub after: usize,
+    /// The block.
     pub block: Block,
-    pub heads: usize,
+    /// How many heads it has.
+    pub heads: u64,
+    /// How many slot lists each head has.
     pub lists: u64,
-    pub next: usize,
+    /// The rank of the next head among those of the block.
+    pub next: u64,
 }
 
-// The first block with heads from this pair on, at its first head.
+/// The first block with heads from this pair on, at its first head.
 #[tactic(auto, using(crate::proofs::HeadByHead::shape_is))]
-pub(crate) fn opened_from(plan: &Plan, from: usize) -> Option<Opened>
+pub(crate) fn open_from(plan: &Plan, from: usize) -> Option<Opened>
     requires plan { IsPlan plan.now }
     requires few { total_of plan.now < 2 ^ 64 }
     ensures left { left_heads plan.now result ≡ heads_after plan.now from }
@@ -31,13 +35,13 @@ pub(crate) fn opened_from(plan: &Plan, from: usize) -> Option<Opened>
 {
     for at in from..shape_count(plan) {
         let block = block_at(plan, at);
-        let heads = block.heads(plan);
+        let heads = block.count_heads(plan);
         if heads > 0 {
-            let lists = block.space.total() as u64;
+            let lists = block.count_lists() as u64;
             return Some(Opened {
                 after: at + 1,
                 block,
-                heads,
+                heads: heads as u64,
                 lists,
                 next: 0,
             });
@@ -46,8 +50,8 @@ pub(crate) fn opened_from(plan: &Plan, from: usize) -> Option<Opened>
     None
 }
 
-// What comes after the next `count` heads of the block.
-pub(crate) fn passed(plan: &Plan, mut opened: Opened, count: usize) -> Option<Opened>
+/// What comes after the next `count` heads of the block.
+pub(crate) fn pass_heads(plan: &Plan, mut opened: Opened, count: u64) -> Option<Opened>
     requires plan { IsPlan plan.now }
     requires few { total_of plan.now < 2 ^ 64 }
     requires opened { IsOpened plan.now opened }
@@ -59,5 +63,5 @@ pub(crate) fn passed(plan: &Plan, mut opened: Opened, count: usize) -> Option<Op
     if opened.next < opened.heads {
         return Some(opened);
     }
-    opened_from(plan, opened.after)
+    open_from(plan, opened.after)
 }

@@ -1,5 +1,5 @@
 //! The parameter sets of a plan, by rank.
-ghost use Rattle.std.specs.Prelude.{◌≡◌, ◌<◌, ◌≤◌, ◌-◌, ◌*◌, ◌^◌, min, MatchOption, Some, length, slice_get};
+ghost use Rattle.std.specs.Prelude.{◌≡◌, ◌<◌, ◌≤◌, ◌*◌, ◌^◌, min, MatchOption, Some, length, slice_get};
 ghost use Rattle.raid_params.specs.declared.limits.TheConstants.{MOST_LEVELS, MOST_LESS_ONE};
 ghost use Rattle.search_plan.specs.Plans.{IsPlan};
 ghost use Rattle.set_product.specs.Blocks.{IsBlock};
@@ -7,11 +7,11 @@ ghost use Rattle.set_product.specs.Pairs.{pairs};
 ghost use Rattle.search_plan.specs.Sets.{rank_of, sets_of, total_of};
 
 use crate::block::Block;
-use crate::pairing::pair_at;
+use crate::digits::{count_both, pair_at};
 use raid_params::Geometry;
 use search_plan::Plan;
 
-// How many pairs of a level and a number of members the plan has.
+/// How many pairs of a level and a number of members the plan has.
 #[tactic(auto, using(crate::proofs::Walks::few_shapes))]
 pub(crate) fn shape_count(plan: &Plan) -> usize
     ensures count { result ≡ length plan.now.bounds.levels.items * length plan.now.bounds.members.items }
@@ -20,25 +20,26 @@ pub(crate) fn shape_count(plan: &Plan) -> usize
     plan.bounds.levels.len() * plan.bounds.members.len()
 }
 
-// The block of the pair of this place.
+/// The block of the pair of this place.
 pub(crate) fn block_at(plan: &Plan, at: usize) -> Block
     requires plan { IsPlan plan.now }
     requires at { at < length plan.now.bounds.levels.items * length plan.now.bounds.members.items }
     ensures block { IsBlock plan.now result }
-    ensures shape { slice_get (pairs plan.now.bounds.levels.items plan.now.bounds.members.items) at ≡ Some (result.level, result.members) }
+    ensures shape { slice_get (pairs plan.now.bounds.levels.items plan.now.bounds.members.items) at
+        ≡ Some (result.level, result.members) }
 {
-    let (level, members) = pair_at(&plan.bounds.levels, &plan.bounds.members, at as u128);
+    let (level, members) = pair_at(&plan.bounds.levels, &plan.bounds.members, at as u64);
     Block::of(plan, level, members)
 }
 
-// How many sets the plan has, or u128::MAX where there are more.
+/// How many sets the plan has. The count stops at `COUNT_END`.
 fn count_sets(plan: &Plan) -> u128
     requires { IsPlan plan.now }
-    ensures { result ≡ min (total_of plan.now) (2 ^ 128 - 1) }
+    ensures { result ≡ min (total_of plan.now) (2 ^ 64) }
 {
-    let mut sum: u128 = 0;
+    let mut sum = 0;
     for at in 0..shape_count(plan) {
-        sum = sum.saturating_add(block_at(plan, at).total(plan));
+        sum = count_both(sum, block_at(plan, at).total(plan));
     }
     sum
 }
@@ -59,10 +60,10 @@ pub fn product_set(plan: &Plan, rank: u64) -> Geometry
     requires rank { rank < total_of plan.now }
     ensures { slice_get (sets_of plan.now) rank ≡ Some result }
 {
-    let mut rest = u128::from(rank);
+    let mut rest = rank;
     for at in 0..shape_count(plan) {
         let block = block_at(plan, at);
-        let total = block.total(plan);
+        let total = block.total(plan) as u64;
         if rest < total {
             return block.set(plan, rest);
         }
@@ -81,9 +82,9 @@ pub fn product_rank(plan: &Plan, geo: &Geometry) -> Option<u64>
     for at in 0..shape_count(plan) {
         let block = block_at(plan, at);
         if let Some(rank) = block.rank(plan, geo) {
-            return Some((before + rank) as u64);
+            return Some(before + rank);
         }
-        before += block.total(plan);
+        before += block.total(plan) as u64;
     }
     None
 }

@@ -9,8 +9,8 @@ use raid_params::Level;
 use search_plan::Plan;
 use slot_math::Space;
 
-// The slot lists of a plan's sets of one level and one number of members: at most `missing` places are
-// empty, no more than the level survives, and at most `foreign` images are in no slot.
+/// The slot lists of a plan's sets of one level and one number of members: at most `missing` places are
+/// empty, no more than the level survives, and at most `foreign` images are in no slot.
 #[tactic(auto, using(crate::proofs::Spaces::no_lists, crate::proofs::Spaces::some_lists, crate::proofs::Spaces::no_space, crate::proofs::Spaces::some_space))]
 pub(crate) fn space_of(plan: &Plan, level: Level, members: u8) -> Space
     requires plan { IsPlan plan.now }

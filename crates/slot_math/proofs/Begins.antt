@@ -3,7 +3,7 @@ use Rattle.std.proofs.Common.{ℕ, ◌≡◌, ◌<◌, ◌+◌, ◌*◌, List, [
 use Rattle.std.specs.List.{range_with_len}
 use Rattle.std.proofs.Math.Nat.{mul-zero}
 use Rattle.std.proofs.lemmas.Bool.{eq-eqb, ne_eqb, cases_eq}
-use Rattle.raid_terms.specs.SlotLists.{fillings, all_lists}
+use Rattle.search_terms.specs.SlotLists.{fillings, all_lists}
 use Rattle.slot_math.specs.Space.{same_place, begins}
 use Rattle.slot_math.specs.Ways.{AllImages}
 use Rattle.slot_math.proofs.Sums.{total_of, passing, passing-flat, passing_same, passing_none, total-append, total-map, total_range_same, drop_one, total_const}

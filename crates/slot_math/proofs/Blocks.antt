@@ -3,7 +3,7 @@ use Rattle.std.proofs.Common.{rules, ℕ, ◌≡◌, ◌<◌, ◌≤◌, ◌+◌
 use Rattle.raid_params.specs.declared.limits.TheConstants.{MOST}
 use Rattle.std.proofs.lemmas.Bool.{cases_Bool, and_parts, eqb-true, not-true}
 use Rattle.std.proofs.lemmas.List.{take_all, take_more, length-take-le}
-use Rattle.raid_terms.specs.SlotLists.{all_lists, is_kept}
+use Rattle.search_terms.specs.SlotLists.{all_lists, is_kept}
 use Rattle.raid_params.specs.Slots.{is_distinct, empties, stands}
 use Rattle.slot_math.specs.Space.{lists_of, rank_in}
 use Rattle.slot_math.specs.Ways.{ends, before, is_listed, are_images, AllImages, IsPlace, IsStart, ways}

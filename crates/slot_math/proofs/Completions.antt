@@ -2,7 +2,7 @@
 use Rattle.std.proofs.Common.{nat_lt, ◌==◌, ℕ, ◌≡◌, ◌<◌, ◌≤◌, ◌+◌, ◌-◌, List, [], ◌∷◌, ◌++◌, length, filter, refl, sym, ap, ap₂, ◌∙◌, arith, Bool, true, false, ◌&&◌, cond, Option, Some, None, inl, inr, rules, length-append}
 use Rattle.std.specs.List.{AllByRecursion}
 use Rattle.std.proofs.lemmas.Bool.{and_parts, cases_Bool, eqb-true, ltb-true, lt-ltb}
-use Rattle.raid_terms.specs.SlotLists.{all_lists, is_kept}
+use Rattle.search_terms.specs.SlotLists.{all_lists, is_kept}
 use Rattle.raid_params.specs.Slots.{is_distinct, empties}
 use Rattle.slot_math.specs.Space.{begins, same_place, lists_of}
 use Rattle.slot_math.specs.Ways.{AllImages, IsPlace, IsStart, are_images, ends, ways}

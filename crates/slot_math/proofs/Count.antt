@@ -4,7 +4,7 @@ use Rattle.std.specs.List.{range_with_len}
 use Rattle.std.proofs.lemmas.Bool.{cases_Bool}
 use Rattle.std.proofs.Math.Nat.{zero-mul, suc-mul}
 use Rattle.std.proofs.Math.Numerals.{one-add}
-use Rattle.raid_terms.specs.SlotLists.{fillings, all_lists}
+use Rattle.search_terms.specs.SlotLists.{fillings, all_lists}
 use Rattle.slot_math.specs.Ways.{ways}
 use Rattle.slot_math.proofs.Sums.{total_of, passing, passing-flat, passing_same, passing_none, total-append, total-map, total_range_same, drop_one, total_const}
 

@@ -1,7 +1,7 @@
 -- The ends with which a prefix goes on, counted.
 use Rattle.std.proofs.Common.{ℕ, ◌≡◌, ◌+◌, ◌-◌, List, [], ◌∷◌, ◌++◌, length, refl, sym, ap, ◌∙◌, arith, Bool, true, false, ◌&&◌, not, add-zero, Option, Some, None}
 use Rattle.std.proofs.lemmas.Bool.{and_parts, not-true}
-use Rattle.raid_terms.specs.SlotLists.{all_lists, is_kept}
+use Rattle.search_terms.specs.SlotLists.{all_lists, is_kept}
 use Rattle.raid_params.specs.Slots.{is_distinct, stands, empties}
 use Rattle.slot_math.specs.Ways.{ways, ends, AllImages}
 use Rattle.slot_math.specs.declared.space.Space.{Space}

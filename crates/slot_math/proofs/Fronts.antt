@@ -2,7 +2,7 @@
 use Rattle.std.proofs.Common.{ℕ, ◌≡◌, ◌<◌, ◌≤◌, ◌+◌, ◌-◌, ◌^◌, List, [], ◌∷◌, ◌++◌, length, filter, refl, sym, ap, subst, ap₂, ◌∙◌, arith, zero, suc, Bool, true, false, ◌&&◌, ◌||◌, not, ◌==◌, cond, Option, Some, None, slice_get, option_map, append_assoc, append-nil, length-append, inl, inr}
 use Rattle.raid_params.specs.declared.limits.TheConstants.{MOST}
 use Rattle.std.proofs.lemmas.Bool.{cases_Bool}
-use Rattle.raid_terms.specs.SlotLists.{all_lists, is_kept}
+use Rattle.search_terms.specs.SlotLists.{all_lists, is_kept}
 use Rattle.raid_params.specs.Slots.{is_distinct, stands, empties}
 use Rattle.slot_math.specs.Space.{lists_of}
 use Rattle.slot_math.specs.Ways.{ends, images_before, before, IsPlace, AllImages, IsStart, IsImageWays, ways}

@@ -1,7 +1,7 @@
 -- What is kept, place by place.
 use Rattle.std.proofs.Common.{ℕ, ◌≡◌, ◌+◌, ◌-◌, List, [], ◌∷◌, length, refl, sym, ap, ◌∙◌, arith, Bool, true, false, ◌&&◌, ◌||◌, not, ◌==◌, add-zero, Option, Some, None, nat_le, inl, inr}
 use Rattle.std.proofs.lemmas.Bool.{eq-eqb, ne_eqb, cases_eq}
-use Rattle.raid_terms.specs.SlotLists.{all_lists, is_kept}
+use Rattle.search_terms.specs.SlotLists.{all_lists, is_kept}
 use Rattle.raid_params.specs.Slots.{stands, is_distinct, empties}
 use Rattle.slot_math.specs.Space.{lists_of}
 use Rattle.slot_math.specs.Ways.{ways}

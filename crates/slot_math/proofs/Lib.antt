@@ -12,3 +12,7 @@ pub mod Begins
 pub mod Completions
 pub mod Positions
 pub mod Blocks
+pub mod Lists
+pub mod Placed
+pub mod Standing
+pub mod Held

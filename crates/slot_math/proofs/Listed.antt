@@ -2,7 +2,7 @@
 use Rattle.std.proofs.Common.{rules, ℕ, ◌≡◌, ◌<◌, ◌≤◌, ◌+◌, List, [], ◌∷◌, ◌++◌, length, map, filter, refl, sym, ap, arith, zero, suc, Bool, true, cond, Option, Some, None, slice_get, inl, inr, subst}
 use Rattle.std.specs.List.{flat_map, range_with_len, AllByRecursion}
 use Rattle.std.proofs.lemmas.Bool.{cases_Bool}
-use Rattle.raid_terms.specs.SlotLists.{fillings, all_lists, is_kept, slot_lists}
+use Rattle.search_terms.specs.SlotLists.{fillings, all_lists, is_kept, slot_lists}
 use Rattle.slot_math.specs.Ways.{AllImages, IsPlace}
 
 pub each_append : {A : Type 0} (P : A → Type 0) (xs ys : List A) → AllByRecursion P xs → AllByRecursion P ys → AllByRecursion P (xs ++ ys)

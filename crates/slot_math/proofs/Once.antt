@@ -1,7 +1,7 @@
 -- No list stands twice in a space.
 use Rattle.std.proofs.Common.{rules, ℕ, ◌≡◌, ◌≢◌, ◌<◌, ◌+◌, List, [], ◌∷◌, ◌++◌, map, filter, refl, ap, arith, zero, suc, Bool, true, false, cond, Option, Some, None, slice_get, get_or, drop}
 use Rattle.std.specs.List.{flat_map, range_with_len, AllByRecursion}
-use Rattle.raid_terms.specs.SlotLists.{fillings, all_lists, is_kept, slot_lists}
+use Rattle.search_terms.specs.SlotLists.{fillings, all_lists, is_kept, slot_lists}
 use Rattle.slot_math.proofs.Listed.{each_append, each_map, each_flat, each_more, each_kept, each_get}
 
 -- x is none of these

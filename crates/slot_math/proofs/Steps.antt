@@ -1,7 +1,7 @@
 -- The ends of a prefix, by what stands in the next place.
 use Rattle.std.proofs.Common.{ℕ, ◌≡◌, ◌<◌, ◌≤◌, ◌+◌, ◌-◌, List, [], ◌∷◌, ◌++◌, length, map, filter, refl, sym, ap, ap₂, ◌∙◌, arith, zero, suc, Bool, cond, Option, Some, None, slice_get, option_map, append_assoc, add_assoc, zero-add, add-zero, length-append}
 use Rattle.std.specs.List.{flat_map, range_with_len}
-use Rattle.raid_terms.specs.SlotLists.{fillings, all_lists, is_kept}
+use Rattle.search_terms.specs.SlotLists.{fillings, all_lists, is_kept}
 use Rattle.slot_math.specs.Ways.{ends, images_before, before, IsPlace}
 use Rattle.slot_math.specs.declared.space.Space.{Space}
 use Rattle.slot_math.proofs.Sums.{passing, passing-flat, length-filter, total_of, total-append}

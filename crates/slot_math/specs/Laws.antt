@@ -2,7 +2,7 @@
 use Rattle.std.specs.Prelude.{ℕ, ◌≡◌, ◌↔◌, true, List, length, slice_get}
 use Rattle.std.specs.declared.option.Option.{Option}
 use Rattle.std.specs.declared.option.Option.TheVariants.{Some}
-use Rattle.raid_terms.specs.SlotLists.{is_kept, slot_lists}
+use Rattle.search_terms.specs.SlotLists.{is_kept, slot_lists}
 use Rattle.slot_math.specs.Space.{lists_of, rank_in}
 use Rattle.slot_math.specs.Ways.{AllImages}
 use Rattle.slot_math.specs.declared.space.Space.{Space}

@@ -2,7 +2,7 @@
 use Rattle.std.specs.Prelude.{ℕ, Bool, true, false, ◌&&◌, ◌==◌, List, [], ◌∷◌, position}
 use Rattle.std.specs.declared.option.Option.{Option}
 use Rattle.std.specs.declared.option.Option.TheVariants.{None, Some}
-use Rattle.raid_terms.specs.SlotLists.{slot_lists}
+use Rattle.search_terms.specs.SlotLists.{slot_lists}
 use Rattle.slot_math.specs.declared.space.Space.{Space}
 
 -- the lists of a space, in order

@@ -1,8 +1,8 @@
 -- How a prefix goes on to lists of a space, and how many.
-use Rattle.std.specs.Prelude.{ℕ, zero, suc, ◌≡◌, true, false, ◌+◌, ◌-◌, ◌*◌, ◌<◌, Bool, nat_le, nat_lt, ◌&&◌, ◌==◌, if◌then◌else◌, List, [], ◌∷◌, ◌++◌, length, filter}
+use Rattle.std.specs.Prelude.{ℕ, zero, suc, ◌≡◌, true, false, ◌+◌, ◌-◌, ◌*◌, ◌<◌, ◌≤◌, Bool, nat_le, nat_lt, ◌&&◌, ◌==◌, if◌then◌else◌, List, [], ◌∷◌, ◌++◌, length, filter}
 use Rattle.std.specs.declared.option.Option.{Option}
 use Rattle.std.specs.declared.option.Option.TheVariants.{None, Some}
-use Rattle.raid_terms.specs.SlotLists.{all_lists, is_kept}
+use Rattle.search_terms.specs.SlotLists.{all_lists, is_kept}
 use Rattle.raid_params.specs.Slots.{is_distinct, empties, stands}
 use Rattle.slot_math.specs.declared.space.Space.{Space}
 
@@ -16,6 +16,11 @@ abbrev pub AllImages : ℕ → List (Option ℕ) → Type 0
 AllImages n [] = Unit {0}
 AllImages n (None ∷ l) = AllImages n l
 AllImages n (Some i ∷ l) = (i < n) × AllImages n l
+
+-- the beginning of a list of `members` places over so many images: no more places, with these images
+pub record IsPrefixOf (count members : ℕ) (places : List (Option ℕ)) : Type 0 where
+  pub short : length places ≤ members
+  pub images : AllImages count places
 
 -- the ends with which a prefix goes on to a list of the space
 unfoldable pub ends : Space → List (Option ℕ) → List (List (Option ℕ))

@@ -7,7 +7,7 @@ use crate::places::{all_different, all_images};
 use crate::space::Space;
 use raid_params::{MOST, Slots, count_empty};
 
-// One way where no place is left and from `low` to `high` places are empty, and none elsewhere.
+/// One way where no place is left and from `low` to `high` places are empty, and none elsewhere.
 #[tactic(auto, using(crate::proofs::Bound::ways_zero))]
 fn last_way(low: u8, high: u8, empty: usize) -> u128
     ensures { (u : ℕ) → result ≡ ways low high u 0 empty }
@@ -16,7 +16,7 @@ fn last_way(low: u8, high: u8, empty: usize) -> u128
     if fits { 1 } else { 0 }
 }
 
-// The ways with an image next, and those with an empty place next.
+/// The ways with an image next, and those with an empty place next.
 #[tactic(auto, using(crate::proofs::Bound::small_product))]
 fn more_ways(unused: usize, image: u128, empty: u128) -> u128
     requires unused { unused ≤ MOST }
@@ -27,7 +27,7 @@ fn more_ways(unused: usize, image: u128, empty: u128) -> u128
     unused as u128 * image + empty
 }
 
-// The ways to fill `left` places with `free` unused images, after `empty` empty places.
+/// The ways to fill `left` places with `free` unused images, after `empty` empty places.
 #[tactic(auto, using(crate::proofs::Bound::ways_fit, crate::proofs::Bound::ways_next))]
 pub(crate) fn ways_of(low: u8, high: u8, free: u8, left: u8, empty: u8) -> u128
     requires free { free ≤ MOST }

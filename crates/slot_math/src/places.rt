@@ -5,7 +5,7 @@ ghost use Rattle.slot_math.specs.Ways.{are_images};
 
 use raid_params::stands_among;
 
-// No image stands twice in the list.
+/// No image stands twice in the list.
 #[tactic(auto, unfolding(raid_params::specs::Slots::is_distinct))]
 pub(crate) fn all_different(list: &[Option<u8>]) -> bool
     ensures { result ≡ is_distinct list.now }
@@ -17,7 +17,7 @@ pub(crate) fn all_different(list: &[Option<u8>]) -> bool
     }
 }
 
-// The images of the list are below the number of images.
+/// The images of the list are below the number of images.
 #[tactic(auto, unfolding(crate::specs::Ways::are_images))]
 pub(crate) fn all_images(list: &[Option<u8>], images: u8) -> bool
     ensures { result ≡ are_images images list.now }

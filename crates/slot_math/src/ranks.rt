@@ -10,8 +10,8 @@ use crate::space::Space;
 use raid_params::{MOST, Slots, count_empty, stands_among};
 
 impl Space {
-    // How many lists go on from these places with one image that is not among them: as many for
-    // each such image.
+    /// How many lists go on from these places with one image that is not among them: as many for
+    /// each such image.
     #[tactic(auto, using(crate::proofs::Fronts::image_ways_are))]
     fn image_ways(&self, prefix: &[Option<u8>]) -> u128
         requires images { self.now.images ≤ MOST }
@@ -27,7 +27,7 @@ impl Space {
         ways_of(self.low, self.high, free as u8, left as u8, empty as u8)
     }
 
-    // How many lists go on from these places with this image, where `ways` do with an unused one.
+    /// How many lists go on from these places with this image, where `ways` do with an unused one.
     #[tactic(auto, using(crate::proofs::Fronts::used_image))]
     fn ways_of_image(&self, prefix: &[Option<u8>], image: u8, ways: u128) -> u128
         requires start { IsStart self.now prefix.now }
@@ -38,7 +38,7 @@ impl Space {
         if stands_among(image, prefix) { 0 } else { ways }
     }
 
-    // How many lists go on from these places with an empty one.
+    /// How many lists go on from these places with an empty one.
     #[tactic(auto, using(crate::proofs::Fronts::empty_place))]
     fn empty_ways(&self, prefix: &[Option<u8>]) -> u128
         requires images { self.now.images ≤ MOST }
@@ -83,8 +83,8 @@ impl Space {
         }
     }
 
-    // What stands in the next place of the list that goes on from these places and has this rank
-    // among those that do, and its rank among those that go on from there.
+    /// What stands in the next place of the list that goes on from these places and has this rank
+    /// among those that do, and its rank among those that go on from there.
     #[tactic(auto, using(crate::proofs::Fronts::none_before, crate::proofs::Steps::one_more_image, crate::proofs::Steps::all_ends))]
     fn place_at(&self, prefix: &[Option<u8>], rank: u128) -> (Option<u8>, u128)
         requires images { self.now.images ≤ MOST }
@@ -127,7 +127,7 @@ impl Space {
         slots
     }
 
-    // How many lists go on from these places with what comes before this in the next one.
+    /// How many lists go on from these places with what comes before this in the next one.
     #[tactic(auto, using(crate::proofs::Fronts::none_before, crate::proofs::Steps::one_more_image, crate::proofs::Fronts::images_fit))]
     fn before(&self, prefix: &[Option<u8>], place: Option<u8>) -> u128
         requires images { self.now.images ≤ MOST }
@@ -146,7 +146,7 @@ impl Space {
         sum
     }
 
-    // The list is one of the space.
+    /// The list is one of the space.
     fn holds(&self, list: &[Option<u8>]) -> bool
         ensures { result ≡ is_listed self.now list.now }
     {

@@ -27,11 +27,10 @@ overflow_add-result c =
     let few = c.requires.few in
     omega arith
 
-pub overflow_cast-result : goal.overflow_cast-result
-overflow_cast-result c =
-    let far = c.loop-at.invariant in
-    let below = rank_fits c.args.plan.now c.args.geo.now (c.loop-at.before + c.in-Some.rank) (rank_there c.args.plan.now c.args.geo.now c.loop-at.at (c.block_at-block.result.level, c.block_at-block.result.members) c.in-Some.rank c.block_at-block.ensures.shape far.none (sym c.in-Some.ensures)
-    ∙ ap (λ (n : ℕ). Some (n + c.in-Some.rank)) (sym far.count)) in
+pub overflow_cast-before : goal.overflow_cast-before
+overflow_cast-before c =
+    let within = within_total c.args.plan.now c.loop-at.at (c.block_at-block.result.level, c.block_at-block.result.members) c.block_at-block.ensures.shape in
+    let own = c.total.ensures in
     let few = c.requires.few in
     omega arith
 
@@ -39,7 +38,7 @@ pub overflow_add-before : goal.overflow_add-before
 overflow_add-before c =
     let within = within_total c.args.plan.now c.loop-at.at (c.block_at-block.result.level, c.block_at-block.result.members) c.block_at-block.ensures.shape in
     let so_far = c.loop-at.invariant.count in
-    let own = c.total-before.ensures in
+    let own = c.total.ensures in
     let few = c.requires.few in
     omega arith
 
@@ -48,7 +47,7 @@ loop-at-preserved c =
     let far = c.loop-at.invariant in
     let shape = c.block_at-block.ensures.shape in
     record {
-      count = (let within = within_total c.args.plan.now c.loop-at.at (c.block_at-block.result.level, c.block_at-block.result.members) shape in let few = c.requires.few in let more = count_more c.args.plan.now c.loop-at.at (c.block_at-block.result.level, c.block_at-block.result.members) shape in let own = c.total-before.ensures in let so_far = far.count in omega arith);
+      count = (let within = within_total c.args.plan.now c.loop-at.at (c.block_at-block.result.level, c.block_at-block.result.members) shape in let few = c.requires.few in let more = count_more c.args.plan.now c.loop-at.at (c.block_at-block.result.level, c.block_at-block.result.members) shape in let own = c.total.ensures in let so_far = far.count in omega arith);
       none = not_there c.args.plan.now c.args.geo.now c.loop-at.at (c.block_at-block.result.level, c.block_at-block.result.members) shape far.none (sym c.rank.ensures ∙ c.in_default.is);
     }
 

@@ -1,19 +1,16 @@
-use Rattle.std.proofs.Common.{◌*◌, ℕ, ◌==◌, Bool, length, sym, ap, ap₂, ◌∙◌, arith}
+use Rattle.std.proofs.Common.{◌≡◌, ◌*◌, ℕ, ◌==◌, Bool, length, sym, ap, ap₂, ◌∙◌, arith}
 use Rattle.std.specs.List.{position}
 use Rattle.std.proofs.lemmas.Bool.{eq-eqb, ne_eqb, and_left, and_right, and_from}
 use Rattle.raid_params.specs.declared.types.Pattern.{Pattern}
 use Rattle.raid_params.specs.declared.types.Syndrome.{Syndrome}
 use Rattle.search_plan.specs.Places.{level_place, pattern_place, syndrome_place}
-use Rattle.set_product.specs.declared.block.TheConstants.{MOST_HEADS}
-use Rattle.set_product.specs.Blocks.{heads_with}
 use Rattle.set_product.specs.Pairs.{joined}
-use Rattle.search_plan.specs.Sets.{is_same_head}
-use Rattle.set_product.proofs.BlockRanks.{few_heads, head_place, heads_count, other_head, place_few}
+use Rattle.set_product.proofs.BlockRanks.{head_place, other_head}
 use Rattle.set_product.proofs.block.Block.head_rank.Goals as goal
 use Rattle.set_product.proofs.block.Block.head_rank.Goals.{then-place-via-then-place, then-place-via-else-place+then-head-self}
 
-pub returns-then-place-clause-place : goal.returns-then-place-clause-place
-returns-then-place-clause-place c =
+pub returns-then-place : goal.returns-then-place
+returns-then-place c =
     let head = c.args.head.now in
     let block = c.args.self.now in
     let given = c.place.ensures in
@@ -27,8 +24,8 @@ returns-then-place-clause-place c =
           (and_right (level_place head.level == level_place block.level) (head.members == block.members) (ne_eqb head.members block.members w.if-head-self.true)))
     ]
 
-placed : goal.returns-clause-place
-placed c =
+pub returns : goal.returns
+returns c =
     let head = c.args.head.now in
     let block = c.args.self.now in
     let plan = c.args.plan.now in
@@ -37,26 +34,14 @@ placed c =
     let place = head_place plan block head c.requires.plan c.requires.block same in
     let t : Pattern → Bool = λ p. pattern_place head.pattern == pattern_place p in
     let u : Syndrome → Bool = λ s. syndrome_place head.syndrome == syndrome_place s in
-    let start = c.pair_rank-start.ensures
+    let start = c.join_rank-start.ensures
     ∙ ap (λ (n : ℕ). joined n c.place_among-pattern.result c.place_among-syndrome.result) c.len.ensures.value
     ∙ ap₂ (joined (length block.syndromes.items)) (c.place_among-pattern.ensures ∙ ap (position t) c.deref.ensures.0) (c.place_among-syndrome.ensures ∙ ap (position u) c.deref-2.ensures.0) in
-    let end = c.pair_rank-end.ensures
+    let end = c.join_rank-end.ensures
     ∙ ap (λ (n : ℕ). joined n c.place_among-chunk.result c.place_among-offset.result) c.len-2.ensures.value
     ∙ ap₂ (joined (length plan.bounds.offsets.items)) (c.place_among-chunk.ensures ∙ ap (position (λ (n : ℕ). head.chunk == n)) c.deref-3.ensures.0) (c.place_among-offset.ensures ∙ ap (position (λ (n : ℕ). head.offset == n)) c.deref-4.ensures.0) in
-    c.pair_rank.ensures
-    ∙ ap₂ (λ (a b : ℕ). joined (a * b) c.pair_rank-start.result c.pair_rank-end.result) c.len-3.ensures.value c.len-4.ensures.value
+    let ends : c.count_ends.result ≡ length plan.bounds.chunks.items * length plan.bounds.offsets.items = let is = c.count_ends.ensures.count in let few = c.count_ends.ensures.few in omega arith in
+    c.join_rank.ensures
+    ∙ ap (λ (n : ℕ). joined n c.join_rank-start.result c.join_rank-end.result) ends
     ∙ ap₂ (joined (length plan.bounds.chunks.items * length plan.bounds.offsets.items)) start end
     ∙ sym place
-
-pub returns-clause-place : goal.returns-clause-place
-returns-clause-place c = placed c
-
-pub returns-clause-few : goal.returns-clause-few
-returns-clause-few c =
-    let block = c.args.self.now in
-    let plan = c.args.plan.now in
-    let count = heads_count plan block c.requires.plan c.requires.block in
-    let few = few_heads (length block.patterns.items) (length block.syndromes.items) (length plan.bounds.chunks.items) (length plan.bounds.offsets.items)
-    (let e = ap length c.deref.ensures.0 in omega (arith, c.deref.ensures.1)) (let e = ap length c.deref-2.ensures.0 in omega (arith, c.deref-2.ensures.1))
-    (let e = ap length c.deref-3.ensures.0 in omega (arith, c.deref-3.ensures.1)) (let e = ap length c.deref-4.ensures.0 in omega (arith, c.deref-4.ensures.1)) in
-    place_few (is_same_head c.args.head.now) (heads_with plan.bounds block.level block.members) MOST_HEADS c.pair_rank.result (placed c) (omega arith)

@@ -1,9 +1,10 @@
-use Rattle.std.proofs.Common.{◌*◌, ◌-◌, ◌^◌, min, ℕ, sym, ap, ap₂, ◌∙◌}
+use Rattle.std.proofs.Common.{◌^◌, min, ℕ, length, sym, ap, ◌∙◌}
+use Rattle.slot_math.specs.Space.{lists_of}
+use Rattle.set_product.specs.Blocks.{heads_with}
 use Rattle.set_product.proofs.BlockRanks.{sets_count}
 use Rattle.set_product.proofs.block.Block.total.Goals as goal
 
 pub returns : goal.returns
 returns c =
-    c.saturating_mul.ensures
-    ∙ ap (λ (n : ℕ). min n (2 ^ 128 - 1))
-    (ap₂ (λ (a b : ℕ). a * b) c.heads.ensures.count c.total.ensures ∙ sym (sets_count c.args.plan.now c.args.self.now c.requires.plan c.requires.block))
+    c.count_pairs.ensures (length (heads_with c.args.plan.now.bounds c.args.self.now.level c.args.self.now.members)) (length (lists_of c.args.self.now.space)) c.count_heads.ensures.count c.count_lists.ensures
+    ∙ ap (λ (n : ℕ). min n (2 ^ 64)) (sym (sets_count c.args.plan.now c.args.self.now c.requires.plan c.requires.block))

@@ -3,7 +3,7 @@ use Rattle.set_product.specs.Heads.{count_in, numbered}
 use Rattle.set_product.specs.Left.{left_heads}
 use Rattle.set_product.specs.declared.opened.Opened.{Opened}
 use Rattle.set_product.specs.declared.heads.HeadSets.{HeadSets}
-use Rattle.set_product.proofs.HeadByHead.{count_next, is_opened, next_is}
+use Rattle.set_product.proofs.HeadByHead.{count_next, opened_is, next_is}
 use Rattle.set_product.proofs.heads.HeadsIterator.next.Goals as goal
 
 pub overflow_add-self : goal.overflow_add-self
@@ -13,8 +13,8 @@ pub invariant_of-self-in-Some : goal.invariant_of-self-in-Some
 invariant_of-self-in-Some c = (
   c.self.invariant.0,
   c.self.invariant.1,
-  c.passed-self-inside.ensures.opened,
-  (let all = count_next c.self.inside.plan.now c.self.inside.first c.self.inside.opened c.in-Some.block c.self.invariant.0 c.in-Some.ensures.value c.self.invariant.2 c.self.invariant.3 in let left = ap (count_in c.self.inside.plan.now) c.passed-self-inside.ensures.left in omega arith),
+  c.pass_heads-self-inside.ensures.opened,
+  (let all = count_next c.self.inside.plan.now c.self.inside.first c.self.inside.opened c.in-Some.block c.self.invariant.0 c.in-Some.ensures.value c.self.invariant.2 c.self.invariant.3 in let left = ap (count_in c.self.inside.plan.now) c.pass_heads-self-inside.ensures.left in omega arith),
 )
 
 pub returns-in-None-clause-steps : goal.returns-in-None-clause-steps
@@ -28,8 +28,8 @@ pub returns-in-Some-clause-steps : goal.returns-in-Some-clause-steps
 returns-in-Some-clause-steps c =
     sym c.self.view_is
     ∙ ap (λ (o : Option Opened). numbered c.self.inside.plan.now c.self.inside.first (left_heads c.self.inside.plan.now o)) (sym c.in-Some.ensures.value)
-    ∙ next_is c.self.inside.plan.now c.self.inside.first c.in-Some.block c.head_at.result (is_opened c.self.inside.plan.now c.self.inside.opened c.in-Some.block c.in-Some.ensures.value c.self.invariant.2) c.head_at.ensures.head c.head_at.ensures.level c.head_at.ensures.members
-    ∙ ap (λ hs. (let sets : HeadSets = record { head = c.head_at.result; space = c.in-Some.block.block.space; first = c.self.inside.first; count = c.in-Some.block.lists } in sets) ∷ numbered c.self.inside.plan.now (c.self.inside.first + c.in-Some.block.lists) hs) (sym c.passed-self-inside.ensures.left)
+    ∙ next_is c.self.inside.plan.now c.self.inside.first c.in-Some.block c.head_at.result (opened_is c.self.inside.plan.now c.self.inside.opened c.in-Some.block c.in-Some.ensures.value c.self.invariant.2) c.head_at.ensures.head c.head_at.ensures.level c.head_at.ensures.members
+    ∙ ap (λ hs. (let sets : HeadSets = record { head = c.head_at.result; space = c.in-Some.block.block.space; first = c.self.inside.first; count = c.in-Some.block.lists } in sets) ∷ numbered c.self.inside.plan.now (c.self.inside.first + c.in-Some.block.lists) hs) (sym c.pass_heads-self-inside.ensures.left)
 
 pub returns-in-Some-clause-goes : goal.returns-in-Some-clause-goes
 returns-in-Some-clause-goes c =

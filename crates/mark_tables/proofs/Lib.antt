@@ -1,0 +1,7 @@
+pub mod Placing
+pub mod Reserves
+pub mod Passing
+pub mod Landmarks
+pub mod Adding
+pub mod Small
+pub mod Prefixes

@@ -1,7 +1,0 @@
-use Rattle.std.proofs.Common.{◌≡◌, take, true}
-use Rattle.std.specs.List.{list_all}
-use Rattle.prune_filters.specs.Marks.{may_hold}
-use Rattle.prune_filters.proofs.groups.groups_may_hold.Given as goal
-
-abbrev pub invariant-loop-place : goal.invariant-loop-place
-invariant-loop-place l = list_all (may_hold l.plan l.head l.prefix) (take l.place l.plan.groups) ≡ true

@@ -1,7 +1,0 @@
-use Rattle.std.proofs.Common.{◌≡◌, ◌-◌, ◌^◌, min}
-use Rattle.std.specs.List.{range_with_len, sum_by}
-use Rattle.prune_filters.specs.Xors.{beside_q}
-use Rattle.prune_filters.proofs.rows.sum_beside_q.Given as goal
-
-abbrev pub invariant-loop-turn : goal.invariant-loop-turn
-invariant-loop-turn l = l.sum ≡ min (sum_by (beside_q l.table l.head l.prefix) (range_with_len 0 l.turn)) (2 ^ 64 - 1)

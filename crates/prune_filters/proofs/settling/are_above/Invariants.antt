@@ -1,5 +1,0 @@
-use Rattle.std.proofs.Common.{ℕ, ◌<◌, get_or}
-use Rattle.prune_filters.proofs.settling.are_above.Given as goal
-
-abbrev pub invariant-loop-image : goal.invariant-loop-image
-invariant-loop-image l = (i : ℕ) → i < l.image → l.most < get_or l.counts i 0

@@ -1,7 +1,0 @@
-use Rattle.std.proofs.Common.{◌≡◌, ℕ, ◌<◌, get_or}
-use Rattle.raid_params.specs.declared.types.Level.{Level}
-use Rattle.prune_filters.specs.Xors.{tested_with, IsSettledFor}
-use Rattle.prune_filters.proofs.xor_table.XorTable.is_settled.Given as goal
-
-abbrev pub invariant-loop-level : goal.invariant-loop-level
-invariant-loop-level l = (offset : ℕ) → l.rows ≡ tested_with l.plan l.chunk offset → (k : ℕ) (d : Level) → k < l.level-index → IsSettledFor l.plan l.chunk offset l.self (get_or l.plan.bounds.levels.items k d)

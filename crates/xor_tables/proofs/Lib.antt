@@ -1,0 +1,9 @@
+pub mod Sets
+pub mod Columns
+pub mod Broken
+pub mod Sectors
+pub mod Ordered
+pub mod Turns
+pub mod Decided
+pub mod Told
+mod Settled

@@ -1,0 +1,90 @@
+use Rattle.std.proofs.Common.{◌≤◌, ◌+◌, List, IfSome, length, rules, arith, refl, sym, subst, ◌∙◌}
+use Rattle.outside.proofs.Reading.{reads_none, reads_up}
+use Rattle.outside.specs.Attached.{told_all}
+use Rattle.outside.specs.Seen.{Image}
+use Rattle.member_regions.proofs.IfTold.{if_any, if_both, if_told}
+use Rattle.search_plan.specs.Plans.{AgreeWith}
+use Rattle.xor_tables.specs.Early.{AreEarlyTables, AreKnown, CountFirst}
+use Rattle.xor_tables.specs.Xors.{most_tested, AreSumsOf, RowTable}
+use Rattle.xor_tables.proofs.Ordered.{plan_near, reads_more, reads_within}
+use Rattle.xor_tables.proofs.Settled.{all_known, first_counts, known_tables}
+use Rattle.xor_tables.proofs.early_table.read_rows.Goals as goal
+
+pub returns-then-tables_suffice-clause-told : goal.returns-then-tables_suffice-clause-told
+returns-then-tables_suffice-clause-told g c =
+    let known : AreKnown c.args.plan.now c.args.chunks.now c.args.offset c.loop-first.first c.loop-first.tables.items
+    = subst (λ (l : List RowTable). AreKnown c.args.plan.now c.args.chunks.now c.args.offset c.loop-first.first l) c.deref.ensures.value (c.tables_suffice.ensures c.if-tables_suffice.true) in
+    if_told (told_all (g.I.Images.seen c.args.images.now).attached)
+    (λ bytes. CountFirst bytes c.args.plan.now c.args.chunks.now c.args.offset c.loop-first.first c.loop-first.tables.items)
+    (λ bytes. AreEarlyTables bytes c.args.plan.now c.args.chunks.now c.args.offset c.loop-first.tables.items)
+    (λ bytes counts. known_tables bytes c.args.plan.now c.args.chunks.now c.args.offset c.loop-first.first c.loop-first.tables.items c.loop-first.invariant.long counts known)
+    c.loop-first.invariant.told
+
+pub loop-first-init : goal.loop-first-init
+loop-first-init g c = record {
+  faults = refl;
+  reads = reads_up (g.I.Images.seen c.args.images.now) (g.I.Images.seen c.args.images.now) (reads_none (g.I.Images.seen c.args.images.now)) (omega arith);
+  told = if_any (told_all (g.I.Images.seen c.args.images.now).attached) (λ bytes. CountFirst bytes c.args.plan.now c.args.chunks.now c.args.offset 0 c.args.tables.now.items)
+      (λ bytes. first_counts bytes c.args.plan.now c.args.chunks.now c.args.offset c.args.tables.now.items c.requires.tables (c.requires.none bytes));
+  few = c.requires.few;
+  within = omega arith;
+  room = c.requires.room;
+  long = c.requires.tables;
+}
+
+pub returns-clause-told : goal.returns-clause-told
+returns-clause-told g c =
+    let all : AreKnown c.args.plan.now c.args.chunks.now c.args.offset c.loop-first.first c.loop-first.tables.items
+    = all_known c.args.plan.now c.args.chunks.now c.args.offset c.loop-first.first c.loop-first.tables.items
+    (λ k d lt. let low = c.most_rows-rows.ensures.most k d lt in let end = c.loop-first-test.false in omega arith) in
+    if_told (told_all (g.I.Images.seen c.args.images.now).attached)
+    (λ bytes. CountFirst bytes c.args.plan.now c.args.chunks.now c.args.offset c.loop-first.first c.loop-first.tables.items)
+    (λ bytes. AreEarlyTables bytes c.args.plan.now c.args.chunks.now c.args.offset c.loop-first.tables.items)
+    (λ bytes counts. known_tables bytes c.args.plan.now c.args.chunks.now c.args.offset c.loop-first.first c.loop-first.tables.items c.loop-first.invariant.long counts all)
+    c.loop-first.invariant.told
+
+pub row_sums-requires-clause-images : goal.row_sums-requires-clause-images
+row_sums-requires-clause-images g c =
+    subst (λ (l : List Image). AgreeWith c.args.plan.now l) (sym c.loop-first.invariant.reads.attached) c.requires.images
+
+pub returns-in_err-sums-clause-reads : goal.returns-in_err-sums-clause-reads
+returns-in_err-sums-clause-reads g c =
+    let within : c.loop-first.first + c.min-count.result ≤ most_tested c.args.plan.now c.args.chunks.now c.args.offset = let value = c.most_rows-rows.ensures.value in omega arith in
+    reads_within (g.I.Images.seen c.args.images.now) (g.I.Images.seen c.row_sums.new.images) (length c.args.plan.now.lengths.items) (c.loop-first.first + c.min-count.result)
+    (most_tested c.args.plan.now c.args.chunks.now c.args.offset) (length c.args.plan.now.lengths.items) refl within
+    (reads_more (g.I.Images.seen c.args.images.now) (g.I.Images.seen c.loop-first.images) (g.I.Images.seen c.row_sums.new.images)
+    (length c.args.plan.now.lengths.items) c.loop-first.first c.min-count.result c.loop-first.invariant.reads c.row_sums.ensures.reads)
+
+pub loop-first-preserved : goal.loop-first-preserved
+loop-first-preserved g c =
+    let now : IfSome (told_all (g.I.Images.seen c.loop-first.images).attached) (λ bytes.
+    AreSumsOf bytes (length c.args.plan.now.lengths.items) (c.args.offset + c.loop-first.first) c.min-count.result c.in_ok-sums.sums) = c.in_ok-sums.ensures.told in
+    record {
+      faults = search rules;
+      reads = reads_more (g.I.Images.seen c.args.images.now) (g.I.Images.seen c.loop-first.images) (g.I.Images.seen c.row_sums.new.images)
+          (length c.args.plan.now.lengths.items) c.loop-first.first c.min-count.result c.loop-first.invariant.reads c.row_sums.ensures.reads;
+      told = if_both (told_all (g.I.Images.seen c.args.images.now).attached)
+          (λ bytes. CountFirst bytes c.args.plan.now c.args.chunks.now c.args.offset c.loop-first.first c.loop-first.tables.items)
+          (λ bytes. AreSumsOf bytes (length c.args.plan.now.lengths.items) (c.args.offset + c.loop-first.first) c.min-count.result c.in_ok-sums.sums)
+          (λ bytes. CountFirst bytes c.args.plan.now c.args.chunks.now c.args.offset (c.loop-first.first + c.min-count.result) c.add_block.new.tables.items)
+          (λ bytes before sums. c.add_block.ensures.counts bytes sums before)
+          c.loop-first.invariant.told
+          (rw (← c.loop-first.invariant.reads.attached) now);
+      few = c.add_block.ensures.few;
+      within = omega arith;
+      room = c.row_sums.ensures.room;
+      long = c.add_block.ensures.long ∙ c.loop-first.invariant.long;
+    }
+
+pub overflow_add-offset : goal.overflow_add-offset
+overflow_add-offset g c =
+    let near = plan_near c.args.plan.now c.requires.plan in
+    let below = c.loop-first-test.true in
+    let within = c.most_rows-rows.ensures.within in
+    omega arith
+
+pub add_block-requires-clause-rows : goal.add_block-requires-clause-rows
+add_block-requires-clause-rows g c =
+    let near = plan_near c.args.plan.now c.requires.plan in
+    let within = c.most_rows-rows.ensures.within in
+    omega arith

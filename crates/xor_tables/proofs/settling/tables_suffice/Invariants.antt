@@ -1,0 +1,8 @@
+use Rattle.std.proofs.Common.{ℕ, ◌<◌, ◌≤◌, ◌⊎◌, get_or}
+use Rattle.xor_tables.specs.Early.{IsSettled}
+use Rattle.xor_tables.specs.Xors.{tested_with, RowTable}
+use Rattle.xor_tables.proofs.settling.tables_suffice.Given as goal
+
+abbrev pub invariant-loop-place : goal.invariant-loop-place
+invariant-loop-place l = (c : ℕ) (none : RowTable) → c < l.place →
+    (tested_with l.plan (get_or l.chunks c 0) l.offset ≤ l.first) ⊎ IsSettled l.plan (get_or l.chunks c 0) l.offset (get_or l.tables c none)

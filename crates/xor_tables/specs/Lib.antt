@@ -1,0 +1,4 @@
+pub mod Rows
+pub mod Xors
+pub mod Early
+pub mod Reading

@@ -1,0 +1,28 @@
+//! What the rows of sectors refuse of slot lists, where every slot list holds every image.
+//!
+//! There the exclusive or of all images is that of all members in any order. So one reading of the images tells in
+//! how many tested rows of sectors no level 5 can be sound, and, for each image, in how many no level 6 can be that
+//! puts this image on Q. [`needs_table`] says of which heads that is asked, and [`rows_decide`] for which it answers
+//! the parity test of each set.
+//!
+//! An [`XorTable`] counts all tested rows of a chunk and an offset. An [`EarlyTable`] is made together with those of
+//! other chunks of its offset in one reading, which ends where further rows could tell nothing more of the levels of
+//! the plan. By them [`rows_may_hold`] and [`early_rows_may_hold`] tell of a prefix whether more rows are known to be
+//! unsound than may be.
+//!
+//! What is known of a prefix stands in `specs/Rows`, and what the tables hold in `specs/Xors` and `specs/Early`.
+//! `prune_filters` asks it beside what the marks refuse.
+#![tactic(auto)]
+
+mod early_table;
+mod row_counts;
+mod row_sums;
+mod row_tally;
+mod rows;
+mod settling;
+mod tested_rows;
+mod xor_table;
+
+pub use early_table::EarlyTable;
+pub use rows::{early_rows_may_hold, needs_table, rows_decide, rows_may_hold};
+pub use xor_table::{TableFault, XorTable};

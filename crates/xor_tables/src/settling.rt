@@ -1,0 +1,113 @@
+//! When a table settles what further rows could tell.
+ghost use Rattle.std.specs.Prelude.{◌≡◌, ◌*◌, ◌<◌, ◌≤◌, ◌⊎◌, ℕ, All, IsTrue, length, slice_index, slice_index_or, [], true};
+ghost use Rattle.raid_params.specs.Validity.{is_chunk};
+ghost use Rattle.raid_params.specs.declared.limits.TheConstants.{LARGEST_CHUNK, MOST};
+ghost use Rattle.search_plan.specs.Plans.{IsPlan};
+ghost use Rattle.xor_tables.specs.Early.{AreKnown, IsSettled, IsSettledFor};
+ghost use Rattle.xor_tables.specs.Xors.{tested_with};
+
+use crate::early_table::EarlyTable;
+use crate::row_counts::RowCounts;
+use crate::row_tally::RowTally;
+use crate::tested_rows::count_tested;
+use raid_params::{Level, MOST};
+use search_plan::Plan;
+
+/// Whether each table, with the rows before row `first`, counts all that are tested or is settled.
+pub(crate) fn tables_suffice(
+    tables: &[EarlyTable],
+    plan: &Plan,
+    chunks: &[u64],
+    offset: u64,
+    first: u64,
+) -> bool
+    requires plan { IsPlan plan.now }
+    requires chunks { All (λ chunk. IsTrue (is_chunk chunk)) chunks.now }
+    requires tables { length tables.now ≡ length chunks.now }
+    ensures { result ≡ true → AreKnown plan.now chunks.now offset first tables.now }
+{
+    for place in 0..chunks.len() {
+        let table = &tables[place];
+        if !table.rows.suffices(plan, chunks[place], offset, first) {
+            return false;
+        }
+    }
+    true
+}
+
+impl RowTally {
+    /// Whether the tally, with the rows before row `first`, counts all that are tested or is settled.
+    fn suffices(&self, plan: &Plan, chunk: u64, offset: u64, first: u64) -> bool
+        requires plan { IsPlan plan.now }
+        requires chunk { IsTrue (is_chunk chunk) }
+        ensures { result ≡ true → (tested_with plan.now chunk offset ≤ first) ⊎ IsSettled plan.now chunk offset self.now }
+    {
+        let rows = count_tested(plan, chunk, offset);
+        if rows <= first {
+            return true;
+        }
+        self.settles_levels(plan, chunk, rows)
+    }
+
+    /// Whether the tally is settled for each level of the plan, where `rows` rows are tested.
+    fn settles_levels(&self, plan: &Plan, chunk: u64, rows: u64) -> bool
+        requires plan { IsPlan plan.now }
+        requires chunk { IsTrue (is_chunk chunk) }
+        ensures { (offset : ℕ) → rows ≡ tested_with plan.now chunk offset → result ≡ true →
+            IsSettled plan.now chunk offset self.now }
+    {
+        for level in plan.bounds.levels.as_slice() {
+            if !self.settles_level(*level, plan, chunk, rows) {
+                return false;
+            }
+        }
+        true
+    }
+
+    /// Whether the tally is settled for a level of the plan, where `rows` rows are tested.
+    fn settles_level(&self, level: Level, plan: &Plan, chunk: u64, rows: u64) -> bool
+        requires plan { IsPlan plan.now }
+        requires chunk { IsTrue (is_chunk chunk) }
+        ensures { (offset : ℕ) → rows ≡ tested_with plan.now chunk offset → result ≡ true →
+            IsSettledFor plan.now chunk offset self.now level }
+    {
+        match level {
+            Level::Raid0 => true,
+            Level::Raid5 => plan.limits.badrows < self.all,
+            Level::Raid6 => self.breaks_beside(
+                plan.lengths.len(),
+                plan.limits.badrows,
+                chunk,
+                rows,
+            ),
+        }
+    }
+
+    /// Whether more rows than `most` break beside each image, in each of the rows of chunks that are tested.
+    fn breaks_beside(&self, images: usize, most: u64, chunk: u64, rows: u64) -> bool
+        requires images { images ≤ MOST }
+        requires chunk { chunk ≤ LARGEST_CHUNK }
+        ensures { result ≡ true → (k i : ℕ) → k < images → i < images → k * chunk < rows →
+            most < slice_index (slice_index_or self.now.beside k []) i }
+    {
+        for turn in 0..images {
+            if (turn as u64) * chunk < rows && !are_above(&self.beside[turn], images, most) {
+                return false;
+            }
+        }
+        true
+    }
+}
+
+/// Whether the counts of the first `images` images are above a number.
+fn are_above(counts: &RowCounts, images: usize, most: u64) -> bool
+    requires { images ≤ MOST }
+    ensures { result ≡ true → (i : ℕ) → i < images → most < slice_index counts.now i }
+{
+    for image in 0..images {
+        if counts[image] <= most {
+            return false;
+        }
+    }
+    true
+}

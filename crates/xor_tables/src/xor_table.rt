@@ -1,0 +1,112 @@
+//! The table of the tested rows in which images differ.
+ghost use Rattle.std.specs.Prelude.{◌≡◌, ◌*◌, ◌<◌, ◌^◌, IfErr, IfOk, IfSome, IsTrue, OnOk, length};
+ghost use Rattle.outside.specs.Attached.{told_all};
+ghost use Rattle.outside.specs.Causes.{HasCause};
+ghost use Rattle.outside.specs.Seen.{OnlyReads};
+ghost use Rattle.raid_params.specs.Validity.{is_chunk};
+ghost use Rattle.member_regions.specs.Regions.{IsRoomFor};
+ghost use Rattle.member_regions.specs.declared.regions.TheConstants.{BLOCK};
+ghost use Rattle.search_plan.specs.Plans.{IsPlan, AgreeWith};
+ghost use Rattle.xor_tables.specs.Xors.{tested_with, IsXorTable};
+ghost use Rattle.xor_tables.specs.Reading.{EndsTable};
+
+use crate::row_sums::row_sums;
+use crate::row_tally::RowTally;
+use crate::tested_rows::count_tested;
+use member_regions::{BLOCK, Regions};
+use outside::{Failed, Images};
+use search_plan::Plan;
+use std::alloc::Global;
+use std::marker::Model;
+use thiserror::Error;
+
+/// In how many of the rows of sectors that are tested with one chunk and one offset the images of a plan differ.
+///
+/// Contracts see it as a `RowTable`.
+#[derive(Drop)]
+pub struct XorTable {
+    /// The tally of all rows that are tested.
+    pub(crate) rows: RowTally,
+}
+
+impl Model for XorTable {
+    ghost use Rattle.xor_tables.specs.Xors.{RowTable};
+
+    ghost Value = { RowTable };
+
+    ghost view = { λ table. table.rows };
+}
+
+/// Why a table is not built.
+#[derive(Clone, Copy, Debug, Drop, Error)]
+pub enum TableFault {
+    /// The images failed.
+    #[error("an image cannot be read")]
+    ReadFault,
+    /// Out of memory.
+    #[error("not enough memory")]
+    Memory,
+}
+
+impl XorTable {
+    /// Counts all rows of sectors that a plan tests with a chunk and an offset. Each image is read at most once, in
+    /// the order of its sectors, and memory is taken before the first reading. `ReadFault` comes only where the
+    /// images failed.
+    pub fn build<I: Images>(
+        alloc: Global,
+        images: &mut I,
+        plan: &Plan,
+        chunk: u64,
+        offset: u64,
+    ) -> Result<XorTable, TableFault>
+        requires plan { IsPlan plan.now }
+        requires chunk { IsTrue (is_chunk chunk) }
+        requires offset { offset < 2 ^ 55 }
+        requires images { AgreeWith plan.now (I.seen images.old).attached }
+        ensures told { IfOk result (λ table. IfSome (told_all (I.seen images.old).attached)
+            (λ bytes. IsXorTable bytes plan.now chunk offset table)) }
+        ensures reads { OnlyReads (I.seen images.old) (I.seen images.new)
+            (length plan.now.lengths.items * tested_with plan.now chunk offset) }
+        ensures ends { IfErr result (EndsTable (I.seen images.old) (I.seen images.new)) }
+        ensures stays { OnOk result ((I.seen images.new).faults ≡ (I.seen images.old).faults) }
+    {
+        let mut regions = Regions::new(alloc, plan.lengths.len(), BLOCK).map_err(
+            |_| TableFault::Memory,
+        )?;
+        let rows = tally_rows(images, &mut regions, plan, chunk, offset).map_err(
+            |_| TableFault::ReadFault,
+        )?;
+        Ok(XorTable { rows })
+    }
+}
+
+/// The tally of all tested rows, with room for a block of each image.
+fn tally_rows<I: Images>(
+    images: &mut I,
+    regions: &mut Regions,
+    plan: &Plan,
+    chunk: u64,
+    offset: u64,
+) -> Result<RowTally, Failed>
+    requires plan { IsPlan plan.now }
+    requires chunk { IsTrue (is_chunk chunk) }
+    requires offset { offset < 2 ^ 55 }
+    requires images { AgreeWith plan.now (I.seen images.old).attached }
+    requires room { IsRoomFor (length plan.now.lengths.items) BLOCK regions.old }
+    ensures told { IfOk result (λ tally. IfSome (told_all (I.seen images.old).attached)
+        (λ bytes. IsXorTable bytes plan.now chunk offset tally)) }
+    ensures reads { OnlyReads (I.seen images.old) (I.seen images.new)
+        (length plan.now.lengths.items * tested_with plan.now chunk offset) }
+    ensures cause { HasCause (I.seen images.old).faults (I.seen images.new).faults result }
+{
+    let rows = count_tested(plan, chunk, offset);
+    let mut tally = RowTally::new();
+    let mut first = 0;
+    while first < rows {
+        let count = (rows - first).min(BLOCK as u64) as usize;
+        let sums = row_sums(images, regions, plan, offset + first, count)?;
+        tally.add_rows(&sums, plan.lengths.len(), chunk, first, count);
+        first += count as u64;
+    }
+    Ok(tally)
+}

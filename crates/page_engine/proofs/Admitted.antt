@@ -7,7 +7,7 @@ use Rattle.raid_params.specs.Size.{rows}
 use Rattle.raid_params.specs.Validity.{is_valid_head}
 use Rattle.raid_params.specs.declared.types.Geometry.{Geometry}
 use Rattle.raid_params.specs.declared.types.Head.{Head}
-use Rattle.raid_terms.specs.SlotLists.{all_lists, is_kept}
+use Rattle.search_terms.specs.SlotLists.{all_lists, is_kept}
 use Rattle.search_plan.specs.Sets.{passes, sets_of}
 use Rattle.search_plan.specs.Plans.{IsPlan}
 use Rattle.search_plan.specs.declared.plan.Plan.{Plan}
@@ -19,8 +19,9 @@ use Rattle.slot_math.proofs.Listed.{each_kept, each_list, each_more}
 use Rattle.candidate_enum.specs.Survivors.{all_admitted}
 use Rattle.prune_filters.specs.Hopeful.{is_hopeful, is_hopeful_by, IsPrefix}
 use Rattle.prune_filters.specs.Marks.{groups_may_hold}
-use Rattle.prune_filters.specs.Xors.{rows_hold_by, AreXors, RowTable}
-use Rattle.prune_filters.proofs.Admitted.{admitted_is_hopeful}
+use Rattle.prune_filters.specs.Early.{HasEarlyTable}
+use Rattle.prune_filters.specs.Xors.{rows_hold_by, RowTable}
+use Rattle.prune_filters.proofs.Admitted.{admitted_early}
 use Rattle.prune_filters.proofs.Law.{hopeful, whole}
 use Rattle.page_engine.specs.Pages.{is_hopeful_at}
 use Rattle.page_engine.specs.Walk.{AdmitsHopeful, IsAmong, IsAsked, LeavesOutNone}
@@ -57,7 +58,7 @@ set_prefix plan rank k head slots is_plan stands =
     record { short = (let few = take_short k slots in omega arith); images = take_images (length plan.lengths.items) k slots set.images }
 
 -- each prefix of a set that passes is hopeful by the tables
-pub tables_admit : (told : Option (List (List ℕ))) (plan : Plan) (head : Head) (xors : Option RowTable) → IsPlan plan → is_valid_head head ≡ true → Contains plan.bounds.levels.items head.level → IfSome told (λ bytes. AreXors bytes plan head xors) →
+pub tables_admit : (told : Option (List (List ℕ))) (plan : Plan) (head : Head) (xors : Option RowTable) → IsPlan plan → is_valid_head head ≡ true → Contains plan.bounds.levels.items head.level → IfSome told (λ bytes. HasEarlyTable bytes plan head xors) →
     LeavesOutNone told plan head (is_hopeful_by xors plan head)
 tables_admit None plan head xors is_plan valid there are = tt
 tables_admit (Some bytes) plan head xors is_plan valid there are = λ rank slots stands passing.
@@ -66,7 +67,7 @@ tables_admit (Some bytes) plan head xors is_plan valid there are = λ rank slots
     one : (rank : ℕ) (slots : List (Option ℕ)) (k : ℕ) → slice_get (sets_of plan) rank ≡ Some (record { head = head; slots = record { items = slots } }) →
         passes bytes plan (record { head = head; slots = record { items = slots } }) ≡ true → is_hopeful_by xors plan head (take k slots) ≡ true
     one rank slots k stands holds =
-        admitted_is_hopeful bytes plan head xors (take k slots) is_plan valid there are (set_prefix plan rank k head slots is_plan stands) ∙ hopeful bytes plan rank (record { head = head; slots = record { items = slots } }) k stands holds
+        admitted_early bytes plan head xors (take k slots) is_plan valid there are (set_prefix plan rank k head slots is_plan stands) ∙ hopeful bytes plan rank (record { head = head; slots = record { items = slots } }) k stands holds
 
 -- two tests that agree on each prefix of a list
 same_numbers : (p q : ℕ → Bool) → ((k : ℕ) → p k ≡ q k) → (a n : ℕ) → list_all p (range_with_len a n) ≡ list_all q (range_with_len a n)
@@ -79,16 +80,16 @@ same_prefixes p q slots same = same_numbers (λ k. p (take k slots)) (λ k. q (t
 
 -- a set of which each prefix is hopeful by the tables is hopeful
 hopeful_by : (told : Option (List (List ℕ))) (plan : Plan) (head : Head) (xors : Option RowTable) (rank : ℕ) (slots : List (Option ℕ)) → IsPlan plan → is_valid_head head ≡ true → Contains plan.bounds.levels.items head.level →
-    IfSome told (λ bytes. AreXors bytes plan head xors) → slice_get (sets_of plan) rank ≡ Some (record { head = head; slots = record { items = slots } }) → all_admitted (is_hopeful_by xors plan head) slots ≡ true → is_hopeful_at told plan rank ≡ true
+    IfSome told (λ bytes. HasEarlyTable bytes plan head xors) → slice_get (sets_of plan) rank ≡ Some (record { head = head; slots = record { items = slots } }) → all_admitted (is_hopeful_by xors plan head) slots ≡ true → is_hopeful_at told plan rank ≡ true
 unfolding is_hopeful_at
 hopeful_by None plan head xors rank slots is_plan valid there are stands all = refl
 hopeful_by (Some bytes) plan head xors rank slots is_plan valid there are stands all =
     ap (λ (o : Option Geometry). option_map_or (λ geo. all_admitted (is_hopeful bytes plan geo.head) geo.slots.items) o false) stands
-    ∙ sym (same_prefixes (is_hopeful_by xors plan head) (is_hopeful bytes plan head) slots (λ k. admitted_is_hopeful bytes plan head xors (take k slots) is_plan valid there are (set_prefix plan rank k head slots is_plan stands)))
+    ∙ sym (same_prefixes (is_hopeful_by xors plan head) (is_hopeful bytes plan head) slots (λ k. admitted_early bytes plan head xors (take k slots) is_plan valid there are (set_prefix plan rank k head slots is_plan stands)))
     ∙ all
 
 -- the tables admit the slot lists of hopeful sets that meet the landmark test, and leave out none that passes
-pub admits_hopeful : (told : Option (List (List ℕ))) (plan : Plan) (head : Head) (xors : Option RowTable) → IsPlan plan → is_valid_head head ≡ true → IsAmong plan.bounds head → IfSome told (λ bytes. AreXors bytes plan head xors) →
+pub admits_hopeful : (told : Option (List (List ℕ))) (plan : Plan) (head : Head) (xors : Option RowTable) → IsPlan plan → is_valid_head head ≡ true → IsAmong plan.bounds head → IfSome told (λ bytes. HasEarlyTable bytes plan head xors) →
     AdmitsHopeful told plan head (is_hopeful_by xors plan head)
 admits_hopeful told plan head xors is_plan valid among are = record {
   leaves_out_none = tables_admit told plan head xors is_plan valid among.level are;

@@ -6,7 +6,7 @@ use Rattle.std.proofs.lemmas.Option.{slice_get_within}
 use Rattle.raid_params.specs.Validity.{is_valid_head}
 use Rattle.raid_params.specs.declared.types.Geometry.{Geometry}
 use Rattle.raid_params.specs.declared.types.Head.{Head}
-use Rattle.raid_terms.specs.Product.{heads}
+use Rattle.search_terms.specs.Product.{heads}
 use Rattle.search_plan.specs.Plans.{IsPlan}
 use Rattle.search_plan.specs.Sets.{sets_of, total_of}
 use Rattle.search_plan.specs.declared.plan.Plan.{Plan}

@@ -5,7 +5,7 @@ use Rattle.std.proofs.lemmas.List.Elements.{recursion_from_All}
 use Rattle.std.specs.List.{AllByRecursion, Contains}
 use Rattle.raid_params.specs.Validity.{is_valid_head}
 use Rattle.raid_params.specs.declared.types.Bounds.{Bounds}
-use Rattle.raid_terms.specs.Product.{heads}
+use Rattle.search_terms.specs.Product.{heads}
 use Rattle.slot_math.proofs.Listed.{each_flat, each_kept, each_map, each_more}
 use Rattle.page_engine.specs.Walk.{IsAmong}
 

@@ -1,35 +1,41 @@
--- Candidates that pass without a scan, and pages in which one waits or is a line.
-use Rattle.std.proofs.Common.{ℕ, zero, suc, ◌≡◌, ◌≢◌, ◌⊎◌, ◌<◌, ◌≤◌, ◌+◌, ◌-◌, Bool, true, false, ◌||◌, ◌&&◌, nat_le, List, [], ◌∷◌, ◌++◌, length, length-append, take, refl, sym, ap, ◌∙◌, subst, arith, Option, Some, None, Result, Ok, Err, IfOk, IfSome, IsErr, All, slice_get, inl, inr}
-use Rattle.std.specs.Option.{option_map_or}
-use Rattle.std.specs.List.{list_all, range_with_len}
-use Rattle.std.proofs.lemmas.Bool.{and_parts, cases_Bool}
-use Rattle.image_source.specs.Attached.{told_all}
-use Rattle.image_source.specs.Seen.{Image, OnlyReads, Seen, TellsBytes}
+-- Candidates that pass without a test, and pages in which one waits.
+use Rattle.std.proofs.Common.{ℕ, zero, suc, ◌≡◌, ◌⊎◌, ◌<◌, ◌≤◌, ◌+◌, ◌-◌, Bool, true, false, ◌||◌, ◌&&◌, nat_le, List, [], ◌∷◌, ◌++◌, length, map, get_or, take, refl, sym, ap, ◌∙◌, subst, arith, Option, Some, None, Result, Ok, Err, IfOk, IfSome, IsErr, All, slice_get, inl, inr}
+use Rattle.std.specs.Option.{is_some, option_map_or}
+use Rattle.std.specs.List.{list_all, range_with_len, slice_index}
+use Rattle.std.proofs.lemmas.Bool.{and_parts, cases_Bool, cases_lt, le-leb, leb-true}
+use Rattle.std.proofs.lemmas.List.{get_or-map}
+use Rattle.outside.specs.Attached.{told_all}
+use Rattle.outside.specs.Seen.{Image, OnlyReads, Seen, TellsBytes}
 use Rattle.raid_params.specs.Size.{rows}
 use Rattle.raid_params.specs.declared.types.Geometry.{Geometry}
 use Rattle.raid_terms.specs.Parity.{passes_parity}
 use Rattle.candidate_enum.specs.Survivors.{all_admitted}
 use Rattle.row_scan.proofs.Unbroken.{unbreakable_passes}
 use Rattle.row_scan.specs.Scan.{is_unbreakable}
+use Rattle.row_scan.specs.Tallies.{AllTallies, BeginsAs, has_passed, is_open, KeepSettled, NoneOpen}
 use Rattle.row_scan.specs.declared.many_sets.TheConstants.{MOST_SETS}
+use Rattle.row_scan.specs.declared.tally.Tally.{Tally}
+use Rattle.row_scan.specs.declared.tally.Tally.TheVariants.{Passes}
 use Rattle.prune_filters.proofs.Law.{decide}
 use Rattle.prune_filters.specs.Hopeful.{is_hopeful}
 use Rattle.prune_filters.specs.Marks.{groups_may_hold}
 use Rattle.prune_filters.specs.Rows.{rows_decide, rows_may_hold}
 use Rattle.search_plan.specs.Plans.{IsPlan, AgreeWith}
-use Rattle.search_plan.specs.Sets.{passes_at, sets_of, total_of}
+use Rattle.search_plan.specs.Sets.{sets_of, total_of}
 use Rattle.std.proofs.lemmas.Option.{slice_get_within}
 use Rattle.search_plan.specs.declared.plan.Plan.{Plan}
 use Rattle.page_engine.specs.Pages.{is_decided, is_hopeful_at, most_scanned}
-use Rattle.page_engine.specs.Walk.{AddsAll, BeginBefore, BeginOpen, ended_at, FillsPage, Finishes, Gathers, GoesOn, IsCandidate, Scans, spared_by, StandsAt, tested_by, Wait}
+use Rattle.page_engine.specs.Walk.{AddsAll, AreWaiting, ended_at, Finishes, first_tally, GoesOn, IsCandidate, IsPast, known_first, lines_of, Scans, spared_by, StandsAt, tested_by, Wait}
 use Rattle.page_engine.specs.declared.gathering.Gathered.{Gathered}
 use Rattle.page_engine.specs.declared.page_parts.Line.{Line}
 use Rattle.page_engine.specs.declared.page_parts.PageFault.{PageFault}
-use Rattle.page_engine.proofs.Counting.{begin_before, full_scan, some_scan}
-use Rattle.page_engine.proofs.Ranges.{adds_line, adds_none, adds_past}
-use Rattle.page_engine.proofs.Scanned.{scans_one}
-use Rattle.page_engine.proofs.SetTests.{candidate_passes, scannable}
-use Rattle.page_engine.proofs.Waiting.{stands_anew, wait_add, wait_nothing}
+use Rattle.page_engine.specs.declared.waiting.Waiting.{Waiting}
+use Rattle.page_engine.proofs.Counting.{BeginOpen, full_scan, open_scan}
+use Rattle.page_engine.proofs.Known.{first_left, first_passes, known_all, known_each, known_most, known_open}
+use Rattle.page_engine.proofs.Ranges.{adds_none, adds_past}
+use Rattle.page_engine.proofs.Scanned.{scans_none, scans_one}
+use Rattle.page_engine.proofs.SetTests.{scannable}
+use Rattle.page_engine.proofs.Waits.{line_at, lines_long, lines_more, wait_add, wait_before, wait_each, wait_from, wait_nothing, wait_rises}
 
 -- the first places of a list, all of them
 take_whole : (l : List (Option ℕ)) → take (length l) l ≡ l
@@ -57,87 +63,118 @@ unfolding is_hopeful_at
 hopeful_slots bytes plan line set hopeful =
     sym (ap (λ (o : Option Geometry). option_map_or (λ geo. all_admitted (is_hopeful bytes plan geo.head) geo.slots.items) o false) set) ∙ hopeful
 
--- a candidate whose test asks for no row passes
+-- a candidate of which no row has to be tested meets the parity test
 pub decided_passes : (attached : List Image) (plan : Plan) (line : Line) → IsPlan plan → AgreeWith plan attached → All TellsBytes attached → IsCandidate (told_all attached) plan line → is_decided plan line.geo ≡ true →
-    IfSome (told_all attached) (λ bytes. passes_at bytes plan line.rank ≡ true)
+    IfSome (told_all attached) (λ bytes. passes_parity bytes line.geo plan.end plan.limits.window plan.limits.badrows ≡ true)
 decided_passes attached plan line is_plan agrees tells is decided = elim (cases_Bool (is_unbreakable line.geo)) [
-  | inl holds ↦ by_parity (told_all attached) is (unbreakable_passes attached line.geo plan.end plan.limits.window plan.limits.badrows tells (scannable plan line.rank line.geo attached is_plan is.set agrees) holds)
+  | inl holds ↦ unbreakable_passes attached line.geo plan.end plan.limits.window plan.limits.badrows tells (scannable plan line.rank line.geo attached is_plan is.set agrees) holds
   | inr fails ↦ by_rows (told_all attached) is (sym (ap (λ (b : Bool). b || rows_decide plan line.geo.head) fails) ∙ decided)
 ]
   where
-    by_parity : (told : Option (List (List ℕ))) → IsCandidate told plan line → IfSome told (λ bytes. passes_parity bytes line.geo plan.end plan.limits.window plan.limits.badrows ≡ true) → IfSome told (λ bytes. passes_at bytes plan line.rank ≡ true)
-    by_parity None known parity = tt
-    by_parity (Some bytes) known parity = candidate_passes bytes plan line (Some bytes) known ∙ parity
-
-    by_rows : (told : Option (List (List ℕ))) → IsCandidate told plan line → rows_decide plan line.geo.head ≡ true → IfSome told (λ bytes. passes_at bytes plan line.rank ≡ true)
+    by_rows : (told : Option (List (List ℕ))) → IsCandidate told plan line → rows_decide plan line.geo.head ≡ true → IfSome told (λ bytes. passes_parity bytes line.geo plan.end plan.limits.window plan.limits.badrows ≡ true)
     by_rows None known decides = tt
     by_rows (Some bytes) known decides =
         let hopeful : is_hopeful bytes plan line.geo.head line.geo.slots.items ≡ true = whole_admitted (is_hopeful bytes plan line.geo.head) line.geo.slots.items (hopeful_slots bytes plan line known.set known.hopeful) in
         let first = and_parts (nat_le 1 (rows line.geo.head plan.end)) (groups_may_hold plan line.geo.head line.geo.slots.items && rows_may_hold bytes plan line.geo.head line.geo.slots.items) hopeful in
         let rest = and_parts (groups_may_hold plan line.geo.head line.geo.slots.items) (rows_may_hold bytes plan line.geo.head line.geo.slots.items) first.1 in
-        candidate_passes bytes plan line (Some bytes) known ∙ sym (decide bytes plan line.rank line.geo known.set decides) ∙ rest.1
+        sym (decide bytes plan line.rank line.geo known.set decides) ∙ rest.1
 
--- a page of which none waits, with a line more
-line_more : (told : Option (List (List ℕ))) (plan : Plan) (size : ℕ) (line : Line) (old : Gathered) → StandsAt told plan size line.rank old → old.waiting ≡ [] → IsCandidate told plan line → IfSome told (λ bytes. passes_at bytes plan line.rank ≡ true) →
-    (old.tested ≤ line.rank) × AddsAll told plan old.tested (line.rank + 1) (length old.lines + 2) old.lines (old.lines ++ line ∷ [])
-line_more told plan size line old stands none is passes =
-    let P : List Line → Type 0 = λ l. Wait told plan old.tested line.rank l in
-    let nothing = wait_nothing told plan old.tested line.rank (subst P none stands.wait) in (
-      nothing.0,
-      record {
-        adds = adds_line told plan old.tested old.tested line old.lines old.lines (adds_none told plan old.tested old.lines) (omega arith) nothing.0 nothing.1 is.set passes;
-        few = (let long = length-append old.lines (line ∷ []) in omega arith);
-      },
-    )
+-- the tallies of sets that wait begin as those of a scan
+begins_as : (attached : List Image) (plan : Plan) (line : Line) → IsPlan plan → AgreeWith plan attached → All TellsBytes attached → IsCandidate (told_all attached) plan line → BeginsAs (told_all attached) plan line.geo (first_tally plan line.geo)
+begins_as attached plan line is_plan agrees tells is = elim (cases_Bool (is_decided plan line.geo)) [
+  | inl t ↦ subst P (sym (first_passes plan line.geo t)) (decided_passes attached plan line is_plan agrees tells is t)
+  | inr f ↦ subst P (sym (first_left plan line.geo f)) refl
+]
+  where
+    P : Tally → Type 0
+    P tally = BeginsAs (told_all attached) plan line.geo tally
 
-pub line_goes_on : (told : Option (List (List ℕ))) (plan : Plan) (size : ℕ) (line : Line) (old new : Gathered) → StandsAt told plan size line.rank old → old.waiting ≡ [] → IsCandidate told plan line → IfSome told (λ bytes. passes_at bytes plan line.rank ≡ true) →
-    new.lines ≡ old.lines ++ line ∷ [] → new.tested ≡ line.rank + 1 → new.waiting ≡ [] → length new.lines < size → GoesOn told plan size (line.rank + 1) old new
-line_goes_on told plan size line old new stands none is passes lines tested empty few =
-    let more = line_more told plan size line old stands none is passes in
-    let low = more.0 in
-    let P : List Line → Type 0 = λ l. AddsAll told plan old.tested (line.rank + 1) (length old.lines + 2) old.lines l in
-    let Q : ℕ → Type 0 = λ n. AddsAll told plan old.tested n (length old.lines + 2) old.lines new.lines in
-    record {
-      stands = stands_anew told plan size (line.rank + 1) new few tested empty;
-      forward = omega arith;
-      adds = (subst Q (sym tested) (subst P (sym lines) more.1)).adds;
-    }
+pub all_begin : (attached : List Image) (plan : Plan) (waiting : Waiting) (tallies : List Tally) → IsPlan plan → AgreeWith plan attached → All TellsBytes attached → AreWaiting plan waiting → tallies ≡ waiting.tallies.items →
+    All (IsCandidate (told_all attached) plan) (lines_of waiting.ranks waiting.sets) → AllTallies (BeginsAs (told_all attached) plan) waiting.sets tallies
+all_begin attached plan waiting tallies is_plan agrees tells are same all = λ i d e below.
+    let none : Line = record { rank = 0; geo = e } in
+    let long = lines_long waiting.ranks waiting.sets are.ranks in
+    let here : get_or (lines_of waiting.ranks waiting.sets) i none ≡ record { rank = get_or waiting.ranks i 0; geo = get_or waiting.sets i e } = line_at waiting.ranks waiting.sets i none 0 e are.ranks below in
+    let tally : get_or tallies i d ≡ first_tally plan (get_or waiting.sets i e) = ap (λ (l : List Tally). get_or l i d) (same ∙ are.tallies) ∙ get_or-map (first_tally plan) waiting.sets i e d below in
+    let is : IsCandidate (told_all attached) plan (record { rank = get_or waiting.ranks i 0; geo = get_or waiting.sets i e }) = subst (IsCandidate (told_all attached) plan) here (all i none (omega arith)) in
+    let P : Tally → Type 0 = λ t. BeginsAs (told_all attached) plan (get_or waiting.sets i e) t in
+    subst P (sym tally) (begins_as attached plan (record { rank = get_or waiting.ranks i 0; geo = get_or waiting.sets i e }) is_plan agrees tells is)
 
-pub line_fills : (told : Option (List (List ℕ))) (plan : Plan) (size : ℕ) (line : Line) (old : Gathered) (lines : List Line) → StandsAt told plan size line.rank old → old.waiting ≡ [] → IsCandidate told plan line → IfSome told (λ bytes. passes_at bytes plan line.rank ≡ true) →
-    lines ≡ old.lines ++ line ∷ [] → length lines ≡ size → FillsPage told plan old.tested (line.rank + 1) size (line.rank + 1) old.lines lines
-line_fills told plan size line old lines stands none is passes same many =
-    let more = line_more told plan size line old stands none is passes in
-    let low = more.0 in
-    let P : List Line → Type 0 = λ l. AddsAll told plan old.tested (line.rank + 1) (length old.lines + 2) old.lines l in
-    let R : ℕ → Type 0 = λ n. IfSome told (λ bytes. passes_at bytes plan n ≡ true) in
-    let back : line.rank ≡ line.rank + 1 - 1 = omega arith in
-    record {
-      forward = omega arith;
-      within = omega arith;
-      adds = (subst P (sym same) more.1).adds;
-      last = subst R back passes;
-      many = many;
-    }
+-- where all of them are known to pass, none has rows to be tested
+pub waiting_closed : (plan : Plan) (waiting : Waiting) (tallies : List Tally) → AreWaiting plan waiting → tallies ≡ waiting.tallies.items → waiting.known ≡ length waiting.sets → NoneOpen tallies
+waiting_closed plan waiting tallies are same all =
+    let P : List Tally → Type 0 = λ l. NoneOpen l in
+    subst P (sym (same ∙ are.tallies)) (known_all plan waiting.sets (sym are.known ∙ all))
+
+-- those that are known to pass have passed after a scan
+passed_of : (t : Tally) → t ≡ Passes → has_passed t ≡ true
+passed_of t is = ap has_passed is
+
+pub known_passed : (plan : Plan) (waiting : Waiting) (old new : List Tally) (i : ℕ) (d : Tally) → AreWaiting plan waiting → old ≡ waiting.tallies.items → length old ≡ length waiting.sets → KeepSettled old new → i < waiting.known → has_passed (get_or new i d) ≡ true
+known_passed plan waiting old new i d are same long keep below = by waiting.sets refl
+  where
+    by : (sets : List Geometry) → waiting.sets ≡ sets → has_passed (get_or new i d) ≡ true
+    by [] e = absurd (let known : waiting.known ≡ known_first plan [] = are.known ∙ ap (known_first plan) e in let most = known_most plan [] in omega arith)
+    by (geo ∷ sets) e =
+        let known : waiting.known ≡ known_first plan (geo ∷ sets) = are.known ∙ ap (known_first plan) e in
+        let most = known_most plan (geo ∷ sets) in
+        let count : length waiting.sets ≡ length (geo ∷ sets) = ap length e in
+        let decided = known_each plan (geo ∷ sets) i geo (omega arith) in
+        let tally : get_or old i d ≡ Passes = ap (λ (l : List Tally). get_or l i d) (same ∙ are.tallies ∙ ap (map (first_tally plan)) e) ∙ get_or-map (first_tally plan) (geo ∷ sets) i geo d (omega arith) ∙ first_passes plan (get_or (geo ∷ sets) i geo) decided in
+        passed_of (get_or new i d) (keep i d (omega arith) (ap is_open tally) ∙ tally)
+
+-- as many wait as may, or the page is full with those that are known to pass
+pub is_many : (n m size : ℕ) → (nat_le MOST_SETS n || nat_le size m) ≡ true → (MOST_SETS ≤ n) ⊎ (size ≤ m)
+is_many n m size e = elim (cases_Bool (nat_le MOST_SETS n)) [
+  | inl t ↦ inl (leb-true MOST_SETS n t)
+  | inr f ↦ inr (leb-true size m (sym (ap (λ (b : Bool). b || nat_le size m) f) ∙ e))
+]
+
+pub is_short : (n m size : ℕ) → (nat_le MOST_SETS n || nat_le size m) ≡ false → (n < MOST_SETS) × (m < size)
+is_short n m size e = (not_le MOST_SETS n (first (nat_le MOST_SETS n) (nat_le size m) e), not_le size m (second (nat_le MOST_SETS n) (nat_le size m) e))
+  where
+    first : (a b : Bool) → (a || b) ≡ false → a ≡ false
+    first true b e = absurd (cc)
+    first false b e = refl
+
+    second : (a b : Bool) → (a || b) ≡ false → b ≡ false
+    second true b e = absurd (cc)
+    second false b e = e
+
+    not_le : (a b : ℕ) → nat_le a b ≡ false → b < a
+    not_le a b f = elim (cases_lt b a) [
+      | inl less ↦ less
+      | inr more ↦ absurd (let t = le-leb a b more in cc)
+    ]
+
+-- those that are known to pass do not fill a page where others wait
+pub pushed_below : (lines before known count size : ℕ) → lines + before < size → (known ≡ before) ⊎ (known ≡ count) → known < count → lines + known < size
+pushed_below lines before known count size few (inl same) less = omega arith
+pushed_below lines before known count size few (inr all) less = absurd (omega arith)
 
 -- one more waits
-pub begin_more : (plan : Plan) (line : Line) (lines : List Line) → BeginOpen plan lines → (lines ≡ [] → is_decided plan line.geo ≡ false) → BeginOpen plan (lines ++ line ∷ [])
-begin_more plan line [] first undecided = undecided refl
-begin_more plan line (one ∷ lines) first undecided = first
-
-pub waits_on : (told : Option (List (List ℕ))) (plan : Plan) (size : ℕ) (line : Line) (old new : Gathered) → StandsAt told plan size line.rank old → IsCandidate told plan line → (old.waiting ≡ [] → is_decided plan line.geo ≡ false) →
-    new.lines ≡ old.lines → new.tested ≡ old.tested → new.waiting ≡ old.waiting ++ line ∷ [] → length new.waiting < MOST_SETS → GoesOn told plan size (line.rank + 1) old new
-waits_on told plan size line old new stands is undecided lines tested waiting room =
+pub waits_more : (told : Option (List (List ℕ))) (plan : Plan) (size : ℕ) (line : Line) (old : Gathered) (waiting : Waiting) → StandsAt told plan size line.rank old → IsCandidate told plan line → waiting.ranks ≡ old.waiting.ranks ++ line.rank ∷ [] →
+    waiting.sets ≡ old.waiting.sets ++ line.geo ∷ [] → Wait told plan old.tested (line.rank + 1) (lines_of waiting.ranks waiting.sets)
+waits_more told plan size line old waiting stands is ranks sets =
     let P : List Line → Type 0 = λ l. Wait told plan old.tested (line.rank + 1) l in
-    let Q : ℕ → Type 0 = λ n. Wait told plan n (line.rank + 1) new.waiting in
-    let R : List Line → Type 0 = λ l. BeginOpen plan l in
+    let Q : List ℕ → Type 0 = λ l. Wait told plan old.tested (line.rank + 1) (lines_of l waiting.sets) in
+    let R : List Geometry → Type 0 = λ l. Wait told plan old.tested (line.rank + 1) (lines_of (old.waiting.ranks ++ line.rank ∷ []) l) in
+    subst Q (sym ranks) (subst R (sym sets) (subst P (sym (lines_more old.waiting.ranks old.waiting.sets line.rank line.geo stands.are.ranks))
+    (wait_add told plan old.tested line (lines_of old.waiting.ranks old.waiting.sets) stands.wait is)))
+
+pub waits_on : (told : Option (List (List ℕ))) (plan : Plan) (size : ℕ) (line : Line) (old new : Gathered) → StandsAt told plan size line.rank old → IsCandidate told plan line → AreWaiting plan new.waiting →
+    new.lines ≡ old.lines → new.tested ≡ old.tested → new.waiting.ranks ≡ old.waiting.ranks ++ line.rank ∷ [] → new.waiting.sets ≡ old.waiting.sets ++ line.geo ∷ [] →
+    length new.lines + new.waiting.known < size → length new.waiting.sets < MOST_SETS → GoesOn told plan size (line.rank + 1) old new
+waits_on told plan size line old new stands is are lines tested ranks sets few room =
+    let Q : ℕ → Type 0 = λ n. Wait told plan n (line.rank + 1) (lines_of new.waiting.ranks new.waiting.sets) in
     let same = adds_none told plan old.tested old.lines in
     let S : List Line → Type 0 = λ l. AddsAll told plan old.tested old.tested (length old.lines + 1) old.lines l in
     let T : ℕ → Type 0 = λ n. AddsAll told plan old.tested n (length old.lines + 1) old.lines new.lines in
     record {
       stands = record {
-        few = (let few = stands.few in let long = ap length lines in omega arith);
-        wait = subst Q (sym tested) (subst P (sym waiting) (wait_add told plan old.tested line old.waiting stands.wait is));
-        first = subst R (sym waiting) (begin_more plan line old.waiting stands.first undecided);
+        are = are;
+        wait = subst Q (sym tested) (waits_more told plan size line old new.waiting stands is ranks sets);
+        few = few;
         room = room;
       };
       forward = omega arith;
@@ -145,57 +182,110 @@ waits_on told plan size line old new stands is undecided lines tested waiting ro
     }
 
 -- a whole page of which none waits
-pub finishes_empty : (told : Option (List (List ℕ))) (plan : Plan) (size stop : ℕ) (old new : Gathered) → StandsAt told plan size stop old → old.waiting ≡ [] → new.lines ≡ old.lines → Finishes told plan size stop old new stop
+pub finishes_empty : (told : Option (List (List ℕ))) (plan : Plan) (size stop : ℕ) (old new : Gathered) → StandsAt told plan size stop old → length old.waiting.sets ≡ 0 → new.lines ≡ old.lines → Finishes told plan size stop old new stop
+unfolding lines_of
 finishes_empty told plan size stop old new stands none same =
     let P : List Line → Type 0 = λ l. Wait told plan old.tested stop l in
-    let nothing = wait_nothing told plan old.tested stop (subst P none stands.wait) in
+    let nothing = wait_nothing told plan old.tested stop (subst P (empty old.waiting.ranks old.waiting.sets none) stands.wait) in
     let Q : List Line → Type 0 = λ l. AddsAll told plan old.tested stop size old.lines l in
-    inl (refl, subst Q (sym same) (record { adds = adds_past told plan old.tested old.tested stop old.lines old.lines (adds_none told plan old.tested old.lines) (omega arith) nothing.0 nothing.1; few = stands.few }))
+    inl (refl, subst Q (sym same) (record { adds = adds_past told plan old.tested old.tested stop old.lines old.lines (adds_none told plan old.tested old.lines) (omega arith) nothing.0 nothing.1; few = (let few = stands.few in omega arith) }))
+  where
+    empty : (ranks : List ℕ) (sets : List Geometry) → length sets ≡ 0 → lines_of ranks sets ≡ []
+    empty [] sets e = refl
+    empty (rank ∷ ranks) [] e = refl
+    empty (rank ∷ ranks) (geo ∷ sets) e = absurd (omega arith)
+
+-- the first of those that wait that has rows to be tested
+first_open : (told : Option (List (List ℕ))) (plan : Plan) (from at next : ℕ) (ranks : List ℕ) (sets : List Geometry) → length ranks ≡ length sets → Wait told plan from at (lines_of ranks sets) → known_first plan sets < length sets →
+    ((d : Line) → (get_or (lines_of ranks sets) (known_first plan sets) d).rank < next) → BeginOpen told plan from next
+first_open told plan from at next ranks [] same wait less high = absurd (omega arith)
+first_open told plan from at next ranks (geo ∷ sets) same wait less high =
+    let none : Line = record { rank = 0; geo = geo } in
+    let k = known_first plan (geo ∷ sets) in
+    let long = lines_long ranks (geo ∷ sets) same in
+    let here = line_at ranks (geo ∷ sets) (known_first plan (geo ∷ sets)) none 0 geo same less in
+    record {
+      line = get_or (lines_of ranks (geo ∷ sets)) (known_first plan (geo ∷ sets)) none;
+      low = wait_from told plan from at (lines_of ranks (geo ∷ sets)) (known_first plan (geo ∷ sets)) none wait (omega arith);
+      high = high none;
+      is = wait_each told plan from at (lines_of ranks (geo ∷ sets)) (known_first plan (geo ∷ sets)) none wait (omega arith);
+      undecided = ap (λ (l : Line). is_decided plan l.geo) here ∙ known_open plan (geo ∷ sets) geo less;
+    }
+
+-- it stands before the end of their range, and before the next page where this one is full with a later set
+open_before : (told : Option (List (List ℕ))) (plan : Plan) (from at : ℕ) (waiting : Waiting) → AreWaiting plan waiting → Wait told plan from at (lines_of waiting.ranks waiting.sets) → waiting.known < length waiting.sets → BeginOpen told plan from at
+open_before told plan from at waiting are wait less =
+    let known : waiting.known ≡ known_first plan waiting.sets = are.known in
+    let long = lines_long waiting.ranks waiting.sets are.ranks in
+    first_open told plan from at at waiting.ranks waiting.sets are.ranks wait (omega arith)
+    (λ d. let before = wait_before told plan from at (lines_of waiting.ranks waiting.sets) (known_first plan waiting.sets) d wait (omega arith) in omega arith)
+
+open_past : (told : Option (List (List ℕ))) (plan : Plan) (from at next : ℕ) (waiting : Waiting) → AreWaiting plan waiting → Wait told plan from at (lines_of waiting.ranks waiting.sets) → waiting.known < length waiting.sets → IsPast waiting.ranks waiting.known next →
+    BeginOpen told plan from next
+open_past told plan from at next waiting are wait less past =
+    let known : waiting.known ≡ known_first plan waiting.sets = are.known in
+    let long = lines_long waiting.ranks waiting.sets are.ranks in
+    let count : length waiting.ranks ≡ length waiting.sets = are.ranks in
+    let there : past.place < length waiting.ranks = past.there in
+    let later : waiting.known ≤ past.place = past.later in
+    let last : next ≡ slice_index waiting.ranks past.place + 1 = past.last in
+    first_open told plan from at next waiting.ranks waiting.sets are.ranks wait (omega arith)
+    (λ d. let rises = wait_rises told plan from at (lines_of waiting.ranks waiting.sets) (known_first plan waiting.sets) past.place d wait (omega arith) (omega arith) in
+    let here = ap (λ (l : Line). l.rank) (line_at waiting.ranks waiting.sets past.place d 0 d.geo are.ranks (omega arith)) in
+    omega arith)
 
 -- what is read where those that wait are tested
-pub last_scan : (told : Option (List (List ℕ))) (plan : Plan) (from at next : ℕ) (waiting : List Line) (old new : Seen) → Wait told plan from at waiting → BeginOpen plan waiting → 1 ≤ length waiting → BeginBefore next waiting → OnlyReads old new (most_scanned plan) →
-    Scans told plan from next (MOST_SETS - 1) 0 0 old new
-last_scan told plan from at next waiting old new wait first some before reads = scans_one told plan from next (MOST_SETS - 1) 0 old new (some_scan told plan from at next waiting wait first some before) reads
+last_scan : (told : Option (List (List ℕ))) (plan : Plan) (from next : ℕ) (waiting : Waiting) (old new : Seen) → AreWaiting plan waiting → (waiting.known < length waiting.sets → BeginOpen told plan from next) →
+    OnlyReads old new (most_scanned plan) → (waiting.known ≡ length waiting.sets → new ≡ old) → Scans told plan from next (MOST_SETS - 1) 0 0 old new
+last_scan told plan from next waiting old new are first reads unread =
+    let known : waiting.known ≡ known_first plan waiting.sets = are.known in
+    let most = known_most plan waiting.sets in
+    elim (cases_lt waiting.known (length waiting.sets)) [
+      | inl less ↦ scans_one told plan from next (MOST_SETS - 1) 0 old new (open_scan told plan from next (first less)) reads
+      | inr more ↦ (let P : Seen → Type 0 = λ s. Scans told plan from next (MOST_SETS - 1) 0 0 old s in
+          subst P (sym (unread (omega arith))) (scans_none told plan from next (MOST_SETS - 1) 0 old))
+    ]
 
-pub last_scan_ended : (told : Option (List (List ℕ))) (plan : Plan) (from at : ℕ) (waiting : List Line) (old new : Seen) → Wait told plan from at waiting → BeginOpen plan waiting → 1 ≤ length waiting → OnlyReads old new (most_scanned plan) →
-    Scans told plan from at (MOST_SETS - 1) 0 0 old new
-last_scan_ended told plan from at waiting old new wait first some reads = last_scan told plan from at at waiting old new wait first some (begin_before told plan from at waiting wait) reads
+whole_scan : (told : Option (List (List ℕ))) (plan : Plan) (from at : ℕ) (waiting : Waiting) (old new : Seen) → AreWaiting plan waiting → Wait told plan from at (lines_of waiting.ranks waiting.sets) → length waiting.sets ≡ MOST_SETS →
+    OnlyReads old new (most_scanned plan) → (waiting.known ≡ length waiting.sets → new ≡ old) → Scans told plan from at 0 0 0 old new
+whole_scan told plan from at waiting old new are wait long reads unread =
+    let known : waiting.known ≡ known_first plan waiting.sets = are.known in
+    let most = known_most plan waiting.sets in
+    let count = lines_long waiting.ranks waiting.sets are.ranks in
+    elim (cases_lt waiting.known (length waiting.sets)) [
+      | inl less ↦ scans_one told plan from at 0 0 old new (full_scan told plan from at (lines_of waiting.ranks waiting.sets) wait (open_before told plan from at waiting are wait less) (omega arith)) reads
+      | inr more ↦ (let P : Seen → Type 0 = λ s. Scans told plan from at 0 0 0 old s in
+          subst P (sym (unread (omega arith))) (scans_none told plan from at 0 0 old))
+    ]
 
+-- at the end of a range
+pub end_scan : (told : Option (List (List ℕ))) (plan : Plan) (from at : ℕ) (waiting : Waiting) (old new : Seen) → AreWaiting plan waiting → Wait told plan from at (lines_of waiting.ranks waiting.sets) →
+    OnlyReads old new (most_scanned plan) → (waiting.known ≡ length waiting.sets → new ≡ old) → Scans told plan from at (MOST_SETS - 1) 0 0 old new
+end_scan told plan from at waiting old new are wait reads unread = last_scan told plan from at waiting old new are (open_before told plan from at waiting are wait) reads unread
+
+-- where the page is full
+pub past_scan : (told : Option (List (List ℕ))) (plan : Plan) (from at next : ℕ) (waiting : Waiting) (old new : Seen) → AreWaiting plan waiting → Wait told plan from at (lines_of waiting.ranks waiting.sets) → (waiting.known < length waiting.sets → IsPast waiting.ranks waiting.known next) →
+    OnlyReads old new (most_scanned plan) → (waiting.known ≡ length waiting.sets → new ≡ old) → Scans told plan from next (MOST_SETS - 1) 0 0 old new
+past_scan told plan from at next waiting old new are wait past reads unread = last_scan told plan from next waiting old new are (λ less. open_past told plan from at next waiting are wait less (past less)) reads unread
+
+-- where as many wait as may, or the page is full with those that are known to pass
+pub scan_by : (told : Option (List (List ℕ))) (plan : Plan) (from at size lines : ℕ) (waiting : Waiting) (page : Gathered) (r : Result (Option ℕ) PageFault) (old new : Seen) → AreWaiting plan waiting → Wait told plan from at (lines_of waiting.ranks waiting.sets) →
+    (MOST_SETS ≤ length waiting.sets) ⊎ (size ≤ lines + waiting.known) → length waiting.sets ≤ MOST_SETS → (waiting.known < length waiting.sets → lines + waiting.known < size) →
+    IfOk r (λ full. full ≡ None → page.tested ≡ at) → IfOk r (λ full. size ≤ lines + waiting.known → is_some full ≡ true) → IfOk r (λ full. IfSome full (λ next. lines + waiting.known < size → IsPast waiting.ranks waiting.known next)) →
+    OnlyReads old new (most_scanned plan) → (waiting.known ≡ length waiting.sets → new ≡ old) → Scans told plan from (tested_by at page r) (spared_by r) 0 0 old new
+scan_by told plan from at size lines waiting page (Ok None) old new are wait (inl many) most below tested fills past reads unread =
+    let P : ℕ → Type 0 = λ n. Scans told plan from n 0 0 0 old new in
+    subst P (sym (tested refl)) (whole_scan told plan from at waiting old new are wait (omega arith) reads unread)
+scan_by told plan from at size lines waiting page (Ok None) old new are wait (inr full) most below tested fills past reads unread = absurd (let some = fills full in cc)
+scan_by told plan from at size lines waiting page (Ok (Some next)) old new are wait ready most below tested fills past reads unread = past_scan told plan from at next waiting old new are wait (λ less. past (below less)) reads unread
+scan_by told plan from at size lines waiting page (Err fault) old new are wait ready most below tested fills past reads unread = end_scan told plan from at waiting old new are wait reads unread
+
+-- where a page could not be made whole
 pub ended_err : (stop : ℕ) (r : Result ℕ PageFault) → IsErr r → ended_at stop r ≡ stop
 ended_err stop (Ok next) e = absurd (cc)
 ended_err stop (Err fault) e = refl
-
-pub full_scan_by : (told : Option (List (List ℕ))) (plan : Plan) (from at : ℕ) (waiting : List Line) (page : Gathered) (r : Result (Option ℕ) PageFault) (old new : Seen) → Wait told plan from at waiting → BeginOpen plan waiting → length waiting ≡ MOST_SETS →
-    IfOk r (λ full. full ≡ None → page.tested ≡ at) → IfOk r (λ full. IfSome full (λ next. BeginBefore next waiting)) → OnlyReads old new (most_scanned plan) → Scans told plan from (tested_by at page r) (spared_by r) 0 0 old new
-full_scan_by told plan from at waiting page (Ok None) old new wait first long tested past reads =
-    let P : ℕ → Type 0 = λ n. Scans told plan from n 0 0 0 old new in
-    subst P (sym (tested refl)) (scans_one told plan from at 0 0 old new (full_scan told plan from at waiting wait first long) reads)
-full_scan_by told plan from at waiting page (Ok (Some next)) old new wait first long tested past reads = last_scan told plan from at next waiting old new wait first (omega arith) past reads
-full_scan_by told plan from at waiting page (Err fault) old new wait first long tested past reads = last_scan_ended told plan from at waiting old new wait first (omega arith) reads
 
 -- a candidate's rank is below the total
 pub rank_below : (told : Option (List (List ℕ))) (plan : Plan) (line : Line) → IsCandidate told plan line → line.rank < total_of plan
 unfolding total_of
 rank_below told plan line is = slice_get_within (sets_of plan) line.rank line.geo is.set
-
--- a line at once, of which the page is full or not
-pub line_gathers : (attached : List Image) (plan : Plan) (size : ℕ) (line : Line) (old new : Gathered) (full : Option ℕ) → IsPlan plan → AgreeWith plan attached → All TellsBytes attached → StandsAt (told_all attached) plan size line.rank old → old.waiting ≡ [] →
-    IsCandidate (told_all attached) plan line → is_decided plan line.geo ≡ true → new.lines ≡ old.lines ++ line ∷ [] → new.tested ≡ line.rank + 1 → new.waiting ≡ [] →
-    ((full ≡ Some (line.rank + 1)) × (length new.lines ≡ size)) ⊎ ((full ≡ None) × (length new.lines ≢ size)) → Gathers (told_all attached) plan size (line.rank + 1) old new full
-line_gathers attached plan size line old new full is_plan agrees tells stands none is decided lines tested empty either =
-    elim either [
-      | inl filled ↦ (let P : Option ℕ → Type 0 = λ o. Gathers (told_all attached) plan size (line.rank + 1) old new o in
-          subst P (sym filled.0) (line_fills (told_all attached) plan size line old new.lines stands none is (decided_passes attached plan line is_plan agrees tells is decided) lines filled.1))
-      | inr other ↦ (let P : Option ℕ → Type 0 = λ o. Gathers (told_all attached) plan size (line.rank + 1) old new o in
-          subst P (sym other.0) (line_goes_on (told_all attached) plan size line old new stands none is (decided_passes attached plan line is_plan agrees tells is decided) lines tested empty (shorter other.1)))
-    ]
-  where
-    shorter : length new.lines ≢ size → length new.lines < size
-    shorter differs = let few = stands.few in let long = ap length lines in let more = length-append old.lines (line ∷ []) in omega (arith, differs)
-
--- one more waits
-pub waiting_more : (told : Option (List (List ℕ))) (plan : Plan) (size : ℕ) (line : Line) (old : Gathered) (waiting : List Line) → StandsAt told plan size line.rank old → IsCandidate told plan line → waiting ≡ old.waiting ++ line ∷ [] → Wait told plan old.tested (line.rank + 1) waiting
-waiting_more told plan size line old waiting stands is same = let P : List Line → Type 0 = λ l. Wait told plan old.tested (line.rank + 1) l in subst P (sym same) (wait_add told plan old.tested line old.waiting stands.wait is)
-
-pub begin_waiting : (plan : Plan) (line : Line) (lines waiting : List Line) → BeginOpen plan lines → (lines ≡ [] → is_decided plan line.geo ≡ false) → waiting ≡ lines ++ line ∷ [] → BeginOpen plan waiting
-begin_waiting plan line lines waiting first undecided same = let P : List Line → Type 0 = λ l. BeginOpen plan l in subst P (sym same) (begin_more plan line lines first undecided)

@@ -9,7 +9,7 @@ use Rattle.raid_params.specs.declared.types.Geometry.{Geometry}
 use Rattle.search_plan.specs.Sets.{sets_of}
 use Rattle.search_plan.specs.declared.plan.Plan.{Plan}
 use Rattle.page_engine.specs.Pages.{hopeful_ranks, is_decided, is_hopeful_at, is_open_at, open_ranks, scans}
-use Rattle.page_engine.specs.Walk.{AreScans, BeginBefore, BeginOpen, IsCandidate, Wait}
+use Rattle.page_engine.specs.Walk.{AreScans, IsCandidate, Wait}
 use Rattle.page_engine.specs.declared.page_parts.Line.{Line}
 
 -- one number more
@@ -104,36 +104,30 @@ first_counts told plan from next line low high is undecided =
 pub no_scans : (told : Option (List (List ℕ))) (plan : Plan) (from to spare : ℕ) → AreScans told plan from to spare 0
 no_scans told plan from to spare = record { needed = omega arith; many = omega arith }
 
--- one scan of as many sets as there may be
-pub full_scan : (told : Option (List (List ℕ))) (plan : Plan) (from at : ℕ) (lines : List Line) → Wait told plan from at lines → BeginOpen plan lines → length lines ≡ MOST_SETS → AreScans told plan from at 0 1
-unfolding Wait
-full_scan told plan from at [] wait first long = absurd (omega arith)
-full_scan told plan from at (line ∷ lines) (low, none, is, rest) first long =
-    let later = few_wait told plan (line.rank + 1) at lines rest in
-    let high = later.0 in
-    let few = later.1 in
-    let all = hopeful_parts told plan from line.rank at low (omega arith) in
-    let next = hopeful_parts told plan line.rank (line.rank + 1) at (omega arith) high in
-    let one = hopeful_one told plan line.rank is.hopeful in
-    let counts = first_counts told plan from at line low (omega arith) is first in
-    let some = counts.0 in
-    record { needed = some; many = omega arith }
+-- of the sets that wait, the first that has rows to be tested stands before a rank
+pub record BeginOpen (told : Option (List (List ℕ))) (plan : Plan) (from next : ℕ) : Type 0 where
+  pub line : Line
+  pub low : from ≤ line.rank
+  pub high : line.rank < next
+  pub is : IsCandidate told plan line
+  pub undecided : is_decided plan line.geo ≡ false
 
--- one scan of some
-pub some_scan : (told : Option (List (List ℕ))) (plan : Plan) (from at next : ℕ) (lines : List Line) → Wait told plan from at lines → BeginOpen plan lines → 1 ≤ length lines → BeginBefore next lines → AreScans told plan from next (MOST_SETS - 1) 1
-unfolding Wait
-some_scan told plan from at next [] wait first some before = absurd (omega arith)
-some_scan told plan from at next (line ∷ lines) (low, none, is, rest) first some before =
-    let counts = first_counts told plan from next line low before is first in
+-- one scan
+pub open_scan : (told : Option (List (List ℕ))) (plan : Plan) (from next : ℕ) → BeginOpen told plan from next → AreScans told plan from next (MOST_SETS - 1) 1
+open_scan told plan from next first =
+    let counts = first_counts told plan from next first.line first.low first.high first.is first.undecided in
     let open_some = counts.0 in
     let hopeful_some = counts.1 in
     record { needed = open_some; many = omega arith }
 
--- the first of those that wait stands before the rank to which they do
-pub begin_before : (told : Option (List (List ℕ))) (plan : Plan) (from at : ℕ) (lines : List Line) → Wait told plan from at lines → BeginBefore at lines
-unfolding Wait
-begin_before told plan from at [] wait = tt
-begin_before told plan from at (line ∷ lines) (low, none, is, rest) = let later = few_wait told plan (line.rank + 1) at lines rest in let high = later.0 in omega arith
+-- one scan of as many sets as there may be
+pub full_scan : (told : Option (List (List ℕ))) (plan : Plan) (from at : ℕ) (lines : List Line) → Wait told plan from at lines → BeginOpen told plan from at → length lines ≡ MOST_SETS → AreScans told plan from at 0 1
+full_scan told plan from at lines wait first long =
+    let few = few_wait told plan from at lines wait in
+    let hopeful = few.1 in
+    let counts = first_counts told plan from at first.line first.low first.high first.is first.undecided in
+    let some = counts.0 in
+    record { needed = some; many = omega arith }
 
 pub scans_later : (told : Option (List (List ℕ))) (plan : Plan) (from a b spare count : ℕ) → from ≤ a → a ≤ b → AreScans told plan from a spare count → AreScans told plan from b spare count
 scans_later told plan from a b spare count low high few =

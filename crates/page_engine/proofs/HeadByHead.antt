@@ -4,17 +4,17 @@ use Rattle.std.proofs.lemmas.Option.{slice_get-get_or}
 use Rattle.std.proofs.lemmas.Bool.{cases_lt}
 use Rattle.std.proofs.lemmas.List.{length-map}
 use Rattle.std.proofs.lemmas.List.Elements.{All-nil}
-use Rattle.image_source.specs.Attached.{told_all}
-use Rattle.image_source.specs.Seen.{Image, Seen}
+use Rattle.outside.specs.Attached.{told_all}
+use Rattle.outside.specs.Seen.{Image, Seen}
 use Rattle.raid_params.specs.Size.{rows}
-use Rattle.raid_terms.specs.Page.{passing, stop_of, IsPage}
+use Rattle.search_terms.specs.Page.{passing, stop_of, IsPage}
 use Rattle.row_scan.specs.declared.many_sets.TheConstants.{MOST_SETS}
 use Rattle.search_plan.specs.Sets.{passes_at, sets_of, total_of}
 use Rattle.search_plan.specs.declared.plan.Plan.{Plan}
 use Rattle.set_product.specs.declared.heads.HeadSets.{HeadSets}
 use Rattle.slot_math.specs.Space.{lists_of}
 use Rattle.page_engine.specs.Pages.{HoldsSet}
-use Rattle.page_engine.specs.Walk.{AddsAll, BeginOpen, ended_at, FillsPage, Finishes, Gathers, GoesOn, IsHeadOf, IsPart, left_after, left_reads, NonePass, Scans, spared_by, StandsAt, tested_by, Wait}
+use Rattle.page_engine.specs.Walk.{AddsAll, ended_at, FillsPage, Finishes, Gathers, GoesOn, IsHeadOf, IsPart, left_after, lines_of, left_reads, NonePass, Scans, spared_by, StandsAt, tested_by}
 use Rattle.page_engine.specs.declared.gathering.Gathered.{Gathered}
 use Rattle.page_engine.specs.declared.page_parts.Line.{Line}
 use Rattle.page_engine.specs.declared.page_parts.PageFault.{PageFault}
@@ -25,7 +25,7 @@ use Rattle.page_engine.proofs.RankByRank.{full, passes_more, short}
 use Rattle.page_engine.proofs.Ranges.{adds_join, adds_none}
 use Rattle.page_engine.proofs.Scanned.{scans_beside, scans_fail, scans_none, scans_on, scans_to_later}
 use Rattle.page_engine.proofs.SetTests.{no_row}
-use Rattle.page_engine.proofs.Waiting.{none_wait, stands_on}
+use Rattle.page_engine.proofs.Waits.{NoneWaits, stands_anew, stands_on}
 
 -- no set of a head without a whole row passes
 no_rows_pass : (told : Option (List (List ℕ))) (plan : Plan) (sets : HeadSets) (from stop : ℕ) → IsHeadOf plan sets → IsPart sets from stop → rows sets.head plan.end ≡ 0 → NonePass told plan from stop
@@ -57,7 +57,7 @@ goes_no_rows told plan sets size from stop page is_head part none stands =
 
 -- each set before this rank is tested, or waits
 pub tested_before : (told : Option (List (List ℕ))) (plan : Plan) (size at : ℕ) (page : Gathered) → StandsAt told plan size at page → page.tested ≤ at
-tested_before told plan size at page stands = (few_wait told plan page.tested at page.waiting stands.wait).0
+tested_before told plan size at page stands = (few_wait told plan page.tested at (lines_of page.waiting.ranks page.waiting.sets) stands.wait).0
 
 -- a walk over the heads that stands at a rank
 pub record Reaches (told : Option (List (List ℕ))) (plan : Plan) (size from stop at before after : ℕ) (start now : Seen) (old page : Gathered) (ahead : List HeadSets) : Type 0 where
@@ -256,17 +256,8 @@ to_spare (Ok next) e = absurd (cc)
 to_spare (Err fault) e = refl
 
 -- a page of no lines yet
-pub stands_first : (told : Option (List (List ℕ))) (plan : Plan) (size from : ℕ) (page : Gathered) → 1 ≤ size → page.lines ≡ [] → page.waiting ≡ [] → page.tested ≡ from → StandsAt told plan size from page
-stands_first told plan size from page some lines waiting tested =
-    let P : List Line → Type 0 = λ l. Wait told plan page.tested from l in
-    let Q : ℕ → Type 0 = λ n. Wait told plan n from [] in
-    let R : List Line → Type 0 = λ l. BeginOpen plan l in
-    record {
-      few = (let none = ap length lines in omega arith);
-      wait = subst P (sym waiting) (subst Q (sym tested) (none_wait told plan from));
-      first = subst R (sym waiting) tt;
-      room = (let none = ap length waiting in omega arith);
-    }
+pub stands_first : (told : Option (List (List ℕ))) (plan : Plan) (size from : ℕ) (page : Gathered) → 1 ≤ size → page.lines ≡ [] → NoneWaits page.waiting → page.tested ≡ from → StandsAt told plan size from page
+stands_first told plan size from page some lines none tested = stands_anew told plan size from page (let empty = ap length lines in omega arith) tested none
 
 -- the page of a range that fills it
 page_full : (told : Option (List (List ℕ))) (plan : Plan) (from stop size span next : ℕ) (lines : List Line) → stop ≡ stop_of (total_of plan) from span → FillsPage told plan from stop size next [] lines →

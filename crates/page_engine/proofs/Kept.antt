@@ -9,14 +9,15 @@ use Rattle.std.proofs.lemmas.List.Folds.{list_any-append, list_any_at}
 use Rattle.std.proofs.lemmas.List.Quantifiers.{position-Some}
 use Rattle.std.proofs.lemmas.List.Sums.{sum_by-cons, sum_by-le-sum_by}
 use Rattle.std.proofs.lemmas.Option.{get_or_from_slice_get, slice_get-get_or, slice_get_within}
-use Rattle.image_source.proofs.Reading.{reads_up}
-use Rattle.image_source.specs.Seen.{OnlyReads, Seen}
+use Rattle.outside.proofs.Reading.{reads_up}
+use Rattle.outside.specs.Seen.{OnlyReads, Seen}
 use Rattle.raid_params.specs.declared.types.Head.{Head}
-use Rattle.raid_terms.specs.Product.{heads}
+use Rattle.search_terms.specs.Product.{heads}
 use Rattle.search_plan.specs.declared.plan.Plan.{Plan}
 use Rattle.slot_math.proofs.Nested.{get_high}
 use Rattle.prune_filters.specs.Rows.{needs_table}
-use Rattle.prune_filters.specs.Xors.{most_tested, AreXors, AreXorTables, IsXorTable, RowTable}
+use Rattle.prune_filters.specs.Early.{AreEarlyTables, HasEarlyTable, IsEarlyTable}
+use Rattle.prune_filters.specs.Xors.{most_tested, RowTable}
 use Rattle.page_engine.specs.Pages.{asks_tables, offset_reads, table_reads}
 use Rattle.page_engine.specs.Walk.{left_after, left_reads, IsKept, Spends, StandsFor}
 use Rattle.page_engine.specs.declared.page_parts.PageFault.{PageFault}
@@ -77,19 +78,24 @@ IsAt plan head kept place table = (one : OffsetTables) → slice_get kept place 
     (c : ℕ) × (c < length plan.bounds.chunks.items) × (slice_index plan.bounds.chunks.items c ≡ head.chunk) × ((none : RowTable) → table ≡ slice_index_or one.tables.items c none)
 
 pub kept_xors : (told : Option (List (List ℕ))) (plan : Plan) (head : Head) (kept : List OffsetTables) (place : ℕ) (table : RowTable) → All (IsKept told plan) kept → StandsFor head.offset place kept →
-    IsAt plan head kept place table → IfSome told (λ bytes. AreXors bytes plan head (Some table))
+    IsAt plan head kept place table → IfSome told (λ bytes. HasEarlyTable bytes plan head (Some table))
 kept_xors None plan head kept place table all stands is = tt
 kept_xors (Some bytes) plan head kept place table all stands is = λ needs. by (slice_get kept place) refl stands
   where
-    by : (o : Option OffsetTables) → slice_get kept place ≡ o → IsSomeAnd o (λ k. k.offset ≡ head.offset) → IsXorTable bytes plan head.chunk head.offset table
+    by : (o : Option OffsetTables) → slice_get kept place ≡ o → IsSomeAnd o (λ k. k.offset ≡ head.offset) → IsEarlyTable bytes plan head.chunk head.offset table
     by None e s = absurd s
     by (Some one) e s =
-        let here : AreXorTables bytes plan plan.bounds.chunks.items one.offset one.tables.items = (kept_at (Some bytes) plan kept place one all e).tables in
+        let here : AreEarlyTables bytes plan plan.bounds.chunks.items one.offset one.tables.items = (kept_at (Some bytes) plan kept place one all e).tables in
         let found = is one e in
-        let Q : ℕ → Type 0 = λ n. IsXorTable bytes plan n head.offset table in
-        let R : ℕ → Type 0 = λ n. IsXorTable bytes plan (slice_index plan.bounds.chunks.items found.0) n table in
-        let S : RowTable → Type 0 = λ t. IsXorTable bytes plan (slice_index plan.bounds.chunks.items found.0) one.offset t in
+        let Q : ℕ → Type 0 = λ n. IsEarlyTable bytes plan n head.offset table in
+        let R : ℕ → Type 0 = λ n. IsEarlyTable bytes plan (slice_index plan.bounds.chunks.items found.0) n table in
+        let S : RowTable → Type 0 = λ t. IsEarlyTable bytes plan (slice_index plan.bounds.chunks.items found.0) one.offset t in
         subst Q found.2 (subst R s (subst S (sym (found.3 table)) (here.each found.0 table found.1)))
+
+-- a head that needs no table
+pub no_table : (told : Option (List (List ℕ))) (plan : Plan) (head : Head) → needs_table plan head ≡ false → IfSome told (λ bytes. HasEarlyTable bytes plan head None)
+no_table None plan head needless = tt
+no_table (Some bytes) plan head needless = λ needs. absurd (let bad : true ≡ false = sym needs ∙ needless in cc)
 
 -- a sum of which one part falls by so much, and none grows
 falls : (f g : ℕ → ℕ) (w : ℕ) (xs : List ℕ) (x k : ℕ) → ((y : ℕ) → g y ≤ f y) → k < length xs → get_or xs k x ≡ x → g x + w ≤ f x → sum_by g xs + w ≤ sum_by f xs

@@ -1,6 +1,6 @@
 -- A walk over the admitted slot lists of a head.
 use Rattle.std.proofs.Common.{◌≡◌, ℕ, ◌+◌, ◌-◌, ◌<◌, ◌≤◌, Bool, List, [], ◌∷◌, length, sym, ◌∙◌, arith, Option, subst}
-use Rattle.image_source.specs.Seen.{Seen}
+use Rattle.outside.specs.Seen.{Seen}
 use Rattle.search_plan.specs.declared.plan.Plan.{Plan}
 use Rattle.set_product.specs.declared.heads.HeadSets.{HeadSets}
 use Rattle.slot_math.specs.Space.{lists_of}
@@ -12,7 +12,7 @@ use Rattle.page_engine.proofs.HeadByHead.{goes_join, goes_still}
 use Rattle.page_engine.proofs.Leaves.{first_leaf, no_leaf}
 use Rattle.page_engine.proofs.Ranges.{refused_fails}
 use Rattle.page_engine.proofs.Scanned.{scans_none, scans_on}
-use Rattle.page_engine.proofs.Waiting.{stands_on}
+use Rattle.page_engine.proofs.Waits.{stands_on}
 
 -- which lists of a head are walked
 abbrev pub asked : HeadSets → (List (Option ℕ) → Bool) → ℕ → ℕ → Question

@@ -1,9 +1,10 @@
 pub mod Counting
+pub mod Known
 pub mod RankByRank
 pub mod SetTests
 pub mod Leaves
 pub mod Ranges
-pub mod Waiting
+pub mod Waits
 pub mod Judging
 pub mod Scanned
 pub mod Passed

@@ -3,9 +3,9 @@ use Rattle.std.proofs.Common.{ℕ, zero, suc, ◌≡◌, ◌≢◌, ◌<◌, ◌
 use Rattle.std.proofs.Math.Nat.{add-mul, mul-le-mul_right}
 use Rattle.std.proofs.lemmas.Bool.{cases_lt}
 use Rattle.std.proofs.lemmas.List.{map-append}
-use Rattle.image_source.proofs.Reading.{reads_up}
-use Rattle.image_source.specs.Seen.{Seen}
-use Rattle.raid_terms.specs.Page.{page_next, stop_of}
+use Rattle.outside.proofs.Reading.{reads_up}
+use Rattle.outside.specs.Seen.{Seen}
+use Rattle.search_terms.specs.Page.{page_next, stop_of}
 use Rattle.row_scan.specs.declared.many_sets.TheConstants.{MOST_SETS}
 use Rattle.search_plan.specs.Sets.{passes_at, total_of}
 use Rattle.search_plan.specs.declared.plan.Plan.{Plan}

@@ -3,8 +3,8 @@ use Rattle.std.proofs.Common.{◌≡◌, ℕ, zero, suc, ◌+◌, ◌-◌, ◌<�
 use Rattle.std.proofs.lemmas.Bool.{cases_Bool}
 use Rattle.std.proofs.lemmas.List.Elements.{All-append, All-cons, All-nil}
 use Rattle.std.proofs.lemmas.List.{map-append}
-use Rattle.raid_terms.specs.Page.{passing}
-use Rattle.raid_terms.proofs.Pages.{passing-split}
+use Rattle.search_terms.specs.Page.{passing}
+use Rattle.search_terms.proofs.Pages.{passing-split}
 use Rattle.search_plan.specs.Sets.{passes_at, sets_of}
 use Rattle.search_plan.specs.declared.plan.Plan.{Plan}
 use Rattle.set_product.specs.declared.heads.HeadSets.{HeadSets}

@@ -2,8 +2,8 @@
 use Rattle.std.proofs.Common.{◌≡◌, ℕ, ◌+◌, ◌-◌, ◌<◌, ◌≤◌, Bool, true, false, cond, List, [], ◌∷◌, ◌++◌, length, take, refl, sym, ap, ◌∙◌, arith, append_assoc, append-nil, length-append}
 use Rattle.std.proofs.lemmas.List.{take_all, take_at, get_or_at}
 use Rattle.std.proofs.lemmas.Bool.{le-leb, lt-leb}
-use Rattle.raid_terms.specs.Page.{passing, stop_of, IsPage}
-use Rattle.raid_terms.proofs.Pages.{passing-split}
+use Rattle.search_terms.specs.Page.{passing, stop_of, IsPage}
+use Rattle.search_terms.proofs.Pages.{passing-split}
 
 pub one_rank : (p : ℕ → Bool) (a : ℕ) → passing p a (a + 1) ≡ cond (p a) (a ∷ []) []
 one_rank p a = let e : a + 1 - a ≡ 1 = omega arith in rw e refl

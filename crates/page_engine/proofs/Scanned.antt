@@ -1,8 +1,8 @@
 -- What is read for tables and for scans.
 use Rattle.std.proofs.Common.{ℕ, ◌+◌, ◌-◌, ◌*◌, ◌≤◌, List, sym, subst, arith, Option}
 use Rattle.std.proofs.Math.Nat.{mul-le-mul_right, add-mul}
-use Rattle.image_source.proofs.Reading.{reads_join, reads_none, reads_up}
-use Rattle.image_source.specs.Seen.{OnlyReads, Seen}
+use Rattle.outside.proofs.Reading.{reads_join, reads_none, reads_up}
+use Rattle.outside.specs.Seen.{OnlyReads, Seen}
 use Rattle.row_scan.specs.declared.many_sets.TheConstants.{MOST_SETS}
 use Rattle.search_plan.specs.declared.plan.Plan.{Plan}
 use Rattle.page_engine.specs.Pages.{most_scanned, page_reads, scans, table_reads}

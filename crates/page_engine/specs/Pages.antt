@@ -4,11 +4,11 @@ use Rattle.std.specs.List.{list_any, range_with_len}
 use Rattle.std.specs.Option.{option_map_or}
 use Rattle.std.specs.declared.option.Option.{Option}
 use Rattle.std.specs.declared.option.Option.TheVariants.{None, Some}
-use Rattle.image_source.specs.Causes.{Rose}
-use Rattle.image_source.specs.Seen.{OnlyReads, Seen}
+use Rattle.outside.specs.Causes.{Rose}
+use Rattle.outside.specs.Seen.{OnlyReads, Seen}
 use Rattle.raid_params.specs.declared.types.Geometry.{Geometry}
-use Rattle.raid_terms.specs.Page.{page_next, stop_of, IsPage}
-use Rattle.raid_terms.specs.Product.{heads}
+use Rattle.search_terms.specs.Page.{page_next, stop_of, IsPage}
+use Rattle.search_terms.specs.Product.{heads}
 use Rattle.candidate_enum.specs.Survivors.{all_admitted}
 use Rattle.row_scan.specs.Scan.{is_unbreakable}
 use Rattle.row_scan.specs.Windows.{scan_reads}
@@ -49,19 +49,19 @@ ArePagesFrom told plan size span (suc count) from (page ∷ pages) =
     × (((page.next ≡ total_of plan) × (pages ≡ [])) ⊎ ((page.next < total_of plan) × ArePagesFrom told plan size span count page.next pages))
 
 -- why there is no page: there are too many sets, or the first rank is past the total, and nothing was touched; the
--- images failed; or memory ran out
+-- images failed; or memory ran out, and no fault was counted
 abbrev pub EndsPage : Plan → ℕ → Seen → Seen → PageFault → Type 0
 EndsPage plan from old new Many = (2 ^ 64 ≤ total_of plan) × (new ≡ old)
 EndsPage plan from old new (Cursor fault) = (total_of plan < from) × (fault ≡ record { from = from; total = total_of plan }) × (new ≡ old)
 EndsPage plan from old new ReadFault = Rose old.faults new.faults
-EndsPage plan from old new Memory = Unit {0}
+EndsPage plan from old new Memory = new.faults ≡ old.faults
 
--- why a test of a set has no answer: the images failed, or memory ran out
+-- why a test of a set has no answer: the images failed, or memory ran out, and no fault was counted
 abbrev pub EndsTest : Seen → Seen → PageFault → Type 0
 EndsTest old new Many = ⊥
 EndsTest old new (Cursor fault) = ⊥
 EndsTest old new ReadFault = Rose old.faults new.faults
-EndsTest old new Memory = Unit {0}
+EndsTest old new Memory = new.faults ≡ old.faults
 
 -- a set of the plan is hopeful: each prefix of its slots is, over the bytes of the images. Where some are not known, any is
 unfoldable pub is_hopeful_at : Option (List (List ℕ)) → Plan → ℕ → Bool

@@ -1,14 +1,16 @@
 -- A walk over the heads of a plan, and over the slot lists of each that are admitted.
 use Rattle.std.specs.Prelude.{ℕ, Result, Ok, Err, ◌≡◌, ◌+◌, ◌-◌, ◌*◌, ◌<◌, ◌≤◌, ◌^◌, ◌==◌, ◌⊎◌, Bool, true, false, if◌then◌else◌, IfSome, IsSomeAnd, MatchOption, List, [], ◌∷◌, ◌++◌, length, map, slice_get, sum_by, All, Contains}
-use Rattle.std.specs.List.{list_any}
+use Rattle.std.specs.List.{list_any, slice_index, slice_index_or}
+use Rattle.std.specs.Option.{is_some}
 use Rattle.std.specs.declared.option.Option.{Option}
 use Rattle.std.specs.declared.option.Option.TheVariants.{None, Some}
 use Rattle.raid_params.specs.Size.{rows}
 use Rattle.raid_params.specs.Validity.{is_valid_head}
 use Rattle.raid_params.specs.declared.types.Bounds.{Bounds}
+use Rattle.raid_params.specs.declared.types.Geometry.{Geometry}
 use Rattle.raid_params.specs.declared.types.Head.{Head}
-use Rattle.raid_terms.specs.Page.{passing}
-use Rattle.raid_terms.specs.Product.{heads}
+use Rattle.search_terms.specs.Page.{passing}
+use Rattle.search_terms.specs.Product.{heads}
 use Rattle.landmark_rules.specs.Groups.{groups_hold}
 use Rattle.search_plan.specs.Sets.{passes_at, sets_of, total_of}
 use Rattle.search_plan.specs.declared.plan.Plan.{Plan}
@@ -17,11 +19,17 @@ use Rattle.search_plan.specs.Plans.{IsPlan}
 use Rattle.slot_math.specs.declared.space.Space.{Space}
 use Rattle.slot_math.specs.Space.{lists_of}
 use Rattle.candidate_enum.specs.Survivors.{all_admitted}
-use Rattle.image_source.specs.Seen.{OnlyReads, Seen}
+use Rattle.outside.specs.Seen.{OnlyReads, Seen}
 use Rattle.row_scan.specs.declared.many_sets.TheConstants.{MOST_SETS}
 use Rattle.page_engine.specs.Pages.{hopeful_ranks, is_decided, is_hopeful_at, most_scanned, offset_reads, open_ranks, HoldsSet}
-use Rattle.prune_filters.specs.Xors.{AreXorTables, RowTable}
+use Rattle.prune_filters.specs.Early.{AreEarlyTables}
+use Rattle.prune_filters.specs.Xors.{RowTable}
+use Rattle.row_scan.specs.Tallies.{has_passed}
+use Rattle.row_scan.specs.Verdicts.{verdicts_of}
+use Rattle.row_scan.specs.declared.tally.Tally.{Tally}
+use Rattle.row_scan.specs.declared.tally.Tally.TheVariants.{Left, Passes}
 use Rattle.page_engine.specs.declared.gathering.Gathered.{Gathered}
+use Rattle.page_engine.specs.declared.waiting.Waiting.{Waiting}
 use Rattle.page_engine.specs.declared.page_parts.Line.{Line}
 use Rattle.page_engine.specs.declared.row_tables.OffsetTables.{OffsetTables}
 use Rattle.page_engine.specs.declared.page_parts.PageFault.{PageFault}
@@ -63,7 +71,7 @@ pub record IsAsked (plan : Plan) (head : Head) (space : Space) : Type 0 where
 -- tables of rows that are kept, a table for each chunk of the plan, over the bytes of the images where they are known
 pub record IsKept (told : Option (List (List ℕ))) (plan : Plan) (kept : OffsetTables) : Type 0 where
   pub long : length kept.tables.items ≡ length plan.bounds.chunks.items
-  pub tables : IfSome told (λ bytes. AreXorTables bytes plan plan.bounds.chunks.items kept.offset kept.tables.items)
+  pub tables : IfSome told (λ bytes. AreEarlyTables bytes plan plan.bounds.chunks.items kept.offset kept.tables.items)
 
 -- those of an offset stand at this place
 abbrev pub StandsFor : ℕ → ℕ → List OffsetTables → Type 0
@@ -111,18 +119,33 @@ unfoldable pub Wait : Option (List (List ℕ)) → Plan → ℕ → ℕ → List
 Wait told plan from to [] = (from ≤ to) × NonePass told plan from to
 Wait told plan from to (line ∷ lines) = (from ≤ line.rank) × NonePass told plan from line.rank × IsCandidate told plan line × Wait told plan (line.rank + 1) to lines
 
--- the first of those that wait has rows to be tested
-abbrev pub BeginOpen : Plan → List Line → Type 0
-BeginOpen plan [] = Unit {0}
-BeginOpen plan (line ∷ lines) = is_decided plan line.geo ≡ false
+-- sets with their ranks
+unfoldable pub lines_of : List ℕ → List Geometry → List Line
+lines_of (rank ∷ ranks) (geo ∷ sets) = record { rank = rank; geo = geo } ∷ lines_of ranks sets
+lines_of ranks sets = []
 
--- a page in the making, at a rank: it is not full, and of the ranks before this one each set that may pass is among its
--- lines or waits
+-- the tally with which the test of a set begins
+abbrev pub first_tally : Plan → Geometry → Tally
+first_tally plan geo = if is_decided plan geo then Passes else Left plan.limits.badrows
+
+-- how many of the sets are known to pass, before the first one of which rows have to be tested
+unfoldable pub known_first : Plan → List Geometry → ℕ
+known_first plan [] = 0
+known_first plan (geo ∷ sets) = if is_decided plan geo then 1 + known_first plan sets else 0
+
+-- what is kept of the sets that wait
+pub record AreWaiting (plan : Plan) (waiting : Waiting) : Type 0 where
+  pub ranks : length waiting.ranks ≡ length waiting.sets
+  pub tallies : waiting.tallies.items ≡ map (first_tally plan) waiting.sets
+  pub known : waiting.known ≡ known_first plan waiting.sets
+
+-- a page in the making, at a rank: it is not full with the sets that are known to pass before any other, and of the ranks
+-- before this one each set that may pass is among its lines or waits
 pub record StandsAt (told : Option (List (List ℕ))) (plan : Plan) (size at : ℕ) (page : Gathered) : Type 0 where
-  pub few : length page.lines < size
-  pub wait : Wait told plan page.tested at page.waiting
-  pub first : BeginOpen plan page.waiting
-  pub room : length page.waiting < MOST_SETS
+  pub are : AreWaiting plan page.waiting
+  pub wait : Wait told plan page.tested at (lines_of page.waiting.ranks page.waiting.sets)
+  pub few : length page.lines + page.waiting.known < size
+  pub room : length page.waiting.sets < MOST_SETS
 
 -- the sets that pass of the ranks from one up to another were appended
 pub record AddsRange (told : Option (List (List ℕ))) (plan : Plan) (from to : ℕ) (old new : List Line) : Type 0 where
@@ -157,16 +180,30 @@ abbrev pub Finishes : Option (List (List ℕ)) → Plan → ℕ → ℕ → Gath
 Finishes told plan size stop old new next =
     ((next ≡ stop) × AddsAll told plan old.tested stop size old.lines new.lines) ⊎ FillsPage told plan old.tested stop size next old.lines new.lines
 
--- the first of those that wait stands before a rank
-abbrev pub BeginBefore : ℕ → List Line → Type 0
-BeginBefore next [] = Unit {0}
-BeginBefore next (line ∷ lines) = line.rank < next
-
 -- of those that wait, the sets that pass were appended: up to a rank, or to the last one of the page
-abbrev pub AddsWaiting : Option (List (List ℕ)) → Plan → ℕ → ℕ → ℕ → List Line → List Line → List Line → Option ℕ → Type 0
-AddsWaiting told plan from at size waiting old new full = MatchOption full
+abbrev pub AddsWaiting : Option (List (List ℕ)) → Plan → ℕ → ℕ → ℕ → List Line → List Line → Option ℕ → Type 0
+AddsWaiting told plan from at size old new full = MatchOption full
     (AddsAll told plan from at size old new)
-    (λ next. FillsPage told plan from at size next old new × BeginBefore next waiting)
+    (λ next. FillsPage told plan from at size next old new)
+
+-- the first of some sets have passed
+abbrev pub HavePassed : ℕ → List Tally → Type 0
+HavePassed known tallies = (i : ℕ) (d : Tally) → i < known → has_passed (slice_index_or tallies i d) ≡ true
+
+-- a page that was full after `known` sets of those that waited
+pub record IsPast (ranks : List ℕ) (known next : ℕ) : Type 0 where
+  pub place : ℕ
+  pub there : place < length ranks
+  pub last : next ≡ slice_index ranks place + 1
+  pub later : known ≤ place
+
+-- of the sets that waited those that have passed were appended, as long as the page was not full: so it is full where the
+-- first of them, which have all passed, fill it; and it is full no earlier than `known` of them could fill it
+pub record AddsPassed (size : ℕ) (waiting : Waiting) (old new : List Line) (full : Option ℕ) : Type 0 where
+  pub added : (told : Option (List (List ℕ))) (plan : Plan) (from at : ℕ) → Wait told plan from at (lines_of waiting.ranks waiting.sets) →
+      IfSome told (λ bytes. map has_passed waiting.tallies.items ≡ verdicts_of bytes plan waiting.sets) → AddsWaiting told plan from at size old new full
+  pub fills : (known : ℕ) → known ≤ length waiting.sets → HavePassed known waiting.tallies.items → size ≤ length old + known → is_some full ≡ true
+  pub past : IfSome full (λ next. (known : ℕ) → length old + known < size → IsPast waiting.ranks known next)
 
 -- `count` scans are no more than there are sets of the ranks from one up to another of which rows have to be tested, nor
 -- than there are `MOST_SETS` hopeful ones, where `spare` more are counted

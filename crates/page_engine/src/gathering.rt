@@ -1,19 +1,19 @@
 //! The sets of a page that a walk admits, until they are tested.
-ghost use Rattle.std.specs.Prelude.{◌≡◌, ◌+◌, ◌<◌, ◌≤◌, ◌^◌, IfErr, IfOk, length};
-ghost use Rattle.image_source.specs.Attached.{told_all};
+ghost use Rattle.std.specs.Prelude.{◌≡◌, ◌+◌, ◌<◌, ◌≤◌, ◌^◌, IfErr, IfOk, length, nat_le, ◌||◌};
+ghost use Rattle.row_scan.specs.declared.many_sets.TheConstants.{MOST_SETS};
+ghost use Rattle.outside.specs.Attached.{told_all};
 ghost use Rattle.search_plan.specs.Plans.{IsPlan, AgreeWith};
 ghost use Rattle.search_plan.specs.Sets.{total_of};
-ghost use Rattle.page_engine.specs.Pages.{EndsTest, is_decided as is_decided_set};
+ghost use Rattle.page_engine.specs.Pages.{EndsTest};
 ghost use Rattle.page_engine.specs.Walk.{AdmitsHopeful, Gathers, IsCandidate, IsHeadOf, IsPart, Scans, spared_by, StandsAt, tested_by};
 
 use crate::page_parts::{Line, Lines, PageFault, Paging};
 use crate::scanning::scan_waiting;
+use crate::waiting::Waiting;
 use candidate_enum::{Family, Survivors};
-use image_source::Images;
-use prune_filters::rows_decide;
+use outside::Images;
 use raid_params::Geometry;
-use row_scan::{Gate, MOST_SETS, nothing_can_break};
-use search_plan::Plan;
+use row_scan::{Gate, MOST_SETS};
 use set_product::HeadSets;
 use std::thread::Threads;
 
@@ -25,7 +25,7 @@ pub(crate) struct Gathered {
     /// The rank before which each set is tested.
     pub tested: u64,
     /// The sets of the ranks from there on that wait for the parity test.
-    pub waiting: Lines,
+    pub waiting: Waiting,
 }
 
 /// Gathers the sets of a head of ranks from `from` up to `stop`: those whose slot lists the family admits, which leaves
@@ -48,6 +48,7 @@ pub(crate) fn gather_admitted<R: Threads + Sync, I: Images, G: Gate + Sync, F: F
     requires part { IsPart sets.now from stop }
     requires stands { StandsAt (told_all (I.seen images.old).attached) paging.now.plan.now paging.now.size from page.old }
     ensures gathers { IfOk result (Gathers (told_all (I.seen images.old).attached) paging.now.plan.now paging.now.size stop page.old page.new) }
+    ensures quiet { IfOk result (λ full. (I.seen images.new).faults ≡ (I.seen images.old).faults) }
     ensures ends { IfErr result (EndsTest (I.seen images.old) (I.seen images.new)) }
     ensures reads { Scans (told_all (I.seen images.old).attached) paging.now.plan.now page.old.tested (tested_by stop page.new result) (spared_by result) 0 0 (I.seen images.old) (I.seen images.new) }
 {
@@ -65,8 +66,8 @@ pub(crate) fn gather_admitted<R: Threads + Sync, I: Images, G: Gate + Sync, F: F
     Ok(None)
 }
 
-/// Gathers a set. Where none waits and its test asks for none of its rows, it is a line at once. Where as many wait as a
-/// scan may test, they are tested.
+/// Gathers a set: it waits. Where as many wait as a scan may test, or the page is full with those that are known to pass,
+/// they are tested.
 fn gather_set<R: Threads + Sync, I: Images, G: Gate + Sync>(
     paging: &Paging<R, G>,
     images: &mut I,
@@ -79,26 +80,25 @@ fn gather_set<R: Threads + Sync, I: Images, G: Gate + Sync>(
     requires set { IsCandidate (told_all (I.seen images.old).attached) paging.now.plan.now line }
     requires stands { StandsAt (told_all (I.seen images.old).attached) paging.now.plan.now paging.now.size line.rank page.old }
     ensures gathers { IfOk result (Gathers (told_all (I.seen images.old).attached) paging.now.plan.now paging.now.size (line.rank + 1) page.old page.new) }
+    ensures quiet { IfOk result (λ full. (I.seen images.new).faults ≡ (I.seen images.old).faults) }
     ensures ends { IfErr result (EndsTest (I.seen images.old) (I.seen images.new)) }
     ensures reads { Scans (told_all (I.seen images.old).attached) paging.now.plan.now page.old.tested (tested_by (line.rank + 1) page.new result) (spared_by result) 0 0 (I.seen images.old) (I.seen images.new) }
 {
     let next = line.rank + 1;
-    if page.waiting.as_slice().is_empty() && is_decided(paging.plan, &line.geo) {
-        page.lines.push(line).map_err(|_| PageFault::Memory)?;
-        page.tested = next;
-        let full = page.lines.as_slice().len() as u64 == paging.size;
-        return Ok(if full { Some(next) } else { None });
-    }
-    page.waiting.push(line).map_err(|_| PageFault::Memory)?;
-    if page.waiting.as_slice().len() < MOST_SETS {
+    page.waiting
+        .push(paging.plan, line.rank, line.geo)
+        .map_err(|_| PageFault::Memory)?;
+    if !is_ready(page, paging.size) {
         return Ok(None);
     }
     scan_waiting(paging, images, next, page)
 }
 
-/// Whether the parity test of a set asks for none of its rows: nothing can break one, or the tables of rows decide.
-fn is_decided(plan: &Plan, geo: &Geometry) -> bool
-    ensures { result ≡ is_decided_set plan.now geo.now }
+/// Whether as many sets wait as a scan may test, or the page has `size` lines with those that are known to pass.
+fn is_ready(page: &Gathered, size: u64) -> bool
+    requires lines { length page.now.lines < size }
+    ensures { result ≡ (nat_le MOST_SETS (length page.now.waiting.sets) || nat_le size (length page.now.lines + page.now.waiting.known)) }
 {
-    nothing_can_break(geo) || rows_decide(plan, &geo.head)
+    let missing = size - page.lines.as_slice().len() as u64;
+    MOST_SETS <= page.waiting.sets.as_slice().len() || missing <= page.waiting.known as u64
 }

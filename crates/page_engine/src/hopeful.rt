@@ -7,8 +7,8 @@ ghost use Rattle.prune_filters.specs.Rows.{needs_table as head_needs_table};
 ghost use Rattle.page_engine.specs.Walk.{IsHeadOf};
 
 use candidate_enum::Family;
-use image_source::Memory;
-use prune_filters::{MarkTable, XorTable, prefix_may_pass};
+use outside::Memory;
+use prune_filters::{EarlyTable, MarkTable, early_may_pass};
 use raid_params::{Head, Slots};
 use search_plan::Plan;
 use set_product::HeadSets;
@@ -24,7 +24,7 @@ pub(crate) struct Hopeful<'a> {
     head: Head,
     space: Space,
     marks: MarkTable,
-    xors: Option<&'a XorTable>,
+    xors: Option<&'a EarlyTable>,
 }
 
 impl<'a> Model for Hopeful<'a> {
@@ -48,7 +48,7 @@ impl<'a> Hopeful<'a> {
         alloc: Global,
         plan: &'a Plan,
         sets: &HeadSets,
-        xors: Option<&'a XorTable>,
+        xors: Option<&'a EarlyTable>,
     ) -> Result<Hopeful<'a>, Memory>
         requires plan { IsPlan plan.now }
         requires head { IsHeadOf plan.now sets.now }
@@ -76,6 +76,6 @@ impl<'a> Family for Hopeful<'a> {
     }
 
     fn may_pass(&self, prefix: &Slots) -> bool {
-        prefix_may_pass(&self.marks, self.xors, self.plan, &self.head, prefix)
+        early_may_pass(&self.marks, self.xors, self.plan, &self.head, prefix)
     }
 }

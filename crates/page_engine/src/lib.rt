@@ -9,12 +9,13 @@
 //! is a law of `prune_filters`. A table of marks is held at a time, and the tables of rows, those of all chunks
 //! of an offset together, are made where the first head needs them and kept for all pages of a call.
 //!
-//! The sets that a walk admits are hopeful: they pass where they meet the parity test. Where nothing can break a row of
-//! a set, or the tables of rows decide, it does. The others are gathered, also of several heads, and as many as a scan
-//! may test are tested in one pass over the images (`row_scan`).
+//! The sets that a walk admits are hopeful: they pass where they meet the parity test. They are gathered, also of several
+//! heads, and as many as a scan may test are tested in one pass over the images (`row_scan`). Of a set of which nothing can
+//! break a row, or whose test the tables of rows decide, no row has to be tested: it takes part in the scan as one that is
+//! known to pass.
 //!
 //! `plan_jobs` prints pages for `list`. The sets of a plan stand in `Sets` of `search_plan`, a page by
-//! its ranks in `Page` of `raid_terms`, pages with what is read for them in `specs/Pages`, and what the
+//! its ranks in `Page` of `search_terms`, pages with what is read for them in `specs/Pages`, and what the
 //! walk keeps in `specs/Walk`.
 #![tactic(auto)]
 
@@ -24,7 +25,9 @@ mod page_parts;
 mod paging;
 mod row_tables;
 mod scanning;
+mod waiting;
 mod walking;
 
-pub use page_parts::{CursorFault, Line, Lines, ListPage, PageFault, PageList, PageRequest};
+pub use page_parts::{CursorFault, Line, Lines, ListPage, PageFault, PageList};
 pub use paging::{page, pages};
+pub use set_product::{product_rank, product_set, product_total};

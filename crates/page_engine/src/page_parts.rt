@@ -1,5 +1,5 @@
 //! Pages and their parts.
-use image_source::ListOf;
+use outside::ListOf;
 use raid_params::Geometry;
 use search_plan::Plan;
 use std::alloc::Global;
@@ -18,19 +18,6 @@ pub(crate) struct Paging<'a, R, G> {
     pub size: u64,
     /// What each piece of a scan passes.
     pub gate: &'a G,
-}
-
-/// Which pages are asked for.
-#[derive(Clone, Copy)]
-pub struct PageRequest {
-    /// The rank at which the first page begins.
-    pub from: u64,
-    /// The most lines of a page, from 1 on.
-    pub size: u64,
-    /// The most ranks that a page goes through.
-    pub span: u64,
-    /// The most pages, from 1 on.
-    pub count: u64,
 }
 
 /// A parameter set that passes, with its rank.

@@ -1,9 +1,9 @@
 //! Pages of the sets that pass.
 ghost use Rattle.std.specs.Prelude.{◌≡◌, ◌-◌, ◌<◌, ◌≤◌, ◌^◌, All, IfErr, IfOk, IfSome, IsErrOf};
 ghost use Rattle.std.specs.Result.{is_err};
-ghost use Rattle.image_source.specs.Attached.{told_all};
-ghost use Rattle.image_source.specs.Seen.{OnlyReads};
-ghost use Rattle.raid_terms.specs.Page.{stop_of};
+ghost use Rattle.outside.specs.Attached.{told_all};
+ghost use Rattle.outside.specs.Seen.{OnlyReads};
+ghost use Rattle.search_terms.specs.Page.{stop_of};
 ghost use Rattle.row_scan.specs.declared.many_sets.TheConstants.{MOST_SETS};
 ghost use Rattle.search_plan.specs.Plans.{IsPlan, AgreeWith};
 ghost use Rattle.search_plan.specs.Sets.{total_of};
@@ -11,10 +11,12 @@ ghost use Rattle.page_engine.specs.Pages.{ArePagesFrom, EndsPage, HoldsSet, IsPa
 ghost use Rattle.page_engine.specs.Walk.{IsKept, left_after, left_reads, Scans};
 ghost use Rattle.page_engine.specs.declared.page_parts.PageFault.TheVariants.{Cursor, Many};
 
-use crate::page_parts::{CursorFault, ListPage, PageFault, PageList, PageRequest, Paging};
+use crate::gathering::Gathered;
+use crate::page_parts::{CursorFault, Lines, ListPage, PageFault, PageList, Paging};
 use crate::row_tables::KeptTables;
-use crate::walking::walk;
-use image_source::Images;
+use crate::waiting::Waiting;
+use crate::walking::fill;
+use outside::Images;
 use row_scan::Gate;
 use search_plan::Plan;
 use set_product::product_total;
@@ -44,6 +46,7 @@ pub fn page<R: Threads + Sync, I: Images, G: Gate + Sync>(
     ensures total { IfOk result (λ p. p.total ≡ total_of plan.now) }
     ensures many { 2 ^ 64 ≤ total_of plan.now → IsErrOf result Many }
     ensures cursor { total_of plan.now < 2 ^ 64 → total_of plan.now < from → IsErrOf result (Cursor (record { from = from; total = total_of plan.now })) }
+    ensures quiet { IfOk result (λ made. (I.seen images.new).faults ≡ (I.seen images.old).faults) }
     ensures ends { IfErr result (EndsPage plan.now from (I.seen images.old) (I.seen images.new)) }
     ensures reads { OnlyReads (I.seen images.old) (I.seen images.new)
         (page_reads (told_all (I.seen images.old).attached) plan.now from (tested_to (stop_of (total_of plan.now) from span) result)) }
@@ -61,7 +64,7 @@ pub fn page<R: Threads + Sync, I: Images, G: Gate + Sync>(
     next_page(&paging, images, &mut kept, from, span)
 }
 
-/// The same, with the tables that were made for earlier pages.
+/// The page of a plan from a rank on, with the tables that were made for earlier pages.
 fn next_page<R: Threads + Sync, I: Images, G: Gate + Sync>(
     paging: &Paging<R, G>,
     images: &mut I,
@@ -78,6 +81,7 @@ fn next_page<R: Threads + Sync, I: Images, G: Gate + Sync>(
     ensures total { IfOk result (λ p. p.total ≡ total_of paging.now.plan.now) }
     ensures many { 2 ^ 64 ≤ total_of paging.now.plan.now → IsErrOf result Many }
     ensures cursor { total_of paging.now.plan.now < 2 ^ 64 → total_of paging.now.plan.now < from → IsErrOf result (Cursor (record { from = from; total = total_of paging.now.plan.now })) }
+    ensures quiet { IfOk result (λ made. (I.seen images.new).faults ≡ (I.seen images.old).faults) }
     ensures ends { IfErr result (EndsPage paging.now.plan.now from (I.seen images.old) (I.seen images.new)) }
     ensures reads { Scans (told_all (I.seen images.old).attached) paging.now.plan.now from (tested_to (stop_of (total_of paging.now.plan.now) from span) result) (MOST_SETS - 1)
         (left_reads paging.now.plan.now kept.old) (left_after paging.now.plan.now kept.new result) (I.seen images.old) (I.seen images.new) }
@@ -89,41 +93,57 @@ fn next_page<R: Threads + Sync, I: Images, G: Gate + Sync>(
     if from > total {
         return Err(PageFault::Cursor(CursorFault { from, total }));
     }
-    walk(paging, images, kept, total, from, span)
+    let stop = total.min(from.saturating_add(span));
+    let mut page = Gathered {
+        lines: Lines::new(paging.alloc),
+        tested: from,
+        waiting: Waiting::none(paging.alloc),
+    };
+    let next = fill(paging, images, kept, stop, &mut page)?;
+    Ok(ListPage {
+        lines: page.lines,
+        next,
+        total,
+    })
 }
 
 /// The pages of a plan from a rank on: the page there, then the page where it goes on, until `count`
-/// are made or one goes on at the total. The tables are made once for all pages.
+/// are made or one goes on at the total. Each has at most `size` lines and goes through at most `span` ranks; `size` and `count`
+/// are 1 at least. The tables of rows are made once for all pages.
 pub fn pages<R: Threads + Sync, I: Images, G: Gate + Sync>(
     rt: &R,
     alloc: Global,
     images: &mut I,
     plan: &Plan,
-    asked: PageRequest,
+    from: u64,
+    size: u64,
+    span: u64,
+    count: u64,
     gate: &G,
 ) -> Result<PageList, PageFault>
     requires plan { IsPlan plan.now }
     requires lengths { AgreeWith plan.now (I.seen images.old).attached }
-    requires size { 1 ≤ asked.size }
-    requires count { 1 ≤ asked.count }
-    ensures pages { IfOk result (ArePagesFrom (told_all (I.seen images.old).attached) plan.now asked.size asked.span asked.count asked.from) }
+    requires size { 1 ≤ size }
+    requires count { 1 ≤ count }
+    ensures pages { IfOk result (ArePagesFrom (told_all (I.seen images.old).attached) plan.now size span count from) }
     ensures many { 2 ^ 64 ≤ total_of plan.now → IsErrOf result Many }
-    ensures cursor { total_of plan.now < 2 ^ 64 → total_of plan.now < asked.from → IsErrOf result (Cursor (record { from = asked.from; total = total_of plan.now })) }
-    ensures ends { IfErr result (EndsPage plan.now asked.from (I.seen images.old) (I.seen images.new)) }
-    ensures reads { ReadsPages (told_all (I.seen images.old).attached) plan.now asked.size asked.span (is_err result) asked.count asked.from (I.seen images.old) (I.seen images.new) }
+    ensures cursor { total_of plan.now < 2 ^ 64 → total_of plan.now < from → IsErrOf result (Cursor (record { from = from; total = total_of plan.now })) }
+    ensures quiet { IfOk result (λ made. (I.seen images.new).faults ≡ (I.seen images.old).faults) }
+    ensures ends { IfErr result (EndsPage plan.now from (I.seen images.old) (I.seen images.new)) }
+    ensures reads { ReadsPages (told_all (I.seen images.old).attached) plan.now size span (is_err result) count from (I.seen images.old) (I.seen images.new) }
 {
     let mut kept = KeptTables::new(alloc);
     let mut made = PageList::new(alloc);
-    let mut at = asked.from;
+    let mut at = from;
     let paging = Paging {
         rt,
         alloc,
         plan,
-        size: asked.size,
+        size,
         gate,
     };
-    for _ in 0..asked.count {
-        let found = next_page(&paging, images, &mut kept, at, asked.span)?;
+    for _ in 0..count {
+        let found = next_page(&paging, images, &mut kept, at, span)?;
         let (next, total) = (found.next, found.total);
         made.push(found).map_err(|_| PageFault::Memory)?;
         if next == total {

@@ -1,6 +1,6 @@
 //! The tables of rows that a walk has made.
 ghost use Rattle.std.specs.Prelude.{◌≡◌, ◌<◌, ◌==◌, All, Contains, IfErr, IfOk, ℕ, Some, length, position, slice_get, slice_index, slice_index_or, true};
-ghost use Rattle.image_source.specs.Attached.{told_all};
+ghost use Rattle.outside.specs.Attached.{told_all};
 ghost use Rattle.prune_filters.specs.Rows.{needs_table as head_needs_table};
 ghost use Rattle.prune_filters.specs.Xors.{RowTable};
 ghost use Rattle.search_plan.specs.Plans.{IsPlan, AgreeWith};
@@ -9,8 +9,8 @@ ghost use Rattle.page_engine.specs.declared.row_tables.OffsetTables.{OffsetTable
 ghost use Rattle.page_engine.specs.Walk.{IsHeadOf, IsKept, left_after, left_reads, Spends, StandsFor};
 
 use crate::page_parts::PageFault;
-use image_source::{Images, ListOf};
-use prune_filters::{TableFault, XorTable};
+use outside::{Images, ListOf};
+use prune_filters::{EarlyTable, TableFault};
 use search_plan::Plan;
 use set_product::HeadSets;
 use std::alloc::Global;
@@ -19,7 +19,7 @@ use std::alloc::Global;
 #[derive(Drop)]
 pub(crate) struct OffsetTables {
     pub offset: u64,
-    pub tables: Vec<XorTable>,
+    pub tables: Vec<EarlyTable>,
 }
 
 /// The tables made so far.
@@ -59,6 +59,7 @@ pub(crate) fn table_place<I: Images>(
     requires kept { All (IsKept (told_all (I.seen images.old).attached) plan.now) kept.old }
     ensures place { IfOk result (λ place. StandsFor sets.now.head.offset place kept.new) }
     ensures kept { All (IsKept (told_all (I.seen images.old).attached) plan.now) kept.new }
+    ensures quiet { IfOk result (λ place. (I.seen images.new).faults ≡ (I.seen images.old).faults) }
     ensures ends { IfErr result (EndsTest (I.seen images.old) (I.seen images.new)) }
     ensures reads { Spends (left_reads plan.now kept.old) (left_after plan.now kept.new result) (I.seen images.old) (I.seen images.new) 0 }
 {
@@ -66,7 +67,7 @@ pub(crate) fn table_place<I: Images>(
     if let Some(place) = kept_place(kept.as_slice(), offset) {
         return Ok(place);
     }
-    let tables = match XorTable::build_each(alloc, images, plan, &plan.bounds.chunks, offset) {
+    let tables = match EarlyTable::build_each(alloc, images, plan, &plan.bounds.chunks, offset) {
         Ok(tables) => tables,
         Err(TableFault::ReadFault) => return Err(PageFault::ReadFault),
         Err(TableFault::Memory) => return Err(PageFault::Memory),
@@ -83,7 +84,7 @@ pub(crate) fn table_at<'a>(
     place: usize,
     plan: &Plan,
     sets: &HeadSets,
-) -> &'a XorTable
+) -> &'a EarlyTable
     requires place { place < length kept.now }
     requires long { (one : OffsetTablesOf) → slice_get kept.now place ≡ Some one → length one.tables.items ≡ length plan.now.bounds.chunks.items }
     requires head { IsHeadOf plan.now sets.now }

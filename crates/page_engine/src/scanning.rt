@@ -1,26 +1,27 @@
 //! The parity test of the sets of a page that wait.
-ghost use Rattle.std.specs.Prelude.{ℕ, List, ◌≡◌, ◌+◌, ◌-◌, ◌<◌, ◌≤◌, ◌^◌, All, Contains, IfErr, IfOk, IfSome, None, length, map};
-ghost use Rattle.std.specs.declared.option.Option.{Option};
-ghost use Rattle.image_source.specs.Attached.{told_all};
-ghost use Rattle.image_source.specs.Seen.{OnlyReads};
+ghost use Rattle.std.specs.Prelude.{◌≡◌, ◌+◌, ◌-◌, ◌<◌, ◌≤◌, ◌^◌, ◌⊎◌, All, IfErr, IfOk, IfSome, None, OnOk, length, map, true};
+ghost use Rattle.std.specs.Option.{is_some};
+ghost use Rattle.outside.specs.Attached.{told_all};
+ghost use Rattle.outside.specs.Seen.{OnlyReads};
 ghost use Rattle.raid_params.specs.declared.limits.TheConstants.{MOST};
+ghost use Rattle.row_scan.specs.Tallies.{has_passed as has_passed_tally};
 ghost use Rattle.row_scan.specs.Verdicts.{verdicts_of};
 ghost use Rattle.search_plan.specs.Plans.{IsPlan, AgreeWith};
 ghost use Rattle.search_plan.specs.Sets.{total_of};
-ghost use Rattle.search_plan.specs.declared.plan.Plan.{Plan as PlanOf};
-ghost use Rattle.page_engine.specs.Pages.{EndsTest, HoldsSet, most_scanned};
-ghost use Rattle.page_engine.specs.Walk.{AddsWaiting, BeginBefore, BeginOpen, ended_at, Finishes, Gathers, Scans, spared_by, StandsAt, Wait};
+ghost use Rattle.page_engine.specs.Pages.{EndsTest, most_scanned};
+ghost use Rattle.page_engine.specs.Walk.{AddsPassed, AreWaiting, ended_at, Finishes, Gathers, HavePassed, IsCandidate, IsPast, lines_of, Scans, StandsAt, Wait};
 
 use crate::gathering::Gathered;
 use crate::page_parts::{Line, Lines, PageFault, Paging};
-use image_source::{Images, ListOf, Memory};
+use crate::waiting::Waiting;
+use outside::{Images, Memory};
 use raid_params::{Geometry, Slots};
-use row_scan::{Gate, MOST_SETS, ScanFault, Verdicts, scan};
-use std::alloc::Global;
+use row_scan::{Gate, MOST_SETS, ScanFault, Tally, scan_tallied};
 use std::thread::Threads;
 
 /// Tests the sets that wait, and appends those that pass to the lines. It gives the rank after the last line where the
-/// page is full; otherwise each set before `at` is tested then, and none waits.
+/// page is full; otherwise each set before `at` is tested then, and none waits. Nothing is read where all that wait are known
+/// to pass.
 pub(crate) fn scan_waiting<R: Threads + Sync, I: Images, G: Gate + Sync>(
     paging: &Paging<R, G>,
     images: &mut I,
@@ -29,28 +30,28 @@ pub(crate) fn scan_waiting<R: Threads + Sync, I: Images, G: Gate + Sync>(
 ) -> Result<Option<u64>, PageFault>
     requires plan { IsPlan paging.now.plan.now }
     requires lengths { AgreeWith paging.now.plan.now (I.seen images.old).attached }
-    requires size { length page.old.lines < paging.now.size }
-    requires some { 1 ≤ length page.old.waiting }
-    requires most { length page.old.waiting ≤ MOST_SETS }
     requires few { total_of paging.now.plan.now < 2 ^ 64 }
-    requires wait { Wait (told_all (I.seen images.old).attached) paging.now.plan.now page.old.tested at page.old.waiting }
+    requires size { length page.old.lines < paging.now.size }
+    requires some { 1 ≤ length page.old.waiting.sets }
+    requires most { length page.old.waiting.sets ≤ MOST_SETS }
+    requires are { AreWaiting paging.now.plan.now page.old.waiting }
+    requires wait { Wait (told_all (I.seen images.old).attached) paging.now.plan.now page.old.tested at (lines_of page.old.waiting.ranks page.old.waiting.sets) }
     ensures gathers { IfOk result (Gathers (told_all (I.seen images.old).attached) paging.now.plan.now paging.now.size at page.old page.new) }
     ensures tested { IfOk result (λ full. full ≡ None → page.new.tested ≡ at) }
-    ensures past { IfOk result (λ full. IfSome full (λ next. BeginBefore next page.old.waiting)) }
+    ensures fills { IfOk result (λ full. paging.now.size ≤ length page.old.lines + page.old.waiting.known → is_some full ≡ true) }
+    ensures past { IfOk result (λ full. IfSome full (λ next. length page.old.lines + page.old.waiting.known < paging.now.size → IsPast page.old.waiting.ranks page.old.waiting.known next)) }
+    ensures quiet { IfOk result (λ full. (I.seen images.new).faults ≡ (I.seen images.old).faults) }
     ensures ends { IfErr result (EndsTest (I.seen images.old) (I.seen images.new)) }
     ensures reads { OnlyReads (I.seen images.old) (I.seen images.new) (most_scanned paging.now.plan.now) }
+    ensures unread { page.old.waiting.known ≡ length page.old.waiting.sets → I.seen images.new ≡ I.seen images.old }
 {
-    let verdicts = judge(paging, images, page.waiting.as_slice())?;
-    let full = add_passed(
-        &mut page.lines,
-        page.waiting.as_slice(),
-        verdicts.as_slice(),
-        paging.size,
-    )
-    .map_err(|_| PageFault::Memory)?;
+    judge(paging, images, &mut page.waiting)?;
+    let full = add_passed(&mut page.lines, &page.waiting, paging.size).map_err(
+        |_| PageFault::Memory,
+    )?;
     if full.is_none() {
         page.tested = at;
-        page.waiting = Lines::new(paging.alloc);
+        page.waiting = Waiting::none(paging.alloc);
     }
     Ok(full)
 }
@@ -67,10 +68,11 @@ pub(crate) fn finish<R: Threads + Sync, I: Images, G: Gate + Sync>(
     requires few { total_of paging.now.plan.now < 2 ^ 64 }
     requires stands { StandsAt (told_all (I.seen images.old).attached) paging.now.plan.now paging.now.size stop page.old }
     ensures finishes { IfOk result (Finishes (told_all (I.seen images.old).attached) paging.now.plan.now paging.now.size stop page.old page.new) }
+    ensures quiet { IfOk result (λ next. (I.seen images.new).faults ≡ (I.seen images.old).faults) }
     ensures ends { IfErr result (EndsTest (I.seen images.old) (I.seen images.new)) }
     ensures reads { Scans (told_all (I.seen images.old).attached) paging.now.plan.now page.old.tested (ended_at stop result) (MOST_SETS - 1) 0 0 (I.seen images.old) (I.seen images.new) }
 {
-    if page.waiting.as_slice().is_empty() {
+    if page.waiting.sets.as_slice().is_empty() {
         return Ok(stop);
     }
     match scan_waiting(paging, images, stop, page)? {
@@ -79,52 +81,46 @@ pub(crate) fn finish<R: Threads + Sync, I: Images, G: Gate + Sync>(
     }
 }
 
-/// Whether each of some sets meets the parity test.
+/// Brings the tallies of the sets that wait to their end: a set has passed then where it meets the parity test.
 fn judge<R: Threads + Sync, I: Images, G: Gate + Sync>(
     paging: &Paging<R, G>,
     images: &mut I,
-    lines: &[Line],
-) -> Result<Verdicts, PageFault>
+    waiting: &mut Waiting,
+) -> Result<(), PageFault>
     requires plan { IsPlan paging.now.plan.now }
     requires lengths { AgreeWith paging.now.plan.now (I.seen images.old).attached }
-    requires some { 1 ≤ length lines.now }
-    requires most { length lines.now ≤ MOST_SETS }
-    requires sets { All (HoldsSet paging.now.plan.now) lines.now }
-    requires offsets { All (λ line. Contains paging.now.plan.now.bounds.offsets.items line.geo.head.offset) lines.now }
-    ensures told { IfOk result (λ verdicts. IfSome (told_all (I.seen images.old).attached)
-        (λ bytes. verdicts ≡ verdicts_of bytes paging.now.plan.now (map (λ line. line.geo) lines.now))) }
-    ensures long { IfOk result (λ verdicts. length verdicts ≡ length lines.now) }
+    requires some { 1 ≤ length waiting.old.sets }
+    requires most { length waiting.old.sets ≤ MOST_SETS }
+    requires are { AreWaiting paging.now.plan.now waiting.old }
+    requires candidates { All (IsCandidate (told_all (I.seen images.old).attached) paging.now.plan.now) (lines_of waiting.old.ranks waiting.old.sets) }
+    ensures told { OnOk result (IfSome (told_all (I.seen images.old).attached)
+        (λ bytes. map has_passed_tally waiting.new.tallies.items ≡ verdicts_of bytes paging.now.plan.now waiting.old.sets)) }
+    ensures long { length waiting.new.tallies.items ≡ length waiting.new.sets }
+    ensures known { HavePassed waiting.old.known waiting.new.tallies.items }
+    ensures sets { waiting.new.sets ≡ waiting.old.sets }
+    ensures ranks { waiting.new.ranks ≡ waiting.old.ranks }
+    ensures quiet { OnOk result ((I.seen images.new).faults ≡ (I.seen images.old).faults) }
     ensures ends { IfErr result (EndsTest (I.seen images.old) (I.seen images.new)) }
     ensures reads { OnlyReads (I.seen images.old) (I.seen images.new) (most_scanned paging.now.plan.now) }
+    ensures unread { waiting.old.known ≡ length waiting.old.sets → I.seen images.new ≡ I.seen images.old }
 {
-    let sets = sets_of(paging.alloc, lines).map_err(|_| PageFault::Memory)?;
-    match scan(
+    let sets = waiting.sets.as_slice();
+    match scan_tallied(
         paging.rt,
         paging.alloc,
         images,
         paging.plan,
-        sets.as_slice(),
+        sets,
+        &mut waiting.tallies,
         paging.gate,
     ) {
-        Ok(verdicts) => Ok(verdicts),
+        Ok(()) => Ok(()),
         Err(ScanFault::ReadFault) => Err(PageFault::ReadFault),
         Err(ScanFault::Memory) => Err(PageFault::Memory),
     }
 }
 
-/// The sets of some lines.
-fn sets_of(alloc: Global, lines: &[Line]) -> Result<ListOf<Geometry>, Memory>
-    requires { All (λ line. length line.geo.slots.items ≤ MOST) lines.now }
-    ensures { IfOk result (λ sets. sets ≡ map (λ line. line.geo) lines.now) }
-{
-    let mut sets = ListOf::new(alloc);
-    for line in lines {
-        sets.push(copy_of(&line.geo))?;
-    }
-    Ok(sets)
-}
-
-/// The same set once more.
+/// A copy of a set.
 fn copy_of(geo: &Geometry) -> Geometry
     requires { length geo.now.slots.items ≤ MOST }
     ensures { result ≡ geo.now }
@@ -137,26 +133,21 @@ fn copy_of(geo: &Geometry) -> Geometry
     }
 }
 
-/// Appends those of the waiting sets that pass, with a verdict for each, as long as the lines are fewer than `size`; gives
-/// the rank after the last of them where there are `size` lines then.
-fn add_passed(
-    lines: &mut Lines,
-    waiting: &[Line],
-    verdicts: &[bool],
-    size: u64,
-) -> Result<Option<u64>, Memory>
-    requires long { length verdicts.now ≡ length waiting.now }
+/// Appends those of the sets that waited that have passed, as long as the lines are fewer than `size`; gives the rank after the
+/// last of them where there are `size` lines then.
+fn add_passed(lines: &mut Lines, waiting: &Waiting, size: u64) -> Result<Option<u64>, Memory>
+    requires ranks { length waiting.now.ranks ≡ length waiting.now.sets }
+    requires tallies { length waiting.now.tallies.items ≡ length waiting.now.sets }
     requires size { length lines.old < size }
-    requires ranks { All (λ line. line.rank + 1 < 2 ^ 64) waiting.now }
-    requires slots { All (λ line. length line.geo.slots.items ≤ MOST) waiting.now }
-    ensures added { IfOk result (λ full. (told : Option (List (List ℕ))) (plan : PlanOf) (from at : ℕ) → Wait told plan from at waiting.now →
-        IfSome told (λ bytes. verdicts.now ≡ verdicts_of bytes plan (map (λ line. line.geo) waiting.now)) →
-        AddsWaiting told plan from at size waiting.now lines.old lines.new full) }
+    requires last { All (λ rank. rank + 1 < 2 ^ 64) waiting.now.ranks }
+    requires slots { All (λ geo. length geo.slots.items ≤ MOST) waiting.now.sets }
+    ensures { IfOk result (AddsPassed size waiting.now lines.old lines.new) }
 {
-    for k in 0..waiting.len() {
-        if verdicts[k] {
-            let line = &waiting[k];
-            let (rank, geo) = (line.rank, copy_of(&line.geo));
+    let (ranks, sets) = (waiting.ranks.as_slice(), waiting.sets.as_slice());
+    let tallies: &[Tally] = &waiting.tallies;
+    for k in 0..sets.len() {
+        if tallies[k].has_passed() {
+            let (rank, geo) = (ranks[k], copy_of(&sets[k]));
             lines.push(Line { rank, geo })?;
             if lines.as_slice().len() as u64 == size {
                 return Ok(Some(rank + 1));

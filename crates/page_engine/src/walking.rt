@@ -1,70 +1,27 @@
 //! A walk over the ranks of a plan, head by head.
-ghost use Rattle.std.specs.Prelude.{◌≡◌, ◌-◌, ◌<◌, ◌≤◌, ◌^◌, All, IfErr, IfOk, IfSome, IsSome, length, true};
-ghost use Rattle.std.specs.Option.{option_map};
-ghost use Rattle.image_source.specs.Attached.{told_all};
-ghost use Rattle.raid_terms.specs.Page.{stop_of};
+ghost use Rattle.std.specs.Prelude.{◌≡◌, ◌-◌, ◌<◌, ◌≤◌, ◌^◌, All, IfErr, IfOk};
+ghost use Rattle.outside.specs.Attached.{told_all};
 ghost use Rattle.search_plan.specs.Plans.{IsPlan, AgreeWith};
 ghost use Rattle.search_plan.specs.Sets.{total_of};
-ghost use Rattle.prune_filters.specs.Rows.{needs_table as head_needs_table};
-ghost use Rattle.prune_filters.specs.Xors.{AreXors};
 ghost use Rattle.row_scan.specs.declared.many_sets.TheConstants.{MOST_SETS};
-ghost use Rattle.page_engine.specs.Pages.{EndsTest, HoldsSet, IsPageOf, tested_to};
+ghost use Rattle.page_engine.specs.Pages.{EndsTest};
 ghost use Rattle.page_engine.specs.Walk.{ended_at, Finishes, Gathers, IsHeadOf, IsKept, IsPart, left_after, left_reads, Scans, spared_by, StandsAt, tested_by};
 
 use crate::gathering::{Gathered, gather_admitted};
 use crate::hopeful::Hopeful;
-use crate::page_parts::{Lines, ListPage, PageFault, Paging};
+use crate::page_parts::{PageFault, Paging};
 use crate::row_tables::{KeptTables, table_at, table_place};
 use crate::scanning::finish;
 use address_map::rows;
-use image_source::Images;
-use prune_filters::{XorTable, needs_table};
+use outside::Images;
+use prune_filters::needs_table;
 use row_scan::{Gate, MOST_SETS};
 use set_product::{HeadSets, Heads};
 use std::thread::Threads;
 
-/// The page of a plan from a rank on, where the plan has `total` sets.
-pub(crate) fn walk<R: Threads + Sync, I: Images, G: Gate + Sync>(
-    paging: &Paging<R, G>,
-    images: &mut I,
-    kept: &mut KeptTables,
-    total: u64,
-    from: u64,
-    span: u64,
-) -> Result<ListPage, PageFault>
-    requires plan { IsPlan paging.now.plan.now }
-    requires lengths { AgreeWith paging.now.plan.now (I.seen images.old).attached }
-    requires total { total ≡ total_of paging.now.plan.now }
-    requires from { from ≤ total_of paging.now.plan.now }
-    requires size { 1 ≤ paging.now.size }
-    requires kept { All (IsKept (told_all (I.seen images.old).attached) paging.now.plan.now) kept.old }
-    ensures page { IfOk result (λ p. IfSome (told_all (I.seen images.old).attached) (λ bytes. IsPageOf bytes paging.now.plan.now from paging.now.size span p)) }
-    ensures sets { IfOk result (λ p. All (HoldsSet paging.now.plan.now) p.lines) }
-    ensures total { IfOk result (λ p. p.total ≡ total_of paging.now.plan.now) }
-    ensures ends { IfErr result (EndsTest (I.seen images.old) (I.seen images.new)) }
-    ensures reads { Scans (told_all (I.seen images.old).attached) paging.now.plan.now from (tested_to (stop_of (total_of paging.now.plan.now) from span) result) (MOST_SETS - 1)
-        (left_reads paging.now.plan.now kept.old) (left_after paging.now.plan.now kept.new result) (I.seen images.old) (I.seen images.new) }
-    ensures kept { All (IsKept (told_all (I.seen images.old).attached) paging.now.plan.now) kept.new }
-    ensures forward { IfOk result (λ p. from ≤ p.next) }
-    ensures within { IfOk result (λ p. p.next ≤ stop_of (total_of paging.now.plan.now) from span) }
-{
-    let stop = total.min(from.saturating_add(span));
-    let mut page = Gathered {
-        lines: Lines::new(paging.alloc),
-        tested: from,
-        waiting: Lines::new(paging.alloc),
-    };
-    let next = fill(paging, images, kept, stop, &mut page)?;
-    Ok(ListPage {
-        lines: page.lines,
-        next,
-        total,
-    })
-}
-
 /// Makes a page whole, of the sets of ranks from where it is tested up to `stop`, and gives the rank from which the next
 /// page goes on.
-fn fill<R: Threads + Sync, I: Images, G: Gate + Sync>(
+pub(crate) fn fill<R: Threads + Sync, I: Images, G: Gate + Sync>(
     paging: &Paging<R, G>,
     images: &mut I,
     kept: &mut KeptTables,
@@ -79,6 +36,7 @@ fn fill<R: Threads + Sync, I: Images, G: Gate + Sync>(
     requires stands { StandsAt (told_all (I.seen images.old).attached) paging.now.plan.now paging.now.size page.old.tested page.old }
     requires kept { All (IsKept (told_all (I.seen images.old).attached) paging.now.plan.now) kept.old }
     ensures finishes { IfOk result (Finishes (told_all (I.seen images.old).attached) paging.now.plan.now paging.now.size stop page.old page.new) }
+    ensures quiet { IfOk result (λ done. (I.seen images.new).faults ≡ (I.seen images.old).faults) }
     ensures ends { IfErr result (EndsTest (I.seen images.old) (I.seen images.new)) }
     ensures reads { Scans (told_all (I.seen images.old).attached) paging.now.plan.now page.old.tested (ended_at stop result) (MOST_SETS - 1)
         (left_reads paging.now.plan.now kept.old) (left_after paging.now.plan.now kept.new result) (I.seen images.old) (I.seen images.new) }
@@ -108,6 +66,7 @@ fn gather_range<R: Threads + Sync, I: Images, G: Gate + Sync>(
     requires stands { StandsAt (told_all (I.seen images.old).attached) paging.now.plan.now paging.now.size from page.old }
     requires kept { All (IsKept (told_all (I.seen images.old).attached) paging.now.plan.now) kept.old }
     ensures gathers { IfOk result (Gathers (told_all (I.seen images.old).attached) paging.now.plan.now paging.now.size stop page.old page.new) }
+    ensures quiet { IfOk result (λ done. (I.seen images.new).faults ≡ (I.seen images.old).faults) }
     ensures ends { IfErr result (EndsTest (I.seen images.old) (I.seen images.new)) }
     ensures reads { Scans (told_all (I.seen images.old).attached) paging.now.plan.now page.old.tested (tested_by stop page.new result) (spared_by result)
         (left_reads paging.now.plan.now kept.old) (left_after paging.now.plan.now kept.new result) (I.seen images.old) (I.seen images.new) }
@@ -129,7 +88,8 @@ fn gather_range<R: Threads + Sync, I: Images, G: Gate + Sync>(
     Ok(None)
 }
 
-/// The same of the sets of a head.
+/// Gathers the sets of a head of ranks from `from` up to `stop`, as long as the page is not full; gives the rank after its last
+/// line where it is. A head without a whole row has none that passes.
 fn gather_head<R: Threads + Sync, I: Images, G: Gate + Sync>(
     paging: &Paging<R, G>,
     images: &mut I,
@@ -147,6 +107,7 @@ fn gather_head<R: Threads + Sync, I: Images, G: Gate + Sync>(
     requires stands { StandsAt (told_all (I.seen images.old).attached) paging.now.plan.now paging.now.size from page.old }
     requires kept { All (IsKept (told_all (I.seen images.old).attached) paging.now.plan.now) kept.old }
     ensures gathers { IfOk result (Gathers (told_all (I.seen images.old).attached) paging.now.plan.now paging.now.size stop page.old page.new) }
+    ensures quiet { IfOk result (λ done. (I.seen images.new).faults ≡ (I.seen images.old).faults) }
     ensures ends { IfErr result (EndsTest (I.seen images.old) (I.seen images.new)) }
     ensures reads { Scans (told_all (I.seen images.old).attached) paging.now.plan.now page.old.tested (tested_by stop page.new result) (spared_by result)
         (left_reads paging.now.plan.now kept.old) (left_after paging.now.plan.now kept.new result) (I.seen images.old) (I.seen images.new) }
@@ -156,36 +117,14 @@ fn gather_head<R: Threads + Sync, I: Images, G: Gate + Sync>(
         return Ok(None);
     }
     if !needs_table(paging.plan, &sets.head) {
-        return gather_hopeful(paging, images, sets, None, from, stop, page);
+        let family = Hopeful::new(paging.alloc, paging.plan, sets, None).map_err(
+            |_| PageFault::Memory,
+        )?;
+        return gather_admitted(paging, images, sets, &family, from, stop, page);
     }
     let place = table_place(paging.alloc, images, paging.plan, sets, kept)?;
     let table = table_at(kept, place, paging.plan, sets);
-    gather_hopeful(paging, images, sets, Some(table), from, stop, page)
-}
-
-/// The same of a head with a whole row, with the table of its rows where it needs one.
-fn gather_hopeful<R: Threads + Sync, I: Images, G: Gate + Sync>(
-    paging: &Paging<R, G>,
-    images: &mut I,
-    sets: &HeadSets,
-    xors: Option<&XorTable>,
-    from: u64,
-    stop: u64,
-    page: &mut Gathered,
-) -> Result<Option<u64>, PageFault>
-    requires plan { IsPlan paging.now.plan.now }
-    requires lengths { AgreeWith paging.now.plan.now (I.seen images.old).attached }
-    requires few { total_of paging.now.plan.now < 2 ^ 64 }
-    requires head { IsHeadOf paging.now.plan.now sets.now }
-    requires needs { head_needs_table paging.now.plan.now sets.now.head ≡ true → IsSome xors }
-    requires xors { IfSome (told_all (I.seen images.old).attached) (λ bytes. AreXors bytes paging.now.plan.now sets.now.head (option_map (λ table. table.now) xors)) }
-    requires part { IsPart sets.now from stop }
-    requires stands { StandsAt (told_all (I.seen images.old).attached) paging.now.plan.now paging.now.size from page.old }
-    ensures gathers { IfOk result (Gathers (told_all (I.seen images.old).attached) paging.now.plan.now paging.now.size stop page.old page.new) }
-    ensures ends { IfErr result (EndsTest (I.seen images.old) (I.seen images.new)) }
-    ensures reads { Scans (told_all (I.seen images.old).attached) paging.now.plan.now page.old.tested (tested_by stop page.new result) (spared_by result) 0 0 (I.seen images.old) (I.seen images.new) }
-{
-    let family = Hopeful::new(paging.alloc, paging.plan, sets, xors).map_err(
+    let family = Hopeful::new(paging.alloc, paging.plan, sets, Some(table)).map_err(
         |_| PageFault::Memory,
     )?;
     gather_admitted(paging, images, sets, &family, from, stop, page)

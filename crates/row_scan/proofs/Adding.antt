@@ -1,51 +1,55 @@
 -- What a run adds to a tally.
-use Rattle.std.proofs.Common.{◌≡◌, ℕ, ◌+◌, ◌<◌, ◌≤◌, true, false, inl, inr, List, length, set, get_or, refl, sym, subst, ◌∙◌, arith, Option, Some, None, IfSome}
+use Rattle.std.proofs.Common.{◌≡◌, ℕ, ◌+◌, ◌<◌, ◌≤◌, true, false, inl, inr, List, length, set, get_or, refl, sym, subst, ◌∙◌, arith, Bool, ◌&&◌}
 use Rattle.std.proofs.lemmas.Bool.{cases_lt}
 use Rattle.std.proofs.lemmas.List.{get_or_default, get_or-set_other, get_or-set_same}
 use Rattle.raid_params.specs.declared.types.Geometry.{Geometry}
 use Rattle.search_plan.specs.declared.plan.Plan.{Plan}
 use Rattle.member_regions.specs.Regions.{Room}
-use Rattle.row_scan.specs.ImageRows.{AddsRun, asks, HoldsSet, IsLeftAfter, rows_before}
+use Rattle.row_scan.specs.ImageRows.{AddsRun, asks, HoldsSet, IfLeft, IsLeftAfter, rows_before}
+use Rattle.row_scan.specs.Tallies.{is_open}
 use Rattle.row_scan.specs.declared.runs.Run.{Run}
+use Rattle.row_scan.specs.declared.tally.Tally.{Tally}
+use Rattle.row_scan.specs.declared.tally.Tally.TheVariants.{Left, Passes, Fails}
 
 -- fewer sectors, fewer rows
 pub rows_rise : (plan : Plan) (geo : Geometry) (a b : ℕ) → a ≤ b → rows_before plan geo a ≤ rows_before plan geo b
 rows_rise plan geo a b le = omega arith
 
 -- a tally that does not ask for a run is as before
-pub adds_none : (plan : Plan) (geo : Geometry) (run : Run) (room : Room) (tally rest : Option ℕ) → rest ≡ tally → asks plan geo tally run ≡ false → AddsRun plan geo run room tally rest
+pub adds_none : (plan : Plan) (geo : Geometry) (run : Run) (room : Room) (tally rest : Tally) → rest ≡ tally → asks plan geo tally run ≡ false → AddsRun plan geo run room tally rest
 adds_none plan geo run room tally rest same out = record {
   kept = λ still. same;
   added = λ asking images hold. absurd (cc);
 }
 
-none_asks : (plan : Plan) (geo : Geometry) (run : Run) (tally : Option ℕ) → tally ≡ None → asks plan geo tally run ≡ false
-none_asks plan geo run None is = refl
-none_asks plan geo run (Some left) is = absurd cc
+pub closed_asks : (plan : Plan) (geo : Geometry) (run : Run) (tally : Tally) → is_open tally ≡ false → asks plan geo tally run ≡ false
+closed_asks plan geo run (Left left) is = absurd cc
+closed_asks plan geo run Passes is = refl
+closed_asks plan geo run Fails is = refl
 
--- one that is settled does not
-pub stays_settled : (plan : Plan) (geo : Geometry) (run : Run) (room : Room) (tally rest : Option ℕ) → tally ≡ None → rest ≡ None → AddsRun plan geo run room tally rest
-stays_settled plan geo run room tally rest was is = adds_none plan geo run room tally rest (is ∙ sym was) (none_asks plan geo run tally was)
+-- one that is not open does not
+pub stays_settled : (plan : Plan) (geo : Geometry) (run : Run) (room : Room) (tally rest : Tally) → is_open tally ≡ false → rest ≡ tally → AddsRun plan geo run room tally rest
+stays_settled plan geo run room tally rest was is = adds_none plan geo run room tally rest is (closed_asks plan geo run tally was)
 
 -- to one that asks its rows are added
-pub adds_by : (plan : Plan) (geo : Geometry) (run : Run) (room : Room) (tally : Option ℕ) (left : ℕ) (rest : Option ℕ) → tally ≡ Some left → asks plan geo tally run ≡ true →
+pub adds_by : (plan : Plan) (geo : Geometry) (run : Run) (room : Room) (tally : Tally) (left : ℕ) (rest : Tally) → tally ≡ Left left → asks plan geo tally run ≡ true →
     ((images : List (List ℕ)) → HoldsSet images run room geo → IsLeftAfter images geo (rows_before plan geo run.first) (rows_before plan geo (run.first + run.count)) left rest) →
     AddsRun plan geo run room tally rest
 adds_by plan geo run room tally left rest is asking after = record {
   kept = λ out. absurd (cc);
   added = λ still images hold.
-      subst (λ (t : Option ℕ). IfSome t (λ l. IsLeftAfter images geo (rows_before plan geo run.first) (rows_before plan geo (run.first + run.count)) l rest)) (sym is) (after images hold);
+      subst (λ (t : Tally). IfLeft t (λ l. IsLeftAfter images geo (rows_before plan geo run.first) (rows_before plan geo (run.first + run.count)) l rest)) (sym is) (after images hold);
 }
 
 -- an element of the sets from a place on
-pub added_at : (plan : Plan) (sets : List Geometry) (start offset i : ℕ) (run : Run) (room : Room) (d a b : Option ℕ) (e : Geometry) (old new : List (Option ℕ)) → start + offset ≡ i →
+pub added_at : (plan : Plan) (sets : List Geometry) (start offset i : ℕ) (run : Run) (room : Room) (d a b : Tally) (e : Geometry) (old new : List (Tally)) → start + offset ≡ i →
     get_or old offset d ≡ a → get_or new offset d ≡ b → AddsRun plan (get_or sets (start + offset) e) run room (get_or old offset d) (get_or new offset d) → AddsRun plan (get_or sets i e) run room a b
 added_at plan sets start offset i run room d a b e old new at before after adds = rw (at, before, after) at adds
 
 -- one more tally of a piece
-pub piece_more : (P : ℕ → Option ℕ → Option ℕ → Type 0) (k : ℕ) (first piece : List (Option ℕ)) (new : Option ℕ) → k < length piece →
-    ((i : ℕ) (d : Option ℕ) → i < k → P i (get_or first i d) (get_or piece i d)) → ((i : ℕ) (d : Option ℕ) → k ≤ i → get_or piece i d ≡ get_or first i d) →
-    ((d : Option ℕ) → P k (get_or piece k d) new) → (i : ℕ) (d : Option ℕ) → i < k + 1 → P i (get_or first i d) (get_or (set piece k new) i d)
+pub piece_more : (P : ℕ → Tally → Tally → Type 0) (k : ℕ) (first piece : List (Tally)) (new : Tally) → k < length piece →
+    ((i : ℕ) (d : Tally) → i < k → P i (get_or first i d) (get_or piece i d)) → ((i : ℕ) (d : Tally) → k ≤ i → get_or piece i d ≡ get_or first i d) →
+    ((d : Tally) → P k (get_or piece k d) new) → (i : ℕ) (d : Tally) → i < k + 1 → P i (get_or first i d) (get_or (set piece k new) i d)
 piece_more P k first piece new inside done rest here i d lt =
     elim (cases_lt i k) [
       | inl less ↦ (let same : get_or (set piece k new) i d ≡ get_or piece i d = get_or-set_other piece k i new d (omega arith) in rw same (done i d less))
@@ -57,9 +61,9 @@ piece_more P k first piece new inside done rest here i d lt =
     ]
 
 -- elements do not depend on what is given where there are none
-pub adds_here : (plan : Plan) (sets : List Geometry) (n k : ℕ) (run : Run) (room : Room) (geo : Geometry) (piece : List (Option ℕ)) (tally new d : Option ℕ) (e : Geometry) → n < length sets → k < length piece →
-    geo ≡ get_or sets n geo → tally ≡ get_or piece k None → AddsRun plan geo run room tally new → AddsRun plan (get_or sets n e) run room (get_or piece k d) new
+pub adds_here : (plan : Plan) (sets : List Geometry) (n k : ℕ) (run : Run) (room : Room) (geo : Geometry) (piece : List (Tally)) (tally new d : Tally) (e : Geometry) → n < length sets → k < length piece →
+    geo ≡ get_or sets n geo → tally ≡ get_or piece k (Left 0) → AddsRun plan geo run room tally new → AddsRun plan (get_or sets n e) run room (get_or piece k d) new
 adds_here plan sets n k run room geo piece tally new d e in_sets in_piece here now adds =
     let same : geo ≡ get_or sets n e = here ∙ get_or_default sets n geo e in_sets in
-    let same' : tally ≡ get_or piece k d = now ∙ get_or_default piece k None d in_piece in
+    let same' : tally ≡ get_or piece k d = now ∙ get_or_default piece k (Left 0) d in_piece in
     rw (same, same') at adds

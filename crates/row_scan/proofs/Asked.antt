@@ -5,8 +5,8 @@ use Rattle.std.proofs.lemmas.Bool.{cases_lt}
 use Rattle.std.proofs.lemmas.List.Sums.{count_by-le-length}
 use Rattle.std.proofs.Math.ListN.{get_or-eq_default}
 use Rattle.std.proofs.Math.Nat.{mul-le-mul_right}
-use Rattle.image_source.specs.Seen.{Seen, OnlyReads}
-use Rattle.image_source.proofs.Reading.{reads_up}
+use Rattle.outside.specs.Seen.{Seen, OnlyReads}
+use Rattle.outside.proofs.Reading.{reads_up}
 use Rattle.raid_params.specs.declared.types.Geometry.{Geometry}
 use Rattle.raid_terms.specs.Parity.{member_byte}
 use Rattle.search_plan.specs.declared.plan.Plan.{Plan}
@@ -17,6 +17,7 @@ use Rattle.row_scan.specs.ImageRows.{asks}
 use Rattle.row_scan.specs.Pass.{HoldAsked}
 use Rattle.row_scan.specs.Wanted.{AreWanted}
 use Rattle.row_scan.specs.declared.runs.Run.{Run}
+use Rattle.row_scan.specs.declared.tally.Tally.{Tally}
 
 -- a slot that holds an image is there
 slot_there : (slots : List (Option ℕ)) (slot image : ℕ) → get_or slots slot None ≡ Some image → slot < length slots
@@ -32,7 +33,7 @@ image_there slots n slot image all is =
     rw is at below
 
 -- an image that an asking tally needs is wanted
-stands_wanted : (plan : Plan) (sets : List Geometry) (tallies : List (Option ℕ)) (run : Run) (slots : List (Option ℕ)) (n i slot image : ℕ) (d : Option ℕ) (e : Geometry) →
+stands_wanted : (plan : Plan) (sets : List Geometry) (tallies : List Tally) (run : Run) (slots : List (Option ℕ)) (n i slot image : ℕ) (d : Tally) (e : Geometry) →
     AreWanted plan sets tallies run slots n → image < n → i < length sets → asks plan (get_or sets i e) (get_or tallies i d) run ≡ true →
     get_or (get_or sets i e).slots.items slot None ≡ Some image → get_or slots image None ≡ Some image
 stands_wanted plan sets tallies run slots n i slot image d e wanted below inside asking is =
@@ -42,7 +43,7 @@ stands_wanted plan sets tallies run slots n i slot image d e wanted below inside
     ]
 
 -- the regions of the images that were read hold what the asking tallies need
-pub hold_asked : (bytes : List (List ℕ)) (plan : Plan) (sets : List Geometry) (tallies : List (Option ℕ)) (run : Run) (wanted : Geometry) (room : Room) →
+pub hold_asked : (bytes : List (List ℕ)) (plan : Plan) (sets : List Geometry) (tallies : List Tally) (run : Run) (wanted : Geometry) (room : Room) →
     wanted.head.offset ≡ 0 → AreWanted plan sets tallies run wanted.slots.items (length wanted.slots.items) →
     All (λ geo. All (λ slot. IfSome slot (λ image. image < length wanted.slots.items)) geo.slots.items) sets →
     HoldRead bytes wanted room.stride run.first (512 * run.count) (length wanted.slots.items) room.bytes → HoldAsked bytes plan sets tallies run room

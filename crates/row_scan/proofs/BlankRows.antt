@@ -11,10 +11,10 @@ use Rattle.raid_params.specs.declared.types.Part.{Part}
 use Rattle.raid_params.specs.declared.types.Part.TheVariants.{Block, P, Q}
 use Rattle.raid_params.specs.declared.types.Geometry.{Geometry}
 use Rattle.raid_terms.specs.Parity.{in_p, in_q, is_sound, is_sound_column}
-use Rattle.pq_parity.specs.Syndromes.{known_in, known_sum}
-use Rattle.pq_parity.proofs.Columns.{sound}
-use Rattle.pq_parity.proofs.Fillings.{AreBytes, lost}
-use Rattle.pq_parity.proofs.Sums.{part_sum}
+use Rattle.row_parity.specs.Syndromes.{known_in, known_sum}
+use Rattle.row_parity.proofs.Columns.{sound}
+use Rattle.row_parity.proofs.Fillings.{AreBytes, lost}
+use Rattle.row_parity.proofs.RowSums.{part_sum}
 use Rattle.member_regions.proofs.Sets.{row_length}
 use Rattle.member_regions.specs.Regions.{Room}
 use Rattle.member_regions.specs.ImageSums.{IsBlankAt, room_byte}

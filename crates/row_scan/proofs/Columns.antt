@@ -5,7 +5,7 @@ use Rattle.raid_params.specs.declared.types.Cell.{Cell}
 use Rattle.raid_params.specs.declared.types.Geometry.{Geometry}
 use Rattle.raid_terms.specs.Cells.{row_cells}
 use Rattle.raid_terms.specs.Parity.{equations_hold, filled, is_sound, is_sound_column}
-use Rattle.pq_parity.specs.Regions.{region_column}
+use Rattle.row_parity.specs.Regions.{region_column}
 use Rattle.member_regions.specs.Regions.{Room}
 use Rattle.member_regions.proofs.Counting.{all_same, count_suc, count_grows}
 use Rattle.member_regions.proofs.Sets.{row_length}

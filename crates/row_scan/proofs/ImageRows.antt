@@ -10,7 +10,7 @@ use Rattle.member_regions.specs.Regions.{Room}
 use Rattle.member_regions.proofs.Alike.{filled_alike}
 use Rattle.member_regions.proofs.Counting.{count_suc, count_grows}
 use Rattle.member_regions.proofs.Sets.{row_length}
-use Rattle.row_scan.specs.ImageRows.{HoldsSet, IsLeftAfter}
+use Rattle.row_scan.specs.ImageRows.{HoldsSet}
 use Rattle.row_scan.specs.declared.runs.Run.{Run}
 use Rattle.row_scan.proofs.Columns.{sound_alike}
 
@@ -65,7 +65,3 @@ next_unsound images geo t sound is fails =
 -- the prefix of a row
 pub copied_front : (geo : Geometry) (room : Room) (place n : ℕ) (row : List ℕ) → IsCopied geo room place n row → IsCopied geo room place n (take (512 * n) row)
 copied_front geo room place n row copied = λ slot image x within is inside. get_or-take (512 * n) row (512 * slot + x) 0 (omega arith) ∙ copied slot image x within is inside
-
--- nothing was added where no rows lie in the run
-pub none_added : (images : List (List ℕ)) (geo : Geometry) (from to left : ℕ) → from ≡ to → IsLeftAfter images geo from to left (Some left)
-none_added images geo from to left same = rw same refl

@@ -7,7 +7,7 @@ use Rattle.gf256.proofs.Sums.{sum_associates, equal_from_sum, sum_commutes, sum_
 use Rattle.raid_params.specs.declared.types.Cell.{Cell}
 use Rattle.raid_terms.specs.Parity.{in_p}
 use Rattle.std.specs.Bool.{Decides}
-use Rattle.pq_parity.specs.Syndromes.{Cancel, known_in, known_sum}
+use Rattle.row_parity.specs.Syndromes.{Cancel, known_in, known_sum}
 use Rattle.member_regions.specs.ImageSums.{all_sum, IsImageSum, room_byte, sum_byte}
 use Rattle.member_regions.specs.Regions.{Room}
 use Rattle.member_regions.specs.declared.image_sums.ImageSum.{ImageSum}

@@ -1,24 +1,23 @@
 -- From tallies to verdicts.
-use Rattle.std.proofs.Common.{◌≡◌, ℕ, ◌<◌, ◌≤◌, Bool, true, false, List, [], ◌∷◌, length, get_or, map, refl, sym, ap, subst, ◌∙◌, arith, Option, Some, None, All, IfSome}
-use Rattle.std.specs.Option.{is_some}
-use Rattle.std.specs.Prelude.{MatchOption}
+use Rattle.std.proofs.Common.{◌≡◌, ℕ, ◌+◌, ◌<◌, ◌≤◌, Bool, true, false, List, [], ◌∷◌, length, get_or, map, cond, refl, sym, ap, subst, ◌∙◌, arith, Option, Some, None, All, IfSome}
 use Rattle.std.proofs.lemmas.List.{ext_get_or, get_or-map, length-map}
-use Rattle.image_source.specs.Attached.{told_all}
-use Rattle.image_source.specs.Seen.{Image, TellsBytes}
-use Rattle.image_source.proofs.Told.{told_below}
+use Rattle.outside.specs.Attached.{told_all}
+use Rattle.outside.specs.Seen.{Image, TellsBytes}
 use Rattle.raid_layouts.proofs.Shapes.{shaped_images}
 use Rattle.raid_params.specs.declared.types.Geometry.{Geometry}
 use Rattle.raid_terms.specs.Parity.{passes_parity, unsound_rows}
 use Rattle.search_plan.specs.declared.plan.Plan.{Plan}
-use Rattle.member_regions.specs.Members.{HoldBytes, IsTestable}
 use Rattle.member_regions.specs.Regions.{IsRoomFor, Room}
 use Rattle.member_regions.specs.declared.regions.TheConstants.{BLOCK}
 use Rattle.row_scan.specs.ImageRows.{rows_before, rows_of}
-use Rattle.row_scan.specs.Pass.{AllTallies, BeginAnew, CanScan, IsDecided, IsScanned, SettlesOnly, TalliesTo}
+use Rattle.row_scan.specs.Pass.{BeginAnew, CanScan, IsAnew, IsDecided, TalliesSome, TalliesTo}
 use Rattle.row_scan.specs.Scan.{is_unbreakable, IsScannable}
+use Rattle.row_scan.specs.Tallies.{AllTallies, BeginsAs, has_passed, unbroken_tally}
 use Rattle.row_scan.specs.Verdicts.{verdicts_of}
-use Rattle.row_scan.proofs.Parity.{at_most, passes_where}
-use Rattle.row_scan.proofs.Unbroken.{none_unsound}
+use Rattle.row_scan.specs.declared.tally.Tally.{Tally}
+use Rattle.row_scan.specs.declared.tally.Tally.TheVariants.{Left, Passes, Fails}
+use Rattle.row_scan.proofs.Parity.{above, at_most}
+use Rattle.row_scan.proofs.Unbroken.{unbreakable_passes}
 use Rattle.row_scan.proofs.Sets.{scannable_testable}
 
 first_scannable : (plan : Plan) (sets : List Geometry) (attached : List Image) → 1 ≤ length sets → All (λ geo. IsScannable geo plan.end attached) sets → (geo : Geometry) × IsScannable geo plan.end attached
@@ -42,64 +41,91 @@ can_scan plan sets attached room some all planned fits =
     }
 
 -- a set passes where rows may be unsound still
-verdict_of : (images : List (List ℕ)) (plan : Plan) (geo : Geometry) (tally : Option ℕ) (unbreakable : Bool) → is_unbreakable geo ≡ unbreakable → HoldBytes images → IsTestable geo → IsDecided images plan geo tally →
-    is_some tally ≡ passes_parity images geo plan.end plan.limits.window plan.limits.badrows
-verdict_of images plan geo None unbreakable is bytes set decided = passes_where images geo (rows_of plan geo) plan.limits.badrows None decided
-verdict_of images plan geo (Some left) false is bytes set decided = passes_where images geo (rows_of plan geo) plan.limits.badrows (Some left) (decided is)
-verdict_of images plan geo (Some left) true is bytes set decided =
-    let none = none_unsound images geo (rows_of plan geo) bytes set is in
-    sym (at_most (unsound_rows images geo (rows_of plan geo)) plan.limits.badrows (omega arith))
+verdict_of : (images : List (List ℕ)) (plan : Plan) (geo : Geometry) (tally : Tally) → IsDecided images plan geo tally → has_passed tally ≡ passes_parity images geo plan.end plan.limits.window plan.limits.badrows
+verdict_of images plan geo (Left left) decided = sym (at_most (unsound_rows images geo (rows_of plan geo)) plan.limits.badrows (omega arith))
+verdict_of images plan geo Passes decided = sym decided
+verdict_of images plan geo Fails decided = sym (above (unsound_rows images geo (rows_of plan geo)) plan.limits.badrows decided)
 
-verdict_at : (images : List (List ℕ)) (plan : Plan) (sets : List Geometry) (tallies : List (Option ℕ)) (i : ℕ) (d : Option ℕ) (e : Geometry) → HoldBytes images → All (IsScanned plan) sets →
-    AllTallies (IsDecided images plan) sets tallies → i < length sets → is_some (get_or tallies i d) ≡ passes_parity images (get_or sets i e) plan.end plan.limits.window plan.limits.badrows
-verdict_at images plan sets tallies i d e bytes scanned all below =
-    verdict_of images plan (get_or sets i e) (get_or tallies i d) (is_unbreakable (get_or sets i e)) refl bytes (scanned i e below).set (all i d e below)
-
-verdicts_at : (images : List (List ℕ)) (plan : Plan) (e : Geometry) (sets : List Geometry) (tallies : List (Option ℕ)) (i : ℕ) → HoldBytes images → All (IsScanned plan) sets → AllTallies (IsDecided images plan) sets tallies → length tallies ≡ length sets →
-    i < length sets → get_or (map is_some tallies) i false ≡ get_or (verdicts_of images plan sets) i false
-verdicts_at images plan e sets tallies i bytes scanned all long below =
-    get_or-map is_some tallies i None false (omega arith)
-    ∙ verdict_at images plan sets tallies i None e bytes scanned all below
+verdicts_at : (images : List (List ℕ)) (plan : Plan) (e : Geometry) (sets : List Geometry) (tallies : List Tally) (i : ℕ) → AllTallies (IsDecided images plan) sets tallies → length tallies ≡ length sets →
+    i < length sets → get_or (map has_passed tallies) i false ≡ get_or (verdicts_of images plan sets) i false
+verdicts_at images plan e sets tallies i all long below =
+    get_or-map has_passed tallies i Fails false (omega arith)
+    ∙ verdict_of images plan (get_or sets i e) (get_or tallies i Fails) (all i Fails e below)
     ∙ sym (get_or-map (λ (geo : Geometry). passes_parity images geo plan.end plan.limits.window plan.limits.badrows) sets i e false below)
 
 -- the verdicts are those of the parity test
-pub are_verdicts : (images : List (List ℕ)) (plan : Plan) (sets : List Geometry) (tallies : List (Option ℕ)) (passed : List Bool) → HoldBytes images → All (IsScanned plan) sets → AllTallies (IsDecided images plan) sets tallies → length tallies ≡ length sets →
-    passed ≡ map is_some tallies → passed ≡ verdicts_of images plan sets
-are_verdicts images plan [] [] passed bytes scanned all long is = is
-are_verdicts images plan [] (tally ∷ tallies) passed bytes scanned all long is = absurd (omega arith)
-are_verdicts images plan (geo ∷ sets) tallies passed bytes scanned all long is =
-    let same : length (map is_some tallies) ≡ length tallies = length-map tallies is_some in
-    is
-    ∙ ext_get_or false (map is_some tallies) (verdicts_of images plan (geo ∷ sets))
-    (same ∙ long ∙ sym (length-map (geo ∷ sets) (λ (geo' : Geometry). passes_parity images geo' plan.end plan.limits.window plan.limits.badrows)))
-    (λ i less. verdicts_at images plan geo (geo ∷ sets) tallies i bytes scanned all long (omega arith))
+are_verdicts : (images : List (List ℕ)) (plan : Plan) (sets : List Geometry) (tallies : List Tally) → AllTallies (IsDecided images plan) sets tallies → length tallies ≡ length sets →
+    map has_passed tallies ≡ verdicts_of images plan sets
+are_verdicts images plan [] [] all long = refl
+are_verdicts images plan [] (tally ∷ tallies) all long = absurd (omega arith)
+are_verdicts images plan (geo ∷ sets) tallies all long =
+    let same : length (map has_passed tallies) ≡ length tallies = length-map tallies has_passed in
+    let other : length (verdicts_of images plan (geo ∷ sets)) ≡ length (geo ∷ sets) = length-map (geo ∷ sets) (λ (one : Geometry). passes_parity images one plan.end plan.limits.window plan.limits.badrows) in
+    ext_get_or false (map has_passed tallies) (verdicts_of images plan (geo ∷ sets)) (same ∙ long ∙ sym other)
+    (λ i below. verdicts_at images plan geo (geo ∷ sets) tallies i all long (omega arith))
 
--- so they are where all bytes are known
-pub told_verdicts : (attached : List Image) (plan : Plan) (sets : List Geometry) (tallies : List (Option ℕ)) (passed : List Bool) → All TellsBytes attached → All (IsScanned plan) sets → length tallies ≡ length sets →
-    passed ≡ map is_some tallies → IfSome (told_all attached) (λ bytes. AllTallies (IsDecided bytes plan) sets tallies) → IfSome (told_all attached) (λ bytes. passed ≡ verdicts_of bytes plan sets)
-told_verdicts attached plan sets tallies passed tells scanned long is decided = by_told (told_all attached) refl decided
-  where
-    by_told : (told : Option (List (List ℕ))) → told_all attached ≡ told → IfSome told (λ bytes. AllTallies (IsDecided bytes plan) sets tallies) → IfSome told (λ bytes. passed ≡ verdicts_of bytes plan sets)
-    by_told None e all = tt
-    by_told (Some bytes) e all = are_verdicts bytes plan sets tallies passed (λ i k. told_below attached bytes i k tells e) scanned all long is
+pub told_verdicts : (told : Option (List (List ℕ))) (plan : Plan) (sets : List Geometry) (tallies : List Tally) → length tallies ≡ length sets → IfSome told (λ bytes. AllTallies (IsDecided bytes plan) sets tallies) →
+    IfSome told (λ bytes. map has_passed tallies ≡ verdicts_of bytes plan sets)
+told_verdicts None plan sets tallies long decided = tt
+told_verdicts (Some bytes) plan sets tallies long decided = are_verdicts bytes plan sets tallies decided long
+
+-- before the first sector there is no row
+none_before : (images : List (List ℕ)) (plan : Plan) (geo : Geometry) → unsound_rows images geo (rows_before plan geo 0) ≡ 0
+none_before images plan geo = let none : rows_before plan geo 0 ≡ 0 = omega arith in ap (unsound_rows images geo) none
+
+-- the tallies with which a scan begins count no row
+begins_to : (images : List (List ℕ)) (plan : Plan) (geo : Geometry) (tally : Tally) → BeginsAs (Some images) plan geo tally → TalliesTo images plan 0 geo tally
+begins_to images plan geo (Left left) begin = let none = none_before images plan geo in omega arith
+begins_to images plan geo Passes begin = begin
+begins_to images plan geo Fails begin = absurd begin
+
+pub all_begin : (told : Option (List (List ℕ))) (plan : Plan) (sets : List Geometry) (tallies : List Tally) → AllTallies (BeginsAs told plan) sets tallies → IfSome told (λ bytes. AllTallies (TalliesTo bytes plan 0) sets tallies)
+all_begin None plan sets tallies begin = tt
+all_begin (Some bytes) plan sets tallies begin = λ i d e below. begins_to bytes plan (get_or sets i e) (get_or tallies i d) (begin i d e below)
+
+some_of_to : (images : List (List ℕ)) (plan : Plan) (geo : Geometry) (tally : Tally) → TalliesTo images plan 0 geo tally → TalliesSome images plan 0 geo tally
+some_of_to images plan geo (Left left) to = omega arith
+some_of_to images plan geo Passes to = to
+some_of_to images plan geo Fails to = to
+
+pub some_begin : (told : Option (List (List ℕ))) (plan : Plan) (sets : List Geometry) (tallies : List Tally) → AllTallies (BeginsAs told plan) sets tallies → IfSome told (λ bytes. AllTallies (TalliesSome bytes plan 0) sets tallies)
+some_begin None plan sets tallies begin = tt
+some_begin (Some bytes) plan sets tallies begin = λ i d e below. some_of_to bytes plan (get_or sets i e) (get_or tallies i d) (begins_to bytes plan (get_or sets i e) (get_or tallies i d) (begin i d e below))
 
 -- a tally that begins anew counts no row, and one that is settled stays so
-anew_at : (images : List (List ℕ)) (plan : Plan) (geo : Geometry) (old new : Option ℕ) → MatchOption old (new ≡ None) (λ k. new ≡ Some plan.limits.badrows) → SettlesOnly images plan geo old → TalliesTo images plan 0 geo new
-anew_at images plan geo None new is settles = subst (λ (tally : Option ℕ). TalliesTo images plan 0 geo tally) (sym is) (settles refl)
-anew_at images plan geo (Some k) new is settles =
-    subst (λ (tally : Option ℕ). TalliesTo images plan 0 geo tally) (sym is)
-    (λ breakable. let none : rows_before plan geo 0 ≡ 0 = omega arith in let sound : unsound_rows images geo (rows_before plan geo 0) ≡ 0 = ap (unsound_rows images geo) none in omega arith)
+anew_at : (images : List (List ℕ)) (plan : Plan) (at : ℕ) (geo : Geometry) (old new : Tally) → IsAnew plan.limits.badrows old new → TalliesSome images plan at geo old → TalliesTo images plan 0 geo new
+anew_at images plan at geo (Left k) new is so_far =
+    subst (λ (tally : Tally). TalliesTo images plan 0 geo tally) (sym is) (let none = none_before images plan geo in omega arith)
+anew_at images plan at geo Passes new is so_far = subst (λ (tally : Tally). TalliesTo images plan 0 geo tally) (sym is) so_far
+anew_at images plan at geo Fails new is so_far = subst (λ (tally : Tally). TalliesTo images plan 0 geo tally) (sym is) so_far
 
--- after the samples and a sweep the tallies are those of all rows
-pub decided_from : (told : Option (List (List ℕ))) (plan : Plan) (sets : List Geometry) (sampled anew swept : List (Option ℕ)) → length sampled ≡ length sets → BeginAnew plan.limits.badrows sampled anew →
-    IfSome told (λ bytes. AllTallies (SettlesOnly bytes plan) sets sampled) → IfSome told (λ bytes. AllTallies (TalliesTo bytes plan 0) sets anew → AllTallies (IsDecided bytes plan) sets swept) →
-    IfSome told (λ bytes. AllTallies (IsDecided bytes plan) sets swept)
-decided_from None plan sets sampled anew swept long begin settles goes = tt
-decided_from (Some bytes) plan sets sampled anew swept long begin settles goes =
-    goes (λ i d e below. anew_at bytes plan (get_or sets i e) (get_or sampled i d) (get_or anew i d) (begin i d (omega arith)) (settles i d e below))
+-- after the samples the tallies begin again
+pub all_anew : (told : Option (List (List ℕ))) (plan : Plan) (at : ℕ) (sets : List Geometry) (sampled anew : List Tally) → length sampled ≡ length sets → BeginAnew plan.limits.badrows sampled anew →
+    IfSome told (λ bytes. AllTallies (TalliesSome bytes plan at) sets sampled) → IfSome told (λ bytes. AllTallies (TalliesTo bytes plan 0) sets anew)
+all_anew None plan at sets sampled anew long begin so_far = tt
+all_anew (Some bytes) plan at sets sampled anew long begin so_far = λ i d e below.
+    anew_at bytes plan at (get_or sets i e) (get_or sampled i d) (get_or anew i d) (begin i d (omega arith)) (so_far i d e below)
+
+-- a sweep of such tallies tells the verdicts
+pub swept_verdicts : (told : Option (List (List ℕ))) (plan : Plan) (sets : List Geometry) (first swept : List Tally) → length swept ≡ length sets → IfSome told (λ bytes. AllTallies (TalliesTo bytes plan 0) sets first) →
+    IfSome told (λ bytes. AllTallies (TalliesTo bytes plan 0) sets first → AllTallies (IsDecided bytes plan) sets swept) → IfSome told (λ bytes. map has_passed swept ≡ verdicts_of bytes plan sets)
+swept_verdicts None plan sets first swept long begin goes = tt
+swept_verdicts (Some bytes) plan sets first swept long begin goes = are_verdicts bytes plan sets swept (goes begin) long
+
+-- a set that nothing can break is known to pass
+first_begins : (attached : List Image) (plan : Plan) (geo : Geometry) (b : Bool) → is_unbreakable geo ≡ b → All TellsBytes attached → IsScannable geo plan.end attached → BeginsAs (told_all attached) plan geo (cond b Passes (Left plan.limits.badrows))
+first_begins attached plan geo true is tells set = unbreakable_passes attached geo plan.end plan.limits.window plan.limits.badrows tells set is
+first_begins attached plan geo false is tells set = refl
+
+pub all_first : (attached : List Image) (plan : Plan) (sets : List Geometry) (tallies : List Tally) → All TellsBytes attached → All (λ geo. IsScannable geo plan.end attached) sets → tallies ≡ map (unbroken_tally plan) sets →
+    AllTallies (BeginsAs (told_all attached) plan) sets tallies
+all_first attached plan sets tallies tells all is = λ i d e below.
+    let here : get_or tallies i d ≡ unbroken_tally plan (get_or sets i e) = ap (λ (l : List Tally). get_or l i d) is ∙ get_or-map (unbroken_tally plan) sets i e d below in
+    subst (λ (t : Tally). BeginsAs (told_all attached) plan (get_or sets i e) t) (sym here)
+    (first_begins attached plan (get_or sets i e) (is_unbreakable (get_or sets i e)) refl tells (all i e below))
 
 -- a list is known by its elements
-pub some_of : (passed : List Bool) (tallies : List (Option ℕ)) → length passed ≡ length tallies → ((i : ℕ) (d : Bool) (e : Option ℕ) → i < length tallies → get_or passed i d ≡ is_some (get_or tallies i e)) → passed ≡ map is_some tallies
-some_of passed tallies long told =
-    ext_get_or false passed (map is_some tallies) (long ∙ sym (length-map tallies is_some))
-    (λ i less. told i false None (omega arith) ∙ sym (get_or-map is_some tallies i None false (omega arith)))
+pub passed_of : (passed : List Bool) (tallies : List Tally) → length passed ≡ length tallies → ((i : ℕ) (d : Bool) (e : Tally) → i < length tallies → get_or passed i d ≡ has_passed (get_or tallies i e)) → passed ≡ map has_passed tallies
+passed_of passed tallies long told =
+    ext_get_or false passed (map has_passed tallies) (long ∙ sym (length-map tallies has_passed))
+    (λ i less. told i false Fails (omega arith) ∙ sym (get_or-map has_passed tallies i Fails false (omega arith)))

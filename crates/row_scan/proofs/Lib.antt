@@ -7,6 +7,7 @@ pub mod Adding
 pub mod NextRun
 pub mod Asked
 pub mod Tallying
+pub mod Settled
 pub mod Sweeps
 pub mod Judging
 pub mod ImageSums

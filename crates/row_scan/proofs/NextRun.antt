@@ -8,11 +8,14 @@ use Rattle.std.proofs.lemmas.List.{get_or-map, get_or_default, length-map}
 use Rattle.raid_params.specs.declared.types.Geometry.{Geometry}
 use Rattle.search_plan.specs.declared.plan.Plan.{Plan}
 use Rattle.member_regions.proofs.Sets.{area_below}
-use Rattle.row_scan.specs.ImageRows.{is_open, rows_before, rows_of}
+use Rattle.row_scan.specs.ImageRows.{rows_before, rows_of}
+use Rattle.row_scan.specs.Tallies.{is_open, NoneOpen}
 use Rattle.row_scan.specs.Pass.{IsNextRun, IsNotLater, IsOwnRun, NothingLeft}
 use Rattle.row_scan.specs.Verdicts.{offsets_of}
 use Rattle.row_scan.specs.Windows.{is_in_window}
 use Rattle.row_scan.specs.declared.runs.Run.{Run}
+use Rattle.row_scan.specs.declared.tally.Tally.{Tally}
+use Rattle.row_scan.specs.declared.tally.Tally.TheVariants.{Left, Passes, Fails}
 
 -- no rows of a set lie past the end or its window
 rows_below : (plan : Plan) (geo : Geometry) → (rows_of plan geo ≤ plan.end - geo.head.offset) × (rows_of plan geo ≤ plan.limits.window)
@@ -44,23 +47,23 @@ in_some_window plan sets k s e below low high =
     list_any_at (is_in_window plan.end plan.limits.window s) (offsets_of sets) k 0 (omega arith) inside
 
 -- of one set more none has rows left
-none_more : (plan : Plan) (sets : List Geometry) (tallies : List (Option ℕ)) (k at : ℕ) → NothingLeft plan sets tallies k at →
-    ((e : Geometry) (d : Option ℕ) → IsOwnRun plan (get_or sets k e) (get_or tallies k d) at None) → NothingLeft plan sets tallies (k + 1) at
+none_more : (plan : Plan) (sets : List Geometry) (tallies : List Tally) (k at : ℕ) → NothingLeft plan sets tallies k at →
+    ((e : Geometry) (d : Tally) → IsOwnRun plan (get_or sets k e) (get_or tallies k d) at None) → NothingLeft plan sets tallies (k + 1) at
 none_more plan sets tallies k at so_far own = λ i d e lt opened.
     elim (cases_lt i k) [
       | inl less ↦ so_far i d e less opened
-      | inr more ↦ (let same : k ≡ i = omega arith in subst (λ (n : ℕ). is_open (get_or sets n e) (get_or tallies n d) ≡ true → rows_before plan (get_or sets n e) at ≡ rows_of plan (get_or sets n e)) same (own e d) opened)
+      | inr more ↦ (let same : k ≡ i = omega arith in subst (λ (n : ℕ). is_open (get_or tallies n d) ≡ true → rows_before plan (get_or sets n e) at ≡ rows_of plan (get_or sets n e)) same (own e d) opened)
     ]
 
 -- no rows of a set lie between a sector and the run, if none lay before its own
-skips_more : (plan : Plan) (geo : Geometry) (tally : Option ℕ) (at first : ℕ) (own : Option Run) → IsOwnRun plan geo tally at own → is_open geo tally ≡ true → at ≤ first →
+skips_more : (plan : Plan) (geo : Geometry) (tally : Tally) (at first : ℕ) (own : Option Run) → IsOwnRun plan geo tally at own → is_open tally ≡ true → at ≤ first →
     IfSome own (λ run. first ≤ run.first) → rows_before plan geo at ≡ rows_before plan geo first
 skips_more plan geo tally at first None is opened low high = skips_all plan geo at first low (is opened)
 skips_more plan geo tally at first (Some run) is opened low high = skips_own plan geo at first low (omega (arith, is.0))
 
 -- the run stays the next where that of one more set begins no earlier
-keeps_next : (plan : Plan) (sets : List Geometry) (tallies : List (Option ℕ)) (k at : ℕ) (run : Run) (other : Option Run) → IsNextRun plan sets tallies k at run →
-    ((e : Geometry) (d : Option ℕ) → IsOwnRun plan (get_or sets k e) (get_or tallies k d) at other) → IfSome other (λ b. run.first ≤ b.first) → IsNextRun plan sets tallies (k + 1) at run
+keeps_next : (plan : Plan) (sets : List Geometry) (tallies : List Tally) (k at : ℕ) (run : Run) (other : Option Run) → IsNextRun plan sets tallies k at run →
+    ((e : Geometry) (d : Tally) → IsOwnRun plan (get_or sets k e) (get_or tallies k d) at other) → IfSome other (λ b. run.first ≤ b.first) → IsNextRun plan sets tallies (k + 1) at run
 keeps_next plan sets tallies k at run other is own low = record {
   later = is.later;
   some = is.some;
@@ -77,18 +80,18 @@ keeps_next plan sets tallies k at run other is own low = record {
 }
 
 -- the rows before the run of one more set were skipped in those before it
-skips_before : (plan : Plan) (sets : List Geometry) (tallies : List (Option ℕ)) (k at first : ℕ) (one : Option Run) →
+skips_before : (plan : Plan) (sets : List Geometry) (tallies : List Tally) (k at first : ℕ) (one : Option Run) →
     MatchOption one (NothingLeft plan sets tallies k at) (IsNextRun plan sets tallies k at) → at ≤ first → IfSome one (λ run. first ≤ run.first) →
-    (i : ℕ) (d : Option ℕ) (e : Geometry) → i < k → is_open (get_or sets i e) (get_or tallies i d) ≡ true → rows_before plan (get_or sets i e) at ≡ rows_before plan (get_or sets i e) first
+    (i : ℕ) (d : Tally) (e : Geometry) → i < k → is_open (get_or tallies i d) ≡ true → rows_before plan (get_or sets i e) at ≡ rows_before plan (get_or sets i e) first
 skips_before plan sets tallies k at first None so_far low high i d e lt opened = skips_all plan (get_or sets i e) at first low (so_far i d e lt opened)
 skips_before plan sets tallies k at first (Some run) so_far low high i d e lt opened = skips_less plan (get_or sets i e) at first run.first low high (so_far.skipped i d e lt opened)
 
 -- the run of one more set is the next where none before begins earlier
-turns_next : (plan : Plan) (sets : List Geometry) (tallies : List (Option ℕ)) (k at : ℕ) (run : Run) (one : Option Run) (e : Geometry) → k < length sets →
+turns_next : (plan : Plan) (sets : List Geometry) (tallies : List Tally) (k at : ℕ) (run : Run) (one : Option Run) (e : Geometry) → k < length sets →
     MatchOption one (NothingLeft plan sets tallies k at) (IsNextRun plan sets tallies k at) →
-    ((e : Geometry) (d : Option ℕ) → IsOwnRun plan (get_or sets k e) (get_or tallies k d) at (Some run)) → IfSome one (λ a. run.first ≤ a.first) → IsNextRun plan sets tallies (k + 1) at run
+    ((e : Geometry) (d : Tally) → IsOwnRun plan (get_or sets k e) (get_or tallies k d) at (Some run)) → IfSome one (λ a. run.first ≤ a.first) → IsNextRun plan sets tallies (k + 1) at run
 turns_next plan sets tallies k at run one e below so_far own low =
-    let is = own e None in
+    let is = own e Fails in
     let few = rows_below plan (get_or sets k e) in
     record {
       later = omega (arith, is.0);
@@ -106,11 +109,11 @@ turns_next plan sets tallies k at run one e below so_far own low =
     }
 
 -- elements do not depend on what is given where there are none
-pub own_at : (plan : Plan) (sets : List Geometry) (tallies : List (Option ℕ)) (k at : ℕ) (geo : Geometry) (tally : Option ℕ) (e : Geometry) (d : Option ℕ) (other : Option Run) → k < length sets → k < length tallies →
-    geo ≡ get_or sets k geo → tally ≡ get_or tallies k None → IsOwnRun plan geo tally at other → IsOwnRun plan (get_or sets k e) (get_or tallies k d) at other
+pub own_at : (plan : Plan) (sets : List Geometry) (tallies : List Tally) (k at : ℕ) (geo : Geometry) (tally : Tally) (e : Geometry) (d : Tally) (other : Option Run) → k < length sets → k < length tallies →
+    geo ≡ get_or sets k geo → tally ≡ get_or tallies k (Left 0) → IsOwnRun plan geo tally at other → IsOwnRun plan (get_or sets k e) (get_or tallies k d) at other
 own_at plan sets tallies k at geo tally e d other in_sets in_tallies here now own =
     let same : geo ≡ get_or sets k e = here ∙ get_or_default sets k geo e in_sets in
-    let same' : tally ≡ get_or tallies k d = now ∙ get_or_default tallies k None d in_tallies in
+    let same' : tally ≡ get_or tallies k d = now ∙ get_or_default tallies k (Left 0) d in_tallies in
     rw (same, same') at own
 
 no_later : (one : Option Run) → IsNotLater None one → one ≡ None
@@ -118,9 +121,9 @@ no_later None never = refl
 no_later (Some run) never = absurd never
 
 -- one more set
-pub next_more : (plan : Plan) (sets : List Geometry) (tallies : List (Option ℕ)) (k at : ℕ) (e : Geometry) (one other next : Option Run) → k < length sets →
+pub next_more : (plan : Plan) (sets : List Geometry) (tallies : List Tally) (k at : ℕ) (e : Geometry) (one other next : Option Run) → k < length sets →
     MatchOption one (NothingLeft plan sets tallies k at) (IsNextRun plan sets tallies k at) →
-    ((e : Geometry) (d : Option ℕ) → IsOwnRun plan (get_or sets k e) (get_or tallies k d) at other) →
+    ((e : Geometry) (d : Tally) → IsOwnRun plan (get_or sets k e) (get_or tallies k d) at other) →
     ((next ≡ one) ⊎ (next ≡ other)) → IsNotLater next one → IsNotLater next other →
     MatchOption next (NothingLeft plan sets tallies (k + 1) at) (IsNextRun plan sets tallies (k + 1) at)
 next_more plan sets tallies k at e one other None below so_far own either before beside =
@@ -131,3 +134,9 @@ next_more plan sets tallies k at e one other (Some run) below so_far own (inl is
     keeps_next plan sets tallies k at run other (rw (sym is) at so_far) own beside
 next_more plan sets tallies k at e one other (Some run) below so_far own (inr is) before beside =
     turns_next plan sets tallies k at run one e below so_far (rw (sym is) at own) before
+
+-- where no tally is open, nothing is left
+pub none_left : (plan : Plan) (sets : List Geometry) (tallies : List Tally) (n at : ℕ) → n ≤ length tallies → NoneOpen tallies → NothingLeft plan sets tallies n at
+none_left plan sets tallies n at le none = λ i d e lt opened.
+    let there : list_any is_open tallies ≡ true = list_any_at is_open tallies i d (omega arith) opened in
+    absurd cc

@@ -1,15 +1,14 @@
 -- The rows of a block are those of the array.
 use Rattle.std.proofs.Common.{◌≡◌, ℕ, zero, suc, ◌+◌, ◌*◌, ◌/◌, ◌<◌, ◌≤◌, Bool, true, false, not, cond, List, length, get_or, sym, ap, ◌∙◌, arith, IfSome, Some, None}
-use Rattle.std.specs.Option.{is_some}
 use Rattle.std.specs.Prelude.{nat_le}
 use Rattle.std.proofs.lemmas.Bool.Decides.{nat_tests}
 use Rattle.std.specs.declared.option.Option.{Option}
 use Rattle.raid_params.specs.declared.types.Geometry.{Geometry}
 use Rattle.raid_terms.specs.Cells.{row_cells}
 use Rattle.raid_terms.specs.Parity.{is_sound_row, member_byte, member_column, unsound_rows}
-use Rattle.pq_parity.specs.Regions.{region_column}
+use Rattle.row_parity.specs.Regions.{region_column}
 use Rattle.member_regions.specs.Regions.{HoldRead, Room}
-use Rattle.row_scan.specs.Block.{is_sound_in, unsound_in, IsRest}
+use Rattle.row_scan.specs.Block.{is_sound_in, unsound_in}
 use Rattle.member_regions.proofs.Counting.{count_suc}
 use Rattle.member_regions.proofs.Alike.{filled_alike, later_byte}
 use Rattle.row_scan.proofs.Columns.{sound_alike, unsound_none, unsound_more}
@@ -49,10 +48,5 @@ told_after (Some bytes) geo first count n room hold is = omega (arith, unsound_a
 pub at_most : (n m : ℕ) → n ≤ m → nat_le n m ≡ true
 at_most n m le = grind (arith, nat_tests)
 
-above : (n m : ℕ) → m < n → nat_le n m ≡ false
+pub above : (n m : ℕ) → m < n → nat_le n m ≡ false
 above n m lt = grind (arith, nat_tests)
-
--- the test passes where rows may be unsound still
-pub passes_where : (bytes : List (List ℕ)) (geo : Geometry) (rows bad : ℕ) (rest : Option ℕ) → IsRest bytes geo rows bad rest → is_some rest ≡ nat_le (unsound_rows bytes geo rows) bad
-passes_where bytes geo rows bad None more = sym (above (unsound_rows bytes geo rows) bad more)
-passes_where bytes geo rows bad (Some k) is = sym (at_most (unsound_rows bytes geo rows) bad (omega arith))

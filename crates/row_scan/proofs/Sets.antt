@@ -1,6 +1,6 @@
 -- What is known of sets whose rows are tested.
 use Rattle.std.proofs.Common.{ℕ, ◌≤◌, List, length, All}
-use Rattle.image_source.specs.Seen.{Image}
+use Rattle.outside.specs.Seen.{Image}
 use Rattle.raid_params.specs.declared.types.Geometry.{Geometry}
 use Rattle.member_regions.specs.Members.{IsTestable, Reaches}
 use Rattle.member_regions.proofs.Sets.{images_reach}

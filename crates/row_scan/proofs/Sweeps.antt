@@ -1,18 +1,20 @@
 -- What a pass reads.
-use Rattle.std.proofs.Common.{◌≡◌, ℕ, zero, suc, ◌+◌, ◌*◌, ◌<◌, ◌≤◌, Bool, true, cond, List, length, ap, arith, Option, IfSome}
+use Rattle.std.proofs.Common.{◌≡◌, ℕ, zero, suc, ◌+◌, ◌*◌, ◌<◌, ◌≤◌, Bool, true, cond, List, length, ap, arith, Option, None, IfSome, Result, Ok, Err, OnOk}
 use Rattle.std.proofs.Math.Nat.{mul-add}
 use Rattle.std.specs.List.{list_any}
-use Rattle.image_source.specs.Attached.{told_all}
-use Rattle.image_source.specs.Seen.{Image, Seen, OnlyReads}
+use Rattle.outside.specs.Attached.{told_all}
+use Rattle.outside.specs.Seen.{Image, Seen, OnlyReads}
 use Rattle.member_regions.proofs.IfTold.{if_both}
-use Rattle.image_source.proofs.Reading.{reads_join, reads_none, reads_up}
+use Rattle.outside.proofs.Reading.{reads_join, reads_none, reads_up}
 use Rattle.raid_params.specs.declared.types.Geometry.{Geometry}
 use Rattle.search_plan.specs.declared.plan.Plan.{Plan}
 use Rattle.member_regions.proofs.Counting.{count_grows, count_suc}
-use Rattle.row_scan.specs.Pass.{AllTallies, IsNextRun, ReadsWindows, SweptTo, TalliesTo}
+use Rattle.row_scan.specs.Pass.{IsDecided, IsNextRun, ReadsWindows, SweptTo, TalliesTo}
+use Rattle.row_scan.specs.Tallies.{AllTallies}
 use Rattle.row_scan.specs.Verdicts.{offsets_of}
 use Rattle.row_scan.specs.Windows.{is_in_window, sectors_below}
 use Rattle.row_scan.specs.declared.runs.Run.{Run}
+use Rattle.row_scan.specs.declared.tally.Tally.{Tally}
 
 -- more sectors, no fewer in windows
 pub windows_rise : (end window : ℕ) (offsets : List ℕ) (n m : ℕ) → n ≤ m → sectors_below end window offsets n ≤ sectors_below end window offsets m
@@ -45,7 +47,7 @@ windows_none s plan sets from to le = record {
 }
 
 -- a run was read
-pub windows_run : (old new : Seen) (plan : Plan) (sets : List Geometry) (tallies : List (Option ℕ)) (n at : ℕ) (run : Run) → IsNextRun plan sets tallies n at run →
+pub windows_run : (old new : Seen) (plan : Plan) (sets : List Geometry) (tallies : List Tally) (n at : ℕ) (run : Run) → IsNextRun plan sets tallies n at run →
     OnlyReads old new (length old.attached * run.count) → ReadsWindows old new plan sets at (run.first + run.count)
 windows_run old new plan sets tallies n at run next reads = record {
   each = run.count;
@@ -79,7 +81,7 @@ windows_join old mid new plan sets from between to first second =
     }
 
 -- the tallies go on, where all bytes are known
-pub swept_on : (old mid : List Image) (plan : Plan) (sets : List Geometry) (from at : ℕ) (next : Option ℕ) (first tallies new : List (Option ℕ)) → mid ≡ old →
+pub swept_on : (old mid : List Image) (plan : Plan) (sets : List Geometry) (from at : ℕ) (next : Option ℕ) (first tallies new : List Tally) → mid ≡ old →
     IfSome (told_all old) (λ bytes. AllTallies (TalliesTo bytes plan from) sets first → AllTallies (TalliesTo bytes plan at) sets tallies) →
     IfSome (told_all mid) (λ bytes. AllTallies (TalliesTo bytes plan at) sets tallies → SweptTo bytes plan sets next new) →
     IfSome (told_all old) (λ bytes. AllTallies (TalliesTo bytes plan from) sets first → SweptTo bytes plan sets next new)
@@ -88,3 +90,11 @@ swept_on old mid plan sets from at next first tallies new same so_far more =
     (λ bytes. AllTallies (TalliesTo bytes plan at) sets tallies → SweptTo bytes plan sets next new)
     (λ bytes. AllTallies (TalliesTo bytes plan from) sets first → SweptTo bytes plan sets next new)
     (λ bytes before after begun. after (before begun)) so_far (rw same at more)
+
+-- and to their end, where a call succeeded
+pub swept_result : {T E : Type 0} (result : Result T E) (old mid : List Image) (plan : Plan) (sets : List Geometry) (at : ℕ) (first tallies new : List Tally) → mid ≡ old →
+    IfSome (told_all old) (λ bytes. AllTallies (TalliesTo bytes plan 0) sets first → AllTallies (TalliesTo bytes plan at) sets tallies) →
+    OnOk result (IfSome (told_all mid) (λ bytes. AllTallies (TalliesTo bytes plan at) sets tallies → AllTallies (IsDecided bytes plan) sets new)) →
+    OnOk result (IfSome (told_all old) (λ bytes. AllTallies (TalliesTo bytes plan 0) sets first → AllTallies (IsDecided bytes plan) sets new))
+swept_result (Ok t) old mid plan sets at first tallies new same so_far more = swept_on old mid plan sets 0 at None first tallies new same so_far more
+swept_result (Err e) old mid plan sets at first tallies new same so_far more = tt

@@ -1,10 +1,10 @@
 -- Where nothing can break a row, none is unsound.
 use Rattle.std.proofs.Common.{◌≡◌, ℕ, zero, suc, ◌/◌, ◌*◌, Bool, true, not, cond, List, length, sym, ap, ◌∙◌, refl, arith, All, Option, None, Some, IfSome}
 use Rattle.std.proofs.lemmas.Bool.{eqb-true}
-use Rattle.image_source.specs.Attached.{told_all}
-use Rattle.image_source.specs.Seen.{Image, OnlyReads, Seen, TellsBytes}
-use Rattle.image_source.proofs.Reading.{reads_none, reads_up}
-use Rattle.image_source.proofs.Told.{told_below}
+use Rattle.outside.specs.Attached.{told_all}
+use Rattle.outside.specs.Seen.{Image, OnlyReads, Seen, TellsBytes}
+use Rattle.outside.proofs.Reading.{reads_none, reads_up}
+use Rattle.outside.proofs.Told.{told_below}
 use Rattle.raid_layouts.proofs.Counts.{both_numbers, count_missing, count_p, count_parity, count_q}
 use Rattle.raid_layouts.proofs.Shapes.{shaped_head, shaped_slots}
 use Rattle.raid_layouts.proofs.Solvable.{row_is}
@@ -13,7 +13,7 @@ use Rattle.raid_params.specs.Slots.{empties}
 use Rattle.raid_params.specs.declared.types.Geometry.{Geometry}
 use Rattle.raid_terms.specs.Cells.{row_cells}
 use Rattle.raid_terms.specs.Parity.{is_sound_row, member_column, passes_parity, tested_rows, unsound_rows}
-use Rattle.pq_parity.proofs.Soundness.{sound_where_full}
+use Rattle.row_parity.proofs.Soundness.{sound_where_full}
 use Rattle.member_regions.proofs.ColumnBytes.{member_columns}
 use Rattle.member_regions.proofs.Counting.{count_suc}
 use Rattle.member_regions.specs.Members.{HoldBytes, IsTestable}

@@ -8,9 +8,9 @@ use Rattle.raid_params.specs.declared.types.Geometry.{Geometry}
 use Rattle.raid_params.specs.declared.types.Part.{Part}
 use Rattle.raid_terms.specs.Cells.{row_cells}
 use Rattle.raid_terms.specs.Parity.{filled, has_q, in_p, in_q, is_sound, is_sound_row, IsRow, member_byte, member_column}
-use Rattle.pq_parity.specs.Syndromes.{AllCancel, AreColumns, Cancel, known_sum}
-use Rattle.pq_parity.proofs.Shapes.{length_lost, parity_count}
-use Rattle.pq_parity.proofs.Soundness.{lost_none, NotFull, sound_where_whole}
+use Rattle.row_parity.specs.Syndromes.{AllCancel, AreColumns, Cancel, known_sum}
+use Rattle.row_parity.proofs.Shapes.{length_lost, parity_count}
+use Rattle.row_parity.proofs.Soundness.{lost_none, NotFull, sound_where_whole}
 use Rattle.member_regions.proofs.Sets.{row_length, testable_row}
 use Rattle.member_regions.specs.Members.{IsTestable}
 use Rattle.member_regions.specs.Regions.{Room}

@@ -5,7 +5,7 @@ use Rattle.std.specs.List.{range_with_len}
 use Rattle.raid_params.specs.declared.types.Geometry.{Geometry}
 use Rattle.raid_terms.specs.Cells.{row_cells}
 use Rattle.raid_terms.specs.Parity.{is_sound, unsound_rows}
-use Rattle.pq_parity.specs.Regions.{region_column}
+use Rattle.row_parity.specs.Regions.{region_column}
 use Rattle.member_regions.specs.Regions.{Room}
 
 -- the sectors number j of the regions are a sound row, where the regions begin at member sector `first`
@@ -15,7 +15,3 @@ is_sound_in geo room first j = is_sound (row_cells geo ((first + j) / geo.head.c
 -- how many of the first n rows of the regions are unsound
 unfoldable pub unsound_in : Geometry → Room → ℕ → ℕ → ℕ
 unsound_in geo room first n = count_by (λ j. not (is_sound_in geo room first j)) (range_with_len 0 n)
-
--- n of the first rows may be unsound still, where `left` may be in all, or more are than may be
-abbrev pub IsRest : List (List ℕ) → Geometry → ℕ → ℕ → Option ℕ → Type 0
-IsRest images geo n left rest = MatchOption rest (left < unsound_rows images geo n) (λ k. unsound_rows images geo n + k ≡ left)

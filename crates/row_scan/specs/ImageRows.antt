@@ -2,14 +2,15 @@
 use Rattle.std.specs.Prelude.{ℕ, ◌≡◌, ◌+◌, ◌-◌, ◌*◌, ◌<◌, Bool, true, false, nat_lt, ◌&&◌, not, min, List, [], length, slice_index, slice_index_or, MatchOption, All, IfSome, ◌^◌}
 use Rattle.std.specs.declared.option.Option.{Option}
 use Rattle.std.specs.declared.option.Option.TheVariants.{None, Some}
-use Rattle.std.specs.Option.{is_some}
 use Rattle.raid_params.specs.declared.types.Geometry.{Geometry}
 use Rattle.raid_terms.specs.Parity.{tested_rows, unsound_rows}
 use Rattle.search_plan.specs.declared.plan.Plan.{Plan}
 use Rattle.member_regions.specs.Members.{IsTestable}
 use Rattle.member_regions.specs.Regions.{Room}
-use Rattle.row_scan.specs.Scan.{is_unbreakable}
+use Rattle.row_scan.specs.Tallies.{is_open}
 use Rattle.row_scan.specs.declared.runs.Run.{Run}
+use Rattle.row_scan.specs.declared.tally.Tally.{Tally}
+use Rattle.row_scan.specs.declared.tally.Tally.TheVariants.{Left, Passes, Fails}
 
 -- the tested rows of a set in a search by this plan
 abbrev pub rows_of : Plan → Geometry → ℕ
@@ -29,31 +30,32 @@ abbrev pub HoldsSet : List (List ℕ) → Run → Room → Geometry → Type 0
 HoldsSet images run room geo = (slot image : ℕ) → slice_index_or geo.slots.items slot None ≡ Some image → HoldsImage images run room image
 
 -- of the rows from one up to another no more are unsound than may be, and k may be still; or more are
-abbrev pub IsLeftAfter : List (List ℕ) → Geometry → ℕ → ℕ → ℕ → Option ℕ → Type 0
-IsLeftAfter images geo from to left rest = MatchOption rest
-    (unsound_rows images geo from + left < unsound_rows images geo to)
-    (λ k. unsound_rows images geo to + k ≡ unsound_rows images geo from + left)
-
--- a tally is how many more rows of its set may be unsound, and None where more are than may be. It is open while rows of
--- its set may decide it, so not where nothing can break a row
-abbrev pub is_open : Geometry → Option ℕ → Bool
-is_open geo tally = is_some tally && not (is_unbreakable geo)
+abbrev pub IsLeftAfter : List (List ℕ) → Geometry → ℕ → ℕ → ℕ → Tally → Type 0
+IsLeftAfter images geo from to left (Left k) = unsound_rows images geo to + k ≡ unsound_rows images geo from + left
+IsLeftAfter images geo from to left Passes = ⊥
+IsLeftAfter images geo from to left Fails = unsound_rows images geo from + left < unsound_rows images geo to
 
 -- an open tally whose set has tested rows in the run asks for it
-abbrev pub asks : Plan → Geometry → Option ℕ → Run → Bool
-asks plan geo tally run = is_open geo tally && nat_lt (rows_before plan geo run.first) (rows_before plan geo (run.first + run.count))
+abbrev pub asks : Plan → Geometry → Tally → Run → Bool
+asks plan geo tally run = is_open tally && nat_lt (rows_before plan geo run.first) (rows_before plan geo (run.first + run.count))
+
+-- so many rows may be unsound still
+abbrev pub IfLeft : Tally → (ℕ → Type 0) → Type 0
+IfLeft (Left left) holds = holds left
+IfLeft Passes holds = Unit {0}
+IfLeft Fails holds = Unit {0}
 
 -- a tally after the rows of a run: as before where it does not ask, and else with the set's rows in the run, over the
 -- bytes of any images whose sectors the regions hold
-pub record AddsRun (plan : Plan) (geo : Geometry) (run : Run) (room : Room) (old new : Option ℕ) : Type 0 where
+pub record AddsRun (plan : Plan) (geo : Geometry) (run : Run) (room : Room) (old new : Tally) : Type 0 where
   pub kept : asks plan geo old run ≡ false → new ≡ old
   pub added : asks plan geo old run ≡ true → (images : List (List ℕ)) → HoldsSet images run room geo →
-      IfSome old (λ left. IsLeftAfter images geo (rows_before plan geo run.first) (rows_before plan geo (run.first + run.count)) left new)
+      IfLeft old (λ left. IsLeftAfter images geo (rows_before plan geo run.first) (rows_before plan geo (run.first + run.count)) left new)
 
 -- so it is for each tally, of the sets from number `start` on
-abbrev pub AddAll : Plan → List Geometry → ℕ → Run → Room → List (Option ℕ) → List (Option ℕ) → Type 0
+abbrev pub AddAll : Plan → List Geometry → ℕ → Run → Room → List Tally → List Tally → Type 0
 AddAll plan sets start run room old new =
-    (i : ℕ) (d : Option ℕ) (e : Geometry) → i < length old → AddsRun plan (slice_index_or sets (start + i) e) run room (slice_index_or old i d) (slice_index_or new i d)
+    (i : ℕ) (d : Tally) (e : Geometry) → i < length old → AddsRun plan (slice_index_or sets (start + i) e) run room (slice_index_or old i d) (slice_index_or new i d)
 
 -- the rows of the set can be tallied over these regions: each of its images has one
 pub record IsTallied (room : Room) (geo : Geometry) : Type 0 where

@@ -8,8 +8,8 @@ use Rattle.raid_params.specs.declared.types.Cell.{Cell}
 use Rattle.raid_params.specs.declared.types.Geometry.{Geometry}
 use Rattle.raid_terms.specs.Cells.{row_cells}
 use Rattle.raid_terms.specs.Parity.{has_p, in_p}
-use Rattle.pq_parity.specs.LostBytes.{first_missing}
-use Rattle.pq_parity.specs.Syndromes.{known_sum}
+use Rattle.row_parity.specs.LostBytes.{first_missing}
+use Rattle.row_parity.specs.Syndromes.{known_sum}
 use Rattle.member_regions.specs.ImageSums.{all_sum, room_byte, SumImages}
 use Rattle.member_regions.specs.Regions.{Room}
 use Rattle.row_scan.specs.declared.image_sums.ImageSums.{ImageSums}

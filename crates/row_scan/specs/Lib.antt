@@ -1,4 +1,5 @@
 pub mod Scan
+pub mod Tallies
 pub mod Block
 pub mod Windows
 pub mod Verdicts

@@ -1,7 +1,7 @@
 -- What is asked of a parameter set whose rows are tested, and why a test ends.
 use Rattle.std.specs.Prelude.{◌≡◌, ◌≤◌, ◌<◌, ◌^◌, ◌==◌, if◌then◌else◌, ℕ, Bool, true, List, length, All}
-use Rattle.image_source.specs.Causes.{Rose}
-use Rattle.image_source.specs.Seen.{Image, Seen}
+use Rattle.outside.specs.Causes.{Rose}
+use Rattle.outside.specs.Seen.{Image, Seen}
 use Rattle.raid_params.specs.Size.{redundancy}
 use Rattle.raid_params.specs.Slots.{empties}
 use Rattle.raid_params.specs.Validity.{is_shaped}

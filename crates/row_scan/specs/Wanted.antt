@@ -6,18 +6,19 @@ use Rattle.raid_params.specs.declared.types.Geometry.{Geometry}
 use Rattle.search_plan.specs.declared.plan.Plan.{Plan}
 use Rattle.row_scan.specs.ImageRows.{asks}
 use Rattle.row_scan.specs.declared.runs.Run.{Run}
+use Rattle.row_scan.specs.declared.tally.Tally.{Tally}
 
 -- the image stands in none of the slots
 abbrev pub HasNone : List (Option ℕ) → ℕ → Type 0
 HasNone slots image = (slot : ℕ) → slice_index_or slots slot None ≢ Some image
 
 -- it stands in no slot of those of the first n sets whose tallies ask for the run
-abbrev pub IsNotWanted : Plan → List Geometry → List (Option ℕ) → Run → ℕ → ℕ → Type 0
+abbrev pub IsNotWanted : Plan → List Geometry → List Tally → Run → ℕ → ℕ → Type 0
 IsNotWanted plan sets tallies run n image =
-    (k : ℕ) (d : Option ℕ) (e : Geometry) → k < n → asks plan (slice_index_or sets k e) (slice_index_or tallies k d) run ≡ true → HasNone (slice_index_or sets k e).slots.items image
+    (k : ℕ) (d : Tally) (e : Geometry) → k < n → asks plan (slice_index_or sets k e) (slice_index_or tallies k d) run ≡ true → HasNone (slice_index_or sets k e).slots.items image
 
 -- each of the first n slots holds the image of its own number, or nothing, and then no asking tally needs it
-abbrev pub AreWanted : Plan → List Geometry → List (Option ℕ) → Run → List (Option ℕ) → ℕ → Type 0
+abbrev pub AreWanted : Plan → List Geometry → List Tally → Run → List (Option ℕ) → ℕ → Type 0
 AreWanted plan sets tallies run slots n =
     (i : ℕ) → i < n → (slice_index_or slots i None ≡ Some i) ⊎ ((slice_index_or slots i None ≡ None) × IsNotWanted plan sets tallies run (length sets) i)
 
@@ -26,5 +27,5 @@ abbrev pub KeepMarks : List Bool → List Bool → Type 0
 KeepMarks old new = (image : ℕ) → slice_index_or new image false ≡ false → slice_index_or old image false ≡ false
 
 -- the images that are not marked are needed by none of the first n tallies
-abbrev pub MarkWanted : Plan → List Geometry → List (Option ℕ) → Run → ℕ → List Bool → Type 0
+abbrev pub MarkWanted : Plan → List Geometry → List Tally → Run → ℕ → List Bool → Type 0
 MarkWanted plan sets tallies run n marks = (image : ℕ) → slice_index_or marks image false ≡ false → IsNotWanted plan sets tallies run n image

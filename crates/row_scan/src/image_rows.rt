@@ -1,24 +1,23 @@
 //! The rows of a set over a block of image sectors.
 ghost use Rattle.std.specs.Prelude.{ℕ, List, ◌≡◌, ◌+◌, ◌-◌, ◌*◌, ◌/◌, ◌^◌, ◌<◌, ◌≤◌, ◌&&◌, length, slice_index, slice_index_or, All, IfSome, None, Some};
-ghost use Rattle.std.specs.Option.{is_none};
 ghost use Rattle.raid_terms.specs.Cells.{row_cells as cells_of_row};
 ghost use Rattle.raid_terms.specs.Parity.{has_q as has_q_of, is_sound, is_sound_row, IsRow};
 ghost use Rattle.raid_params.specs.declared.limits.TheConstants.{MOST};
 ghost use Rattle.member_regions.specs.Members.{IsTestable};
 ghost use Rattle.member_regions.specs.declared.regions.TheConstants.{BLOCK};
 ghost use Rattle.member_regions.specs.Regions.{IsRoomFor, Room};
-ghost use Rattle.row_scan.specs.ImageRows.{asks as asks_for, is_open as is_open_tally, rows_of as tested, rows_before as tested_before, AddsRun, HoldsSet, IsLeftAfter};
+ghost use Rattle.row_scan.specs.ImageRows.{asks as asks_for, rows_of as tested, rows_before as tested_before, AddsRun, HoldsSet, IsLeftAfter};
 ghost use Rattle.row_scan.specs.ImageSums.{AreImageSums, IsChunkRow, slots_column};
 
 use crate::image_sums::ImageSums;
 use crate::left_out::{ChunkRow, chunk_row, turn_row};
-use crate::one_set::nothing_can_break;
 use crate::runs::Run;
+use crate::tally::Tally;
 use address_map::area;
-use image_source::SECTOR;
 use member_regions::Regions;
-use pq_parity::row_holds;
+use outside::SECTOR;
 use raid_params::{Cell, Geometry, MOST, Part};
+use row_parity::row_holds;
 use search_plan::Plan;
 
 /// The bytes of a row of as many members as there may be.
@@ -43,34 +42,25 @@ pub fn rows_before(plan: &Plan, geo: &Geometry, sector: u64) -> u64
     rows_of(plan, geo).min(sector.saturating_sub(geo.head.offset))
 }
 
-/// Whether more rows of a set may decide its tally: not where too many are unsound already, and not where nothing
-/// can break a row.
-pub fn is_open(geo: &Geometry, tally: Option<u64>) -> bool
-    ensures { result ≡ is_open_tally geo.now tally }
-{
-    tally.is_some() && !nothing_can_break(geo)
-}
-
 /// Whether the tally of a set is open and some of its tested rows lie in the run.
-pub fn asks(plan: &Plan, geo: &Geometry, tally: Option<u64>, run: Run) -> bool
+pub fn asks(plan: &Plan, geo: &Geometry, tally: Tally, run: Run) -> bool
     requires set { IsTestable geo.now }
     requires run { run.first + run.count < 2 ^ 64 }
     ensures { result ≡ asks_for plan.now geo.now tally run }
 {
-    is_open(geo, tally)
+    tally.is_open()
         && rows_before(plan, geo, run.first) < rows_before(plan, geo, run.first + run.count)
 }
 
-/// A tally after the rows of its set in a run: how many more rows may be unsound, and None where more are than
-/// may be. The regions hold the run's sectors, one region an image.
+/// A tally after the rows of its set in a run. The regions hold the run's sectors, one region an image.
 pub fn tally_after(
     plan: &Plan,
     geo: &Geometry,
-    tally: Option<u64>,
+    tally: Tally,
     regions: &Regions,
     sums: &ImageSums,
     run: Run,
-) -> Option<u64>
+) -> Tally
     requires set { IsTestable geo.now }
     requires offset { geo.now.head.offset < 2 ^ 55 }
     requires images { All (λ slot. IfSome slot (λ image. image < regions.now.members)) geo.now.slots.items }
@@ -79,17 +69,18 @@ pub fn tally_after(
     requires room { 512 * run.count ≤ regions.now.stride }
     ensures { AddsRun plan.now geo.now run regions.now tally result }
 {
-    let left = tally?;
+    let Tally::Left(left) = tally else {
+        return tally;
+    };
     if !asks(plan, geo, tally, run) {
-        return Some(left);
+        return tally;
     }
     let from = rows_before(plan, geo, run.first);
     let to = rows_before(plan, geo, run.first + run.count);
     rows_left_after(geo, regions, sums, run, from, to, left)
 }
 
-/// How many more rows may be unsound after those from one up to another, where `left` may be, and None where more
-/// are. It stops at the first row too many.
+/// The tally after the rows from one up to another, where `left` may be unsound. It stops at the first row too many.
 #[tactic(auto, using(member_regions::proofs::Sets::testable_head, member_regions::proofs::Sets::testable_slots, member_regions::proofs::Sets::testable_chunk))]
 fn rows_left_after(
     geo: &Geometry,
@@ -99,7 +90,7 @@ fn rows_left_after(
     from: u64,
     to: u64,
     left: u64,
-) -> Option<u64>
+) -> Tally
     requires set { IsTestable geo.now }
     requires offset { geo.now.head.offset < 2 ^ 55 }
     requires images { All (λ slot. IfSome slot (λ image. image < regions.now.members)) geo.now.slots.items }
@@ -118,10 +109,13 @@ fn rows_left_after(
         turn_row(geo, &mut row, t / geo.head.chunk, sums.images);
         let place = geo.head.offset + t - run.first;
         if !is_sound_at(geo, &row, regions, sums, place as usize, &mut room) {
-            rest = rest.checked_sub(1)?;
+            if rest == 0 {
+                return Tally::Fails;
+            }
+            rest -= 1;
         }
     }
-    Some(rest)
+    Tally::Left(rest)
 }
 
 /// Whether the sectors number `place` of the regions are a sound row of a set, in this chunk row. `room` is room for
@@ -182,7 +176,7 @@ fn has_q(cells: &[Cell]) -> bool
     cells.iter().any(|cell| matches!(cell.part, Part::Q))
 }
 
-/// The same by the cells alone.
+/// Whether the sectors number `place` of the regions of a set's images are a sound row of these cells. `room` is room for them.
 #[tactic(auto, using(member_regions::proofs::Sets::row_length))]
 fn is_row_sound(
     geo: &Geometry,

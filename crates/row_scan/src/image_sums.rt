@@ -2,7 +2,7 @@
 ghost use Rattle.std.specs.Prelude.{ℕ, ◌≡◌, ◌<◌, ◌≤◌, ◌+◌, ◌*◌, bit_xor, length, slice_index, slice_index_or, false, IfSome, IsTrue, List, Option};
 ghost use Rattle.std.specs.Bool.{Decides};
 ghost use Rattle.raid_terms.specs.Parity.{in_p};
-ghost use Rattle.pq_parity.specs.Syndromes.{Cancel};
+ghost use Rattle.row_parity.specs.Syndromes.{Cancel};
 ghost use Rattle.member_regions.specs.Regions.{IsRoomFor, Room};
 ghost use Rattle.raid_params.specs.declared.limits.TheConstants.{MOST};
 ghost use Rattle.member_regions.specs.declared.regions.TheConstants.{BLOCK};

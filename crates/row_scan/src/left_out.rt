@@ -2,8 +2,8 @@
 ghost use Rattle.std.specs.Prelude.{ℕ, ◌≡◌, ◌<◌, ◌≤◌, ◌+◌, if◌then◌else◌, bit_xor, length, map, slice_index_or, All, Bool, IfSome, IsSomeAnd, IsTrue, List, false};
 ghost use Rattle.raid_params.specs.declared.limits.TheConstants.{MOST};
 ghost use Rattle.raid_terms.specs.Parity.{has_p as has_p_of, in_p};
-ghost use Rattle.pq_parity.specs.LostBytes.{first_missing};
-ghost use Rattle.pq_parity.specs.Syndromes.{known_in, known_sum};
+ghost use Rattle.row_parity.specs.LostBytes.{first_missing};
+ghost use Rattle.row_parity.specs.Syndromes.{known_in, known_sum};
 ghost use Rattle.member_regions.specs.Members.{IsTestable};
 ghost use Rattle.row_scan.specs.ImageSums.{AddsAllBut, held_byte, IsChunkRow, IsUnmarked, IsWhole, marked_sum};
 
@@ -161,7 +161,7 @@ fn unmarked(marks: &[bool], images: usize) -> Option<LeftOut>
     Some(out)
 }
 
-/// The same with one more image.
+/// Which of the images up to this one is left out, where this is left out of the earlier ones. None where more than one is.
 fn with_image(out: LeftOut, image: u8, marked: bool) -> Option<LeftOut>
     ensures { (marks : List Bool) → slice_index_or marks image false ≡ marked → IsUnmarked marks image out → IfSome result (IsUnmarked marks (image + 1)) }
 {

@@ -1,23 +1,24 @@
 //! The parity test of many parameter sets in one pass over the images.
-ghost use Rattle.std.specs.Prelude.{ℕ, ◌≡◌, ◌+◌, ◌*◌, ◌^◌, ◌<◌, ◌≤◌, length, map, replicate, All, IfErr, IfOk, IfSome, OnOk, Some};
-ghost use Rattle.std.specs.Option.{is_some};
-ghost use Rattle.image_source.specs.Attached.{told_all};
-ghost use Rattle.image_source.specs.Causes.{HasCause};
-ghost use Rattle.image_source.specs.Seen.{OnlyReads};
+ghost use Rattle.std.specs.Prelude.{ℕ, ◌≡◌, ◌+◌, ◌*◌, ◌^◌, ◌<◌, ◌≤◌, length, map, All, IfErr, IfOk, IfSome, OnOk};
+ghost use Rattle.outside.specs.Attached.{told_all};
+ghost use Rattle.outside.specs.Causes.{HasCause};
+ghost use Rattle.outside.specs.Seen.{OnlyReads};
 ghost use Rattle.member_regions.specs.Regions.{IsRoomFor};
-ghost use Rattle.row_scan.specs.Pass.{AllTallies, BeginAnew, CanScan, IsDecided};
+ghost use Rattle.row_scan.specs.Pass.{CanScan};
 ghost use Rattle.row_scan.specs.Scan.{EndsScan, IsScannable};
+ghost use Rattle.row_scan.specs.Tallies.{AllTallies, BeginsAs, has_passed, KeepSettled, NoneOpen, unbroken_tally};
 ghost use Rattle.row_scan.specs.Verdicts.{offsets_of, verdicts_of};
 ghost use Rattle.row_scan.specs.Windows.{scan_reads};
 
-use crate::gates::Gate;
-use crate::one_set::ScanFault;
+use crate::one_set::{ScanFault, nothing_can_break};
 use crate::samples::test_samples;
 use crate::scan_parts::{Scanned, Threading};
 use crate::sweeping::sweep;
+use crate::tally::Tally;
 use crate::verdict_list::Verdicts;
-use image_source::{Failed, Images, Memory};
+use gates::Gate;
 use member_regions::{BLOCK, Regions};
+use outside::{Failed, Images, Memory};
 use raid_params::Geometry;
 use search_plan::Plan;
 use std::alloc::Global;
@@ -51,27 +52,99 @@ pub fn scan<R: Threads + Sync, I: Images, G: Gate + Sync>(
         (λ bytes. verdicts ≡ verdicts_of bytes plan.now sets.now)) }
     ensures reads { OnlyReads (I.seen images.old) (I.seen images.new)
         (scan_reads (length (I.seen images.old).attached) plan.now.end plan.now.limits.window (offsets_of sets.now)) }
+    ensures quiet { OnOk result ((I.seen images.new).faults ≡ (I.seen images.old).faults) }
     ensures ends { IfErr result (EndsScan (I.seen images.old) (I.seen images.new)) }
 {
     let mut verdicts = Verdicts::against(alloc, sets.len()).map_err(|_| ScanFault::Memory)?;
-    let mut tallies = vec![in alloc; Some(plan.limits.badrows); sets.len()].map_err(
-        |_| ScanFault::Memory,
-    )?;
-    let mut regions = image_regions(alloc, plan).map_err(|_| ScanFault::Memory)?;
-    let threads = Threading {
-        rt,
-        gate: Some(gate),
-    };
-    judge(
-        &threads,
-        &Scanned { plan, sets },
-        images,
-        &mut regions,
-        &mut tallies,
-        &mut verdicts.passed,
-    )
-    .map_err(|_| ScanFault::ReadFault)?;
+    let mut tallies = first_tallies(alloc, plan, sets).map_err(|_| ScanFault::Memory)?;
+    scan_tallied(rt, alloc, images, plan, sets, &mut tallies, gate)?;
+    tell_verdicts(&tallies, &mut verdicts.passed);
     Ok(verdicts)
+}
+
+/// The tallies with which a scan of some sets begins.
+fn first_tallies(alloc: Global, plan: &Plan, sets: &[Geometry]) -> Result<Vec<Tally>, Memory>
+    ensures { IfOk result (λ tallies. tallies.items ≡ map (unbroken_tally plan.now) sets.now) }
+{
+    let mut tallies = Vec::new(alloc);
+    for geo in sets {
+        tallies.push(first_tally(plan, geo)).map_err(|_| Memory)?;
+    }
+    Ok(tallies)
+}
+
+/// The tally with which a scan of a set begins: it passes where nothing can break one of its rows, and else all of them have
+/// to be tested.
+fn first_tally(plan: &Plan, geo: &Geometry) -> Tally
+    ensures { result ≡ unbroken_tally plan.now geo.now }
+{
+    if nothing_can_break(geo) {
+        return Tally::Passes;
+    }
+    Tally::Left(plan.limits.badrows)
+}
+
+/// Brings the tallies of some parameter sets to their end: after it a set has passed where at most the plan's `badrows` of its
+/// tested sector rows are unsound.
+///
+/// It is [`scan`] over sets of which some are known to pass: no row of these is tested, and where all are known, no sector
+/// is read. Each piece of the sets passes the gate all the same.
+pub fn scan_tallied<R: Threads + Sync, I: Images, G: Gate + Sync>(
+    rt: &R,
+    alloc: Global,
+    images: &mut I,
+    plan: &Plan,
+    sets: &[Geometry],
+    tallies: &mut [Tally],
+    gate: &G,
+) -> Result<(), ScanFault>
+    requires some { 1 ≤ length sets.now }
+    requires most { length sets.now ≤ MOST_SETS }
+    requires sets { All (λ geo. IsScannable geo plan.now.end (I.seen images.old).attached) sets.now }
+    requires images { length (I.seen images.old).attached ≡ length plan.now.lengths.items }
+    requires long { length tallies.old ≡ length sets.now }
+    requires begin { AllTallies (BeginsAs (told_all (I.seen images.old).attached) plan.now) sets.now tallies.old }
+    ensures long { length tallies.new ≡ length sets.now }
+    ensures settled { KeepSettled tallies.old tallies.new }
+    ensures told { OnOk result (IfSome (told_all (I.seen images.old).attached)
+        (λ bytes. map has_passed tallies.new ≡ verdicts_of bytes plan.now sets.now)) }
+    ensures reads { OnlyReads (I.seen images.old) (I.seen images.new)
+        (scan_reads (length (I.seen images.old).attached) plan.now.end plan.now.limits.window (offsets_of sets.now)) }
+    ensures unread { NoneOpen tallies.old → I.seen images.new ≡ I.seen images.old }
+    ensures quiet { OnOk result ((I.seen images.new).faults ≡ (I.seen images.old).faults) }
+    ensures ends { IfErr result (EndsScan (I.seen images.old) (I.seen images.new)) }
+{
+    let mut regions = image_regions(alloc, plan).map_err(|_| ScanFault::Memory)?;
+    let scanned = Scanned { plan, sets };
+    let threads = Threading { rt, gate };
+    judge(&threads, &scanned, images, &mut regions, tallies).map_err(|_| ScanFault::ReadFault)?;
+    Ok(())
+}
+
+/// Brings the tallies of some sets to their end, with a region for each image.
+fn judge<R: Threads + Sync, I: Images, G: Gate + Sync>(
+    threads: &Threading<R, G>,
+    scanned: &Scanned,
+    images: &mut I,
+    regions: &mut Regions,
+    tallies: &mut [Tally],
+) -> Result<(), Failed>
+    requires can { CanScan scanned.now.plan.now scanned.now.sets.now (I.seen images.old).attached regions.old }
+    requires some { 1 ≤ length scanned.now.sets.now }
+    requires long { length tallies.old ≡ length scanned.now.sets.now }
+    requires begin { AllTallies (BeginsAs (told_all (I.seen images.old).attached) scanned.now.plan.now) scanned.now.sets.now tallies.old }
+    ensures long { length tallies.new ≡ length scanned.now.sets.now }
+    ensures settled { KeepSettled tallies.old tallies.new }
+    ensures told { OnOk result (IfSome (told_all (I.seen images.old).attached)
+        (λ bytes. map has_passed tallies.new ≡ verdicts_of bytes scanned.now.plan.now scanned.now.sets.now)) }
+    ensures reads { OnlyReads (I.seen images.old) (I.seen images.new)
+        (scan_reads (length (I.seen images.old).attached) scanned.now.plan.now.end scanned.now.plan.now.limits.window (offsets_of scanned.now.sets.now)) }
+    ensures unread { NoneOpen tallies.old → I.seen images.new ≡ I.seen images.old }
+    ensures cause { HasCause (I.seen images.old).faults (I.seen images.new).faults result }
+{
+    test_samples(scanned, images, regions, tallies)?;
+    sweep(threads, scanned, images, regions, tallies)?;
+    Ok(())
 }
 
 /// A region of a block for each image of a plan.
@@ -81,52 +154,12 @@ fn image_regions(alloc: Global, plan: &Plan) -> Result<Regions, Memory>
     Regions::new(alloc, plan.lengths.len(), BLOCK)
 }
 
-/// A scan with the room that it takes: a region for each image, the tallies as they begin, and a place for each verdict.
-/// The tallies become those of all tested rows: how many more may be unsound, and None where more are than may be.
-fn judge<R: Threads + Sync, I: Images, G: Gate + Sync>(
-    threads: &Threading<R, G>,
-    scanned: &Scanned,
-    images: &mut I,
-    regions: &mut Regions,
-    tallies: &mut [Option<u64>],
-    passed: &mut [bool],
-) -> Result<(), Failed>
-    requires can { CanScan scanned.now.plan.now scanned.now.sets.now (I.seen images.old).attached regions.old }
-    requires some { 1 ≤ length scanned.now.sets.now }
-    requires begun { tallies.old ≡ replicate (length scanned.now.sets.now) (Some scanned.now.plan.now.limits.badrows) }
-    requires places { length passed.old ≡ length scanned.now.sets.now }
-    ensures told { OnOk result (IfSome (told_all (I.seen images.old).attached)
-        (λ bytes. passed.new ≡ verdicts_of bytes scanned.now.plan.now scanned.now.sets.now)) }
-    ensures places { length passed.new ≡ length scanned.now.sets.now }
-    ensures reads { OnlyReads (I.seen images.old) (I.seen images.new)
-        (scan_reads (length (I.seen images.old).attached) scanned.now.plan.now.end scanned.now.plan.now.limits.window (offsets_of scanned.now.sets.now)) }
-    ensures cause { HasCause (I.seen images.old).faults (I.seen images.new).faults result }
-{
-    test_samples(scanned, images, regions, tallies)?;
-    count_anew(scanned.plan, tallies);
-    sweep(threads, scanned, images, regions, tallies)?;
-    tell_verdicts(tallies, passed);
-    Ok(())
-}
-
-/// Lets the tallies that are not settled begin again, so that no row counts twice.
-fn count_anew(plan: &Plan, tallies: &mut [Option<u64>])
-    ensures anew { BeginAnew plan.now.limits.badrows tallies.old tallies.new }
-    ensures long { length tallies.new ≡ length tallies.old }
-{
-    for i in 0..tallies.len() {
-        if tallies[i].is_some() {
-            tallies[i] = Some(plan.limits.badrows);
-        }
-    }
-}
-
-/// Writes for each set whether it passes: where rows may be unsound still.
-fn tell_verdicts(tallies: &[Option<u64>], passed: &mut [bool])
+/// Writes for each set whether it passes.
+fn tell_verdicts(tallies: &[Tally], passed: &mut [bool])
     requires { length passed.old ≡ length tallies.now }
-    ensures { passed.new ≡ map is_some tallies.now }
+    ensures { passed.new ≡ map has_passed tallies.now }
 {
     for i in 0..tallies.len() {
-        passed[i] = tallies[i].is_some();
+        passed[i] = tallies[i].has_passed();
     }
 }

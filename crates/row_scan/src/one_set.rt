@@ -1,8 +1,8 @@
 //! The count of a set's unsound rows, and the sets that nothing can break.
-ghost use Rattle.std.specs.Prelude.{◌≡◌, ◌+◌, ◌-◌, ◌*◌, ◌^◌, ◌<◌, ◌≤◌, length, All, true, IfErr, IfOk, IfSome};
-ghost use Rattle.image_source.specs.Attached.{told_all};
-ghost use Rattle.image_source.specs.Causes.{HasCause};
-ghost use Rattle.image_source.specs.Seen.{OnlyReads};
+ghost use Rattle.std.specs.Prelude.{◌≡◌, ◌+◌, ◌-◌, ◌*◌, ◌^◌, ◌<◌, ◌≤◌, length, All, true, IfErr, IfOk, IfSome, OnOk};
+ghost use Rattle.outside.specs.Attached.{told_all};
+ghost use Rattle.outside.specs.Causes.{HasCause};
+ghost use Rattle.outside.specs.Seen.{OnlyReads};
 ghost use Rattle.raid_terms.specs.Parity.{tested_rows, unsound_rows};
 ghost use Rattle.member_regions.specs.Members.{held, IsTestable, Reaches};
 ghost use Rattle.member_regions.specs.Regions.{IsRoomFor, KeepsRoom};
@@ -10,8 +10,8 @@ ghost use Rattle.row_scan.specs.Scan.{EndsScan, is_unbreakable, IsScannable, rea
 
 use crate::rows::unsound_of;
 use address_map::area;
-use image_source::{Failed, Images};
 use member_regions::{BLOCK, Regions};
+use outside::{Failed, Images};
 use raid_params::{Geometry, count_empty};
 use search_plan::Plan;
 use std::alloc::Global;
@@ -43,6 +43,7 @@ pub fn unsound<I: Images>(
     ensures reads { OnlyReads (I.seen images.old) (I.seen images.new)
         (length (I.seen images.old).attached * read_rows geo.now plan.now.end plan.now.limits.window) }
     ensures unread { is_unbreakable geo.now ≡ true → I.seen images.new ≡ I.seen images.old }
+    ensures quiet { OnOk result ((I.seen images.new).faults ≡ (I.seen images.old).faults) }
     ensures ends { IfErr result (EndsScan (I.seen images.old) (I.seen images.new)) }
 {
     let mut regions = Regions::new(alloc, geo.slots.len(), BLOCK).map_err(|_| ScanFault::Memory)?;
@@ -51,7 +52,8 @@ pub fn unsound<I: Images>(
     )
 }
 
-/// The same, with room for the members' blocks, before the image sector `end` and below `window`.
+/// How many of the tested sector rows of a parameter set are unsound, those before the image sector `end` and below `window`,
+/// with room for the members' blocks. Nothing is read where nothing can break a row.
 pub(crate) fn count_unsound<I: Images>(
     images: &mut I,
     regions: &mut Regions,

@@ -1,23 +1,24 @@
 //! Reads a run of the images that are still needed.
 ghost use Rattle.std.specs.Prelude.{ℕ, ◌≡◌, ◌+◌, ◌*◌, ◌^◌, ◌<◌, ◌≤◌, length, IfSome, OnOk};
-ghost use Rattle.image_source.specs.Attached.{told_all};
-ghost use Rattle.image_source.specs.Causes.{HasCause};
-ghost use Rattle.image_source.specs.Seen.{OnlyReads};
+ghost use Rattle.outside.specs.Attached.{told_all};
+ghost use Rattle.outside.specs.Causes.{HasCause};
+ghost use Rattle.outside.specs.Seen.{OnlyReads};
 ghost use Rattle.member_regions.specs.Regions.{KeepsRoom};
 ghost use Rattle.row_scan.specs.Pass.{CanScan, HoldAsked, IsReadable};
 
 use crate::runs::Run;
 use crate::scan_parts::Scanned;
+use crate::tally::Tally;
 use crate::wanted::wanted_images;
-use image_source::{Failed, Images};
 use member_regions::Regions;
+use outside::{Failed, Images};
 
 /// Reads a run of each image that an asking tally needs, into the region of that image.
 pub fn read_wanted<I: Images>(
     scanned: &Scanned,
     images: &mut I,
     regions: &mut Regions,
-    tallies: &[Option<u64>],
+    tallies: &[Tally],
     run: Run,
 ) -> Result<(), Failed>
     requires can { CanScan scanned.now.plan.now scanned.now.sets.now (I.seen images.old).attached regions.old }

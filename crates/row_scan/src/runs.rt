@@ -1,9 +1,12 @@
 //! Runs of image sectors, and which of them a scan reads next.
-ghost use Rattle.std.specs.Prelude.{◌≡◌, ◌⊎◌, length, All, MatchOption};
+ghost use Rattle.std.specs.Prelude.{◌≡◌, ◌⊎◌, length, All, MatchOption, None};
+ghost use Rattle.std.specs.List.{list_any};
+ghost use Rattle.row_scan.specs.Tallies.{is_open, NoneOpen};
 ghost use Rattle.row_scan.specs.Pass.{IsOwnRun, IsNextRun, IsNotLater, NothingLeft, IsScanned};
 
-use crate::image_rows::{is_open, rows_of};
+use crate::image_rows::rows_of;
 use crate::scan_parts::Scanned;
+use crate::tally::Tally;
 use member_regions::BLOCK;
 use raid_params::Geometry;
 use search_plan::Plan;
@@ -17,15 +20,28 @@ pub struct Run {
     pub count: u64,
 }
 
+impl Run {
+    /// No sectors.
+    pub fn empty() -> Run
+        ensures { result ≡ record { first = 0; count = 0 } }
+    {
+        Run { first: 0, count: 0 }
+    }
+}
+
 /// The first image sectors from `at` on that an open set has tested rows in, at most a block, all of them tested
 /// rows of one set. None where no open set has any left.
-pub fn next_run(scanned: &Scanned, tallies: &[Option<u64>], at: u64) -> Option<Run>
+pub fn next_run(scanned: &Scanned, tallies: &[Tally], at: u64) -> Option<Run>
     requires sets { All (IsScanned scanned.now.plan.now) scanned.now.sets.now }
     requires long { length tallies.now ≡ length scanned.now.sets.now }
-    ensures { MatchOption result
+    ensures next { MatchOption result
         (NothingLeft scanned.now.plan.now scanned.now.sets.now tallies.now (length scanned.now.sets.now) at)
         (IsNextRun scanned.now.plan.now scanned.now.sets.now tallies.now (length scanned.now.sets.now) at) }
+    ensures closed { NoneOpen tallies.now → result ≡ None }
 {
+    if !are_open(tallies) {
+        return None;
+    }
     let mut next = None;
     for k in 0..scanned.sets.len() {
         next = earlier(
@@ -34,6 +50,13 @@ pub fn next_run(scanned: &Scanned, tallies: &[Option<u64>], at: u64) -> Option<R
         );
     }
     next
+}
+
+/// Whether some tally is open.
+pub fn are_open(tallies: &[Tally]) -> bool
+    ensures { result ≡ list_any is_open tallies.now }
+{
+    tallies.iter().any(|tally| tally.is_open())
 }
 
 /// The run of two that begins earlier, the first where both begin at the same sector.
@@ -51,13 +74,13 @@ fn earlier(one: Option<Run>, other: Option<Run>) -> Option<Run>
 
 /// The first image sectors from `at` on that are tested rows of a set, at most a block. None where its tally is not
 /// open, or no rows are left.
-fn own_run(plan: &Plan, geo: &Geometry, tally: Option<u64>, at: u64) -> Option<Run>
+fn own_run(plan: &Plan, geo: &Geometry, tally: Tally, at: u64) -> Option<Run>
     requires set { IsScanned plan.now geo.now }
     ensures { IsOwnRun plan.now geo.now tally at result }
 {
     let first = at.max(geo.head.offset);
     let stop = geo.head.offset + rows_of(plan, geo);
-    if !is_open(geo, tally) || stop <= first {
+    if !tally.is_open() || stop <= first {
         return None;
     }
     let count = (stop - first).min(BLOCK as u64);

@@ -1,18 +1,21 @@
 //! Samples: some rows of each set, tested before the others.
-ghost use Rattle.std.specs.Prelude.{ℕ, ◌≡◌, ◌+◌, ◌*◌, ◌^◌, ◌<◌, ◌≤◌, length, replicate, All, IfOk, IfSome, OnOk, Some};
-ghost use Rattle.image_source.specs.Attached.{told_all};
-ghost use Rattle.image_source.specs.Causes.{HasCause};
-ghost use Rattle.image_source.specs.Seen.{OnlyReads};
+ghost use Rattle.std.specs.Prelude.{ℕ, ◌≡◌, ◌+◌, ◌*◌, ◌^◌, ◌<◌, ◌≤◌, length, All, IfOk, IfSome, OnOk};
+ghost use Rattle.outside.specs.Attached.{told_all};
+ghost use Rattle.outside.specs.Causes.{HasCause};
+ghost use Rattle.outside.specs.Seen.{OnlyReads};
 ghost use Rattle.member_regions.specs.Regions.{KeepsRoom};
-ghost use Rattle.row_scan.specs.Pass.{AllTallies, CanScan, IsScanned, SettlesOnly, TalliesSome};
+ghost use Rattle.row_scan.specs.Pass.{BeginAnew, CanScan, IsScanned, TalliesSome, TalliesTo};
+ghost use Rattle.row_scan.specs.Tallies.{AllTallies, BeginsAs, KeepSettled, NoneOpen};
 
 use crate::image_rows::rows_of;
 use crate::reading::read_wanted;
-use crate::runs::Run;
+use crate::runs::{Run, are_open};
 use crate::scan_parts::Scanned;
 use crate::tallies::{add_to_piece, sums_for};
-use image_source::{Failed, Images};
+use crate::tally::Tally;
 use member_regions::Regions;
+use outside::{Failed, Images};
+use search_plan::Plan;
 
 /// The most sectors of each image that are read as samples.
 pub const SAMPLES: usize = 64;
@@ -21,29 +24,49 @@ pub const SAMPLES: usize = 64;
 /// sets which are alike are sampled all over.
 const STEP: usize = 37;
 
-/// Tests some rows of each set, and settles those of which more are unsound than may be.
+/// Tests some rows of each open set, and settles those of which more are unsound than may be. The tallies that are still open
+/// begin again then, so that no row counts twice.
 pub fn test_samples<I: Images>(
     scanned: &Scanned,
     images: &mut I,
     regions: &mut Regions,
-    tallies: &mut [Option<u64>],
+    tallies: &mut [Tally],
 ) -> Result<(), Failed>
     requires can { CanScan scanned.now.plan.now scanned.now.sets.now (I.seen images.old).attached regions.old }
     requires some { 1 ≤ length scanned.now.sets.now }
-    requires begun { tallies.old ≡ replicate (length scanned.now.sets.now) (Some scanned.now.plan.now.limits.badrows) }
+    requires long { length tallies.old ≡ length scanned.now.sets.now }
+    requires begin { AllTallies (BeginsAs (told_all (I.seen images.old).attached) scanned.now.plan.now) scanned.now.sets.now tallies.old }
     ensures told { OnOk result (IfSome (told_all (I.seen images.old).attached)
-        (λ bytes. AllTallies (SettlesOnly bytes scanned.now.plan.now) scanned.now.sets.now tallies.new)) }
+        (λ bytes. AllTallies (TalliesTo bytes scanned.now.plan.now 0) scanned.now.sets.now tallies.new)) }
     ensures long { length tallies.new ≡ length scanned.now.sets.now }
+    ensures settled { KeepSettled tallies.old tallies.new }
     ensures room { KeepsRoom regions.old regions.new }
     ensures reads { OnlyReads (I.seen images.old) (I.seen images.new) (length (I.seen images.old).attached * SAMPLES) }
+    ensures closed { NoneOpen tallies.old → (I.seen images.new ≡ I.seen images.old) × (tallies.new ≡ tallies.old) }
     ensures cause { HasCause (I.seen images.old).faults (I.seen images.new).faults result }
 {
+    if !are_open(tallies) {
+        return Ok(());
+    }
     let points = sample_points(scanned);
     let mut at = 0;
     for k in 0..SAMPLES {
         at = test_sample(scanned, images, regions, tallies, at, points[k])?;
     }
+    count_anew(scanned.plan, tallies);
     Ok(())
+}
+
+/// Lets the tallies that are open begin again.
+fn count_anew(plan: &Plan, tallies: &mut [Tally])
+    ensures anew { BeginAnew plan.now.limits.badrows tallies.old tallies.new }
+    ensures long { length tallies.new ≡ length tallies.old }
+{
+    for i in 0..tallies.len() {
+        if tallies[i].is_open() {
+            tallies[i] = Tally::Left(plan.limits.badrows);
+        }
+    }
 }
 
 /// Tests the rows at an image sector, where it is not before `at`: up to there samples were taken. Ok says up to
@@ -52,7 +75,7 @@ fn test_sample<I: Images>(
     scanned: &Scanned,
     images: &mut I,
     regions: &mut Regions,
-    tallies: &mut [Option<u64>],
+    tallies: &mut [Tally],
     at: u64,
     point: u64,
 ) -> Result<u64, Failed>
@@ -61,6 +84,7 @@ fn test_sample<I: Images>(
     ensures told { IfOk result (λ next. IfSome (told_all (I.seen images.old).attached)
         (λ bytes. AllTallies (TalliesSome bytes scanned.now.plan.now at) scanned.now.sets.now tallies.old → AllTallies (TalliesSome bytes scanned.now.plan.now next) scanned.now.sets.now tallies.new)) }
     ensures long { length tallies.new ≡ length scanned.now.sets.now }
+    ensures settled { KeepSettled tallies.old tallies.new }
     ensures room { KeepsRoom regions.old regions.new }
     ensures reads { OnlyReads (I.seen images.old) (I.seen images.new) (length (I.seen images.old).attached) }
     ensures cause { HasCause (I.seen images.old).faults (I.seen images.new).faults result }
@@ -69,7 +93,7 @@ fn test_sample<I: Images>(
         return Ok(at);
     }
     // Where all sets are settled, no image has to be looked up among them.
-    if tallies.iter().all(|tally| tally.is_none()) {
+    if !are_open(tallies) {
         return Ok(at);
     }
     let run = Run {

@@ -16,6 +16,6 @@ pub struct Scanned<'a> {
 pub struct Threading<'a, R, G> {
     /// What starts threads.
     pub rt: &'a R,
-    /// The gate that each piece passes first, where there is one.
-    pub gate: Option<&'a G>,
+    /// The gate that each piece of the sets passes before its first rows.
+    pub gate: &'a G,
 }

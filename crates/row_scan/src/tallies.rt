@@ -6,11 +6,12 @@ ghost use Rattle.member_regions.specs.declared.regions.TheConstants.{BLOCK};
 ghost use Rattle.row_scan.specs.ImageRows.{AddAll, IsTallied};
 ghost use Rattle.row_scan.specs.ImageSums.{AreImageSums};
 
-use crate::gates::{Gate, OpenGate};
 use crate::image_rows::tally_after;
 use crate::image_sums::ImageSums;
 use crate::runs::Run;
 use crate::scan_parts::{Scanned, Threading};
+use crate::tally::Tally;
+use gates::{Gate, OpenGate};
 use member_regions::{BLOCK, Regions};
 use search_plan::Plan;
 use std::thread;
@@ -22,12 +23,11 @@ pub const PIECE: usize = 512;
 /// As many open tallies as make sums of all images, and threads, worth their cost.
 const MANY: usize = 16;
 
-/// Adds the rows of a run to the tallies: in pieces that each pass the gate first, where there is one, and else in
-/// pieces where many tallies are open.
-pub fn add_run<R: Threads + Sync, G: Gate + Sync>(
-    threads: &Threading<R, G>,
+/// Adds the rows of a run to the tallies, in pieces where many are open.
+pub fn add_run<R: Threads + Sync>(
+    rt: &R,
     scanned: &Scanned,
-    tallies: &mut [Option<u64>],
+    tallies: &mut [Tally],
     regions: &Regions,
     run: Run,
 )
@@ -39,23 +39,24 @@ pub fn add_run<R: Threads + Sync, G: Gate + Sync>(
     ensures added { AddAll scanned.now.plan.now scanned.now.sets.now 0 run regions.now tallies.old tallies.new }
     ensures long { length tallies.new ≡ length tallies.old }
 {
-    let sums = sums_for(scanned.plan, tallies, regions, run);
-    match threads.gate {
-        Some(gate) => { add_in_pieces(threads.rt, gate, scanned, tallies, regions, &sums, run) }
-        None if are_many(tallies) => {
-            add_in_pieces(threads.rt, &OpenGate, scanned, tallies, regions, &sums, run)
-        }
-        None => add_to_piece(scanned, 0, tallies, regions, &sums, run),
+    let threads = Threading {
+        rt,
+        gate: &OpenGate,
+    };
+    if are_many(tallies) {
+        add_in_pieces(&threads, scanned, tallies, regions, run);
+        return;
     }
+    add_to_piece(scanned, 0, tallies, regions, &ImageSums::none(), run);
 }
 
-/// Whether many tallies are not settled.
-fn are_many(tallies: &[Option<u64>]) -> bool {
-    MANY <= tallies.iter().filter(|tally| tally.is_some()).count()
+/// Whether many tallies are open.
+fn are_many(tallies: &[Tally]) -> bool {
+    MANY <= tallies.iter().filter(|tally| tally.is_open()).count()
 }
 
 /// The sums of the images at the places of a run where many tallies are open, and else none.
-pub fn sums_for(plan: &Plan, tallies: &[Option<u64>], regions: &Regions, run: Run) -> ImageSums
+pub fn sums_for(plan: &Plan, tallies: &[Tally], regions: &Regions, run: Run) -> ImageSums
     requires most { run.count ≤ BLOCK }
     requires room { IsRoomFor (length plan.now.lengths.items) run.count regions.now }
     ensures { AreImageSums regions.now result }
@@ -67,28 +68,29 @@ pub fn sums_for(plan: &Plan, tallies: &[Option<u64>], regions: &Regions, run: Ru
 }
 
 /// Adds the rows of a run to the tallies in pieces that may run side by side. Each piece passes the gate first.
-fn add_in_pieces<R: Threads + Sync, G: Gate + Sync>(
-    rt: &R,
-    gate: &G,
+pub fn add_in_pieces<R: Threads + Sync, G: Gate + Sync>(
+    threads: &Threading<R, G>,
     scanned: &Scanned,
-    tallies: &mut [Option<u64>],
+    tallies: &mut [Tally],
     regions: &Regions,
-    sums: &ImageSums,
     run: Run,
 )
     requires long { length tallies.old ≡ length scanned.now.sets.now }
     requires sets { All (IsTallied regions.now) scanned.now.sets.now }
-    requires sums { AreImageSums regions.now sums.now }
     requires run { run.first + run.count < 2 ^ 55 }
-    requires room { 512 * run.count ≤ regions.now.stride }
+    requires most { run.count ≤ BLOCK }
+    requires room { IsRoomFor (length scanned.now.plan.now.lengths.items) run.count regions.now }
     ensures added { AddAll scanned.now.plan.now scanned.now.sets.now 0 run regions.now tallies.old tallies.new }
     ensures long { length tallies.new ≡ length tallies.old }
 {
+    let gate = threads.gate;
+    let sums = sums_for(scanned.plan, tallies, regions, run);
+    let sums = &sums;
     thread::for_each_chunk_mut(
-        rt,
+        threads.rt,
         tallies,
         PIECE,
-        &|start: usize, piece: &mut [Option<u64>]|
+        &|start: usize, piece: &mut [Tally]|
             requires { (start + length piece.old ≤ length scanned.now.sets.now) × All (IsTallied regions.now) scanned.now.sets.now × AreImageSums regions.now sums.now × (run.first + run.count < 2 ^ 55) × (512 * run.count ≤ regions.now.stride) }
             ensures added { AddAll scanned.entry.now.plan.now scanned.entry.now.sets.now start run regions.entry.now piece.old piece.new }
         {
@@ -102,7 +104,7 @@ fn add_in_pieces<R: Threads + Sync, G: Gate + Sync>(
 pub fn add_to_piece(
     scanned: &Scanned,
     start: usize,
-    piece: &mut [Option<u64>],
+    piece: &mut [Tally],
     regions: &Regions,
     sums: &ImageSums,
     run: Run,

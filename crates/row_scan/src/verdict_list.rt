@@ -1,7 +1,7 @@
 //! The verdicts of a scan.
 ghost use Rattle.std.specs.Prelude.{◌≡◌, false, IfOk, length, replicate};
 
-use image_source::Memory;
+use outside::Memory;
 use std::alloc::Global;
 use std::marker::Model;
 

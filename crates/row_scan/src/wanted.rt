@@ -8,11 +8,12 @@ ghost use Rattle.row_scan.specs.Wanted.{AreWanted, HasNone, KeepMarks, MarkWante
 use crate::image_rows::asks;
 use crate::runs::Run;
 use crate::scan_parts::Scanned;
+use crate::tally::Tally;
 use raid_params::{Geometry, Head, Level, Pattern, Slots, Syndrome};
 use search_plan::Plan;
 
 /// The images of which some asking tally needs a run, each in the slot of its own number, the others left out.
-pub fn wanted_images(scanned: &Scanned, tallies: &[Option<u64>], run: Run) -> Geometry
+pub fn wanted_images(scanned: &Scanned, tallies: &[Tally], run: Run) -> Geometry
     requires sets { All IsTestable scanned.now.sets.now }
     requires long { length tallies.now ≡ length scanned.now.sets.now }
     requires run { run.first + run.count < 2 ^ 64 }
@@ -43,7 +44,7 @@ pub fn wanted_images(scanned: &Scanned, tallies: &[Option<u64>], run: Run) -> Ge
 }
 
 /// Marks the images of which some asking tally needs a run.
-fn wanted_marks(scanned: &Scanned, tallies: &[Option<u64>], run: Run) -> [bool; 256]
+fn wanted_marks(scanned: &Scanned, tallies: &[Tally], run: Run) -> [bool; 256]
     requires sets { All IsTestable scanned.now.sets.now }
     requires long { length tallies.now ≡ length scanned.now.sets.now }
     requires run { run.first + run.count < 2 ^ 64 }
@@ -57,7 +58,7 @@ fn wanted_marks(scanned: &Scanned, tallies: &[Option<u64>], run: Run) -> [bool; 
 }
 
 /// Marks the images of a set where its tally asks for the run.
-fn mark_set(marks: &mut [bool], plan: &Plan, geo: &Geometry, tally: Option<u64>, run: Run)
+fn mark_set(marks: &mut [bool], plan: &Plan, geo: &Geometry, tally: Tally, run: Run)
     requires marks { length marks.old ≡ 256 }
     requires set { IsTestable geo.now }
     requires run { run.first + run.count < 2 ^ 64 }

@@ -1,6 +1,6 @@
-use Rattle.std.proofs.Common.{◌+◌, ◌-◌, List, sym, ap, ◌∙◌, subst, arith}
-use Rattle.image_source.specs.Attached.{told_all}
-use Rattle.image_source.specs.Seen.{Image}
+use Rattle.std.proofs.Common.{rules, ◌+◌, ◌-◌, List, refl, sym, ap, ◌∙◌, subst, arith}
+use Rattle.outside.specs.Attached.{told_all}
+use Rattle.outside.specs.Seen.{Image}
 use Rattle.row_scan.specs.declared.many_sets.TheConstants.{MOST_SETS}
 use Rattle.slot_math.specs.declared.space.Space.{Space}
 use Rattle.candidate_enum.specs.Survivors.{question, survivors}
@@ -12,6 +12,7 @@ use Rattle.page_engine.proofs.gathering.gather_admitted.Goals as goal
 pub loop-leaf-init : goal.loop-leaf-init
 loop-leaf-init g c = record {
   goes = (tt, tt);
+  quiet = refl;
   stands = begins (told_all (g.I.Images.seen c.args.images.now).attached) c.args.paging.now.plan.now c.args.sets.now (g.F.Family.admits c.args.family.now) c.args.from c.args.stop c.args.paging.now.size (g.I.Images.seen c.args.images.now) c.args.page.now c.start-walk.result.leaves
       c.requires.part
       (c.start-walk.ensures.leaves ∙ ap (λ (space : Space). survivors (question space (g.F.Family.admits c.args.family.now) (c.args.from - c.args.sets.now.first) (c.args.stop - c.args.sets.now.first))) c.requires.space)
@@ -74,6 +75,7 @@ loop-leaf-preserved g c =
     c.requires.head c.requires.part c.requires.admits c.loop-leaf.invariant.stands c.in-Some.ensures.steps in
     record {
       goes = (tt, tt);
+      quiet = search rules;
       stands = gathered (told_all (g.I.Images.seen c.args.images.now).attached) c.args.paging.now.plan.now c.args.sets.now (g.F.Family.admits c.args.family.now) c.args.from c.args.stop c.args.paging.now.size (g.I.Images.seen c.args.images.now) (g.I.Images.seen c.loop-leaf.images) (g.I.Images.seen c.gather_set.new.images) c.args.page.now c.loop-leaf.page c.gather_set.new.page c.in-Some.leaf c.next.new.self.leaves next c.loop-leaf.invariant.stands.scans
           (gathers_all _ _ c.args.paging.now.plan.now c.args.paging.now.size (c.args.sets.now.first + c.in-Some.leaf.rank + 1) c.loop-leaf.page c.gather_set.new.page c.in_ok-next.field-0 c.loop-leaf.invariant.stands.scans.spends.reads.attached c.in_default-2.is c.in_ok-next.ensures.gathers)
           (reads_all _ _ c.args.paging.now.plan.now c.loop-leaf.page.tested (c.args.sets.now.first + c.in-Some.leaf.rank + 1) 0 0 c.gather_set.new.page c.in_ok-next.field-0 (g.I.Images.seen c.loop-leaf.images) (g.I.Images.seen c.gather_set.new.images) c.loop-leaf.invariant.stands.scans.spends.reads.attached c.in_default-2.is c.in_ok-next.ensures.reads);

@@ -1,7 +1,7 @@
 use Rattle.std.proofs.Common.{◌≤◌, List, All, sym, subst}
-use Rattle.image_source.specs.Attached.{told_all}
+use Rattle.outside.specs.Attached.{told_all}
 use Rattle.std.proofs.lemmas.List.Elements.{All-nil}
-use Rattle.raid_terms.specs.Page.{stop_of}
+use Rattle.search_terms.specs.Page.{stop_of}
 use Rattle.search_plan.specs.Sets.{total_of}
 use Rattle.page_engine.specs.Pages.{table_reads, tested_to}
 use Rattle.page_engine.specs.Walk.{left_after, left_reads, IsKept}

@@ -1,8 +1,8 @@
 use Rattle.std.proofs.Common.{rules, ◌≡◌, ◌≤◌, ◌+◌, ◌++◌, ◌∷◌, [], ◌==◌, ℕ, None, List, IfSome, length, subst, sym, ap, ◌∙◌, refl}
-use Rattle.image_source.specs.Attached.{told_all}
-use Rattle.image_source.specs.Seen.{OnlyReads}
+use Rattle.outside.specs.Attached.{told_all}
+use Rattle.outside.specs.Seen.{OnlyReads}
 use Rattle.std.specs.List.{position}
-use Rattle.prune_filters.specs.Xors.{AreXorTables}
+use Rattle.prune_filters.specs.Early.{AreEarlyTables}
 use Rattle.page_engine.specs.Pages.{offset_reads}
 use Rattle.page_engine.specs.Walk.{left_reads, Spends}
 use Rattle.page_engine.specs.declared.row_tables.OffsetTables.{OffsetTables}
@@ -42,8 +42,8 @@ returns-clause-place g c =
 pub returns-clause-kept : goal.returns-clause-kept
 returns-clause-kept g c =
     let pushed : c.push.new.self ≡ c.args.kept.now ++ (record { offset = c.args.sets.now.head.offset; tables = c.in-Ok.tables }) ∷ [] = search rules in
-    let chunks : IfSome (told_all (g.I.Images.seen c.args.images.now).attached) (λ bytes. AreXorTables bytes c.args.plan.now c.args.plan.now.bounds.chunks.items c.args.sets.now.head.offset c.in-Ok.tables.items)
-    = subst (λ (l : List ℕ). IfSome (told_all (g.I.Images.seen c.args.images.now).attached) (λ bytes. AreXorTables bytes c.args.plan.now l c.args.sets.now.head.offset c.in-Ok.tables.items)) c.deref.ensures.0 c.in-Ok.ensures.told in
+    let chunks : IfSome (told_all (g.I.Images.seen c.args.images.now).attached) (λ bytes. AreEarlyTables bytes c.args.plan.now c.args.plan.now.bounds.chunks.items c.args.sets.now.head.offset c.in-Ok.tables.items)
+    = subst (λ (l : List ℕ). IfSome (told_all (g.I.Images.seen c.args.images.now).attached) (λ bytes. AreEarlyTables bytes c.args.plan.now l c.args.sets.now.head.offset c.in-Ok.tables.items)) c.deref.ensures.0 c.in-Ok.ensures.told in
     kept_more (told_all (g.I.Images.seen c.args.images.now).attached) c.args.plan.now c.args.kept.now c.push.new.self (record { offset = c.args.sets.now.head.offset; tables = c.in-Ok.tables }) pushed c.requires.kept
     (record { long = c.in-Ok.ensures.long ∙ ap length c.deref.ensures.0; tables = chunks })
 

@@ -1,59 +1,27 @@
-use Rattle.std.proofs.Common.{rules, ℕ, List, ◌≡◌, ◌+◌, ◌++◌, ◌∷◌, [], false, length, length-append, Option, Some, sym, ap, ◌∙◌, subst, arith, slice_index_or}
-use Rattle.search_plan.specs.declared.plan.Plan.{Plan}
-use Rattle.page_engine.specs.Walk.{AddsWaiting, Wait}
-use Rattle.page_engine.specs.declared.page_parts.Line.{Line}
-use Rattle.page_engine.proofs.Passed.{all_passed, any_fails, fills_waiting, Judged, one_passes, Passed}
+use Rattle.std.proofs.Common.{rules, ◌≡◌, true, false, length, get_or, ap, ◌∙◌, arith}
+use Rattle.row_scan.specs.Tallies.{has_passed}
+use Rattle.row_scan.specs.declared.tally.Tally.TheVariants.{Left}
+use Rattle.page_engine.proofs.Passed.{adds_begin, adds_end, adds_fail, adds_full, adds_pass}
 use Rattle.page_engine.proofs.scanning.add_passed.Goals as goal
-use Rattle.page_engine.proofs.scanning.add_passed.Goals.{then-verdicts-k+in_ok-push+else-as_slice-size, else-verdicts-k}
+use Rattle.page_engine.proofs.scanning.add_passed.Goals.{then-has_passed+in_ok-push+else-as_slice-size, else-has_passed}
 
--- the line that is appended is the one that waited
-with_copy : (line : Line) (lines new : List Line) (item : Line) → new ≡ lines ++ item ∷ [] → item.rank ≡ line.rank → item.geo ≡ line.geo → new ≡ lines ++ line ∷ []
-with_copy line lines new item pushed rank geo = let same : item ≡ line = search rules in pushed ∙ ap (λ (l : Line). lines ++ l ∷ []) same
+pub loop-k-init : goal.loop-k-init
+loop-k-init c = adds_begin c.args.size c.args.waiting.now c.args.lines.now c.requires.size
 
 pub returns-then-as_slice-size : goal.returns-then-as_slice-size
 returns-then-as_slice-size c =
-    let here : slice_index_or c.args.waiting.now c.loop-k.k c.index-waiting-k.result ≡ c.index-waiting-k.result = search rules in
-    let pushed : c.push.new.self ≡ c.loop-k.lines ++ c.index-waiting-k.result ∷ []
-    = with_copy c.index-waiting-k.result c.loop-k.lines c.push.new.self _ c.in_ok-push.ensures.ok (search rules) (search rules) in
-    let same : c.loop-k.lines ++ slice_index_or c.args.waiting.now c.loop-k.k c.index-waiting-k.result ∷ [] ≡ c.push.new.self
-    = ap (λ (l : Line). c.loop-k.lines ++ l ∷ []) here ∙ sym pushed in
-    let P : List Line → Type 0 = λ l. (told : Option (List (List ℕ))) (plan : Plan) (from at : ℕ) → Wait told plan from at c.args.waiting.now → Judged told plan c.args.waiting.now c.args.verdicts.now →
-    AddsWaiting told plan from at c.args.size c.args.waiting.now c.args.lines.now l (Some ((slice_index_or c.args.waiting.now c.loop-k.k c.index-waiting-k.result).rank + 1)) in
-    let Q : Line → Type 0 = λ line. (told : Option (List (List ℕ))) (plan : Plan) (from at : ℕ) → Wait told plan from at c.args.waiting.now → Judged told plan c.args.waiting.now c.args.verdicts.now →
-    AddsWaiting told plan from at c.args.size c.args.waiting.now c.args.lines.now c.push.new.self (Some (line.rank + 1)) in
-    record {
-      added = subst Q here (subst P same (λ told plan from at wait judged. fills_waiting told plan from at c.args.size c.args.waiting.now c.args.verdicts.now c.loop-k.k c.args.lines.now c.loop-k.lines c.index-waiting-k.result false
-          c.loop-k-test.true c.requires.long c.if-verdicts-k.true (let long = c.if-as_slice-size.true in let now = ap length c.as_slice.ensures in let all = ap length same in omega arith) (c.loop-k.invariant.passed told plan from at wait judged)));
-    }
+    let has : has_passed (get_or c.args.waiting.now.tallies.items c.loop-k.k (Left 0)) ≡ true = search rules in
+    adds_full c.args.size c.args.waiting.now c.loop-k.k _ c.args.lines.now c.loop-k.lines c.push.new.self _ (Left 0) c.requires.ranks c.requires.tallies (search rules) has (search rules) (search rules) c.in_ok-push.ensures.ok (search rules) (search rules) c.loop-k.invariant
 
 pub loop-k-preserved : goal.loop-k-preserved
-loop-k-preserved c = elim c.if-verdicts-k.branch [
-  | then-verdicts-k+in_ok-push+else-as_slice-size w ↦ (
-      let here : slice_index_or c.args.waiting.now c.loop-k.k w.index-waiting-k.result ≡ w.index-waiting-k.result = search rules in
-      let pushed : w.push.new.self ≡ c.loop-k.lines ++ w.index-waiting-k.result ∷ []
-      = with_copy w.index-waiting-k.result c.loop-k.lines w.push.new.self _ w.in_ok-push.ensures.ok (search rules) (search rules) in
-      let lines : c.if-verdicts-k.lines ≡ c.loop-k.lines ++ slice_index_or c.args.waiting.now c.loop-k.k w.index-waiting-k.result ∷ []
-      = w.lines-is ∙ pushed ∙ ap (λ (l : Line). c.loop-k.lines ++ l ∷ []) (sym here) in
-      let P : List Line → Type 0 = λ l. (told : Option (List (List ℕ))) (plan : Plan) (from at : ℕ) → Wait told plan from at c.args.waiting.now → Judged told plan c.args.waiting.now c.args.verdicts.now →
-      Passed told plan from at c.args.waiting.now c.args.verdicts.now (c.loop-k.k + 1) c.args.lines.now l in
-      record {
-        few = (let other = w.if-as_slice-size.false in let now = ap length w.as_slice.ensures in let all = ap length pushed in let long = length-append c.loop-k.lines (w.index-waiting-k.result ∷ []) in
-            let is = ap length w.lines-is in let few = c.loop-k.invariant.few in omega arith);
-        passed = subst P (sym lines) (λ told plan from at wait judged. one_passes told plan from at c.args.waiting.now c.args.verdicts.now c.loop-k.k c.args.lines.now c.loop-k.lines w.index-waiting-k.result false
-            c.loop-k-test.true c.requires.long w.if-verdicts-k.true (c.loop-k.invariant.passed told plan from at wait judged));
-      })
-  | else-verdicts-k w ↦ (
-      let P : List Line → Type 0 = λ l. (told : Option (List (List ℕ))) (plan : Plan) (from at : ℕ) → Wait told plan from at c.args.waiting.now → Judged told plan c.args.waiting.now c.args.verdicts.now →
-      Passed told plan from at c.args.waiting.now c.args.verdicts.now (c.loop-k.k + 1) c.args.lines.now l in
-      record {
-        few = (let few = c.loop-k.invariant.few in let is = ap length w.lines-is in omega arith);
-        passed = subst P (sym w.lines-is) (λ told plan from at wait judged. any_fails told plan from at c.args.waiting.now c.args.verdicts.now c.loop-k.k c.args.lines.now c.loop-k.lines false
-            c.loop-k-test.true c.requires.long w.if-verdicts-k.false (c.loop-k.invariant.passed told plan from at wait judged));
-      })
+loop-k-preserved c = elim c.if-has_passed.branch [
+  | then-has_passed+in_ok-push+else-as_slice-size w ↦ (
+      let has : has_passed (get_or c.args.waiting.now.tallies.items c.loop-k.k (Left 0)) ≡ true = search rules in
+      adds_pass c.args.size c.args.waiting.now c.loop-k.k c.args.lines.now c.loop-k.lines c.if-has_passed.lines _ (Left 0) c.requires.ranks c.requires.tallies (search rules) has (search rules) (search rules) (w.lines-is ∙ w.in_ok-push.ensures.ok) (search rules) c.loop-k.invariant)
+  | else-has_passed w ↦ (
+      let fails : has_passed (get_or c.args.waiting.now.tallies.items c.loop-k.k (Left 0)) ≡ false = search rules in
+      adds_fail c.args.size c.args.waiting.now c.loop-k.k c.args.lines.now c.loop-k.lines c.if-has_passed.lines (Left 0) c.requires.ranks c.requires.tallies (search rules) fails w.lines-is c.loop-k.invariant)
 ]
 
 pub returns : goal.returns
-returns c = record {
-  added = λ told plan from at wait judged. all_passed told plan from at c.args.size c.args.waiting.now c.args.verdicts.now c.loop-k.k c.args.lines.now c.loop-k.lines (let end = c.loop-k-test.false in omega arith) c.loop-k.invariant.few
-      (c.loop-k.invariant.passed told plan from at wait judged);
-}
+returns c = adds_end c.args.size c.args.waiting.now c.loop-k.k c.args.lines.now c.loop-k.lines c.requires.ranks (let end = c.loop-k-test.false in let same = ap length c.as_slice-sets.ensures in omega arith) c.loop-k.invariant

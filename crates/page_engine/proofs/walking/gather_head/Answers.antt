@@ -1,10 +1,13 @@
-use Rattle.std.proofs.Common.{List, All, sym, ◌∙◌, subst}
-use Rattle.image_source.specs.Attached.{told_all}
-use Rattle.image_source.specs.Seen.{Image}
-use Rattle.page_engine.specs.Walk.{IsKept, left_reads, spared_by, tested_by}
+use Rattle.std.proofs.Common.{rules, ◌≡◌, List, All, Some, None, false, sym, ◌∙◌, subst}
+use Rattle.prune_filters.specs.Hopeful.{is_hopeful_by}
+use Rattle.prune_filters.specs.Rows.{needs_table}
+use Rattle.outside.specs.Attached.{told_all}
+use Rattle.outside.specs.Seen.{Image}
+use Rattle.page_engine.specs.Walk.{AdmitsHopeful, Asked, IsKept, left_reads, spared_by, tested_by}
 use Rattle.page_engine.proofs.HeadByHead.{goes_no_rows, goes_nowhere}
-use Rattle.page_engine.proofs.Kept.{kept_at, kept_xors, none_left, stands_within}
-use Rattle.page_engine.proofs.Scanned.{scans_tables}
+use Rattle.page_engine.proofs.Admitted.{admits_hopeful}
+use Rattle.page_engine.proofs.Kept.{kept_at, kept_xors, no_table, none_left, stands_within}
+use Rattle.page_engine.proofs.Scanned.{scans_fail, scans_tables}
 use Rattle.page_engine.proofs.walking.gather_head.Goals.{then-from-stop-via-then-from-stop, then-from-stop-via-else-from-stop+then-rows-eq0}
 use Rattle.page_engine.proofs.walking.gather_head.Goals as goal
 
@@ -18,8 +21,16 @@ returns-then-from-stop-clause-gathers g c =
 
 pub returns-in_err-place-clause-reads : goal.returns-in_err-place-clause-reads
 returns-in_err-place-clause-reads g c =
-    scans_tables (told_all (g.I.Images.seen c.args.images.now).attached) c.args.paging.now.plan.now c.args.page.now.tested (tested_by c.args.stop c.args.page.now c.from_residual.result) (spared_by c.from_residual.result)
-    (left_reads c.args.paging.now.plan.now c.args.kept.now) _ _ _ (rw (none_left c.args.paging.now.plan.now c.table_place.new.kept c.from_residual.result c.from_residual.ensures.0) c.in_err-place.ensures.reads)
+    scans_tables (told_all (g.I.Images.seen c.args.images.now).attached) c.args.paging.now.plan.now c.args.page.now.tested (tested_by c.args.stop c.args.page.now c.from_residual-in_err-place.result) (spared_by c.from_residual-in_err-place.result)
+    (left_reads c.args.paging.now.plan.now c.args.kept.now) _ _ _ (rw (none_left c.args.paging.now.plan.now c.table_place.new.kept c.from_residual-in_err-place.result c.from_residual-in_err-place.ensures.0) c.in_err-place.ensures.reads)
+
+pub returns-in_err-family-2-clause-reads : goal.returns-in_err-family-2-clause-reads
+returns-in_err-family-2-clause-reads g c =
+    rw (none_left c.args.paging.now.plan.now c.table_place.new.kept c.from_residual-in_err-family-2.result c.from_residual-in_err-family-2.ensures.0)
+    (scans_fail (told_all (g.I.Images.seen c.args.images.now).attached) c.args.paging.now.plan.now c.args.page.now.tested (tested_by c.args.stop c.args.page.now c.from_residual-in_err-family-2.result) (spared_by c.from_residual-in_err-family-2.result)
+    (left_reads c.args.paging.now.plan.now c.args.kept.now) (left_reads c.args.paging.now.plan.now c.table_place.new.kept) (g.I.Images.seen c.args.images.now) (g.I.Images.seen c.table_place.new.images)
+    (scans_tables (told_all (g.I.Images.seen c.args.images.now).attached) c.args.paging.now.plan.now c.args.page.now.tested (tested_by c.args.stop c.args.page.now c.from_residual-in_err-family-2.result) (spared_by c.from_residual-in_err-family-2.result)
+    (left_reads c.args.paging.now.plan.now c.args.kept.now) (left_reads c.args.paging.now.plan.now c.table_place.new.kept) (g.I.Images.seen c.args.images.now) (g.I.Images.seen c.table_place.new.images) c.in_ok-place.ensures.reads))
 
 pub table_at-table-requires-clause-place : goal.table_at-table-requires-clause-place
 table_at-table-requires-clause-place g c = stands_within c.args.sets.now.head.offset _ c.in_ok-place.place c.in_ok-place.ensures.place
@@ -27,8 +38,18 @@ table_at-table-requires-clause-place g c = stands_within c.args.sets.now.head.of
 pub table_at-table-requires-clause-long : goal.table_at-table-requires-clause-long
 table_at-table-requires-clause-long g c = λ one e. (kept_at (told_all (g.I.Images.seen c.args.images.now).attached) c.args.paging.now.plan.now c.table_place.new.kept c.in_ok-place.place one c.table_place.ensures.kept e).long
 
-pub gather_hopeful-requires-2-clause-xors : goal.gather_hopeful-requires-2-clause-xors
-gather_hopeful-requires-2-clause-xors g c κs within =
+pub gather_admitted-requires-clause-admits : goal.gather_admitted-requires-clause-admits
+gather_admitted-requires-clause-admits g c κs within =
+    let P : Asked → Type 0 = λ asked. AdmitsHopeful (told_all (g.I.Images.seen c.args.images.now).attached) c.args.paging.now.plan.now c.args.sets.now.head (λ prefix. is_hopeful_by asked.xors asked.plan asked.head prefix) in
+    let is : c.in_ok-family.family ≡ record { plan = c.args.paging.now.plan.now; head = c.args.sets.now.head; space = c.args.sets.now.space; xors = None } = search rules in
+    let needless : needs_table c.args.paging.now.plan.now c.args.sets.now.head ≡ false = search rules in
+    subst P (sym is) (admits_hopeful (told_all (g.I.Images.seen c.args.images.now).attached) c.args.paging.now.plan.now c.args.sets.now.head None c.requires.plan c.requires.head.head c.requires.head.among (no_table (told_all (g.I.Images.seen c.args.images.now).attached) c.args.paging.now.plan.now c.args.sets.now.head needless))
+
+pub gather_admitted-requires-2-clause-admits : goal.gather_admitted-requires-2-clause-admits
+gather_admitted-requires-2-clause-admits g c κs within =
+    let P : Asked → Type 0 = λ asked. AdmitsHopeful (told_all (g.I.Images.seen c.table_place.new.images).attached) c.args.paging.now.plan.now c.args.sets.now.head (λ prefix. is_hopeful_by asked.xors asked.plan asked.head prefix) in
     let Q : List Image → Type 0 = λ attached. All (IsKept (told_all attached) c.args.paging.now.plan.now) c.table_place.new.kept in
-    kept_xors (told_all (g.I.Images.seen c.table_place.new.images).attached) c.args.paging.now.plan.now c.args.sets.now.head c.table_place.new.kept c.in_ok-place.place c.table_at-table.result.now
-    (subst Q (sym c.table_place.ensures.reads.reads.attached) c.table_place.ensures.kept) c.in_ok-place.ensures.place c.table_at-table.ensures
+    let is : c.in_ok-family-2.family ≡ record { plan = c.args.paging.now.plan.now; head = c.args.sets.now.head; space = c.args.sets.now.space; xors = Some c.table_at-table.result.now } = search rules in
+    subst P (sym is) (admits_hopeful (told_all (g.I.Images.seen c.table_place.new.images).attached) c.args.paging.now.plan.now c.args.sets.now.head (Some c.table_at-table.result.now) c.requires.plan c.requires.head.head c.requires.head.among
+    (kept_xors (told_all (g.I.Images.seen c.table_place.new.images).attached) c.args.paging.now.plan.now c.args.sets.now.head c.table_place.new.kept c.in_ok-place.place c.table_at-table.result.now
+    (subst Q (sym c.table_place.ensures.reads.reads.attached) c.table_place.ensures.kept) c.in_ok-place.ensures.place c.table_at-table.ensures))

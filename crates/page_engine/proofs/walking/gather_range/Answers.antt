@@ -1,6 +1,6 @@
-use Rattle.std.proofs.Common.{ℕ, ◌-◌, List, All, nat_lt, filter, sym, ap, ◌∙◌, subst, arith}
-use Rattle.image_source.specs.Attached.{told_all}
-use Rattle.image_source.specs.Seen.{Image}
+use Rattle.std.proofs.Common.{rules, refl, ℕ, ◌-◌, List, All, nat_lt, filter, sym, ap, ◌∙◌, subst, arith}
+use Rattle.outside.specs.Attached.{told_all}
+use Rattle.outside.specs.Seen.{Image}
 use Rattle.row_scan.specs.declared.many_sets.TheConstants.{MOST_SETS}
 use Rattle.set_product.specs.Heads.{end_of}
 use Rattle.set_product.specs.declared.heads.HeadSets.{HeadSets}
@@ -13,6 +13,7 @@ use Rattle.page_engine.proofs.walking.gather_range.Goals as goal
 pub loop-sets-init : goal.loop-sets-init
 loop-sets-init g c = record {
   goes = (tt, tt);
+  quiet = refl;
   far =
       (let P : List HeadSets → Type 0 = λ heads. Ahead c.args.paging.now.plan.now c.args.from heads in
       reaches_first (told_all (g.I.Images.seen c.args.images.now).attached) c.args.paging.now.plan.now c.args.paging.now.size c.args.from c.args.stop (left_reads c.args.paging.now.plan.now c.args.kept.now) (g.I.Images.seen c.args.images.now) c.args.page.now c.skip_to.new.self c.requires.range c.requires.stands
@@ -99,6 +100,7 @@ loop-sets-preserved g c =
     c.loop-sets.invariant.far c.in-Some.ensures.steps c.if-at-stop.false in
     record {
       goes = (tt, tt);
+      quiet = search rules;
       far = reaches_on (told_all (g.I.Images.seen c.args.images.now).attached) c.args.paging.now.plan.now c.args.paging.now.size c.args.from c.args.stop c.loop-sets.at c.min-end.result (left_reads c.args.paging.now.plan.now c.args.kept.now) (left_reads c.args.paging.now.plan.now c.loop-sets.kept) (left_reads c.args.paging.now.plan.now c.gather_head.new.kept) (g.I.Images.seen c.args.images.now) (g.I.Images.seen c.loop-sets.images) (g.I.Images.seen c.gather_head.new.images) c.args.page.now c.loop-sets.page c.gather_head.new.page c.loop-sets.heads c.next.new.self c.in-Some.sets
           c.loop-sets.invariant.far next c.min-end.ensures
           (gathers_all _ _ c.args.paging.now.plan.now c.args.paging.now.size c.min-end.result c.loop-sets.page c.gather_head.new.page c.in_ok-next.field-0 c.loop-sets.invariant.far.scans.spends.reads.attached c.in_default-2.is c.in_ok-next.ensures.gathers)

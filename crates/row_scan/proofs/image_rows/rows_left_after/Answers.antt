@@ -3,16 +3,17 @@ use Rattle.raid_terms.specs.Parity.{is_sound_row}
 use Rattle.row_scan.proofs.ImageRows.{next_sound, next_unsound, unsound_rises}
 use Rattle.row_scan.proofs.WholeRows.{row_itself}
 use Rattle.row_scan.proofs.image_rows.rows_left_after.Goals as goal
-use Rattle.row_scan.proofs.image_rows.rows_left_after.Goals.{then-not-is_sound_at+in_ok-rest, else-not-is_sound_at}
+use Rattle.row_scan.proofs.image_rows.rows_left_after.Goals.{then-not-is_sound_at+else-rest-eq0, else-not-is_sound_at}
 
-pub returns-in_err-rest : goal.returns-in_err-rest
-returns-in_err-rest c = λ images hold.
+pub returns-then-rest-eq0 : goal.returns-then-rest-eq0
+returns-then-rest-eq0 c = λ images hold.
     let sound : c.is_sound_at.result ≡ is_sound_row images c.args.geo.now c.loop-t.t =
     c.is_sound_at.ensures.sound images c.args.run c.loop-t.t hold (omega arith) (omega arith) c.turn_row.ensures.place in
     let more = next_unsound images c.args.geo.now c.loop-t.t c.is_sound_at.result sound c.if-not-is_sound_at.true in
     let grows = unsound_rises images c.args.geo.now (c.loop-t.t + 1) c.args.to (omega arith) in
     let so_far = c.loop-t.invariant.counted images hold in
-    rw c.from_residual.ensures (omega (arith, c.in_err-rest.ensures))
+    let none = c.if-rest-eq0.true in
+    omega arith
 
 pub loop-t-preserved : goal.loop-t-preserved
 loop-t-preserved c =
@@ -24,9 +25,11 @@ loop-t-preserved c =
           c.is_sound_at.ensures.sound images c.args.run c.loop-t.t hold (omega arith) (omega arith) c.turn_row.ensures.place in
           let so_far = c.loop-t.invariant.counted images hold in
           elim c.if-not-is_sound_at.branch [
-            | then-not-is_sound_at+in_ok-rest w ↦
+            | then-not-is_sound_at+else-rest-eq0 w ↦
                 let more = next_unsound images c.args.geo.now c.loop-t.t c.is_sound_at.result sound w.if-not-is_sound_at.true in
-                omega (arith, w.in_ok-rest.ensures)
+                let some = w.if-rest-eq0.false in
+                let is = w.rest-is in
+                omega arith
             | else-not-is_sound_at w ↦
                 let same = next_sound images c.args.geo.now c.loop-t.t c.loop-t.rest _ c.is_sound_at.result sound w.if-not-is_sound_at.false so_far in
                 omega arith

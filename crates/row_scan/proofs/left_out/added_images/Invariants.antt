@@ -1,6 +1,6 @@
 use Rattle.std.proofs.Common.{ℕ, ◌≡◌, ◌<◌, Option, length, map, take, get_or, IsSomeAnd}
 use Rattle.raid_terms.specs.Parity.{in_p}
-use Rattle.pq_parity.specs.Syndromes.{known_sum}
+use Rattle.row_parity.specs.Syndromes.{known_sum}
 use Rattle.row_scan.specs.ImageSums.{held_byte, marked_sum}
 use Rattle.row_scan.proofs.left_out.added_images.Given as goal
 

@@ -1,5 +1,5 @@
 use Rattle.std.proofs.Common.{rules}
-use Rattle.image_source.specs.Attached.{told_all}
+use Rattle.outside.specs.Attached.{told_all}
 use Rattle.row_scan.proofs.Parity.{told_after}
 use Rattle.row_scan.proofs.one_set.count_block.Goals as goal
 

@@ -1,6 +1,6 @@
 use Rattle.std.proofs.Common.{◌≡◌, ◌≤◌, ◌*◌, ◌-◌, IfSome}
-use Rattle.image_source.specs.Attached.{told_all}
-use Rattle.image_source.specs.Seen.{OnlyReads}
+use Rattle.outside.specs.Attached.{told_all}
+use Rattle.outside.specs.Seen.{OnlyReads}
 use Rattle.raid_terms.specs.Parity.{unsound_rows}
 use Rattle.member_regions.specs.Members.{held}
 use Rattle.member_regions.specs.Regions.{KeepsRoom}
@@ -8,6 +8,7 @@ use Rattle.row_scan.proofs.one_set.count_rows.Given as goal
 
 abbrev pub invariant-loop-first : goal.invariant-loop-first
 invariant-loop-first g l = record {
+  quiet : (g.I.Images.seen l.images).faults ≡ (g.I.Images.seen l.fn.images).faults;
   reads : OnlyReads (g.I.Images.seen l.fn.images) (g.I.Images.seen l.images) (held l.geo.slots.items * l.first);
   told : IfSome (told_all (g.I.Images.seen l.fn.images).attached) (λ bytes. l.sum ≡ unsound_rows bytes l.geo l.first);
   few : l.sum ≤ l.first;

@@ -1,5 +1,5 @@
 use Rattle.std.proofs.Common.{ℕ, ◌≡◌, ◌*◌, ◌<◌, ◌∙◌, length, All, IfSome, Option, subst, sym}
-use Rattle.image_source.specs.Attached.{told_all}
+use Rattle.outside.specs.Attached.{told_all}
 use Rattle.raid_params.specs.declared.types.Geometry.{Geometry}
 use Rattle.member_regions.specs.Regions.{HoldRead}
 use Rattle.row_scan.specs.Pass.{HoldAsked}

@@ -1,6 +1,7 @@
-use Rattle.std.proofs.Common.{◌+◌, None, get_or, refl, rules, arith, subst, sym}
+use Rattle.std.proofs.Common.{◌+◌, get_or, refl, rules, arith, subst, sym}
 use Rattle.raid_params.specs.declared.types.Geometry.{Geometry}
 use Rattle.row_scan.specs.ImageRows.{AddsRun}
+use Rattle.row_scan.specs.declared.tally.Tally.TheVariants.{Left}
 use Rattle.row_scan.proofs.Adding.{adds_here, piece_more}
 use Rattle.row_scan.proofs.tallies.add_to_piece.Goals as goal
 
@@ -15,7 +16,7 @@ loop-i-preserved c = record {
       c.loop-i.invariant.rest
       (λ d' e'. adds_here c.args.scanned.now.plan.now c.args.scanned.now.sets.now (c.args.start + c.loop-i.i) c.loop-i.i c.args.run c.args.regions.now c.index-scanned-start.result c.loop-i.piece _ c.tally_after.result d' e'
       (omega arith) (omega arith) c.index-scanned-start.is refl
-      (subst (λ (geo : Geometry). AddsRun c.args.scanned.now.plan.now geo c.args.run c.args.regions.now (get_or c.loop-i.piece c.loop-i.i None) c.tally_after.result) (sym c.index-scanned-start.is)
+      (subst (λ (geo : Geometry). AddsRun c.args.scanned.now.plan.now geo c.args.run c.args.regions.now (get_or c.loop-i.piece c.loop-i.i (Left 0)) c.tally_after.result) (sym c.index-scanned-start.is)
       c.tally_after.ensures))
       i d below e;
   rest = λ i d above. search rules;

@@ -1,7 +1,7 @@
-//! What a piece of a scan passes before its work.
+//! Gates.
 
-/// A gate that each piece of a scan passes once, before its work on the first block. No clause speaks of it:
-/// a test's gate shows that pieces run side by side.
+/// A gate that each piece of a work passes once, before its first step. No clause speaks of it: a test's gate shows that
+/// pieces run side by side.
 pub trait Gate {
     /// Lets the piece of this number pass, once it returns.
     fn pass(&self, piece: usize);

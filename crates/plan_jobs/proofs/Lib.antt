@@ -2,5 +2,4 @@ pub mod Checks
 pub mod Listed
 pub mod Plans
 pub mod Prepared
-pub mod Ordered
 pub mod PagesRead

@@ -1,22 +1,28 @@
 -- The bytes of a page are the listing.
-use Rattle.std.proofs.Common.{◌≡◌, ◌==◌, ℕ, zero, suc, List, [], ◌∷◌, ◌++◌, map, refl, sym, ap, ap₂, ◌∙◌, Option, Some, None, All, IfSome, slice_get, Bool, cond, true, false, nat_le, ◌<◌, ◌≤◌, ◌^◌, ◌⊎◌, Ok, Err, IsErrOf, inl, inr, arith}
+use Rattle.std.proofs.Common.{◌≡◌, ◌==◌, ℕ, zero, suc, List, [], ◌∷◌, ◌++◌, map, refl, sym, ap, ap₂, ◌∙◌, Option, Some, None, All, IfSome, slice_get, Bool, cond, true, false, nat_le, ◌<◌, ◌≤◌, ◌^◌, Ok, Err, IsErrOf, inl, inr, arith, subst}
 use Rattle.std.specs.List.{flat_map}
 use Rattle.std.specs.Option.{option_map_or}
 use Rattle.std.proofs.lemmas.List.Elements.{All-head, All-tail}
-use Rattle.image_source.specs.Seen.{Seen}
+use Rattle.outside.specs.Attached.{told_all}
+use Rattle.outside.specs.Seen.{Seen}
 use Rattle.std.proofs.lemmas.Bool.{cases_lt, eq-eqb, lt-ltb, le-ltb, le-leb}
 use Rattle.std.proofs.lemmas.Bool.Decides.{nat_tests}
 use Rattle.page_engine.specs.declared.page_parts.CursorFault.{CursorFault}
 use Rattle.page_engine.specs.declared.page_parts.PageFault.{PageFault}
 use Rattle.page_engine.specs.declared.page_parts.PageFault.TheVariants.{Many as PageMany, Cursor as PageCursor, ReadFault, Memory as PageMemory}
-use Rattle.run_ends.specs.Jobs.{HasCauses, IsUnreached, Orders, Refuses}
-use Rattle.run_ends.specs.Stops.{first_of, stop_of_page, many_refusal}
-use Rattle.run_ends.specs.declared.stop.Stop.TheVariants.{Many, Cursor}
-use Rattle.raid_terms.specs.Page.{page_ranks}
+use Rattle.run_ends.proofs.Printed.{order_allowed, rises, stays}
+use Rattle.run_ends.specs.Stops.{first_of, many_refusal}
+use Rattle.run_ends.specs.declared.stop.Refusal.{Refusal}
+use Rattle.run_ends.specs.declared.stop.Refusal.TheVariants.{Many, Cursor}
+use Rattle.run_ends.specs.declared.stop.Stop.TheVariants.{Refused, ImageFault, OutOfMemory}
+use Rattle.search_terms.specs.Page.{page_ranks}
 use Rattle.search_plan.specs.declared.plan.Plan.{Plan}
-use Rattle.page_engine.specs.Pages.{ArePagesFrom, EndsPage, HoldsSet, IsPageOf}
+use Rattle.page_engine.specs.Pages.{ArePagesFrom, EndsPage, HoldsSet, IsPageOf, ReadsPages}
 use Rattle.search_plan.specs.Sets.{passes_at, sets_of, total_of}
-use Rattle.plan_jobs.specs.Listing.{cursor_refusal, found_text, line_in, line_of, listing, next_in, next_of, page_text, pages_text}
+use Rattle.plan_jobs.proofs.PagesRead.{ends_made, none_read}
+use Rattle.plan_jobs.specs.Faults.{stop_of_page}
+use Rattle.plan_jobs.specs.Listing.{ListReads, cursor_refusal, found_text, line_in, line_of, list_over, listing, next_in, next_of, page_text, pages_text}
+use Rattle.plan_jobs.specs.Plans.{AnswersOver}
 use Rattle.plan_jobs.specs.declared.listing.Listing.{Listing}
 use Rattle.command_words.specs.declared.command.Form.{Form}
 use Rattle.page_engine.specs.declared.page_parts.Line.{Line}
@@ -91,92 +97,117 @@ cursor_first plan from low past =
     ap (λ (t : Bool). first_of (cond t (Some Many) None ∷ cursor_refusal from plan ∷ [])) (lt-leb (total_of plan) (2 ^ 64) low)
     ∙ ap (λ (t : Bool). first_of (cond t (Some (Cursor (record { from = from; total = total_of plan }))) None ∷ [])) (lt-ltb (total_of plan) from past)
 
--- a page that is there is not refused
-pub page_allowed : (plan : Plan) (from : ℕ) (page : List ListPage) → (2 ^ 64 ≤ total_of plan → IsErrOf (Ok page) PageMany) →
-    (total_of plan < 2 ^ 64 → total_of plan < from → IsErrOf (Ok page) (PageCursor (record { from = from; total = total_of plan }))) →
-    first_of (many_refusal plan ∷ cursor_refusal from plan ∷ []) ≡ None
-page_allowed plan from page many cursor =
+-- what the pages refuse: nothing, where they neither are too many nor begin past the total
+abbrev pub page_refusal : Plan → ℕ → Option Refusal
+page_refusal plan from = first_of (many_refusal plan ∷ cursor_refusal from plan ∷ [])
+
+pub page_allowed : (plan : Plan) (from : ℕ) → (2 ^ 64 ≤ total_of plan → ⊥) → (total_of plan < 2 ^ 64 → total_of plan < from → ⊥) → page_refusal plan from ≡ None
+page_allowed plan from many cursor =
     elim (cases_lt (total_of plan) (2 ^ 64)) [
       | inl low ↦ elim (cases_lt (total_of plan) from) [
-        | inl past ↦ absurd (let e = cursor low past in cc)
+        | inl past ↦ absurd (cursor low past)
         | inr in_range ↦ allowed plan from low in_range
       ]
-      | inr high ↦ absurd (let e = many high in cc)
+      | inr high ↦ absurd (many high)
     ]
 
--- a page that is not there is refused, or the outside or memory is the cause
-pub page_refuses : {T : Type 0} (plan : Plan) (from : ℕ) (old new : Seen) (fault : PageFault) → (total_of plan < 2 ^ 64 ⊎ (fault ≡ PageMany)) →
-    EndsPage plan from old new fault → Refuses {T = T} (first_of (many_refusal plan ∷ cursor_refusal from plan ∷ [])) (Err (stop_of_page fault))
-page_refuses plan from old new PageMany known ends = record { ends = inr (many_first plan from ends.0); passes = tt }
-page_refuses plan from old new (PageCursor fault) (inl low) ends = record { ends = inr (cursor_first plan from low ends.0 ∙ sym (ap (λ f. Some (Cursor f)) ends.1)); passes = tt }
-page_refuses plan from old new (PageCursor fault) (inr other) ends = absurd (cc)
-page_refuses plan from old new ReadFault known ends = record { ends = inl tt; passes = tt }
-page_refuses plan from old new PageMemory known ends = record { ends = inl tt; passes = tt }
+-- pages that were made are not refused
+found_allowed : (plan : Plan) (from : ℕ) (found : List ListPage) → (2 ^ 64 ≤ total_of plan → IsErrOf (Ok found) PageMany) →
+    (total_of plan < 2 ^ 64 → total_of plan < from → IsErrOf (Ok found) (PageCursor (record { from = from; total = total_of plan }))) → page_refusal plan from ≡ None
+found_allowed plan from found many cursor = page_allowed plan from (λ high. let e = many high in cc) (λ low past. let e = cursor low past in cc)
 
-pub page_known : (plan : Plan) (fault : PageFault) → (2 ^ 64 ≤ total_of plan → IsErrOf {T = List ListPage} (Err fault) PageMany) → (total_of plan < 2 ^ 64) ⊎ (fault ≡ PageMany)
-page_known plan fault many =
-    elim (cases_lt (total_of plan) (2 ^ 64)) [
-      | inl low ↦ inl low
-      | inr high ↦ inr (let e = many high in cc)
-    ]
+-- the text of pages that were made
+pub list_found : (asked : Listing) (names : ℕ) (plan : Plan) (old new : Seen) (found : List ListPage) (text : List ℕ) → (2 ^ 64 ≤ total_of plan → IsErrOf (Ok found) PageMany) →
+    (total_of plan < 2 ^ 64 → total_of plan < asked.from → IsErrOf (Ok found) (PageCursor (record { from = asked.from; total = total_of plan }))) →
+    ArePagesFrom (told_all old.attached) plan asked.size asked.span asked.pages asked.from found → ReadsPages (told_all old.attached) plan asked.size asked.span false asked.pages asked.from old new →
+    new.faults ≡ old.faults → text ≡ flat_map (found_text asked.form) found → AnswersOver (list_over asked) names plan old new (Ok text)
+list_found asked names plan old new found text many cursor are reads quiet is =
+    let none = found_allowed plan asked.from found many cursor in
+    record {
+      refuses = record { ends = tt; passes = none };
+      text = pages_printed (told_all old.attached) plan asked found text are is;
+      order = order_allowed (page_refusal plan asked.from) old.sectors_read new.sectors_read None None (Ok text) none;
+      reads = record { ends = reads.ends; are = reads.are; few = reads.reads.sectors_read };
+      faults = stays ImageFault old.faults new.faults (Ok text) quiet (λ e. absurd (cc));
+      untaken = λ f. absurd (cc);
+      unput = λ f. absurd (cc);
+      unread = tt;
+      world = reads.reads.world;
+      attached = reads.reads.attached;
+    }
 
--- what its fault says of the images
-pub page_causes : {T : Type 0} (plan : Plan) (from : ℕ) (old new : Seen) (fault : PageFault) → EndsPage plan from old new fault → old.faults ≤ new.faults →
-    HasCauses {T = T} (record { images = old.faults; plan = 0; out = 0; sectors = old.sectors_read }) (record { images = new.faults; plan = 0; out = 0; sectors = new.sectors_read }) (Err (stop_of_page fault))
-page_causes plan from old new PageMany ends later = record {
-  image_fault = λ f. absurd (cc);
-  plan_fault = λ f. absurd (cc);
-  out_fault = λ f. absurd (cc);
-  images_later = later;
-  plan_later = omega arith;
-  unread = λ h. ap (λ (s : Seen). s.sectors_read) ends.1;
-}
-page_causes plan from old new (PageCursor fault) ends later = record {
-  image_fault = λ f. absurd (cc);
-  plan_fault = λ f. absurd (cc);
-  out_fault = λ f. absurd (cc);
-  images_later = later;
-  plan_later = omega arith;
-  unread = λ h. ap (λ (s : Seen). s.sectors_read) ends.2;
-}
-page_causes plan from old new ReadFault ends later = record {
-  image_fault = λ f. ends;
-  plan_fault = λ f. absurd (cc);
-  out_fault = λ f. absurd (cc);
-  images_later = later;
-  plan_later = omega arith;
+-- memory runs out over the text of pages that were made
+pub list_short : (asked : Listing) (names : ℕ) (plan : Plan) (old new : Seen) (found : List ListPage) → (2 ^ 64 ≤ total_of plan → IsErrOf (Ok found) PageMany) →
+    (total_of plan < 2 ^ 64 → total_of plan < asked.from → IsErrOf (Ok found) (PageCursor (record { from = asked.from; total = total_of plan }))) →
+    ReadsPages (told_all old.attached) plan asked.size asked.span false asked.pages asked.from old new → new.faults ≡ old.faults → AnswersOver (list_over asked) names plan old new (Err OutOfMemory)
+list_short asked names plan old new found many cursor reads quiet =
+    let none = found_allowed plan asked.from found many cursor in
+    record {
+      refuses = record { ends = tt; passes = tt };
+      text = tt;
+      order = order_allowed (page_refusal plan asked.from) old.sectors_read new.sectors_read None None (Err OutOfMemory) none;
+      reads = record { ends = reads.ends; are = ends_made (told_all old.attached) plan asked.size asked.span true asked.pages asked.from reads.ends reads.are; few = reads.reads.sectors_read };
+      faults = stays ImageFault old.faults new.faults (Err OutOfMemory) quiet (λ e. absurd (cc));
+      untaken = λ f. absurd (cc);
+      unput = λ f. absurd (cc);
+      unread = λ h. absurd (h refl);
+      world = reads.reads.world;
+      attached = reads.reads.attached;
+    }
+
+-- pages that are refused are not looked for
+refused_page : (asked : Listing) (names : ℕ) (plan : Plan) (old new : Seen) (refusal : Refusal) → new ≡ old → page_refusal plan asked.from ≡ Some refusal → AnswersOver (list_over asked) names plan old new (Err (Refused refusal))
+refused_page asked names plan old new refusal same is =
+    let read : new.sectors_read ≡ old.sectors_read = ap (λ (s : Seen). s.sectors_read) same in
+    let faults : new.faults ≡ old.faults = ap (λ (s : Seen). s.faults) same in
+    record {
+      refuses = record { ends = is; passes = tt };
+      text = tt;
+      order = λ other e. record { unread = read; unput = tt; no_image_fault = λ f. absurd (cc); no_out_fault = λ f. absurd (cc) };
+      reads = subst (λ (n : ℕ). ListReads (told_all old.attached) asked plan false old.sectors_read n) (sym read) (none_read (told_all old.attached) asked plan false old.sectors_read);
+      faults = stays ImageFault old.faults new.faults (Err (Refused refusal)) faults (λ e. absurd (cc));
+      untaken = λ f. absurd (cc);
+      unput = λ f. absurd (cc);
+      unread = λ h. read;
+      world = ap (λ (s : Seen). s.world) same;
+      attached = ap (λ (s : Seen). s.attached) same;
+    }
+
+not_many : (plan : Plan) (fault : PageFault) → (2 ^ 64 ≤ total_of plan → IsErrOf {T = List ListPage} (Err fault) PageMany) → (fault ≡ PageMany → ⊥) → 2 ^ 64 ≤ total_of plan → ⊥
+not_many plan fault many other high = other (let e = many high in cc)
+
+-- why pages could not be made
+pub list_fault : (asked : Listing) (names : ℕ) (plan : Plan) (old new : Seen) (fault : PageFault) → (2 ^ 64 ≤ total_of plan → IsErrOf {T = List ListPage} (Err fault) PageMany) →
+    (total_of plan < 2 ^ 64 → total_of plan < asked.from → IsErrOf {T = List ListPage} (Err fault) (PageCursor (record { from = asked.from; total = total_of plan }))) → EndsPage plan asked.from old new fault →
+    ReadsPages (told_all old.attached) plan asked.size asked.span true asked.pages asked.from old new → AnswersOver (list_over asked) names plan old new (Err (stop_of_page fault))
+list_fault asked names plan old new PageMany many cursor ends reads = refused_page asked names plan old new Many ends.1 (many_first plan asked.from ends.0)
+list_fault asked names plan old new (PageCursor fault) many cursor ends reads =
+    let low : total_of plan < 2 ^ 64 = elim (cases_lt (total_of plan) (2 ^ 64)) [ inl low ↦ low | inr high ↦ absurd (not_many plan (PageCursor fault) many (λ e. cc) high) ] in
+    refused_page asked names plan old new (Cursor (record { from = fault.from; total = fault.total })) ends.2
+    (cursor_first plan asked.from low ends.0 ∙ sym (ap (λ (f : CursorFault). Some (Cursor (record { from = f.from; total = f.total }))) ends.1))
+list_fault asked names plan old new ReadFault many cursor ends reads = record {
+  refuses = record { ends = tt; passes = tt };
+  text = tt;
+  order = order_allowed (page_refusal plan asked.from) old.sectors_read new.sectors_read None None (Err ImageFault)
+      (page_allowed plan asked.from (λ high. let e = many high in cc) (λ low past. let e = cursor low past in cc));
+  reads = record { ends = reads.ends; are = reads.are; few = reads.reads.sectors_read };
+  faults = rises ImageFault old.faults new.faults ends reads.reads.faults;
+  untaken = λ f. absurd (cc);
+  unput = λ f. absurd (cc);
   unread = λ h. absurd (h tt);
+  world = reads.reads.world;
+  attached = reads.reads.attached;
 }
-page_causes plan from old new PageMemory ends later = record {
-  image_fault = λ f. absurd (cc);
-  plan_fault = λ f. absurd (cc);
-  out_fault = λ f. absurd (cc);
-  images_later = later;
-  plan_later = omega arith;
+list_fault asked names plan old new PageMemory many cursor ends reads = record {
+  refuses = record { ends = tt; passes = tt };
+  text = tt;
+  order = order_allowed (page_refusal plan asked.from) old.sectors_read new.sectors_read None None (Err OutOfMemory)
+      (page_allowed plan asked.from (λ high. let e = many high in cc) (λ low past. let e = cursor low past in cc));
+  reads = record { ends = reads.ends; are = reads.are; few = reads.reads.sectors_read };
+  faults = stays ImageFault old.faults new.faults (Err OutOfMemory) ends (λ e. absurd (cc));
+  untaken = λ f. absurd (cc);
+  unput = λ f. absurd (cc);
   unread = λ h. absurd (h refl);
+  world = reads.reads.world;
+  attached = reads.reads.attached;
 }
-
--- a refused page is not looked for
-pub page_order : {T : Type 0} (plan : Plan) (from : ℕ) (old new : Seen) (fault : PageFault) → (2 ^ 64 ≤ total_of plan → IsErrOf {T = List ListPage} (Err fault) PageMany) →
-    (total_of plan < 2 ^ 64 → total_of plan < from → IsErrOf {T = List ListPage} (Err fault) (PageCursor (record { from = from; total = total_of plan }))) → EndsPage plan from old new fault →
-    Orders {T = T} (first_of (many_refusal plan ∷ cursor_refusal from plan ∷ [])) old.sectors_read new.sectors_read None None (Err (stop_of_page fault))
-page_order {T} plan from old new fault many cursor ends stop e =
-    elim (cases_lt (total_of plan) (2 ^ 64)) [
-      | inl low ↦ elim (cases_lt (total_of plan) from) [
-        | inl past ↦ (let is : fault ≡ PageCursor (record { from = from; total = total_of plan }) = (let f = cursor low past in cc) in cursor_order fault (record { from = from; total = total_of plan }) is ends)
-        | inr in_range ↦ absurd (let none = allowed plan from low in_range in cc)
-      ]
-      | inr high ↦ (let is : fault ≡ PageMany = (let f = many high in cc) in many_order fault is ends)
-    ]
-  where
-    many_order : (fault : PageFault) → fault ≡ PageMany → EndsPage plan from old new fault → IsUnreached {T = T} old.sectors_read new.sectors_read None None (Err (stop_of_page fault))
-    many_order PageMany is ends = record { unread = ap (λ (s : Seen). s.sectors_read) ends.1; unput = tt; no_image_fault = λ f. absurd (let g = f in cc); no_out_fault = λ f. absurd (let g = f in cc) }
-    many_order (PageCursor c) is ends = absurd (cc)
-    many_order ReadFault is ends = absurd (cc)
-    many_order PageMemory is ends = absurd (cc)
-
-    cursor_order : (fault : PageFault) (cursor : CursorFault) → fault ≡ PageCursor cursor → EndsPage plan from old new fault → IsUnreached {T = T} old.sectors_read new.sectors_read None None (Err (stop_of_page fault))
-    cursor_order (PageCursor c) cursor is ends = record { unread = ap (λ (s : Seen). s.sectors_read) ends.2; unput = tt; no_image_fault = λ f. absurd (let g = f in cc); no_out_fault = λ f. absurd (let g = f in cc) }
-    cursor_order PageMany cursor is ends = absurd (cc)
-    cursor_order ReadFault cursor is ends = absurd (cc)
-    cursor_order PageMemory cursor is ends = absurd (cc)

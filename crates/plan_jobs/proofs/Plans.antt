@@ -2,94 +2,79 @@
 use Rattle.std.proofs.Common.{◌≡◌, ℕ, ◌<◌, ◌≤◌, Bool, cond, List, [], ◌∷◌, length, None, Some, Option, Ok, Err, IfSome, sym, ap, ◌∙◌, subst}
 use Rattle.std.specs.Option.{option_map}
 use Rattle.std.proofs.lemmas.Bool.{lt-ltb, le-ltb}
-use Rattle.image_source.specs.Seen.{Image}
+use Rattle.outside.specs.Seen.{Image}
 use Rattle.plan_text.specs.PlanText.{ReadsPlan}
 use Rattle.plan_text.proofs.PlanEnds.{one_spelling}
 use Rattle.plan_text.proofs.RefusedLines.{one_line_is_refused}
 use Rattle.search_plan.specs.Plans.{IsPlan}
-use Rattle.raid_params.specs.declared.limits.TheConstants.{MOST, PLAN_BYTES}
+use Rattle.raid_params.specs.declared.limits.TheConstants.{MOST}
+use Rattle.search_plan.specs.declared.limits.TheConstants.{PLAN_BYTES}
 use Rattle.search_plan.specs.declared.plan.Plan.{Plan}
-use Rattle.plan_text.specs.declared.fault.PlanFault.{PlanFault as PlanFaultOf}
-use Rattle.plan_text.specs.declared.fault.PlanFault.TheVariants.{Line as PlanLineOf, Memory}
+use Rattle.plan_text.specs.declared.fault.PlanFault.TheVariants.{Line as PlanLineOf}
 use Rattle.run_ends.specs.Agreement.{plan_fault}
-use Rattle.plan_jobs.specs.Preparing.{EndsPreparing, IsPrepared}
-use Rattle.plan_jobs.specs.Plans.{IsTextOf, PlanReading, Reads, Refused, plan_refusal, read_refusal}
-use Rattle.run_ends.specs.Source.{EndsReading}
-use Rattle.run_ends.specs.Stops.{first_of, stop_of_plan, many_refusal}
+use Rattle.plan_jobs.specs.Preparing.{EndsPreparing, IsPlanless, IsPrepared, IsTextless}
+use Rattle.plan_jobs.specs.Plans.{IsTextOf, NoPlan, PlanReading, Reads, plan_refusal, read_refusal}
+use Rattle.run_ends.specs.Stops.{first_of, many_refusal}
 use Rattle.run_ends.specs.declared.agreement.Disagreement.{Disagreement}
+use Rattle.run_ends.specs.declared.stop.Refusal.{Refusal}
+use Rattle.run_ends.specs.declared.stop.Refusal.TheVariants.{PlanLine, PlanIsLong, Images}
 use Rattle.run_ends.specs.declared.stop.Stop.{Stop}
-use Rattle.run_ends.specs.declared.stop.Stop.TheVariants.{Word, PlanLine, PlanIsLong, Images, Many, Cursor, Set, Slot, ArraySectors, VolumeSectors, Sector, ImageFault, PlanFault, OutFault, OutOfMemory}
+use Rattle.run_ends.specs.declared.stop.Stop.TheVariants.{Refused, ImageFault, SourceFault, OutFault, OutOfMemory}
 
 -- a text that was read as a plan says that plan
 says_plan : (text : List ℕ) (plan : Plan) (read : PlanReading) → ReadsPlan text (Ok plan) → IsTextOf text read → read ≡ Reads plan
-says_plan text plan (Refused n) reads is = absurd (is.no_plan plan reads.plan.0 reads.plan.1)
+says_plan text plan (NoPlan n) reads is = absurd (is.no_plan plan reads.plan.0 reads.plan.1)
 says_plan text plan (Reads other) reads is = ap (λ (p : Plan). Reads p) (one_spelling other plan is.0 reads.plan.0 (sym is.1 ∙ reads.plan.1))
 
 -- a text that was read as none says the line from which on it is none
-says_none : (text : List ℕ) (number : ℕ) (read : PlanReading) → ReadsPlan text (Err (PlanLineOf number)) → IsTextOf text read → read ≡ Refused number
-says_none text number (Refused n) reads is = ap (λ (k : ℕ). Refused k) (one_line_is_refused text n number is reads.fault)
+says_none : (text : List ℕ) (number : ℕ) (read : PlanReading) → ReadsPlan text (Err (PlanLineOf number)) → IsTextOf text read → read ≡ NoPlan number
+says_none text number (NoPlan n) reads is = ap (λ (k : ℕ). NoPlan k) (one_line_is_refused text n number is reads.fault)
 says_none text number (Reads plan) reads is = absurd (reads.fault.no_plan plan is.0 is.1)
 
-short_refusal : (text : List ℕ) (read : PlanReading) (names : ℕ) (attached : List Image) (further : Plan → Option Stop) → length text ≤ PLAN_BYTES →
+short_refusal : (text : List ℕ) (read : PlanReading) (names : ℕ) (attached : List Image) (further : Plan → Option Refusal) → length text ≤ PLAN_BYTES →
     plan_refusal text read names attached further ≡ read_refusal read names attached further
 unfolding plan_refusal
 short_refusal text read names attached further short =
     ap (λ (b : Bool). cond b (Some PlanIsLong) (read_refusal read names attached further)) (le-ltb PLAN_BYTES (length text) short)
 
-long_refusal : (text : List ℕ) (read : PlanReading) (names : ℕ) (attached : List Image) (further : Plan → Option Stop) → PLAN_BYTES < length text →
+long_refusal : (text : List ℕ) (read : PlanReading) (names : ℕ) (attached : List Image) (further : Plan → Option Refusal) → PLAN_BYTES < length text →
     plan_refusal text read names attached further ≡ Some PlanIsLong
 unfolding plan_refusal
 long_refusal text read names attached further long =
     ap (λ (b : Bool). cond b (Some PlanIsLong) (read_refusal read names attached further)) (lt-ltb PLAN_BYTES (length text) long)
 
 too_long : (left : Option (List ℕ)) (names : ℕ) (attached : List Image) → IfSome left (λ text. PLAN_BYTES < length text) →
-    IfSome left (λ text. (read : PlanReading) (further : Plan → Option Stop) → IsTextOf text read → plan_refusal text read names attached further ≡ Some PlanIsLong)
+    IfSome left (λ text. (read : PlanReading) (further : Plan → Option Refusal) → IsTextOf text read → plan_refusal text read names attached further ≡ Some PlanIsLong)
 too_long None names attached long = tt
 too_long (Some text) names attached long = λ read further is. long_refusal text read names attached further long
 
--- the source was not read
-pub reading_ends : (left : Option (List ℕ)) (names : ℕ) (attached : List Image) (before now : ℕ) (stop : Stop) → EndsReading left before now stop → EndsPreparing left names attached before now stop
-unfolding EndsPreparing
-reading_ends left names attached before now (Word n) ends = absurd ends
-reading_ends left names attached before now (PlanLine n) ends = absurd ends
-reading_ends left names attached before now PlanIsLong ends = (tt, too_long left names attached ends)
-reading_ends left names attached before now (Images fault) ends = absurd ends
-reading_ends left names attached before now Many ends = absurd ends
-reading_ends left names attached before now (Cursor fault) ends = absurd ends
-reading_ends left names attached before now (Set fault) ends = absurd ends
-reading_ends left names attached before now (Slot slot) ends = absurd ends
-reading_ends left names attached before now (ArraySectors sectors) ends = absurd ends
-reading_ends left names attached before now (VolumeSectors sectors) ends = absurd ends
-reading_ends left names attached before now (Sector fault) ends = absurd ends
-reading_ends left names attached before now ImageFault ends = absurd ends
-reading_ends left names attached before now PlanFault ends = ends
-reading_ends left names attached before now OutFault ends = absurd ends
-reading_ends left names attached before now OutOfMemory ends = tt
+-- the text is wanting
+pub text_ends : (left : Option (List ℕ)) (names : ℕ) (attached : List Image) (stop : Stop) → IsTextless left stop → EndsPreparing left names attached stop
+text_ends left names attached (Refused refusal) ends =
+    subst (λ (r : Refusal). EndsPreparing left names attached (Refused r)) (sym ends.0) (too_long left names attached ends.1)
+text_ends left names attached ImageFault ends = absurd ends
+text_ends left names attached SourceFault ends = tt
+text_ends left names attached OutFault ends = absurd ends
+text_ends left names attached OutOfMemory ends = tt
 
 -- the text is no plan
-pub not_a_plan : (left : Option (List ℕ)) (names : ℕ) (attached : List Image) (before now : ℕ) (text : List ℕ) (number : ℕ) → IfSome left (λ bytes. text ≡ bytes) → length text ≤ PLAN_BYTES → ReadsPlan text (Err (PlanLineOf number)) →
-    EndsPreparing left names attached before now (PlanLine number)
-unfolding EndsPreparing
-not_a_plan None names attached before now text number is short reads = (tt, tt)
-not_a_plan (Some bytes) names attached before now text number is short reads =
-    let P : List ℕ → Type 0 = λ xs. (read : PlanReading) (further : Plan → Option Stop) → IsTextOf xs read → plan_refusal xs read names attached further ≡ Some (PlanLine number) in (
-      tt,
-      subst P is (λ read further says. short_refusal text read names attached further short
-          ∙ ap (λ (r : PlanReading). read_refusal r names attached further) (says_none text number read reads says)),
-    )
+pub not_a_plan : (left : Option (List ℕ)) (names : ℕ) (attached : List Image) (text : List ℕ) (number : ℕ) → IfSome left (λ bytes. text ≡ bytes) → length text ≤ PLAN_BYTES → ReadsPlan text (Err (PlanLineOf number)) →
+    EndsPreparing left names attached (Refused (PlanLine number))
+not_a_plan None names attached text number is short reads = tt
+not_a_plan (Some bytes) names attached text number is short reads =
+    let P : List ℕ → Type 0 = λ xs. (read : PlanReading) (further : Plan → Option Refusal) → IsTextOf xs read → plan_refusal xs read names attached further ≡ Some (PlanLine number) in
+    subst P is (λ read further says. short_refusal text read names attached further short
+    ∙ ap (λ (r : PlanReading). read_refusal r names attached further) (says_none text number read reads says))
 
 -- the images do not agree
-pub disagrees : (left : Option (List ℕ)) (names : ℕ) (attached : List Image) (before now : ℕ) (text : List ℕ) (plan : Plan) (fault : Disagreement) → IfSome left (λ bytes. text ≡ bytes) → length text ≤ PLAN_BYTES → ReadsPlan text (Ok plan) →
-    plan_fault plan names attached ≡ Some fault → EndsPreparing left names attached before now (Images fault)
-unfolding EndsPreparing
-disagrees None names attached before now text plan fault is short reads different = (tt, tt)
-disagrees (Some bytes) names attached before now text plan fault is short reads different =
-    let P : List ℕ → Type 0 = λ xs. (read : PlanReading) (further : Plan → Option Stop) → IsTextOf xs read → plan_refusal xs read names attached further ≡ Some (Images fault) in (
-      tt,
-      subst P is (λ read further says. short_refusal text read names attached further short
-          ∙ ap (λ (r : PlanReading). read_refusal r names attached further) (says_plan text plan read reads says)
-          ∙ ap (λ r. first_of (option_map (λ (f : Disagreement). Images f) r ∷ many_refusal plan ∷ further plan ∷ [])) different),
-    )
+pub disagrees : (left : Option (List ℕ)) (names : ℕ) (attached : List Image) (text : List ℕ) (plan : Plan) (fault : Disagreement) → IfSome left (λ bytes. text ≡ bytes) → length text ≤ PLAN_BYTES → ReadsPlan text (Ok plan) →
+    plan_fault plan names attached ≡ Some fault → EndsPreparing left names attached (Refused (Images fault))
+disagrees None names attached text plan fault is short reads different = tt
+disagrees (Some bytes) names attached text plan fault is short reads different =
+    let P : List ℕ → Type 0 = λ xs. (read : PlanReading) (further : Plan → Option Refusal) → IsTextOf xs read → plan_refusal xs read names attached further ≡ Some (Images fault) in
+    subst P is (λ read further says. short_refusal text read names attached further short
+    ∙ ap (λ (r : PlanReading). read_refusal r names attached further) (says_plan text plan read reads says)
+    ∙ ap (λ r. first_of (option_map (λ (f : Disagreement). Images f) r ∷ many_refusal plan ∷ further plan ∷ [])) different)
 
 -- they agree
 pub is_prepared : (left : Option (List ℕ)) (names : ℕ) (attached : List Image) (text : List ℕ) (plan : Plan) → IfSome left (λ bytes. text ≡ bytes) → length text ≤ PLAN_BYTES → ReadsPlan text (Ok plan) →
@@ -97,7 +82,7 @@ pub is_prepared : (left : Option (List ℕ)) (names : ℕ) (attached : List Imag
 is_prepared None names attached text plan is short reads same = tt
 is_prepared (Some bytes) names attached text plan is short reads same =
     let P : List ℕ → Type 0 = λ xs. (read : PlanReading) → IsTextOf xs read →
-    (read ≡ Reads plan) × ((further : Plan → Option Stop) → plan_refusal xs read names attached further ≡ first_of (many_refusal plan ∷ further plan ∷ [])) in
+    (read ≡ Reads plan) × ((further : Plan → Option Refusal) → plan_refusal xs read names attached further ≡ first_of (many_refusal plan ∷ further plan ∷ [])) in
     subst P is (λ read says. (
       says_plan text plan read reads says,
       λ further. short_refusal text read names attached further short
@@ -109,13 +94,11 @@ is_prepared (Some bytes) names attached text plan is short reads same =
 pub few_lengths : (plan : Plan) → IsPlan plan → length plan.lengths.items ≤ MOST
 few_lengths plan is = is.lengths.most
 
--- memory is wanting
-pub short_of_memory : (left : Option (List ℕ)) (names : ℕ) (attached : List Image) (before now : ℕ) → EndsPreparing left names attached before now OutOfMemory
-unfolding EndsPreparing
-short_of_memory left names attached before now = tt
-
--- why a plan that was read is none
-pub plan_ends : (left : Option (List ℕ)) (names : ℕ) (attached : List Image) (before now : ℕ) (text : List ℕ) (fault : PlanFaultOf) → IfSome left (λ bytes. text ≡ bytes) → length text ≤ PLAN_BYTES → ReadsPlan text (Err fault) →
-    EndsPreparing left names attached before now (stop_of_plan fault)
-plan_ends left names attached before now text (PlanLineOf number) is short reads = not_a_plan left names attached before now text number is short reads
-plan_ends left names attached before now text Memory is short reads = short_of_memory left names attached before now
+-- why a text that was read gives no plan
+pub plan_ends : (left : Option (List ℕ)) (names : ℕ) (attached : List Image) (text : List ℕ) (stop : Stop) → IfSome left (λ bytes. text ≡ bytes) → length text ≤ PLAN_BYTES → IsPlanless text stop → EndsPreparing left names attached stop
+plan_ends left names attached text (Refused refusal) is short ends =
+    subst (λ (r : Refusal). EndsPreparing left names attached (Refused r)) (sym ends.1) (not_a_plan left names attached text ends.0 is short ends.2)
+plan_ends left names attached text ImageFault is short ends = absurd ends
+plan_ends left names attached text SourceFault is short ends = absurd ends
+plan_ends left names attached text OutFault is short ends = absurd ends
+plan_ends left names attached text OutOfMemory is short ends = tt

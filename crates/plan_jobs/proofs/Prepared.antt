@@ -1,21 +1,28 @@
 -- What is known once a plan was read and compared with the images, or could not be.
-use Rattle.std.proofs.Common.{◌≡◌, ℕ, zero, suc, ◌+◌, ◌<◌, ◌≤◌, min, Bool, true, false, not, cond, nat_eq, List, [], ◌∷◌, length, None, Some, Option, Result, Err, IfSome, refl, sym, subst, arith, inl, inr, slice_index}
+use Rattle.std.proofs.Common.{◌≡◌, ℕ, zero, suc, ◌+◌, ◌<◌, min, Bool, true, false, not, cond, nat_eq, List, [], ◌∷◌, length, None, Some, Option, Result, Ok, Err, IfSome, IfOk, OnOk, IsErrOf, refl, sym, subst, arith, slice_index}
 use Rattle.std.specs.List.{find, range_with_len}
 use Rattle.std.specs.Option.{option_map}
+use Rattle.std.specs.Io.KnownBytes.{IsAtEnd}
 use Rattle.std.proofs.lemmas.Bool.{eqb-true}
 use Rattle.std.proofs.lemmas.Grind.{same_number_lists}
 use Rattle.std.proofs.lemmas.List.{length-map}
-use Rattle.image_source.specs.Causes.{Rose}
-use Rattle.image_source.specs.Seen.{Image, Seen, lengths_of}
+use Rattle.outside.specs.Attached.{told_all}
+use Rattle.outside.specs.Seen.{Image, Seen, lengths_of}
+use Rattle.outside.specs.Streams.{Stream}
 use Rattle.search_plan.specs.Plans.{IsPlan, AgreeWith}
+use Rattle.search_plan.specs.declared.limits.TheConstants.{PLAN_BYTES}
 use Rattle.search_plan.specs.declared.plan.Plan.{Plan}
+use Rattle.run_ends.proofs.Printed.{ends_unput, keeps_itself, no_raise, raises_same, stays}
 use Rattle.run_ends.specs.Agreement.{count_fault, length_fault, other_length, plan_fault}
-use Rattle.run_ends.specs.Jobs.{Counts, HasCauses, Orders, Refuses}
-use Rattle.plan_jobs.specs.Preparing.{EndsPreparing, IsPrepared}
-use Rattle.plan_jobs.specs.Plans.{IsTextOf, PlanReading, Reads, plan_refusal}
-use Rattle.run_ends.specs.Stops.{EndsBy, IsExcused, IsRefusal, first_of, many_refusal}
+use Rattle.run_ends.specs.Counts.{Raises}
+use Rattle.run_ends.specs.Jobs.{Answers, Does, Orders, Refuses, around, is_cut, named}
+use Rattle.run_ends.specs.Source.{TakesFew}
+use Rattle.run_ends.specs.Stops.{EndsBy, first_of, many_refusal}
+use Rattle.run_ends.specs.declared.stop.Refusal.{Refusal}
 use Rattle.run_ends.specs.declared.stop.Stop.{Stop}
-use Rattle.run_ends.specs.declared.stop.Stop.TheVariants.{Word, PlanLine, PlanIsLong, Images, Many, Cursor, Set, Slot, ArraySectors, VolumeSectors, Sector, ImageFault, PlanFault, OutFault, OutOfMemory}
+use Rattle.run_ends.specs.declared.stop.Stop.TheVariants.{Refused, ImageFault, SourceFault, OutFault, OutOfMemory}
+use Rattle.plan_jobs.specs.Preparing.{EndsPreparing, IsPrepared}
+use Rattle.plan_jobs.specs.Plans.{AnswersOver, IfPlan, IsTextOf, NoPlan, OverPlan, PlanReading, PlanSaid, Reads, plan_job, plan_refusal, printed_over}
 
 no_other : (given planned : List ℕ) (a n k : ℕ) → find (λ i. not (nat_eq (slice_index given i) (slice_index planned i))) (range_with_len a n) ≡ None → k < n → slice_index given (a + k) ≡ slice_index planned (a + k)
 no_other given planned a zero k e lt = absurd (omega arith)
@@ -60,155 +67,93 @@ images_agree plan names attached is long none =
     let e : names ≡ length plan.lengths.items = parts.0 in
     lengths_agree (lengths_of attached) plan.lengths.items (omega arith) parts.1
 
--- the counts that are seen of images, and of a source
-abbrev pub counts_of : Seen → ℕ → Counts
-counts_of seen plan = record { images = seen.faults; plan = plan; out = 0; sectors = seen.sectors_read }
+-- what holds of the text that is left holds of the text that the source says
+said_text : (left : Option (List ℕ)) (Holds : List ℕ → Type 0) (text : List ℕ) → left ≡ Some text → IfSome left Holds → Holds text
+said_text left Holds text is all = let P : Option (List ℕ) → Type 0 = λ l. IfSome l Holds in subst P is all
 
-refusal_causes : (before after : Counts) (stop : Stop) → IsRefusal stop → before.images ≤ after.images → before.plan ≤ after.plan → after.sectors ≡ before.sectors → HasCauses {T = List ℕ} before after (Err stop)
-refusal_causes before after stop is images plan sectors = record {
-  image_fault = λ f. absurd (let g = f in let e : stop ≡ ImageFault = cc in subst IsRefusal e is);
-  plan_fault = λ f. absurd (let g = f in let e : stop ≡ PlanFault = cc in subst IsRefusal e is);
-  out_fault = λ f. let g = f in let e : stop ≡ OutFault = cc in subst IsRefusal e is;
-  images_later = images;
-  plan_later = plan;
-  unread = λ h. sectors;
-}
+-- why the plan was not read, or the images do not agree with it, is the first refusal or has another cause
+ends_by : (left : Option (List ℕ)) (names : ℕ) (attached : List Image) (stop : Stop) (said : PlanSaid) (further : Plan → Option Refusal) → EndsPreparing left names attached stop → left ≡ Some said.text → IsTextOf said.text said.plan →
+    EndsBy (plan_refusal said.text said.plan names attached further) stop
+ends_by left names attached (Refused refusal) said further ends is says =
+    let all = said_text left (λ text. (read : PlanReading) (further : Plan → Option Refusal) → IsTextOf text read → plan_refusal text read names attached further ≡ Some refusal) said.text is ends in
+    all said.plan further says
+ends_by left names attached ImageFault said further ends is says = absurd ends
+ends_by left names attached SourceFault said further ends is says = tt
+ends_by left names attached OutFault said further ends is says = absurd ends
+ends_by left names attached OutOfMemory said further ends is says = tt
 
--- what holds of a text, where it is known
-pub if_some : (left : Option (List ℕ)) (P Q : List ℕ → Type 0) → ((text : List ℕ) → P text → Q text) → IfSome left P → IfSome left Q
-if_some None P Q h p = tt
-if_some (Some text) P Q h p = h text p
+-- it is a fault neither of the images nor of the output
+no_fault : {T : Type 0} (left : Option (List ℕ)) (names : ℕ) (attached : List Image) (stop fault : Stop) → EndsPreparing left names attached stop → (EndsPreparing left names attached fault → ⊥) → IsErrOf {T = T} (Err stop) fault → ⊥
+no_fault left names attached stop fault ends none e =
+    let f = e in let g : stop ≡ fault = cc in
+    let P : Stop → Type 0 = λ s. EndsPreparing left names attached s in none (subst P g ends)
 
-pub any_text : (left : Option (List ℕ)) (Q : List ℕ → Type 0) → ((text : List ℕ) → Q text) → IfSome left Q
-any_text None Q h = tt
-any_text (Some text) Q h = h text
+pub if_plan : (read : PlanReading) (Holds : Plan → Type 0) → ((plan : Plan) → Holds plan) → IfPlan read Holds
+if_plan (Reads plan) Holds all = all plan
+if_plan (NoPlan number) Holds all = tt
 
--- what a text says is refused with this stop, or the stop is excused
-abbrev pub EndsText : ℕ → List Image → Stop → List ℕ → Type 0
-EndsText names attached stop text = (read : PlanReading) (further : Plan → Option Stop) → IsTextOf text read → EndsBy (plan_refusal text read names attached further) stop
-
--- why the plan was not read, or the images do not agree with it
-pub record Unprepared (left : Option (List ℕ)) (names : ℕ) (attached : List Image) (before now : ℕ) (stop : Stop) : Type 0 where
-  pub causes : (seen : Seen) → HasCauses {T = List ℕ} (counts_of seen before) (counts_of seen now) (Err stop)
-  pub ends : IfSome left (EndsText names attached stop)
-
-by_refusal : (left : Option (List ℕ)) (names : ℕ) (attached : List Image) (before now : ℕ) (stop : Stop) → before ≤ now → IsRefusal stop →
-    IfSome left (λ text. (read : PlanReading) (further : Plan → Option Stop) → IsTextOf text read → plan_refusal text read names attached further ≡ Some stop) → Unprepared left names attached before now stop
-by_refusal left names attached before now stop later is ends = record {
-  causes = λ seen. refusal_causes (counts_of seen before) (counts_of seen now) stop is (omega arith) later refl;
-  ends = if_some left (λ text. (read : PlanReading) (further : Plan → Option Stop) → IsTextOf text read → plan_refusal text read names attached further ≡ Some stop)
-      (EndsText names attached stop) (λ text h read further says. inr (h read further says)) ends;
-}
-
-by_outside : (left : Option (List ℕ)) (names : ℕ) (attached : List Image) (before now : ℕ) (stop : Stop) → before ≤ now → IsExcused stop →
-    (stop ≡ PlanFault → Rose before now) → (stop ≡ ImageFault → ⊥) → (stop ≡ OutFault → ⊥) → Unprepared left names attached before now stop
-by_outside left names attached before now stop later is rose image out = record {
-  causes = λ seen. record {
-    image_fault = λ e. absurd (image (let f = e in cc));
-    plan_fault = λ e. rose (let f = e in cc);
-    out_fault = λ e. out (let f = e in cc);
-    images_later = omega arith;
-    plan_later = later;
+-- a job over a plan that was not read, or with which the images do not agree, is done
+pub unprepared : {T : Type 0} (over : OverPlan) (names : ℕ) (seen : Seen) (old new out : Stream) (stop : Stop) → EndsPreparing old.known names seen.attached stop → TakesFew PLAN_BYTES old.known new.known →
+    Raises {T = Plan} SourceFault old.faults new.faults (Err stop) → ((plan : Plan) → over.MayRead seen.attached plan (is_cut {T = T} (Err stop)) seen.sectors_read seen.sectors_read) →
+    Does {T = T} (plan_job over) (named names seen.attached) (around seen old) (around seen new) out out (Err stop)
+unprepared {T} over names seen old new out stop ends takes faults none = record {
+  ends = λ said says. ends_unput (plan_refusal said.text said.plan names seen.attached (over.further names)) (printed_over over.text said.plan (told_all seen.attached)) out.known stop
+      (ends_by old.known names seen.attached stop said (over.further names) ends says.0 says.1);
+  order = λ said says all refusal is. record {
+    unread = refl;
+    unput = keeps_itself out.known;
+    no_image_fault = no_fault old.known names seen.attached stop ImageFault ends (λ h. h);
+    no_out_fault = no_fault old.known names seen.attached stop OutFault ends (λ h. h);
+  };
+  reads = λ said says. if_plan said.plan (λ plan. over.MayRead seen.attached plan (is_cut {T = T} (Err stop)) seen.sectors_read seen.sectors_read) none;
+  takes = (takes, tt);
+  leaves = record {
+    images = no_raise ImageFault seen.faults (Err stop) (no_fault old.known names seen.attached stop ImageFault ends (λ h. h));
+    source = raises_same SourceFault stop old.faults new.faults faults;
+    out = no_raise OutFault out.faults (Err stop) (no_fault old.known names seen.attached stop OutFault ends (λ h. h));
+    unput = λ h. keeps_itself out.known;
     unread = λ h. refl;
   };
-  ends = any_text left (EndsText names attached stop) (λ text read further says. inl is);
+  apart = λ e. absurd (cc);
+  world = refl;
 }
 
-pub unprepared : (left : Option (List ℕ)) (names : ℕ) (attached : List Image) (before now : ℕ) (stop : Stop) → before ≤ now → EndsPreparing left names attached before now stop → Unprepared left names attached before now stop
-unfolding EndsPreparing
-unprepared left names attached before now (Word n) later ends = by_refusal left names attached before now (Word n) later tt ends.1
-unprepared left names attached before now (PlanLine n) later ends = by_refusal left names attached before now (PlanLine n) later tt ends.1
-unprepared left names attached before now PlanIsLong later ends = by_refusal left names attached before now PlanIsLong later tt ends.1
-unprepared left names attached before now (Images fault) later ends = by_refusal left names attached before now (Images fault) later tt ends.1
-unprepared left names attached before now Many later ends = by_refusal left names attached before now Many later tt ends.1
-unprepared left names attached before now (Cursor fault) later ends = by_refusal left names attached before now (Cursor fault) later tt ends.1
-unprepared left names attached before now (Set fault) later ends = by_refusal left names attached before now (Set fault) later tt ends.1
-unprepared left names attached before now (Slot slot) later ends = by_refusal left names attached before now (Slot slot) later tt ends.1
-unprepared left names attached before now (ArraySectors sectors) later ends = by_refusal left names attached before now (ArraySectors sectors) later tt ends.1
-unprepared left names attached before now (VolumeSectors sectors) later ends = by_refusal left names attached before now (VolumeSectors sectors) later tt ends.1
-unprepared left names attached before now (Sector fault) later ends = by_refusal left names attached before now (Sector fault) later tt ends.1
-unprepared left names attached before now ImageFault later ends = absurd ends.0
-unprepared left names attached before now PlanFault later ends = by_outside left names attached before now PlanFault later tt (λ e. ends) (λ e. cc) (λ e. cc)
-unprepared left names attached before now OutFault later ends = absurd ends.0
-unprepared left names attached before now OutOfMemory later ends = by_outside left names attached before now OutOfMemory later tt (λ e. absurd (cc)) (λ e. cc) (λ e. cc)
+text_told : (over : OverPlan) (plan : Plan) (told : Option (List (List ℕ))) (text : List ℕ) → IfSome told (λ images. text ≡ over.text images plan) → IfSome (printed_over over.text (Reads plan) told) (λ printed. text ≡ printed)
+text_told over plan None text h = tt
+text_told over plan (Some images) text h = h
 
-pub cause_unprepared : (left : Option (List ℕ)) (names : ℕ) (seen : Seen) (before now : ℕ) (stop : Stop) → before ≤ now → EndsPreparing left names seen.attached before now stop →
-    HasCauses {T = List ℕ} (counts_of seen before) (counts_of seen now) (Err stop)
-cause_unprepared left names seen before now stop later ends = (unprepared left names seen.attached before now stop later ends).causes seen
+text_answered : (over : OverPlan) (plan : Plan) (told : Option (List (List ℕ))) (answer : Result (List ℕ) Stop) → IfOk answer (λ text. IfSome told (λ images. text ≡ over.text images plan)) →
+    IfOk answer (λ text. IfSome (printed_over over.text (Reads plan) told) (λ printed. text ≡ printed))
+text_answered over plan told (Ok text) h = text_told over plan told text h
+text_answered over plan told (Err stop) h = tt
 
--- the source of the plan stays as it is while the set is tested
-pub cause_prepared : (old new : Seen) (before now : ℕ) (r : Result (List ℕ) Stop) → before ≤ now → HasCauses (counts_of old 0) (counts_of new 0) r → HasCauses (counts_of old before) (counts_of new now) r
-cause_prepared old new before now r later causes = record {
-  image_fault = causes.image_fault;
-  plan_fault = λ e. absurd (let h : Rose 0 0 = causes.plan_fault e in omega arith);
-  out_fault = causes.out_fault;
-  images_later = causes.images_later;
-  plan_later = later;
-  unread = causes.unread;
-}
+at_ok : {T : Type 0} (answer : Result T Stop) (P : Type 0) → P → OnOk answer P
+at_ok (Ok x) P p = p
+at_ok (Err stop) P p = tt
 
 -- what a text says once the plan is prepared
-abbrev pub SaysPlan : ℕ → List Image → Plan → List ℕ → Type 0
+abbrev SaysPlan : ℕ → List Image → Plan → List ℕ → Type 0
 SaysPlan names attached plan text = (read : PlanReading) → IsTextOf text read →
-    (read ≡ Reads plan) × ((further : Plan → Option Stop) → plan_refusal text read names attached further ≡ first_of (many_refusal plan ∷ further plan ∷ []))
+    (read ≡ Reads plan) × ((further : Plan → Option Refusal) → plan_refusal text read names attached further ≡ first_of (many_refusal plan ∷ further plan ∷ []))
 
--- a command over the plan ends as its plan could not be read
-pub refuses_unprepared : (left : Option (List ℕ)) (names : ℕ) (attached : List Image) (before now : ℕ) (stop : Stop) (further : Plan → Option Stop) → before ≤ now → EndsPreparing left names attached before now stop →
-    IfSome left (λ text. (read : PlanReading) → IsTextOf text read → Refuses {T = List ℕ} (plan_refusal text read names attached further) (Err stop))
-refuses_unprepared left names attached before now stop further later ends =
-    if_some left (EndsText names attached stop) (λ text. (read : PlanReading) → IsTextOf text read → Refuses {T = List ℕ} (plan_refusal text read names attached further) (Err stop))
-    (λ text h read says. record { ends = h read further says; passes = tt })
-    (unprepared left names attached before now stop later ends).ends
-
--- and as what comes after it
-pub refuses_prepared : (left : Option (List ℕ)) (names : ℕ) (attached : List Image) (plan : Plan) (further : Plan → Option Stop) (r : Result (List ℕ) Stop) → IsPrepared left names attached plan →
-    Refuses (first_of (many_refusal plan ∷ further plan ∷ [])) r →
-    IfSome left (λ text. (read : PlanReading) → IsTextOf text read → Refuses (plan_refusal text read names attached further) r)
-refuses_prepared left names attached plan further r prepared refuses =
-    if_some left (SaysPlan names attached plan) (λ text. (read : PlanReading) → IsTextOf text read → Refuses (plan_refusal text read names attached further) r)
-    (λ text h read says. subst (λ (refused : Option Stop). Refuses refused r) (sym ((h read says).1 further)) refuses)
-    prepared
-
--- a text over the plan is that over what is read
-pub prints_prepared : (left : Option (List ℕ)) (names : ℕ) (attached : List Image) (plan : Plan) (output : PlanReading → Option (List ℕ)) (found : List ℕ) → IsPrepared left names attached plan →
-    IfSome (output (Reads plan)) (λ printed. found ≡ printed) →
-    IfSome left (λ text. (read : PlanReading) → IsTextOf text read → IfSome (output read) (λ printed. found ≡ printed))
-prints_prepared left names attached plan output found prepared h =
-    if_some left (SaysPlan names attached plan) (λ text. (read : PlanReading) → IsTextOf text read → IfSome (output read) (λ printed. found ≡ printed))
-    (λ text says read is. subst (λ (r : PlanReading). IfSome (output r) (λ printed. found ≡ printed)) (sym (says read is).0) h)
-    prepared
-
--- what holds of the plan holds of the plan that the text says
-pub holds_prepared : (left : Option (List ℕ)) (names : ℕ) (attached : List Image) (plan : Plan) (Holds : Plan → Type 0) → IsPrepared left names attached plan → Holds plan →
-    IfSome left (λ text. (p : Plan) → IsTextOf text (Reads p) → Holds p)
-holds_prepared left names attached plan Holds prepared here =
-    if_some left (SaysPlan names attached plan)
-    (λ text. (p : Plan) → IsTextOf text (Reads p) → Holds p)
-    (λ text says p is. let e : Reads p ≡ Reads plan = (says (Reads p) is).0 in let same : plan ≡ p = cc in subst Holds same here)
-    prepared
-
--- and what holds of all plans
-pub holds_unprepared : (left : Option (List ℕ)) (Holds : Plan → Type 0) → ((plan : Plan) → Holds plan) → IfSome left (λ text. (p : Plan) → IsTextOf text (Reads p) → Holds p)
-holds_unprepared left Holds all = any_text left (λ text. (p : Plan) → IsTextOf text (Reads p) → Holds p) (λ text p is. all p)
-
--- where the plan was not read, or the images do not agree with it, the job did nothing
-pub order_unprepared : (left : Option (List ℕ)) (names : ℕ) (attached : List Image) (before now : ℕ) (stop : Stop) (further : Plan → Option Stop) (read : ℕ) → EndsPreparing left names attached before now stop →
-    IfSome left (λ text. (plan : PlanReading) → IsTextOf text plan → Orders {T = List ℕ} (plan_refusal text plan names attached further) read read None None (Err stop))
-unfolding EndsPreparing
-order_unprepared left names attached before now stop further read ends =
-    any_text left (λ text. (plan : PlanReading) → IsTextOf text plan → Orders {T = List ℕ} (plan_refusal text plan names attached further) read read None None (Err stop))
-    (λ text plan says found e. record {
-      unread = refl;
-      unput = tt;
-      no_image_fault = λ f. let g = f in let h : stop ≡ ImageFault = cc in (subst (λ (s : Stop). EndsPreparing left names attached before now s) h ends).0;
-      no_out_fault = λ f. let g = f in let h : stop ≡ OutFault = cc in (subst (λ (s : Stop). EndsPreparing left names attached before now s) h ends).0;
-    })
-
--- and where they do, what is refused is what comes after
-pub order_prepared : (left : Option (List ℕ)) (names : ℕ) (attached : List Image) (plan : Plan) (further : Plan → Option Stop) (before now : ℕ) (r : Result (List ℕ) Stop) → IsPrepared left names attached plan →
-    Orders (first_of (many_refusal plan ∷ further plan ∷ [])) before now None None r →
-    IfSome left (λ text. (read : PlanReading) → IsTextOf text read → Orders (plan_refusal text read names attached further) before now None None r)
-order_prepared left names attached plan further before now r prepared order =
-    if_some left (SaysPlan names attached plan) (λ text. (read : PlanReading) → IsTextOf text read → Orders (plan_refusal text read names attached further) before now None None r)
-    (λ text h read says. subst (λ (refused : Option Stop). Orders refused before now None None r) (sym ((h read says).1 further)) order)
-    prepared
+-- the answer of a job over a plan that was read, and with which the images agree
+pub prepared : (over : OverPlan) (names : ℕ) (old new : Seen) (source taken : Stream) (plan : Plan) (answer : Result (List ℕ) Stop) → IsPrepared source.known names old.attached plan → TakesFew PLAN_BYTES source.known taken.known → IsAtEnd taken.known →
+    Raises SourceFault source.faults taken.faults (Ok plan) → AnswersOver over names plan old new answer → Answers (plan_job over) (named names old.attached) (around old source) (around new taken) answer
+prepared over names old new source taken plan answer known few end faults over_plan =
+    let says_plan = λ (said : PlanSaid) (is : source.known ≡ Some said.text) (says : IsTextOf said.text said.plan). said_text source.known (SaysPlan names old.attached plan) said.text is known said.plan says in
+    record {
+      refuses = λ said says. subst (λ (refused : Option Refusal). Refuses refused answer) (sym ((says_plan said says.0 says.1).1 (over.further names))) over_plan.refuses;
+      text = λ said says. subst (λ (read : PlanReading). IfOk answer (λ text. IfSome (printed_over over.text read (told_all old.attached)) (λ printed. text ≡ printed))) (sym (says_plan said says.0 says.1).0)
+          (text_answered over plan (told_all old.attached) answer over_plan.text);
+      order = λ said says. subst (λ (refused : Option Refusal). Orders refused old.sectors_read new.sectors_read None None answer) (sym ((says_plan said says.0 says.1).1 (over.further names))) over_plan.order;
+      reads = λ said says. subst (λ (read : PlanReading). IfPlan read (λ p. over.MayRead old.attached p (is_cut answer) old.sectors_read new.sectors_read)) (sym (says_plan said says.0 says.1).0) over_plan.reads;
+      takes = (few, at_ok answer (IsAtEnd taken.known) end);
+      causes = record {
+        images = over_plan.faults;
+        source = stays SourceFault source.faults taken.faults answer (faults.stays (λ e. absurd (cc))) over_plan.untaken;
+        unput = over_plan.unput;
+        unread = over_plan.unread;
+      };
+      apart = λ e. absurd (cc);
+      world = over_plan.world;
+    }

@@ -1,9 +1,9 @@
 -- What `check` refuses and prints.
-use Rattle.std.specs.Prelude.{ℕ, ◌+◌, ◌*◌, Bool, ◌&&◌, nat_le, if◌then◌else◌, List, [], ◌∷◌, ◌++◌, codes, decimal, length}
+use Rattle.std.specs.Prelude.{ℕ, ◌+◌, ◌*◌, ◌≤◌, Bool, ◌&&◌, nat_le, if◌then◌else◌, List, [], ◌∷◌, ◌++◌, codes, decimal, length}
 use Rattle.std.specs.Option.{option_map}
 use Rattle.std.specs.declared.option.Option.{Option}
 use Rattle.std.specs.declared.option.Option.TheVariants.{None, Some}
-use Rattle.image_source.specs.Seen.{Image}
+use Rattle.outside.specs.Seen.{Image}
 use Rattle.raid_params.specs.declared.types.Geometry.{Geometry}
 use Rattle.raid_params.specs.Validity.{first_fault}
 use Rattle.raid_terms.specs.Parity.{unsound_rows}
@@ -14,18 +14,15 @@ use Rattle.search_plan.specs.declared.plan.Plan.{Plan}
 use Rattle.plan_text.specs.Spelling.{group_name, line}
 use Rattle.row_scan.specs.ImageRows.{rows_of}
 use Rattle.row_scan.specs.Scan.{read_rows}
-use Rattle.plan_jobs.specs.Plans.{PlanReading, Reads, plan_refusal}
+use Rattle.plan_jobs.specs.Plans.{OverPlan, plan_job}
+use Rattle.run_ends.specs.Jobs.{Job}
 use Rattle.run_ends.specs.Printing.{or_dash, share_line}
-use Rattle.run_ends.specs.declared.stop.Stop.{Stop}
-use Rattle.run_ends.specs.declared.stop.Stop.TheVariants.{Set}
+use Rattle.run_ends.specs.declared.stop.Refusal.{Refusal}
+use Rattle.run_ends.specs.declared.stop.Refusal.TheVariants.{Set}
 
 -- the set breaks a rule, over `names` images and the plan's end
-abbrev pub rule_refusal : Geometry → ℕ → Plan → Option Stop
+abbrev pub rule_refusal : Geometry → ℕ → Plan → Option Refusal
 rule_refusal set names plan = option_map (λ fault. Set fault) (first_fault set names plan.end)
-
--- the first refusal of `check`
-abbrev pub check_refusal : Geometry → List ℕ → PlanReading → ℕ → List Image → Option Stop
-check_refusal set text reading names attached = plan_refusal text reading names attached (rule_refusal set names)
 
 -- the most sectors that `check` reads over a plan: the tested rows of the set on each image, and none where nothing
 -- can break a row
@@ -76,7 +73,14 @@ report plan set unsound =
 abbrev pub check_text : List (List ℕ) → Plan → Geometry → List ℕ
 check_text images plan set = report plan set (unsound_rows images set (rows_of plan set))
 
--- over what the plan's text says, where the bytes of the images are known
-abbrev pub check_output : Geometry → PlanReading → Option (List (List ℕ)) → Option (List ℕ)
-check_output set (Reads plan) (Some images) = Some (check_text images plan set)
-check_output set _ _ = None
+-- what `check` does over a plan
+abbrev pub check_over : Geometry → OverPlan
+check_over set = record {
+  further = λ names plan. rule_refusal set names plan;
+  text = λ images plan. check_text images plan set;
+  MayRead = λ attached plan cut before after. after ≤ before + check_reads set attached plan;
+}
+
+-- `check`
+abbrev pub check_job : Geometry → Job
+check_job set = plan_job (check_over set)

@@ -3,3 +3,4 @@ pub mod Preparing
 pub mod Listing
 pub mod Checking
 pub mod Reporting
+pub mod Faults

@@ -4,9 +4,9 @@ use Rattle.std.specs.List.{flat_map}
 use Rattle.std.specs.Option.{option_map_or}
 use Rattle.std.specs.declared.option.Option.{Option}
 use Rattle.std.specs.declared.option.Option.TheVariants.{None, Some}
-use Rattle.image_source.specs.Seen.{Image}
+use Rattle.outside.specs.Attached.{told_all}
 use Rattle.raid_params.specs.declared.types.Geometry.{Geometry}
-use Rattle.raid_terms.specs.Page.{page_next, page_ranks}
+use Rattle.search_terms.specs.Page.{page_next, page_ranks}
 use Rattle.page_engine.specs.Pages.{ArePageEnds, most_scanned, scans_to, table_reads}
 use Rattle.search_plan.specs.Sets.{passes_at, sets_of, total_of}
 use Rattle.search_plan.specs.declared.plan.Plan.{Plan}
@@ -15,19 +15,16 @@ use Rattle.plan_text.specs.SetText.{set_line}
 use Rattle.json_lines.specs.Objects.{next_object, set_object}
 use Rattle.command_words.specs.declared.command.Form.{Form}
 use Rattle.command_words.specs.declared.command.Form.TheVariants.{Text, Json}
-use Rattle.plan_jobs.specs.Plans.{PlanReading, Reads, plan_refusal}
+use Rattle.plan_jobs.specs.Plans.{OverPlan, plan_job}
 use Rattle.plan_jobs.specs.declared.listing.Listing.{Listing}
+use Rattle.run_ends.specs.Jobs.{Job}
 use Rattle.run_ends.specs.Printing.{share_line}
-use Rattle.run_ends.specs.declared.stop.Stop.{Stop}
-use Rattle.run_ends.specs.declared.stop.Stop.TheVariants.{Cursor}
+use Rattle.run_ends.specs.declared.stop.Refusal.{Refusal}
+use Rattle.run_ends.specs.declared.stop.Refusal.TheVariants.{Cursor}
 
 -- the first rank asked for is past the total
-abbrev pub cursor_refusal : ℕ → Plan → Option Stop
+abbrev pub cursor_refusal : ℕ → Plan → Option Refusal
 cursor_refusal from plan = if nat_lt (total_of plan) from then Some (Cursor (record { from = from; total = total_of plan })) else None
-
--- the first refusal of `list`
-abbrev pub list_refusal : ℕ → List ℕ → PlanReading → ℕ → List Image → Option Stop
-list_refusal from text reading names attached = plan_refusal text reading names attached (cursor_refusal from)
 
 -- the line of a set and its rank, as text or as JSON
 abbrev pub line_in : Form → ℕ → Geometry → List ℕ
@@ -70,14 +67,21 @@ unfoldable pub found_text : Form → ListPage → List ℕ
 found_text form page = flat_map (λ held. line_in form held.rank held.geo) page.lines ++ next_in form page.next page.total
 
 -- what `list` reads over a plan, by the counts of the sectors read before and after: the tables once for all pages, and
--- the scans of each page, where pages end as the bytes of the images have it; only where it failed may the last be a page
--- that could not be made
-pub record ListReads (told : Option (List (List ℕ))) (asked : Listing) (plan : Plan) (failed : Bool) (before after : ℕ) : Type 0 where
+-- the scans of each page, where pages end as the bytes of the images have it; only where the work was cut short may the
+-- last be a page that could not be made
+pub record ListReads (told : Option (List (List ℕ))) (asked : Listing) (plan : Plan) (cut : Bool) (before after : ℕ) : Type 0 where
   pub ends : List ℕ
-  pub are : ArePageEnds told plan asked.size asked.span failed asked.pages asked.from ends
+  pub are : ArePageEnds told plan asked.size asked.span cut asked.pages asked.from ends
   pub few : after ≤ before + (table_reads plan + scans_to told plan asked.from ends * most_scanned plan)
 
--- what `list` prints over what the plan's text says, where the bytes of the images are known
-abbrev pub list_output : Listing → PlanReading → Option (List (List ℕ)) → Option (List ℕ)
-list_output asked (Reads plan) (Some images) = Some (listing images plan asked)
-list_output asked _ _ = None
+-- what `list` does over a plan
+abbrev pub list_over : Listing → OverPlan
+list_over asked = record {
+  further = λ names plan. cursor_refusal asked.from plan;
+  text = λ images plan. listing images plan asked;
+  MayRead = λ attached plan cut before after. ListReads (told_all attached) asked plan cut before after;
+}
+
+-- `list`
+abbrev pub list_job : Listing → Job
+list_job asked = plan_job (list_over asked)

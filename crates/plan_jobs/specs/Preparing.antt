@@ -1,25 +1,42 @@
 -- How preparing a command over a plan ends: its plan read, and the images compared with it.
-use Rattle.std.specs.Prelude.{ℕ, ◌≡◌, List, [], ◌∷◌, IfSome}
+use Rattle.std.specs.Prelude.{ℕ, ◌≡◌, ◌<◌, List, [], ◌∷◌, IfSome, Err, length}
 use Rattle.std.specs.declared.option.Option.{Option}
 use Rattle.std.specs.declared.option.Option.TheVariants.{Some}
-use Rattle.image_source.specs.Causes.{Rose}
-use Rattle.image_source.specs.Seen.{Image}
+use Rattle.outside.specs.Seen.{Image}
+use Rattle.plan_text.specs.PlanText.{ReadsPlan}
+use Rattle.plan_text.specs.declared.fault.PlanFault.TheVariants.{Line}
 use Rattle.search_plan.specs.declared.plan.Plan.{Plan}
 use Rattle.plan_jobs.specs.Plans.{IsTextOf, PlanReading, Reads, plan_refusal}
-use Rattle.run_ends.specs.Stops.{IsRefusal, first_of, many_refusal}
+use Rattle.run_ends.specs.Stops.{first_of, many_refusal}
+use Rattle.run_ends.specs.declared.stop.Refusal.{Refusal}
+use Rattle.run_ends.specs.declared.stop.Refusal.TheVariants.{PlanIsLong, PlanLine}
 use Rattle.run_ends.specs.declared.stop.Stop.{Stop}
-use Rattle.run_ends.specs.declared.stop.Stop.TheVariants.{PlanFault, OutOfMemory}
+use Rattle.run_ends.specs.declared.stop.Stop.TheVariants.{Refused, SourceFault, OutOfMemory}
 
--- why a plan could not be read, or the images do not agree with it, whatever else is refused: the
--- source failed, memory is wanting, or it is the first refusal
-unfoldable pub EndsPreparing : Option (List ℕ) → ℕ → List Image → ℕ → ℕ → Stop → Type 0
-EndsPreparing left names attached before now PlanFault = Rose before now
-EndsPreparing left names attached before now OutOfMemory = Unit {0}
-EndsPreparing left names attached before now stop =
-    IsRefusal stop × IfSome left (λ text. (read : PlanReading) (further : Plan → Option Stop) → IsTextOf text read → plan_refusal text read names attached further ≡ Some stop)
+-- why the text of a plan is wanting: it is too long, the source failed, or memory ran out
+abbrev pub IsTextless : Option (List ℕ) → Stop → Type 0
+IsTextless left (Refused refusal) = (refusal ≡ PlanIsLong) × IfSome left (λ text. 4194304 < length text)
+IsTextless left SourceFault = Unit {0}
+IsTextless left OutOfMemory = Unit {0}
+IsTextless left _ = ⊥
+
+-- why a text gives no plan: it is none from a line on, or memory ran out
+abbrev pub IsPlanless : List ℕ → Stop → Type 0
+IsPlanless text (Refused refusal) = (number : ℕ) × (refusal ≡ PlanLine number) × ReadsPlan text (Err (Line number))
+IsPlanless text OutOfMemory = Unit {0}
+IsPlanless text _ = ⊥
+
+-- why a plan could not be read, or the images do not agree with it: it is the first refusal, whatever else is refused, or
+-- the source failed, or memory ran out
+abbrev pub EndsPreparing : Option (List ℕ) → ℕ → List Image → Stop → Type 0
+EndsPreparing left names attached (Refused refusal) =
+    IfSome left (λ text. (read : PlanReading) (further : Plan → Option Refusal) → IsTextOf text read → plan_refusal text read names attached further ≡ Some refusal)
+EndsPreparing left names attached SourceFault = Unit {0}
+EndsPreparing left names attached OutOfMemory = Unit {0}
+EndsPreparing left names attached _ = ⊥
 
 -- the plan is what the text says, the images agree with it, and what is refused after that comes next
 abbrev pub IsPrepared : Option (List ℕ) → ℕ → List Image → Plan → Type 0
 IsPrepared left names attached plan =
     IfSome left (λ text. (read : PlanReading) → IsTextOf text read →
-    (read ≡ Reads plan) × ((further : Plan → Option Stop) → plan_refusal text read names attached further ≡ first_of (many_refusal plan ∷ further plan ∷ [])))
+    (read ≡ Reads plan) × ((further : Plan → Option Refusal) → plan_refusal text read names attached further ≡ first_of (many_refusal plan ∷ further plan ∷ [])))

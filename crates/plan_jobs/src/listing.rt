@@ -1,28 +1,19 @@
 //! The command `list`.
-ghost use Rattle.std.specs.Prelude.{◌≡◌, ◌≤◌, ◌+◌, ◌*◌, ◌<◌, ◌^◌, ◌++◌, IfErr, IfOk, IfSome, IsErrOf, None, OnOk, Some, [], ◌∷◌, false, length, min};
-ghost use Rattle.std.specs.Io.KnownBytes.{IsAtEnd};
+ghost use Rattle.std.specs.Prelude.{◌≡◌, ◌≤◌, ◌++◌, IfOk, OnOk, length, min, ℕ};
 ghost use Rattle.std.specs.List.{flat_map};
-ghost use Rattle.std.specs.Result.{is_err};
-ghost use Rattle.image_source.specs.Attached.{told_all};
 ghost use Rattle.search_plan.specs.Plans.{IsPlan, AgreeWith};
-ghost use Rattle.search_plan.specs.Sets.{total_of};
-ghost use Rattle.search_plan.specs.declared.plan.Plan.{Plan as PlanOf};
-ghost use Rattle.page_engine.specs.Pages.{ArePagesFrom, EndsPage, ReadsPages};
-ghost use Rattle.page_engine.specs.declared.page_parts.PageFault.TheVariants.{Cursor as PageCursor, Many as PageMany};
-ghost use Rattle.run_ends.specs.Jobs.{Ends, HasCauses, Leaves, Orders, Refuses};
-ghost use Rattle.run_ends.specs.Source.{TakesFew};
-ghost use Rattle.run_ends.specs.Stops.{first_of, many_refusal};
-ghost use Rattle.plan_jobs.specs.Listing.{ListReads, cursor_refusal, found_text, line_in, list_output, list_refusal, listing, next_in};
-ghost use Rattle.plan_jobs.specs.Plans.{IsTextOf, PlanReading, Reads};
+ghost use Rattle.run_ends.specs.Jobs.{Does, around, named, stream};
+ghost use Rattle.plan_jobs.specs.Faults.{stop_of_page};
+ghost use Rattle.plan_jobs.specs.Listing.{found_text, line_in, list_job, list_over, next_in};
+ghost use Rattle.plan_jobs.specs.Plans.{AnswersOver};
 
 use crate::preparing::prepare;
 use command_words::Form;
-use image_source::{Images, MOST_ATTACHED, Memory, Sink, Source};
-use json_lines::{json_line, json_next};
-use page_engine::{Line, ListPage, PageFault, PageList, PageRequest, pages};
-use plan_text::{Text, set_line};
-use row_scan::Gate;
-use run_ends::{Stop, add_share, print};
+use gates::Gate;
+use outside::{Images, MOST_ATTACHED, Memory, Sink, Source};
+use page_engine::{Line, ListPage, PageFault, pages};
+use plan_text::{Text, json_line, json_next, set_line};
+use run_ends::{RankFault, Refusal, Stop, add_share, print};
 use search_plan::Plan;
 use std::alloc::Global;
 use std::thread::Threads;
@@ -69,61 +60,23 @@ pub fn list<R: Threads + Sync, S: Source, I: Images, K: Sink, G: Gate + Sync>(
     requires attached { length (I.seen images.old).attached ≡ min names MOST_ATTACHED }
     requires size { 1 ≤ asked.now.size }
     requires pages { 1 ≤ asked.now.pages }
-    ensures ends { IfSome (S.left source.old) (λ text. (read : PlanReading) → IsTextOf text read →
-        Ends (list_refusal asked.now.from text read names (I.seen images.old).attached) (list_output asked.now read (told_all (I.seen images.old).attached)) (K.gained out.old) (K.gained out.new) result) }
-    ensures order { IfSome (S.left source.old) (λ text. (read : PlanReading) → IsTextOf text read →
-        Orders (list_refusal asked.now.from text read names (I.seen images.old).attached) (I.seen images.old).sectors_read (I.seen images.new).sectors_read (K.gained out.old) (K.gained out.new) result) }
-    ensures takes { TakesFew (S.left source.old) (S.left source.new) }
-    ensures end { OnOk result (IsAtEnd (S.left source.new)) }
-    ensures leaves { Leaves false
-        (record { images = (I.seen images.old).faults; plan = S.faults source.old; out = K.faults out.old; sectors = (I.seen images.old).sectors_read })
-        (record { images = (I.seen images.new).faults; plan = S.faults source.new; out = K.faults out.new; sectors = (I.seen images.new).sectors_read })
-        (K.gained out.old) (K.gained out.new) result }
-    ensures reads { IfSome (S.left source.old) (λ text. (plan : PlanOf) → IsTextOf text (Reads plan) →
-        ListReads (told_all (I.seen images.old).attached) asked.now plan (is_err result) (I.seen images.old).sectors_read (I.seen images.new).sectors_read) }
-    ensures world { (I.seen images.new).world ≡ (I.seen images.old).world }
-    ensures attached { (I.seen images.new).attached ≡ (I.seen images.old).attached }
+    ensures does { Does (list_job asked.now) (named names (I.seen images.old).attached)
+        (around (I.seen images.old) (stream (S.left source.old) (S.faults source.old)))
+        (around (I.seen images.new) (stream (S.left source.new) (S.faults source.new)))
+        (stream (K.gained out.old) (K.faults out.old)) (stream (K.gained out.new) (K.faults out.new)) result }
+    ensures kept { (I.seen images.new).attached ≡ (I.seen images.old).attached }
 {
-    let tools = Tools { rt, alloc, gate };
-    print(out, answer(&tools, source, images, names, asked))
-}
-
-/// The text of `list`, or why there is none.
-fn answer<R: Threads + Sync, S: Source, I: Images, G: Gate + Sync>(
-    tools: &Tools<R, G>,
-    source: &mut S,
-    images: &mut I,
-    names: usize,
-    asked: &Listing,
-) -> Result<Text, Stop>
-    requires attached { length (I.seen images.old).attached ≡ min names MOST_ATTACHED }
-    requires size { 1 ≤ asked.now.size }
-    requires pages { 1 ≤ asked.now.pages }
-    ensures text { IfOk result (λ text. IfSome (S.left source.old) (λ left. (read : PlanReading) → IsTextOf left read →
-        IfSome (list_output asked.now read (told_all (I.seen images.old).attached)) (λ printed. text ≡ printed))) }
-    ensures refuses { IfSome (S.left source.old) (λ left. (read : PlanReading) → IsTextOf left read →
-        Refuses (list_refusal asked.now.from left read names (I.seen images.old).attached) result) }
-    ensures order { IfSome (S.left source.old) (λ left. (read : PlanReading) → IsTextOf left read →
-        Orders (list_refusal asked.now.from left read names (I.seen images.old).attached) (I.seen images.old).sectors_read (I.seen images.new).sectors_read None None result) }
-    ensures takes { TakesFew (S.left source.old) (S.left source.new) }
-    ensures end { OnOk result (IsAtEnd (S.left source.new)) }
-    ensures causes { HasCauses
-        (record { images = (I.seen images.old).faults; plan = S.faults source.old; out = 0; sectors = (I.seen images.old).sectors_read })
-        (record { images = (I.seen images.new).faults; plan = S.faults source.new; out = 0; sectors = (I.seen images.new).sectors_read }) result }
-    ensures reads { IfSome (S.left source.old) (λ text. (plan : PlanOf) → IsTextOf text (Reads plan) →
-        ListReads (told_all (I.seen images.old).attached) asked.now plan (is_err result) (I.seen images.old).sectors_read (I.seen images.new).sectors_read) }
-    ensures world { (I.seen images.new).world ≡ (I.seen images.old).world }
-    ensures attached { (I.seen images.new).attached ≡ (I.seen images.old).attached }
-{
-    match prepare(tools.alloc, source, images, names) {
-        Ok(plan) => listed(tools, images, &plan, asked),
+    match prepare(alloc, source, images, names) {
+        Ok(plan) => {
+            let tools = Tools { rt, alloc, gate };
+            print(out, text_over(&tools, images, &plan, asked))
+        }
         Err(stop) => Err(stop),
     }
 }
 
 /// The text of `list` over a plan with which the images agree, or why there is none.
-#[tactic(auto, using(crate::proofs::Listed::pages_printed))]
-fn listed<R: Threads + Sync, I: Images, G: Gate + Sync>(
+fn text_over<R: Threads + Sync, I: Images, G: Gate + Sync>(
     tools: &Tools<R, G>,
     images: &mut I,
     plan: &Plan,
@@ -133,44 +86,47 @@ fn listed<R: Threads + Sync, I: Images, G: Gate + Sync>(
     requires lengths { AgreeWith plan.now (I.seen images.old).attached }
     requires size { 1 ≤ asked.now.size }
     requires pages { 1 ≤ asked.now.pages }
-    ensures text { IfOk result (λ text. IfSome (told_all (I.seen images.old).attached) (λ bytes. text ≡ listing bytes plan.now asked.now)) }
-    ensures refuses { Refuses (first_of (many_refusal plan.now ∷ cursor_refusal asked.now.from plan.now ∷ [])) result }
-    ensures order { Orders (first_of (many_refusal plan.now ∷ cursor_refusal asked.now.from plan.now ∷ [])) (I.seen images.old).sectors_read (I.seen images.new).sectors_read None None result }
-    ensures causes { HasCauses
-        (record { images = (I.seen images.old).faults; plan = 0; out = 0; sectors = (I.seen images.old).sectors_read })
-        (record { images = (I.seen images.new).faults; plan = 0; out = 0; sectors = (I.seen images.new).sectors_read }) result }
-    ensures reads { ReadsPages (told_all (I.seen images.old).attached) plan.now asked.now.size asked.now.span (is_err result) asked.now.pages asked.now.from (I.seen images.old) (I.seen images.new) }
+    ensures { (names : ℕ) → AnswersOver (list_over asked.now) names plan.now (I.seen images.old) (I.seen images.new) result }
 {
-    match found_pages(tools, images, plan, asked) {
-        Ok(found) => Ok(pages_text(tools.alloc, asked.form, found.as_slice())?),
-        Err(fault) => Err(Stop::from(fault)),
+    let Listing {
+        from,
+        size,
+        span,
+        pages: count,
+        form,
+    } = *asked;
+    match pages(
+        tools.rt,
+        tools.alloc,
+        images,
+        plan,
+        from,
+        size,
+        span,
+        count,
+        tools.gate,
+    ) {
+        Ok(found) => match pages_text(tools.alloc, form, found.as_slice()) {
+            Ok(text) => Ok(text),
+            Err(_) => Err(Stop::OutOfMemory),
+        },
+        Err(fault) => Err(stop_of(fault)),
     }
 }
 
-/// The pages that are asked for.
-fn found_pages<R: Threads + Sync, I: Images, G: Gate + Sync>(
-    tools: &Tools<R, G>,
-    images: &mut I,
-    plan: &Plan,
-    asked: &Listing,
-) -> Result<PageList, PageFault>
-    requires plan { IsPlan plan.now }
-    requires lengths { AgreeWith plan.now (I.seen images.old).attached }
-    requires size { 1 ≤ asked.now.size }
-    requires pages { 1 ≤ asked.now.pages }
-    ensures pages { IfOk result (ArePagesFrom (told_all (I.seen images.old).attached) plan.now asked.now.size asked.now.span asked.now.pages asked.now.from) }
-    ensures many { 2 ^ 64 ≤ total_of plan.now → IsErrOf result PageMany }
-    ensures cursor { total_of plan.now < 2 ^ 64 → total_of plan.now < asked.now.from → IsErrOf result (PageCursor (record { from = asked.now.from; total = total_of plan.now })) }
-    ensures ends { IfErr result (EndsPage plan.now asked.now.from (I.seen images.old) (I.seen images.new)) }
-    ensures reads { ReadsPages (told_all (I.seen images.old).attached) plan.now asked.now.size asked.now.span (is_err result) asked.now.pages asked.now.from (I.seen images.old) (I.seen images.new) }
+/// Why a listing ends whose pages could not be made.
+fn stop_of(fault: PageFault) -> Stop
+    ensures { result ≡ stop_of_page fault }
 {
-    let request = PageRequest {
-        from: asked.from,
-        size: asked.size,
-        span: asked.span,
-        count: asked.pages,
-    };
-    pages(tools.rt, tools.alloc, images, plan, request, tools.gate)
+    match fault {
+        PageFault::Many => Stop::Refused(Refusal::Many),
+        PageFault::Cursor(fault) => Stop::Refused(Refusal::Cursor(RankFault {
+            from: fault.from,
+            total: fault.total,
+        })),
+        PageFault::ReadFault => Stop::ImageFault,
+        PageFault::Memory => Stop::OutOfMemory,
+    }
 }
 
 /// The bytes of pages.

@@ -1,18 +1,21 @@
 //! Reading the plan, and comparing the images with it.
-ghost use Rattle.std.specs.Prelude.{◌≡◌, ◌≤◌, IfErr, IfOk, OnOk, length, min};
+ghost use Rattle.std.specs.Prelude.{◌≡◌, ◌≤◌, IfErr, IfOk, IfSome, OnOk, length, min};
 ghost use Rattle.std.specs.Io.KnownBytes.{IsAtEnd};
-ghost use Rattle.run_ends.specs.Source.{TakesFew};
 ghost use Rattle.run_ends.specs.Agreement.{plan_fault as plan_fault_of};
-ghost use Rattle.plan_jobs.specs.Preparing.{EndsPreparing, IsPrepared};
+ghost use Rattle.run_ends.specs.Counts.{Raises};
+ghost use Rattle.run_ends.specs.Source.{TakesFew};
+ghost use Rattle.plan_jobs.specs.Preparing.{EndsPreparing, IsPlanless, IsPrepared, IsTextless};
+ghost use Rattle.plan_text.specs.PlanText.{ReadsPlan};
 ghost use Rattle.search_plan.specs.Plans.{IsPlan};
 
-use image_source::{Images, MOST_ATTACHED, Source};
-use plan_text::{Plan, read_plan};
-use run_ends::{Stop, plan_fault, read_all};
+use outside::{Images, MOST_ATTACHED, Source};
+use plan_text::{Plan, PlanFault, read_plan};
+use run_ends::{Refusal, Stop, Unread, plan_fault, read_all};
+use search_plan::PLAN_BYTES;
 use std::alloc::Global;
 
 /// Reads the plan to the end of its source, and compares `names` images with it.
-#[tactic(auto, using(crate::proofs::Plans::reading_ends, crate::proofs::Plans::plan_ends, crate::proofs::Plans::disagrees, crate::proofs::Plans::is_prepared, crate::proofs::Plans::few_lengths))]
+#[tactic(auto, using(crate::proofs::Plans::text_ends, crate::proofs::Plans::plan_ends, crate::proofs::Plans::disagrees, crate::proofs::Plans::is_prepared, crate::proofs::Plans::few_lengths))]
 pub(crate) fn prepare<S: Source, I: Images>(
     alloc: Global,
     source: &mut S,
@@ -23,15 +26,44 @@ pub(crate) fn prepare<S: Source, I: Images>(
     ensures plan { IfOk result IsPlan }
     ensures agrees { IfOk result (λ plan. plan_fault_of plan names (I.seen images.now).attached ≡ None) }
     ensures prepared { IfOk result (IsPrepared (S.left source.old) names (I.seen images.now).attached) }
-    ensures ends { IfErr result (EndsPreparing (S.left source.old) names (I.seen images.now).attached (S.faults source.old) (S.faults source.new)) }
-    ensures takes { TakesFew (S.left source.old) (S.left source.new) }
+    ensures ends { IfErr result (EndsPreparing (S.left source.old) names (I.seen images.now).attached) }
+    ensures takes { TakesFew PLAN_BYTES (S.left source.old) (S.left source.new) }
     ensures end { OnOk result (IsAtEnd (S.left source.new)) }
-    ensures later { S.faults source.old ≤ S.faults source.new }
+    ensures faults { Raises Stop.SourceFault (S.faults source.old) (S.faults source.new) result }
 {
-    let text = read_all(alloc, source)?;
-    let plan = read_plan(alloc, &text)?;
+    let text = text_left(alloc, source)?;
+    let plan = plan_in(alloc, &text)?;
     match plan_fault(images, names, &plan) {
-        Some(fault) => Err(Stop::Images(fault)),
+        Some(fault) => Err(Stop::Refused(Refusal::Images(fault))),
         None => Ok(plan),
+    }
+}
+
+/// All that the source has left, as the text of a plan.
+fn text_left<S: Source>(alloc: Global, source: &mut S) -> Result<Vec<u8>, Stop>
+    ensures text { IfOk result (λ text. IfSome (S.left source.old) (λ left. text.items ≡ left)) }
+    ensures short { IfOk result (λ text. length text.items ≤ PLAN_BYTES) }
+    ensures ends { IfErr result (IsTextless (S.left source.old)) }
+    ensures takes { TakesFew PLAN_BYTES (S.left source.old) (S.left source.new) }
+    ensures end { OnOk result (IsAtEnd (S.left source.new)) }
+    ensures faults { Raises Stop.SourceFault (S.faults source.old) (S.faults source.new) result }
+{
+    match read_all(alloc, source, PLAN_BYTES) {
+        Ok(text) => Ok(text),
+        Err(Unread::TooLong) => Err(Stop::Refused(Refusal::PlanIsLong)),
+        Err(Unread::Fault) => Err(Stop::SourceFault),
+        Err(Unread::OutOfMemory) => Err(Stop::OutOfMemory),
+    }
+}
+
+/// The plan that a text says.
+fn plan_in(alloc: Global, text: &[u8]) -> Result<Plan, Stop>
+    ensures reads { IfOk result (λ plan. ReadsPlan text.now (Ok plan)) }
+    ensures ends { IfErr result (IsPlanless text.now) }
+{
+    match read_plan(alloc, text) {
+        Ok(plan) => Ok(plan),
+        Err(PlanFault::Line(number)) => Err(Stop::Refused(Refusal::PlanLine(number))),
+        Err(PlanFault::Memory) => Err(Stop::OutOfMemory),
     }
 }

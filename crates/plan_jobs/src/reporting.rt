@@ -9,8 +9,8 @@ ghost use Rattle.search_plan.specs.Sets.{total_of};
 ghost use Rattle.plan_jobs.specs.Reporting.{IsReported};
 
 use address_map::area;
-use image_source::Memory;
 use landmark_rules::{Group, groups_hold, held_origin, tally};
+use outside::Memory;
 use plan_text::{Text, add_number, group_name};
 use raid_params::Geometry;
 use run_ends::{add_or_dash, add_share};

@@ -7,8 +7,9 @@
 //! one, so an image would then be read as the plan. `hold_descriptors` takes these places before.
 #![tactic(auto)]
 
-use image_source::{FileImages, Sink, StdSink, StdSource};
-use reraid_cli::{OpenGate, Stop, Word, reraid};
+use image_source::{FileImages, StdSink, StdSource};
+use outside::Sink;
+use reraid_cli::{OpenGate, Refusal, Stop, Word, reraid};
 use std::alloc::Global;
 use std::fs::File;
 use std::io::ErrorKind;
@@ -16,24 +17,16 @@ use std::process::ExitCode;
 use std::rt::{Env, Files};
 use std::{env, io};
 
-/// Why the top call is not made.
-enum Start {
-    /// A word of the command line is not text.
-    NotText,
-    /// Out of memory.
-    OutOfMemory,
-}
-
 fn main(rt: HostRuntime) -> ExitCode {
     let alloc = rt.alloc();
     let _held = hold_descriptors(&rt);
     let mut notes = StdSink::new(rt.stderr());
     let words = match command_line(&rt, alloc) {
         Ok(words) => words,
-        Err(start) => return refuse(start, &mut notes),
+        Err(stop) => return refuse(stop, &mut notes),
     };
     let Ok(mut images) = FileImages::new(&rt, alloc) else {
-        return refuse(Start::OutOfMemory, &mut notes);
+        return refuse(Stop::OutOfMemory, &mut notes);
     };
     let mut plan = StdSource::new(rt.stdin());
     let mut out = StdSink::new(rt.stdout());
@@ -57,34 +50,26 @@ fn hold_descriptors<R: Files>(rt: &R) -> [io::Result<R::File>; 3] {
 }
 
 /// The words after the program's name.
-fn command_line<R: Env + AllocGlobal>(rt: &R, alloc: Global) -> Result<Vec<Word>, Start> {
+fn command_line<R: Env + AllocGlobal>(rt: &R, alloc: Global) -> Result<Vec<Word>, Stop> {
     let mut words = Vec::new(alloc);
     let arguments = match env::args(rt) {
         Ok(arguments) => arguments,
-        Err(e) if e.kind() == ErrorKind::InvalidData => return Err(Start::NotText),
-        Err(_) => return Err(Start::OutOfMemory),
+        Err(e) if e.kind() == ErrorKind::InvalidData => return Err(NOT_TEXT),
+        Err(_) => return Err(Stop::OutOfMemory),
     };
     for text in arguments.skip(1) {
-        let word = Word::new(alloc, text.as_str()).map_err(|_| Start::OutOfMemory)?;
-        words.push(word).map_err(|_| Start::OutOfMemory)?;
+        let word = Word::new(alloc, text.as_str()).map_err(|_| Stop::OutOfMemory)?;
+        words.push(word).map_err(|_| Stop::OutOfMemory)?;
     }
     Ok(words)
 }
 
-/// The status where a word is not text: the runtime hands over no such word, so the top call never
-/// has this one.
-const NOT_UNDERSTOOD: u8 = 1;
+/// The stop where a word is not text. The runtime hands over no such word, so the top call never has this one.
+const NOT_TEXT: Stop = Stop::Refused(Refusal::Word(1));
 
 /// Writes why the top call is not made, and gives the status.
-fn refuse<N: Sink>(start: Start, notes: &mut N) -> ExitCode {
-    match start {
-        Start::NotText => {
-            let _ = notes.put(b"reraid: word 1 is not understood\n");
-            ExitCode::from(NOT_UNDERSTOOD)
-        }
-        Start::OutOfMemory => {
-            let _ = notes.put(Stop::OutOfMemory.line().as_bytes());
-            ExitCode::from(Stop::OutOfMemory.status())
-        }
-    }
+fn refuse<N: Sink>(stop: Stop, notes: &mut N) -> ExitCode {
+    let notice = stop.notice();
+    let _ = notes.put(notice.line.as_bytes());
+    ExitCode::from(notice.status)
 }

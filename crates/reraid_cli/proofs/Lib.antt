@@ -1,4 +1,2 @@
 pub mod Runs
-pub mod Sectors
-pub mod Serving
 pub mod Statuses

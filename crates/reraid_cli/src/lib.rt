@@ -6,15 +6,15 @@
 //!
 //! `reraid` calls it over real files, `reraid_rows` over objects in memory. Start at [`reraid()`]: its
 //! clauses are the promise, and `docs/PROMISES.md` says each in plain words. What a run answers stands in
-//! `specs/Answers`.
+//! `specs/Answers`, the job of each command in `specs/Table`.
 #![tactic(auto)]
 
 mod running;
 mod top;
 
-pub use command_words::{Command, Word, read_words};
+pub use command_words::{Command, Form, SurveyWords, Word, read_words};
+pub use gates::{Gate, OpenGate};
 pub use page_engine::{CursorFault, Line, Lines, ListPage, PageFault, page};
-pub use row_scan::{Gate, OpenGate};
-pub use run_ends::Stop;
+pub use run_ends::{Refusal, Stop};
 pub use set_product::{product_rank, product_set, product_total};
 pub use top::reraid;

@@ -1,21 +1,18 @@
 //! A run, up to why it ends.
-ghost use Rattle.std.specs.Prelude.{◌≡◌, ◌≤◌, ◌+◌, ◌^◌, ◌<◌, [], All, IfErr, IfSome, IsErrOf, IsTrue, OnOk, Ok, Err, Option, Result, ℕ, Some, length, min};
-ghost use Rattle.std.specs.Io.KnownBytes.{IsAtEnd, Keeps};
-ghost use Rattle.std.specs.Result.{is_err};
-ghost use Rattle.image_source.specs.Attached.{AreImagesOf};
-ghost use Rattle.run_ends.specs.Jobs.{Ends, Leaves, Orders};
-ghost use Rattle.run_ends.specs.Source.{TakesFew};
+ghost use Rattle.std.specs.Prelude.{◌≡◌, ◌^◌, ◌<◌, [], All, Err, IsErrOf, IsTrue, Ok, Result, length, min, ℕ};
+ghost use Rattle.std.specs.Io.KnownBytes.{Keeps};
+ghost use Rattle.outside.specs.Attached.{AreImagesOf};
+ghost use Rattle.run_ends.specs.Jobs.{Does, around, named, stream};
 ghost use Rattle.command_words.specs.Commands.{EndsInNames, IsCommandLine, IsWithin, Reads, names_after};
 ghost use Rattle.command_words.specs.declared.command.Command.{Command as CommandOf};
-ghost use Rattle.virtual_volume.specs.Gained.{AppendsSectors};
-ghost use Rattle.reraid_cli.specs.Answers.{IsOwn, IsPlanned, MayRead, Reading, Says, output, refusal, streams};
-ghost use Rattle.reraid_cli.specs.Asked.{IsAsked, counts_of};
+ghost use Rattle.reraid_cli.specs.Answers.{named_by};
+ghost use Rattle.reraid_cli.specs.Table.{job_of};
 
 use command_words::{Command, Word, read_words};
-use image_source::{Images, MOST_ATTACHED, Sink, Source};
+use gates::Gate;
+use outside::{Images, MOST_ATTACHED, Sink, Source};
 use plan_jobs::{Listing, check, list};
-use row_scan::Gate;
-use run_ends::{Stop, attach_front};
+use run_ends::{Refusal, Stop, attach_front};
 use sample_job::sample;
 use set_jobs::{map, rebuild, write};
 use std::alloc::Global;
@@ -34,31 +31,21 @@ pub fn run<R: Threads + Sync, S: Source, I: Images, K: Sink, G: Gate + Sync>(
 ) -> Result<(), Stop>
     requires fresh { (I.seen images.old).attached ≡ [] }
     requires named { All (λ name. IsTrue ((I.seen images.old).world.may_attach name)) (names_after words.now) }
-    ensures ends { (reading : Reading) → Says words.now (S.left plan.old) reading →
-        Ends (refusal reading (I.seen images.new).attached) (output reading (I.seen images.new).attached) (K.gained out.old) (K.gained out.new) result }
-    ensures whole { IsErrOf result Stop.ImageFault → (reading : Reading) → Says words.now (S.left plan.old) reading →
-        IfSome (output reading (I.seen images.new).attached) (λ text. AppendsSectors (K.gained out.old) (K.gained out.new) text) }
-    ensures order { (reading : Reading) → Says words.now (S.left plan.old) reading → length (I.seen images.new).attached ≡ min (length (names_after words.now)) MOST_ATTACHED →
-        Orders (refusal reading (I.seen images.new).attached) (I.seen images.old).sectors_read (I.seen images.new).sectors_read (K.gained out.old) (K.gained out.new) result }
-    ensures takes { TakesFew (S.left plan.old) (S.left plan.new) }
-    ensures end { (read : Result CommandOf ℕ) → Reads words.now read → IsPlanned read → OnOk result (IsAtEnd (S.left plan.new)) }
-    ensures leaves { (read : Result CommandOf ℕ) × Reads words.now read ×
-        Leaves (streams read) (counts_of (I.seen images.old) (S.faults plan.old) (K.faults out.old)) (counts_of (I.seen images.new) (S.faults plan.new) (K.faults out.new)) (K.gained out.old) (K.gained out.new) result }
-    ensures reads { (reading : Reading) → Says words.now (S.left plan.old) reading →
-        MayRead reading (I.seen images.new).attached (is_err result) (I.seen images.old).sectors_read (I.seen images.new).sectors_read }
-    ensures words { (number : ℕ) → Reads words.now (Err number) → IsErrOf result (Stop.Word number) × (I.seen images.new ≡ I.seen images.old) }
-    ensures unasked { (read : Result CommandOf ℕ) → Reads words.now read → (IsPlanned read → ⊥) →
-        (S.left plan.new ≡ S.left plan.old) × (S.faults plan.new ≡ S.faults plan.old) }
-    ensures own { (command : CommandOf) → Reads words.now (Ok command) → IsOwn command → I.seen images.new ≡ I.seen images.old }
+    ensures does { (read : Result CommandOf ℕ) × Reads words.now read ×
+        Does (job_of read) (named_by words.now (I.seen images.new).attached)
+        (around (I.seen images.old) (stream (S.left plan.old) (S.faults plan.old)))
+        (around (I.seen images.new) (stream (S.left plan.new) (S.faults plan.new)))
+        (stream (K.gained out.old) (K.faults out.old)) (stream (K.gained out.new) (K.faults out.new)) result }
+    ensures words { (number : ℕ) → Reads words.now (Err number) → IsErrOf result (Stop.Refused (Refusal.Word number)) }
     ensures cut { length (I.seen images.new).attached < min (length (names_after words.now)) MOST_ATTACHED →
         Keeps (K.gained out.old) (K.gained out.new) × ((I.seen images.new).sectors_read ≡ (I.seen images.old).sectors_read)
         × (S.left plan.new ≡ S.left plan.old) × (S.faults plan.new ≡ S.faults plan.old) × (K.faults out.new ≡ K.faults out.old) }
     ensures attached { AreImagesOf (I.seen images.old).world (names_after words.now) (I.seen images.new).attached }
-    ensures all { (command : CommandOf) → IsCommandLine words.now command → (IsErrOf result Stop.ImageFault → ⊥) → length (I.seen images.new).attached ≡ min (length (names_after words.now)) MOST_ATTACHED }
-    ensures world { (I.seen images.new).world ≡ (I.seen images.old).world }
+    ensures all { (command : CommandOf) → IsCommandLine words.now command → (IsErrOf result Stop.ImageFault → ⊥) →
+        length (I.seen images.new).attached ≡ min (length (names_after words.now)) MOST_ATTACHED }
 {
     match read_words(words) {
-        Err(number) => Err(Stop::Word(number)),
+        Err(number) => Err(Stop::Refused(Refusal::Word(number))),
         Ok(command) => {
             let names = names_of(&command, words);
             match attach_front(images, names) {
@@ -99,20 +86,10 @@ fn serve<R: Threads + Sync, S: Source, I: Images, K: Sink, G: Gate + Sync>(
     requires attached { length (I.seen images.old).attached ≡ min names MOST_ATTACHED }
     requires small { All (λ image. image.sectors < 2 ^ 55) (I.seen images.old).attached }
     requires within { IsWithin command }
-    ensures ends { (reading : Reading) → IsAsked command names (S.left plan.old) reading →
-        Ends (refusal reading (I.seen images.old).attached) (output reading (I.seen images.old).attached) (K.gained out.old) (K.gained out.new) result }
-    ensures whole { IsErrOf result Stop.ImageFault → (reading : Reading) → IsAsked command names (S.left plan.old) reading →
-        IfSome (output reading (I.seen images.old).attached) (λ text. AppendsSectors (K.gained out.old) (K.gained out.new) text) }
-    ensures order { (reading : Reading) → IsAsked command names (S.left plan.old) reading →
-        Orders (refusal reading (I.seen images.old).attached) (I.seen images.old).sectors_read (I.seen images.new).sectors_read (K.gained out.old) (K.gained out.new) result }
-    ensures takes { TakesFew (S.left plan.old) (S.left plan.new) }
-    ensures end { IsPlanned (Ok command) → OnOk result (IsAtEnd (S.left plan.new)) }
-    ensures leaves { Leaves (streams (Ok command)) (counts_of (I.seen images.old) (S.faults plan.old) (K.faults out.old)) (counts_of (I.seen images.new) (S.faults plan.new) (K.faults out.new)) (K.gained out.old) (K.gained out.new) result }
-    ensures reads { (reading : Reading) → IsAsked command names (S.left plan.old) reading →
-        MayRead reading (I.seen images.old).attached (is_err result) (I.seen images.old).sectors_read (I.seen images.new).sectors_read }
-    ensures unasked { (IsPlanned (Ok command) → ⊥) → (S.left plan.new ≡ S.left plan.old) × (S.faults plan.new ≡ S.faults plan.old) }
-    ensures own { IsOwn command → I.seen images.new ≡ I.seen images.old }
-    ensures world { (I.seen images.new).world ≡ (I.seen images.old).world }
+    ensures does { Does (job_of (Ok command)) (named names (I.seen images.old).attached)
+        (around (I.seen images.old) (stream (S.left plan.old) (S.faults plan.old)))
+        (around (I.seen images.new) (stream (S.left plan.new) (S.faults plan.new)))
+        (stream (K.gained out.old) (K.faults out.old)) (stream (K.gained out.new) (K.faults out.new)) result }
     ensures kept { (I.seen images.new).attached ≡ (I.seen images.old).attached }
 {
     match command {
@@ -140,10 +117,10 @@ fn serve<R: Threads + Sync, S: Source, I: Images, K: Sink, G: Gate + Sync>(
             sector,
             end,
             ..
-        } => map(alloc, images, names, &set, sector, end, out),
+        } => map(alloc, images, names, &set, end, sector, out),
         Command::Write { set, end, .. } => write(alloc, images, names, &set, end, out),
         Command::Rebuild { set, slot, end, .. } => {
-            rebuild(alloc, images, names, &set, slot, end, out)
+            rebuild(alloc, images, names, &set, end, slot, out)
         }
         Command::Sample {
             number,

@@ -1,20 +1,21 @@
 //! The top call.
-ghost use Rattle.std.specs.Prelude.{◌≡◌, ◌≢◌, ◌<◌, ◌≤◌, ◌+◌, ◌==◌, [], All, Contains, IsTrue, IfSome, Err, Ok, Option, Result, Some, ℕ, false, length, min, not, true};
-ghost use Rattle.std.specs.Io.KnownBytes.{Appends, IsAtEnd, Keeps};
-ghost use Rattle.run_ends.specs.Source.{TakesFew};
+ghost use Rattle.std.specs.Prelude.{◌≡◌, ◌≢◌, ◌<◌, [], All, IsTrue, IfSome, Err, Ok, Result, Some, ℕ, false, length, min, true};
+ghost use Rattle.std.specs.Io.KnownBytes.{Appends, Keeps};
+ghost use Rattle.run_ends.specs.Jobs.{stream};
+ghost use Rattle.outside.specs.Streams.{AppendsFront, AppendsSectors};
 ghost use Rattle.run_ends.specs.Stops.{note_of, status_of};
+ghost use Rattle.run_ends.specs.declared.stop.Refusal.{Refusal};
 ghost use Rattle.run_ends.specs.declared.stop.Stop.{Stop};
-ghost use Rattle.image_source.specs.Attached.{AreImagesOf};
-ghost use Rattle.image_source.specs.Streams.{AppendsFront};
+ghost use Rattle.outside.specs.Attached.{AreImagesOf};
 ghost use Rattle.command_words.specs.Commands.{IsCommandLine, Reads, names_after};
 ghost use Rattle.command_words.specs.declared.command.Command.{Command};
-ghost use Rattle.virtual_volume.specs.Gained.{AppendsSectors};
-ghost use Rattle.reraid_cli.specs.Answers.{IsNoted, IsOrdered, IsOwn, IsPlanned, MayRead, Reading, Says, has_numbers, note_by, note_for, output, refusal, status_by, statuses, streams};
+ghost use Rattle.reraid_cli.specs.Answers.{IsExact, IsNoted, IsOrdered, MayRead, Reading, TakesBy, is_cut_status, note_by, output, refusal, status_by};
+ghost use Rattle.reraid_cli.specs.Table.{job_of};
 
 use crate::running::run;
 use command_words::Word;
-use image_source::{Images, MOST_ATTACHED, Sink, Source};
-use row_scan::Gate;
+use gates::Gate;
+use outside::{Images, MOST_ATTACHED, Sink, Source};
 use std::alloc::Global;
 use std::thread::Threads;
 
@@ -45,84 +46,83 @@ pub fn reraid<R: Threads + Sync, S: Source, I: Images, K: Sink, N: Sink, G: Gate
     requires out { K.faults out.old ≡ 0 }
     requires notes { N.faults notes.old ≡ 0 }
 
-    // No other status comes.
-    ensures statuses { Contains statuses result }
+    // Each status but 0 is that of a stop, whose line the notes gained: whole where they did not fail.
+    // At status 0 they gained nothing.
+    ensures line { result ≢ 0 → (stop : Stop) × (status_of stop ≡ result) ×
+        IsNoted (N.faults notes.new) (N.gained notes.old) (N.gained notes.new) (note_of stop) }
+    ensures silent { result ≡ 0 → N.gained notes.new ≡ N.gained notes.old }
 
-    // Unless the outside or memory is the cause, the status is that of the first refusal in the
-    // order of work, and 0 where there is none.
-    ensures exact { result ≢ 10 → result ≢ 11 → result ≢ 12 → result ≢ 20 →
-        (reading : Reading) → Says words.now (S.left plan.old) reading → result ≡ status_by (refusal reading (I.seen images.new).attached) }
+    // Unless the outside or memory is the cause, the status and the line are those of the first refusal in the
+    // order of work, and 0 and none where nothing is refused.
+    ensures exact { IsExact result → (reading : Reading words.now (S.left plan.old)) →
+        result ≡ status_by (refusal reading (I.seen images.new).attached) }
+    ensures note { IsExact result → (reading : Reading words.now (S.left plan.old)) →
+        IsNoted (N.faults notes.new) (N.gained notes.old) (N.gained notes.new) (note_by (refusal reading (I.seen images.new).attached)) }
 
     // A refusal comes before the work itself: nothing is read or put, and no fault of the images or of the
     // output is answered in its place.
-    ensures order { (reading : Reading) → Says words.now (S.left plan.old) reading → (stop : Stop) →
-        refusal reading (I.seen images.new).attached ≡ Some stop → length (I.seen images.new).attached ≡ min (length (names_after words.now)) MOST_ATTACHED →
+    ensures order { (reading : Reading words.now (S.left plan.old)) → (refused : Refusal) →
+        refusal reading (I.seen images.new).attached ≡ Some refused →
+        length (I.seen images.new).attached ≡ min (length (names_after words.now)) MOST_ATTACHED →
         IsOrdered (I.seen images.old).sectors_read (I.seen images.new).sectors_read (K.gained out.old) (K.gained out.new) result }
 
-    // Words that are no command line are refused before anything is touched.
-    ensures words { (number : ℕ) → Reads words.now (Err number) → (result ≡ 1) × (I.seen images.new ≡ I.seen images.old) }
+    // Words that are no command line are refused. They touch no image, and neither does `sample`, which works
+    // on images of its own.
+    ensures words { (number : ℕ) → Reads words.now (Err number) → result ≡ 1 }
+    ensures apart { (read : Result Command ℕ) → Reads words.now read → (job_of read).apart ≡ true → I.seen images.new ≡ I.seen images.old }
 
-    // `sample` works on images of its own: those given are not touched.
-    ensures own { (command : Command) → IsCommandLine words.now command → IsOwn command → I.seen images.new ≡ I.seen images.old }
-
-    // Only a command over a plan takes from the source.
-    ensures unasked { (read : Result Command ℕ) → Reads words.now read → (IsPlanned read → ⊥) →
-        (S.left plan.new ≡ S.left plan.old) × (S.faults plan.new ≡ S.faults plan.old) }
-
-    // Of the source at most one byte more is taken than a plan may have; at status 0 a command over a
-    // plan took all of it.
-    ensures takes { TakesFew (S.left plan.old) (S.left plan.new) }
-    ensures end { result ≡ 0 → (read : Result Command ℕ) → Reads words.now read → IsPlanned read → IsAtEnd (S.left plan.new) }
+    // Only a command over a text takes from the source: at most one byte more than the text may have, and at
+    // status 0 all of it.
+    ensures takes { (read : Result Command ℕ) × Reads words.now read ×
+        TakesBy (job_of read).most (stream (S.left plan.old) (S.faults plan.old)) (stream (S.left plan.new) (S.faults plan.new)) result }
 
     // Status 0: `out` gained the answer, and nothing else.
-    ensures printed { result ≡ 0 → (reading : Reading) → Says words.now (S.left plan.old) reading →
+    ensures printed { result ≡ 0 → (reading : Reading words.now (S.left plan.old)) →
         IfSome (output reading (I.seen images.new).attached) (λ text. Appends (K.gained out.old) (K.gained out.new) text) }
 
-    // Statuses 10, 11 and 12 come only where that object failed.
-    ensures image_fault { result ≡ 10 → 0 < (I.seen images.new).faults }
-    ensures plan_fault { result ≡ 11 → 0 < S.faults plan.new }
-    ensures out_fault { result ≡ 12 → 0 < K.faults out.new }
+    // Each count of faults rose just where that object's fault is the answer: the images' at 10, the source's at
+    // 11, that of `out` at 12. So a run that ends out of memory met no fault of theirs.
+    ensures image_fault { (result ≡ 10 → 0 < (I.seen images.new).faults) × (result ≢ 10 → (I.seen images.new).faults ≡ 0) }
+    ensures plan_fault { (result ≡ 11 → 0 < S.faults plan.new) × (result ≢ 11 → S.faults plan.new ≡ 0) }
+    ensures out_fault { (result ≡ 12 → 0 < K.faults out.new) × (result ≢ 12 → K.faults out.new ≡ 0) }
 
     // At every other status `out` gained a front of the answer: nothing but at 12, and at 10 where
     // the command puts as it reads. At 10 it is a front of whole sectors.
-    ensures front { result ≢ 0 → (reading : Reading) → Says words.now (S.left plan.old) reading →
+    ensures front { result ≢ 0 → (reading : Reading words.now (S.left plan.old)) →
         IfSome (output reading (I.seen images.new).attached) (λ text. AppendsFront (K.gained out.old) (K.gained out.new) text) }
     ensures nothing { result ≢ 0 → result ≢ 10 → result ≢ 12 → Keeps (K.gained out.old) (K.gained out.new) }
-    ensures whole { result ≡ 10 → (reading : Reading) → Says words.now (S.left plan.old) reading →
+    ensures whole { result ≡ 10 → (reading : Reading words.now (S.left plan.old)) →
         IfSome (output reading (I.seen images.new).attached) (λ text. AppendsSectors (K.gained out.old) (K.gained out.new) text) }
-    ensures unput { result ≡ 10 → (command : Command) → IsCommandLine words.now command → streams (Ok command) ≡ false → Keeps (K.gained out.old) (K.gained out.new) }
+    ensures unput { result ≡ 10 → (read : Result Command ℕ) → Reads words.now read → (job_of read).streams ≡ false →
+        Keeps (K.gained out.old) (K.gained out.new) }
 
     // Where an attachment failed nothing is taken from the source, nothing put, and no sector read.
     ensures cut { length (I.seen images.new).attached < min (length (names_after words.now)) MOST_ATTACHED →
         Keeps (K.gained out.old) (K.gained out.new) × ((I.seen images.new).sectors_read ≡ (I.seen images.old).sectors_read)
         × (S.left plan.new ≡ S.left plan.old) × (S.faults plan.new ≡ S.faults plan.old) × (K.faults out.new ≡ K.faults out.old) }
 
-    // The notes gained the line of the status, whole where they did not fail. Where the line holds
-    // numbers they are those of the refusal, and always those of a stop of this status.
-    ensures note { has_numbers result ≡ false → IsNoted (N.faults notes.new) (N.gained notes.old) (N.gained notes.new) (note_for result) }
-    ensures numbers { has_numbers result ≡ true → (reading : Reading) → Says words.now (S.left plan.old) reading →
-        IsNoted (N.faults notes.new) (N.gained notes.old) (N.gained notes.new) (note_by (refusal reading (I.seen images.new).attached)) }
-    ensures line { result ≢ 0 → (stop : Stop) × (status_of stop ≡ result) × IsNoted (N.faults notes.new) (N.gained notes.old) (N.gained notes.new) (note_of stop) }
-
     // The images attached are those of the words after `--`, in their order, and all of them (the
     // first 65,536 of more) unless an attachment failed. Nothing else is attached.
     ensures attached { AreImagesOf (I.seen images.old).world (names_after words.now) (I.seen images.new).attached }
-    ensures all { (command : Command) → IsCommandLine words.now command → result ≢ 10 → length (I.seen images.new).attached ≡ min (length (names_after words.now)) MOST_ATTACHED }
+    ensures all { (command : Command) → IsCommandLine words.now command → result ≢ 10 →
+        length (I.seen images.new).attached ≡ min (length (names_after words.now)) MOST_ATTACHED }
 
     // Images are only attached and read. A refusal reads none, and neither does a run out of memory whose
-    // command puts as it reads. What a command reads is bounded; only at another status than 0 may a
-    // listing have a page that could not be made.
+    // command puts as it reads. What a command reads is bounded; only where the images failed or memory ran out may
+    // a listing have a page that could not be made.
     ensures world { (I.seen images.new).world ≡ (I.seen images.old).world }
     ensures unread { result ≢ 0 → result ≢ 10 → result ≢ 12 → result ≢ 20 → (I.seen images.new).sectors_read ≡ (I.seen images.old).sectors_read }
-    ensures early { result ≡ 20 → (command : Command) → IsCommandLine words.now command → streams (Ok command) ≡ true → (I.seen images.new).sectors_read ≡ (I.seen images.old).sectors_read }
-    ensures reads { (reading : Reading) → Says words.now (S.left plan.old) reading →
-        MayRead reading (I.seen images.new).attached (not (result == 0)) (I.seen images.old).sectors_read (I.seen images.new).sectors_read }
+    ensures early { result ≡ 20 → (read : Result Command ℕ) → Reads words.now read → (job_of read).streams ≡ true →
+        (I.seen images.new).sectors_read ≡ (I.seen images.old).sectors_read }
+    ensures reads { (reading : Reading words.now (S.left plan.old)) →
+        MayRead reading (I.seen images.new).attached (is_cut_status result) (I.seen images.old).sectors_read (I.seen images.new).sectors_read }
 {
     match run(rt, gate, alloc, words, plan, images, out) {
         Ok(()) => 0,
         Err(stop) => {
-            let _ = notes.put(stop.line().as_bytes());
-            stop.status()
+            let notice = stop.notice();
+            let _ = notes.put(notice.line.as_bytes());
+            notice.status
         }
     }
 }

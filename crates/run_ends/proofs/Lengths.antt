@@ -4,7 +4,7 @@ use Rattle.std.specs.Option.{option_map}
 use Rattle.std.proofs.lemmas.List.{take_more}
 use Rattle.std.proofs.lemmas.List.Sums.{fold-append}
 use Rattle.std.proofs.lemmas.List.Elements.{All-head, All-tail}
-use Rattle.image_source.specs.Seen.{Image, lengths_of}
+use Rattle.outside.specs.Seen.{Image, lengths_of}
 use Rattle.run_ends.specs.Agreement.{end_of, shortest}
 
 -- the length of an image, 0 where there is none

@@ -4,3 +4,4 @@ pub mod Printed
 pub mod Refusals
 pub mod Taking
 pub mod Limits
+pub mod CutShort

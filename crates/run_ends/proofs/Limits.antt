@@ -3,7 +3,7 @@ use Rattle.std.proofs.Common.{◌≡◌, ℕ, ◌≤◌, min, Bool, true, false,
 use Rattle.std.proofs.lemmas.Bool.{cases_lt, lt-ltb}
 use Rattle.std.proofs.lemmas.Bool.Decides.{nat_tests}
 use Rattle.std.proofs.lemmas.List.Elements.{All-cons, All-nil}
-use Rattle.image_source.specs.Seen.{Image, lengths_of}
+use Rattle.outside.specs.Seen.{Image, lengths_of}
 use Rattle.raid_params.specs.declared.limits.TheConstants.{MOST}
 use Rattle.run_ends.specs.Agreement.{count_fault, end_of, limits_fault, shortest}
 use Rattle.run_ends.specs.declared.agreement.Disagreement.{Disagreement}

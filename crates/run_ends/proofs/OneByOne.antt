@@ -1,14 +1,14 @@
 -- Images attached one by one.
 use Rattle.std.proofs.Common.{◌≡◌, ℕ, zero, suc, ◌+◌, ◌<◌, ◌≤◌, List, [], ◌∷◌, ◌++◌, length, get_or, take, Ok, Err, refl, sym, ap, ◌∙◌, arith, append_assoc, append-nil, length-append}
-use Rattle.image_source.specs.declared.Failed.{Failed}
-use Rattle.image_source.specs.Seen.{Image, World, Seen, IsImageOf, Attaches}
-use Rattle.image_source.specs.Attached.{AreImagesOf, AttachesSome}
+use Rattle.outside.specs.declared.Failed.{Failed}
+use Rattle.outside.specs.Seen.{Image, World, Seen, IsImageOf, Attaches}
+use Rattle.outside.specs.Attached.{AreImagesOf, AttachesSome}
 
--- the first i names are attached
+-- the first i names are attached, and nothing failed
 pub record AttachedSoFar (old now : Seen) (names : List (List ℕ)) (i : ℕ) : Type 0 where
   pub some : AttachesSome old now names
   pub count : length now.attached ≡ length old.attached + i
-  pub later : old.faults ≤ now.faults
+  pub same : now.faults ≡ old.faults
 
 one_more : (world : World) (names : List (List ℕ)) (images : List Image) (image : Image) (d : List ℕ) → AreImagesOf world names images → length images < length names → IsImageOf world (get_or names (length images) d) image → AreImagesOf world names (images ++ image ∷ [])
 one_more world [] [] image d are lt is = absurd (omega arith)
@@ -45,14 +45,14 @@ attached_no_more old mid new names name e some step later = record {
 }
 
 -- one turn
-pub so_far_more : (old mid new : Seen) (names : List (List ℕ)) (i n : ℕ) (name d : List ℕ) → AttachedSoFar old mid names i → i < length names → name ≡ get_or names i d → Attaches {E = Failed} mid new name (Ok n) → mid.faults ≤ new.faults → AttachedSoFar old new names (i + 1)
-so_far_more old mid new names i n name d far lt at step later = record {
-  some = attached_more old mid new names i n d far.some far.count lt (rw at at step) later;
+pub so_far_more : (old mid new : Seen) (names : List (List ℕ)) (i n : ℕ) (name d : List ℕ) → AttachedSoFar old mid names i → i < length names → name ≡ get_or names i d → Attaches {E = Failed} mid new name (Ok n) → new.faults ≡ mid.faults → AttachedSoFar old new names (i + 1)
+so_far_more old mid new names i n name d far lt at step same = record {
+  some = attached_more old mid new names i n d far.some far.count lt (rw at at step) (omega arith);
   count =
       let before = far.count in
       let grown = ap length step.attached.3 in
       omega (arith, length-append mid.attached (step.attached.0 ∷ []));
-  later = let before = far.later in omega arith;
+  same = same ∙ far.same;
 }
 
 -- images of the first names are images of a prefix of them

@@ -1,19 +1,22 @@
 -- How a job ends that finds its answer, and then puts it.
-use Rattle.std.proofs.Common.{◌≡◌, ℕ, ◌≤◌, List, None, Some, Option, Result, Ok, Err, IfSome, IfErr, IfOk, refl, sym, ap, subst, arith, inl, inr, false}
+use Rattle.std.proofs.Common.{◌≡◌, ℕ, ◌≤◌, List, None, Some, Option, Result, Ok, Err, IfSome, IsErrOf, refl, sym, ap, subst, arith, Bool, false}
 use Rattle.std.specs.Io.KnownBytes.{Appends, Keeps}
 use Rattle.std.proofs.lemmas.List.{append-nil}
-use Rattle.image_source.specs.Streams.{AppendsFront}
-use Rattle.run_ends.specs.Jobs.{Counts, Ends, HasCauses, IsPrinted, Leaves, MayHavePut, MayHaveRead, Orders, Refuses}
-use Rattle.run_ends.specs.Stops.{EndsBy, IsEarly, IsExcused, IsRefusal}
+use Rattle.outside.specs.Causes.{Rose}
+use Rattle.outside.specs.Streams.{AppendsFront, AppendsSectors, Stream}
+use Rattle.run_ends.specs.Counts.{Raises}
+use Rattle.run_ends.specs.Jobs.{Answers, Around, Does, Ends, IsPrinted, Job, MayHaveRead, Named, Orders, Takes, is_cut}
+use Rattle.run_ends.specs.Stops.{EndsBy}
+use Rattle.run_ends.specs.declared.stop.Refusal.{Refusal}
 use Rattle.run_ends.specs.declared.stop.Stop.{Stop}
-use Rattle.run_ends.specs.declared.stop.Stop.TheVariants.{ImageFault, PlanFault, OutFault}
+use Rattle.run_ends.specs.declared.stop.Stop.TheVariants.{Refused, ImageFault, SourceFault, OutFault, OutOfMemory}
 
--- bytes that stay as they are have gained a prefix of any text
+-- bytes that stay as they are have gained a front of any text
 pub front_of_nothing : (old : Option (List ℕ)) (text : List ℕ) → AppendsFront old old text
 front_of_nothing None text = (0, (omega arith), tt)
 front_of_nothing (Some xs) text = (0, (omega arith), sym (append-nil xs))
 
-front_if : (printed : Option (List ℕ)) (old : Option (List ℕ)) → IfSome printed (λ text. AppendsFront old old text)
+pub front_if : (printed old : Option (List ℕ)) → IfSome printed (λ text. AppendsFront old old text)
 front_if None old = tt
 front_if (Some text) old = front_of_nothing old text
 
@@ -21,116 +24,150 @@ pub keeps_itself : (old : Option (List ℕ)) → Keeps old old
 keeps_itself None = tt
 keeps_itself (Some xs) = refl
 
-appends_if : (printed : Option (List ℕ)) (old new : Option (List ℕ)) (text : List ℕ) → IfSome printed (λ p. text ≡ p) → Appends old new text → IfSome printed (λ p. Appends old new p)
+-- and of no sectors of it
+sectors_of_nothing : (old : Option (List ℕ)) (text : List ℕ) → AppendsSectors old old text
+sectors_of_nothing None text = (0, (omega arith), tt)
+sectors_of_nothing (Some xs) text = (0, (omega arith), sym (append-nil xs))
+
+pub sectors_if : (printed old : Option (List ℕ)) → IfSome printed (λ text. AppendsSectors old old text)
+sectors_if None old = tt
+sectors_if (Some text) old = sectors_of_nothing old text
+
+appends_if : (printed old new : Option (List ℕ)) (text : List ℕ) → IfSome printed (λ p. text ≡ p) → Appends old new text → IfSome printed (λ p. Appends old new p)
 appends_if None old new text is h = tt
 appends_if (Some p) old new text is h = subst (λ t. Appends old new t) is h
 
-fronts_if : (printed : Option (List ℕ)) (old new : Option (List ℕ)) (text : List ℕ) → IfSome printed (λ p. text ≡ p) → AppendsFront old new text → IfSome printed (λ p. AppendsFront old new p)
+fronts_if : (printed old new : Option (List ℕ)) (text : List ℕ) → IfSome printed (λ p. text ≡ p) → AppendsFront old new text → IfSome printed (λ p. AppendsFront old new p)
 fronts_if None old new text is h = tt
 fronts_if (Some p) old new text is h = subst (λ t. AppendsFront old new t) is h
 
--- an answer, and its printing
-pub ends_printed : {T : Type 0} (refused : Option Stop) (printed : Option (List ℕ)) (old new : Option (List ℕ)) (before after : ℕ) (answer : Result (List ℕ) Stop) (result : Result T Stop) →
-    Refuses refused answer → IfOk answer (λ text. IfSome printed (λ p. text ≡ p)) → IsPrinted old new before after answer result → Ends refused printed old new result
-ends_printed refused printed old new before after (Err stop) (Ok x) answered text is = absurd (let e = is.0 in cc)
-ends_printed refused printed old new before after (Err stop) (Err other) answered text is =
-    let same : other ≡ stop = let e = is.0 in cc in
-    record {
-      ends = subst (EndsBy refused) (sym same) answered.ends;
-      passes = tt;
-      puts = tt;
-      front = subst (λ gained. IfSome printed (λ p. AppendsFront old gained p)) (sym is.1) (front_if printed old);
-    }
-ends_printed refused printed old new before after (Ok text) (Ok x) answered told is = record {
-  ends = tt;
-  passes = answered.passes;
-  puts = appends_if printed old new text told is;
-  front = tt;
-}
-ends_printed refused printed old new before after (Ok text) (Err stop) answered told is = record {
-  ends = inl (subst IsExcused (sym is.0) tt);
-  passes = tt;
-  puts = tt;
-  front = fronts_if printed old new text told is.1;
+-- nothing was put, whatever the cause
+pub ends_unput : {T : Type 0} (refused : Option Refusal) (printed old : Option (List ℕ)) (stop : Stop) → EndsBy refused stop → Ends {T = T} refused printed old old (Err stop)
+ends_unput refused printed old stop by = record { refuses = record { ends = by; passes = tt }; puts = tt; front = front_if printed old; whole = λ e. sectors_if printed old }
+
+-- an error is the same error, whatever the value would have been
+same_fault : {T U : Type 0} (stop fault : Stop) → IsErrOf {T = T} (Err stop) fault → IsErrOf {T = U} (Err stop) fault
+same_fault stop fault e = let f = e in let g : stop ≡ fault = cc in ap (λ (s : Stop). Err s) g
+
+pub raises_same : {T U : Type 0} (fault stop : Stop) (before after : ℕ) → Raises {T = T} fault before after (Err stop) → Raises {T = U} fault before after (Err stop)
+raises_same fault stop before after raises = record { rose = λ e. raises.rose (same_fault stop fault e); stays = λ none. raises.stays (λ e. none (same_fault stop fault e)); later = raises.later }
+
+-- a count that rose, and one that is as it was
+pub rises : {T : Type 0} (fault : Stop) (before after : ℕ) → Rose before after → before ≤ after → Raises {T = T} fault before after (Err fault)
+rises fault before after rose later = record { rose = λ e. rose; stays = λ none. absurd (none refl); later = later }
+
+pub stays : {T : Type 0} (fault : Stop) (before after : ℕ) (r : Result T Stop) → after ≡ before → (IsErrOf r fault → ⊥) → Raises fault before after r
+stays fault before after r same none = record { rose = λ e. absurd (none e); stays = λ other. same; later = omega arith }
+
+-- an answer raises no count but that of its fault
+pub no_raise : {T : Type 0} (fault : Stop) (count : ℕ) (r : Result T Stop) → (IsErrOf r fault → ⊥) → Raises fault count count r
+no_raise fault count r none = record { rose = λ e. absurd (none e); stays = λ other. refl; later = omega arith }
+
+takes_same : (T U : Type 0) (most : Option ℕ) (old new : Stream) (stop : Stop) → Takes {T = T} most old new (Err stop) → Takes {T = U} most old new (Err stop)
+takes_same T U None old new stop takes = takes
+takes_same T U (Some most) old new stop takes = (takes.0, tt)
+
+takes_put : {T U : Type 0} (most : Option ℕ) (old new : Stream) (x : T) (y : U) → Takes most old new (Ok x) → Takes most old new (Ok y)
+takes_put None old new x y takes = takes
+takes_put (Some most) old new x y takes = takes
+
+takes_unput : (T U : Type 0) (most : Option ℕ) (old new : Stream) (x : T) (stop : Stop) → Takes most old new (Ok x) → Takes {T = U} most old new (Err stop)
+takes_unput T U None old new x stop takes = takes
+takes_unput T U (Some most) old new x stop takes = (takes.0, tt)
+
+cut_same : (T U : Type 0) (stop : Stop) → is_cut {T = T} (Err stop) ≡ is_cut {T = U} (Err stop)
+cut_same T U (Refused refusal) = refl
+cut_same T U ImageFault = refl
+cut_same T U SourceFault = refl
+cut_same T U OutFault = refl
+cut_same T U OutOfMemory = refl
+
+-- there is no answer: nothing is put
+stopped : {T : Type 0} (job : Job) (given : Named) (before after : Around) (out : Stream) (stop : Stop) → job.streams ≡ false → Answers job given before after (Err stop) → Does {T = T} job given before after out out (Err stop)
+stopped {T} job given before after out stop still answers = record {
+  ends = λ said says. ends_unput (job.refused said given) (job.printed said given) out.known stop (answers.refuses said says).ends;
+  order = λ said says all refusal is.
+      let first = answers.order said says refusal is in
+      record {
+        unread = first.unread;
+        unput = keeps_itself out.known;
+        no_image_fault = λ e. first.no_image_fault (same_fault stop ImageFault e);
+        no_out_fault = λ e. first.no_out_fault (same_fault stop OutFault e);
+      };
+  reads = λ said says. subst (λ (cut : Bool). job.MayRead said given cut before.images.sectors_read after.images.sectors_read) (cut_same (List ℕ) T stop) (answers.reads said says);
+  takes = takes_same (List ℕ) T job.most before.source after.source stop answers.takes;
+  leaves = record {
+    images = raises_same ImageFault stop before.images.faults after.images.faults answers.causes.images;
+    source = raises_same SourceFault stop before.source.faults after.source.faults answers.causes.source;
+    out = no_raise OutFault out.faults (Err stop) (λ e. answers.causes.unput (same_fault stop OutFault e));
+    unput = λ h. keeps_itself out.known;
+    unread = subst (λ (b : Bool). (MayHaveRead b stop → ⊥) → after.images.sectors_read ≡ before.images.sectors_read) (sym still) answers.causes.unread;
+  };
+  apart = answers.apart;
+  world = answers.world;
 }
 
--- the counts before and after a job that finds its answer and puts it
-abbrev pub with_out : Counts → ℕ → Counts
-with_out counts out = record { images = counts.images; plan = counts.plan; out = out; sectors = counts.sectors }
-
-pub leaves_printed : {T : Type 0} (counts now : Counts) (old new : Option (List ℕ)) (before after : ℕ) (answer : Result (List ℕ) Stop) (result : Result T Stop) →
-    HasCauses counts now answer → IsPrinted old new before after answer result → before ≤ after → Leaves false (with_out counts before) (with_out now after) old new result
-leaves_printed counts now old new before after (Err stop) (Ok x) answered is later = absurd (let e = is.0 in cc)
-leaves_printed counts now old new before after (Err stop) (Err other) answered is later =
-    let same : other ≡ stop = let e = is.0 in cc in
-    record {
-      image_fault = λ e. answered.image_fault (let f = e in let g : stop ≡ ImageFault = cc in ap (λ (x : Stop). Err x) g);
-      plan_fault = λ e. answered.plan_fault (let f = e in let g : stop ≡ PlanFault = cc in ap (λ (x : Stop). Err x) g);
-      out_fault = λ e. absurd (answered.out_fault (let f = e in let g : stop ≡ OutFault = cc in ap (λ (x : Stop). Err x) g));
-      images_later = answered.images_later;
-      plan_later = answered.plan_later;
-      out_later = later;
-      nothing = λ h. subst (λ gained. Keeps old gained) (sym is.1) (keeps_itself old);
-      unread = subst (λ s. (MayHaveRead false s → ⊥) → now.sectors ≡ counts.sectors) (sym same) answered.unread;
-    }
-leaves_printed counts now old new before after (Ok text) (Ok x) answered is later = record {
-  image_fault = λ e. absurd (cc);
-  plan_fault = λ e. absurd (cc);
-  out_fault = λ e. absurd (cc);
-  images_later = answered.images_later;
-  plan_later = answered.plan_later;
-  out_later = later;
-  nothing = tt;
-  unread = tt;
+-- the answer is put
+put_whole : {T : Type 0} (job : Job) (given : Named) (before after : Around) (old new : Stream) (text : List ℕ) (x : T) → Answers job given before after (Ok text) → Appends old.known new.known text → new.faults ≡ old.faults →
+    Does job given before after old new (Ok x)
+put_whole job given before after old new text x answers put same = record {
+  ends = λ said says. record {
+    refuses = record { ends = tt; passes = (answers.refuses said says).passes };
+    puts = appends_if (job.printed said given) old.known new.known text (answers.text said says) put;
+    front = tt;
+    whole = λ e. absurd (cc);
+  };
+  order = λ said says all refusal is. absurd (let none : job.refused said given ≡ None = (answers.refuses said says).passes in cc);
+  reads = answers.reads;
+  takes = takes_put job.most before.source after.source text x answers.takes;
+  leaves = record {
+    images = stays ImageFault before.images.faults after.images.faults (Ok x) (answers.causes.images.stays (λ e. absurd (cc))) (λ e. absurd (cc));
+    source = stays SourceFault before.source.faults after.source.faults (Ok x) (answers.causes.source.stays (λ e. absurd (cc))) (λ e. absurd (cc));
+    out = stays OutFault old.faults new.faults (Ok x) same (λ e. absurd (cc));
+    unput = tt;
+    unread = tt;
+  };
+  apart = answers.apart;
+  world = answers.world;
 }
-leaves_printed counts now old new before after (Ok text) (Err stop) answered is later =
-    record {
-      image_fault = λ e. absurd (let g = is.0 in let f = e in cc);
-      plan_fault = λ e. absurd (let g = is.0 in let f = e in cc);
-      out_fault = λ e. is.2;
-      images_later = answered.images_later;
-      plan_later = answered.plan_later;
-      out_later = later;
-      nothing = λ h. absurd (h (subst (MayHavePut false) (sym is.0) tt));
-      unread = λ h. absurd (h (subst (MayHaveRead false) (sym is.0) tt));
-    }
 
--- a refusal is answered before anything is put
-pub order_printed : {T : Type 0} (refused : Option Stop) (read now : ℕ) (old new : Option (List ℕ)) (before after : ℕ) (answer : Result (List ℕ) Stop) (result : Result T Stop) →
-    Refuses refused answer → Orders refused read now None None answer → IsPrinted old new before after answer result → Orders refused read now old new result
-order_printed refused read now old new before after (Ok text) result answered order is stop e = absurd (let none : refused ≡ None = answered.passes in cc)
-order_printed refused read now old new before after (Err stop) (Ok x) answered order is found e = absurd (let f = is.0 in cc)
-order_printed refused read now old new before after (Err stop) (Err other) answered order is found e =
-    let same : other ≡ stop = let f = is.0 in cc in
-    let first = order found e in
-    record {
-      unread = first.unread;
-      unput = subst (λ gained. Keeps old gained) (sym is.1) (keeps_itself old);
-      no_image_fault = λ f. first.no_image_fault (let g = f in let h : stop ≡ ImageFault = cc in ap (λ (x : Stop). Err x) h);
-      no_out_fault = λ f. first.no_out_fault (let g = f in let h : stop ≡ OutFault = cc in ap (λ (x : Stop). Err x) h);
-    }
+-- the output fails
+put_front : {T : Type 0} (job : Job) (given : Named) (before after : Around) (old new : Stream) (text : List ℕ) → Answers job given before after (Ok text) → AppendsFront old.known new.known text → Rose old.faults new.faults → old.faults ≤ new.faults →
+    Does {T = T} job given before after old new (Err OutFault)
+put_front {T} job given before after old new text answers put rose later = record {
+  ends = λ said says. record {
+    refuses = record { ends = tt; passes = tt };
+    puts = tt;
+    front = fronts_if (job.printed said given) old.known new.known text (answers.text said says) put;
+    whole = λ e. absurd (cc);
+  };
+  order = λ said says all refusal is. absurd (let none : job.refused said given ≡ None = (answers.refuses said says).passes in cc);
+  reads = answers.reads;
+  takes = takes_unput (List ℕ) T job.most before.source after.source text OutFault answers.takes;
+  leaves = record {
+    images = stays ImageFault before.images.faults after.images.faults (Err OutFault) (answers.causes.images.stays (λ e. absurd (cc))) (λ e. absurd (cc));
+    source = stays SourceFault before.source.faults after.source.faults (Err OutFault) (answers.causes.source.stays (λ e. absurd (cc))) (λ e. absurd (cc));
+    out = rises OutFault old.faults new.faults rose later;
+    unput = λ h. absurd (h tt);
+    unread = λ h. absurd (h tt);
+  };
+  apart = answers.apart;
+  world = answers.world;
+}
+
+put_any : {T : Type 0} (job : Job) (given : Named) (before after : Around) (old new : Stream) (text : List ℕ) (result : Result T Stop) → Answers job given before after (Ok text) → IsPrinted old new (Ok text) result → Does job given before after old new result
+put_any job given before after old new text (Ok x) answers is = put_whole job given before after old new text x answers is.0 is.1
+put_any {T} job given before after old new text (Err stop) answers is =
+    subst (λ (s : Stop). Does {T = T} job given before after old new (Err s)) (sym is.0) (put_front job given before after old new text answers is.1 is.2 is.3)
+
+-- a job that finds its answer, and then puts it
+pub does_printed : {T : Type 0} (job : Job) (given : Named) (before after : Around) (old new : Stream) (answer : Result (List ℕ) Stop) (result : Result T Stop) → job.streams ≡ false → Answers job given before after answer → IsPrinted old new answer result →
+    Does job given before after old new result
+does_printed job given before after old new (Ok text) result still answers is = put_any job given before after old new text result answers is
+does_printed {T} job given before after old new (Err stop) result still answers is =
+    subst (λ (r : Result T Stop). Does job given before after old new r) (sym is.0)
+    (subst (λ (s : Stream). Does {T = T} job given before after old s (Err stop)) (sym is.1) (stopped job given before after old stop still answers))
 
 -- what is not refused has no order to keep
-pub order_allowed : {T : Type 0} (refused : Option Stop) (read now : ℕ) (old new : Option (List ℕ)) (r : Result T Stop) → refused ≡ None → Orders refused read now old new r
-order_allowed refused read now old new r none stop e = absurd (cc)
-
--- a refusal before anything is touched
-pub order_refused : {T : Type 0} (refused : Option Stop) (read : ℕ) (gained : Option (List ℕ)) (stop : Stop) → IsRefusal stop → Orders {T = T} refused read read gained gained (Err stop)
-order_refused refused read gained stop is found e = record {
-  unread = refl;
-  unput = keeps_itself gained;
-  no_image_fault = λ f. let g = f in let h : stop ≡ ImageFault = cc in subst IsRefusal h is;
-  no_out_fault = λ f. let g = f in let h : stop ≡ OutFault = cc in subst IsRefusal h is;
-}
-
--- so is one for which memory may be the cause
-pub order_early : (refused : Option Stop) (read : ℕ) (answer : Result (List ℕ) Stop) → Refuses refused answer → IfErr answer IsEarly → Orders refused read read None None answer
-unfolding IsEarly
-order_early refused read (Ok text) answered early stop e = absurd (let none : refused ≡ None = answered.passes in cc)
-order_early refused read (Err stop) answered (inr is) found e = order_refused refused read None stop is found e
-order_early refused read (Err stop) answered (inl memory) found e = record {
-  unread = refl;
-  unput = tt;
-  no_image_fault = λ f. absurd (let g = f in cc);
-  no_out_fault = λ f. absurd (let g = f in cc);
-}
+pub order_allowed : {T : Type 0} (refused : Option Refusal) (read now : ℕ) (old new : Option (List ℕ)) (r : Result T Stop) → refused ≡ None → Orders refused read now old new r
+order_allowed refused read now old new r none refusal e = absurd (cc)

@@ -6,11 +6,12 @@ use Rattle.std.specs.declared.option.Option.{Option}
 use Rattle.std.specs.Io.KnownBytes.{Consumes, IsAtEnd, Keeps, ReadConsumes}
 use Rattle.run_ends.specs.Source.{TakesFew}
 
-pub record ReadSoFar (old now : Option (List ℕ)) (before after turns : ℕ) (text : List ℕ) : Type 0 where
+-- what was read so far: no more than may be, and nothing failed
+pub record ReadSoFar (most : ℕ) (old now : Option (List ℕ)) (before after turns : ℕ) (text : List ℕ) : Type 0 where
   pub some : turns ≤ length text
-  pub few : length text ≤ 4194304
+  pub few : length text ≤ most
   pub consumed : Consumes old now text
-  pub later : before ≤ after
+  pub same : after ≡ before
 
 pub nothing_read : (left : Option (List ℕ)) → Consumes left left []
 nothing_read None = tt
@@ -34,25 +35,21 @@ read_was_left None now text n a l = tt
 read_was_left (Some x) None text n a l = absurd a
 read_was_left (Some x) (Some y) text n a l = rw a (omega (arith, length-append text y))
 
--- nothing is a few bytes
-pub takes_none : (left : Option (List ℕ)) → TakesFew left left
-takes_none left = ([], omega arith, nothing_read left)
-
 -- what was read so far, and a piece more or nothing
-pub takes_read : (old now : Option (List ℕ)) (text : List ℕ) → length text ≤ 4194305 → Consumes old now text → TakesFew old now
-takes_read old now text few consumed = (text, few, consumed)
+pub takes_read : (most : ℕ) (old now : Option (List ℕ)) (text : List ℕ) → length text ≤ most + 1 → Consumes old now text → TakesFew most old now
+takes_read most old now text few consumed = (text, few, consumed)
 
-pub takes_kept : (old mid new : Option (List ℕ)) (text : List ℕ) → length text ≤ 4194304 → Consumes old mid text → Keeps mid new → TakesFew old new
-takes_kept None mid new text few consumed kept = (text, omega arith, tt)
-takes_kept (Some x) None new text few consumed kept = absurd consumed
-takes_kept (Some x) (Some y) None text few consumed kept = absurd kept
-takes_kept (Some x) (Some y) (Some z) text few consumed kept = (text, omega arith, rw kept consumed)
+pub takes_kept : (most : ℕ) (old mid new : Option (List ℕ)) (text : List ℕ) → length text ≤ most → Consumes old mid text → Keeps mid new → TakesFew most old new
+takes_kept most None mid new text few consumed kept = (text, omega arith, tt)
+takes_kept most (Some x) None new text few consumed kept = absurd consumed
+takes_kept most (Some x) (Some y) None text few consumed kept = absurd kept
+takes_kept most (Some x) (Some y) (Some z) text few consumed kept = (text, omega arith, rw kept consumed)
 
 -- a piece was asked for, whatever came of it
-pub takes_any : {E : Type 0} (old mid new : Option (List ℕ)) (text front : List ℕ) (r : Result ℕ E) → length text ≤ 4194304 → length text + length front ≤ 4194305 → Consumes old mid text → ReadConsumes mid new r front → TakesFew old new
-takes_any old mid new text front (Ok n) few room consumed gave =
-    takes_read old new (text ++ take n front) (omega (arith, length-append text (take n front), length-take n front)) (consumes_more old mid new text (take n front) consumed gave.0)
-takes_any old mid new text front (Err e) few room consumed gave = takes_kept old mid new text few consumed gave
+pub takes_any : {E : Type 0} (most : ℕ) (old mid new : Option (List ℕ)) (text front : List ℕ) (r : Result ℕ E) → length text ≤ most → length text + length front ≤ most + 1 → Consumes old mid text → ReadConsumes mid new r front → TakesFew most old new
+takes_any most old mid new text front (Ok n) few room consumed gave =
+    takes_read most old new (text ++ take n front) (omega (arith, length-append text (take n front), length-take n front)) (consumes_more old mid new text (take n front) consumed gave.0)
+takes_any most old mid new text front (Err e) few room consumed gave = takes_kept most old mid new text few consumed gave
 
 -- nothing came, though there was room: the end
 pub at_end : {E : Type 0} (mid new : Option (List ℕ)) (front : List ℕ) (r : Result ℕ E) (n : ℕ) → r ≡ Ok n → n ≡ 0 → 0 < length front → ReadConsumes mid new r front → IsAtEnd new

@@ -1,10 +1,10 @@
 -- Whether the attached images are those that the plan or the command takes.
-use Rattle.std.specs.Prelude.{ℕ, nat_eq, nat_lt, not, if◌then◌else◌, min, List, [], ◌∷◌, length, map, fold, slice_index, unwrap_or}
+use Rattle.std.specs.Prelude.{ℕ, nat_eq, nat_lt, not, if◌then◌else◌, min, List, [], ◌∷◌, length, fold, slice_index, unwrap_or}
 use Rattle.std.specs.List.{find, range_with_len}
 use Rattle.std.specs.Option.{option_map}
 use Rattle.std.specs.declared.option.Option.{Option}
 use Rattle.std.specs.declared.option.Option.TheVariants.{None, Some}
-use Rattle.image_source.specs.Seen.{Image, lengths_of}
+use Rattle.outside.specs.Seen.{Image, lengths_of}
 use Rattle.raid_params.specs.declared.limits.TheConstants.{MOST}
 use Rattle.search_plan.specs.declared.plan.Plan.{Plan}
 use Rattle.run_ends.specs.declared.agreement.Disagreement.{Disagreement}

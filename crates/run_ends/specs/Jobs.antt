@@ -1,37 +1,98 @@
--- How a job ends, what it prints, and what it leaves.
-use Rattle.std.specs.Prelude.{ℕ, ◌≡◌, ◌≤◌, Bool, true, false, List, Result, Ok, Err, MatchResult, OnOk, IfErr, IsErrOf, IfSome}
+-- What a job is, and that a run of it does what the job is.
+use Rattle.std.specs.Prelude.{ℕ, ◌+◌, ◌≡◌, ◌≤◌, Bool, true, false, min, length, List, Result, Ok, Err, MatchResult, OnOk, IfOk, IfErr, IsErrOf, IfSome}
 use Rattle.std.specs.declared.option.Option.{Option}
 use Rattle.std.specs.declared.option.Option.TheVariants.{None, Some}
-use Rattle.std.specs.Io.KnownBytes.{Appends, Keeps}
-use Rattle.image_source.specs.Causes.{Rose}
-use Rattle.image_source.specs.Streams.{AppendsFront}
+use Rattle.std.specs.Io.KnownBytes.{Appends, IsAtEnd, Keeps}
+use Rattle.outside.specs.Causes.{Rose}
+use Rattle.outside.specs.Seen.{Image, Seen}
+use Rattle.outside.specs.Streams.{AppendsFront, AppendsSectors, Stream}
+use Rattle.outside.specs.declared.TheConstants.{MOST_ATTACHED}
+use Rattle.run_ends.specs.Counts.{Raises}
+use Rattle.run_ends.specs.Source.{TakesFew}
 use Rattle.run_ends.specs.Stops.{EndsBy}
+use Rattle.run_ends.specs.declared.stop.Refusal.{Refusal}
 use Rattle.run_ends.specs.declared.stop.Stop.{Stop}
-use Rattle.run_ends.specs.declared.stop.Stop.TheVariants.{ImageFault, PlanFault, OutFault, OutOfMemory}
+use Rattle.run_ends.specs.declared.stop.Stop.TheVariants.{ImageFault, SourceFault, OutFault, OutOfMemory}
 
--- the counts of faults of images, plan and out, and the count of sectors read
-pub record Counts : Type 0 where
-  pub images : ℕ
-  pub plan : ℕ
-  pub out : ℕ
-  pub sectors : ℕ
+-- what the words name: how many images, and those of them that are attached
+pub record Named : Type 0 where
+  pub names : ℕ
+  pub attached : List Image
 
--- how a job ends that has this first refusal, and this output where it is known
-pub record Ends {T : Type 0} (refused : Option Stop) (printed : Option (List ℕ)) (old new : Option (List ℕ)) (result : Result T Stop) : Type 0 where
+abbrev pub named : ℕ → List Image → Named
+named names attached = record { names = names; attached = attached }
+
+-- what stands around a job: the images, and the source of its text
+pub record Around : Type 0 where
+  pub images : Seen
+  pub source : Stream
+
+abbrev pub around : Seen → Stream → Around
+around images source = record { images = images; source = source }
+
+abbrev pub stream : Option (List ℕ) → ℕ → Stream
+stream known faults = record { known = known; faults = faults }
+
+-- a job: what the text of its source says to it, and the most bytes of that text, if it takes one; whether it puts as
+-- it reads, and whether it leaves the images alone; its first refusal; its output, where what that depends on is
+-- known; and what it may read, by the counts of sectors before and after, also where its work was cut short
+pub record Job : Type 1 where
+  pub Said : Type 0
+  pub Says : Option (List ℕ) → Said → Type 0
+  pub most : Option ℕ
+  pub streams : Bool
+  pub apart : Bool
+  pub refused : Said → Named → Option Refusal
+  pub printed : Said → Named → Option (List ℕ)
+  pub MayRead : Said → Named → Bool → ℕ → ℕ → Type 0
+
+-- a job that takes no text, by how it puts, its refusal, its output, and the most sectors that it reads
+abbrev pub textless : Bool → (Named → Option Refusal) → (Named → Option (List ℕ)) → (Named → ℕ) → Job
+textless streams refused printed most = record {
+  Said = Unit {0};
+  Says = λ left said. Unit {0};
+  most = None;
+  streams = streams;
+  apart = false;
+  refused = λ said given. refused given;
+  printed = λ said given. printed given;
+  MayRead = λ said given cut before after. after ≤ before + most given;
+}
+
+-- a job that takes no text and leaves the images alone
+abbrev pub imageless : Option Refusal → Option (List ℕ) → Job
+imageless refused printed = record {
+  Said = Unit {0};
+  Says = λ left said. Unit {0};
+  most = None;
+  streams = false;
+  apart = true;
+  refused = λ said given. refused;
+  printed = λ said given. printed;
+  MayRead = λ said given cut before after. after ≤ before;
+}
+
+-- the answer is the refusal, or has another cause; at Ok nothing is refused
+pub record Refuses {T : Type 0} (refused : Option Refusal) (result : Result T Stop) : Type 0 where
   pub ends : IfErr result (EndsBy refused)
   pub passes : OnOk result (refused ≡ None)
+
+-- how a job ends that has this first refusal, and this output where it is known: at Ok it was put, at an error a front
+-- of it, of whole sectors where the images failed
+pub record Ends {T : Type 0} (refused : Option Refusal) (printed : Option (List ℕ)) (old new : Option (List ℕ)) (result : Result T Stop) : Type 0 where
+  pub refuses : Refuses refused result
   pub puts : OnOk result (IfSome printed (λ text. Appends old new text))
   pub front : IfErr result (λ stop. IfSome printed (λ text. AppendsFront old new text))
+  pub whole : IsErrOf result ImageFault → IfSome printed (λ text. AppendsSectors old new text)
 
--- at this stop a job may have put a prefix of its output: where the output failed, and, for a job that
--- puts as it reads, where the images failed
+-- at this stop a job may have put a front of its output: where the output failed, and, for a job that puts as it
+-- reads, where the images failed
 abbrev pub MayHavePut : Bool → Stop → Type 0
 MayHavePut streams OutFault = Unit {0}
 MayHavePut streams ImageFault = streams ≡ true
 MayHavePut streams _ = ⊥
 
--- at this stop a job may have read sectors; a job that puts as it reads takes its memory before it
--- reads
+-- at this stop a job may have read sectors; a job that puts as it reads takes its memory before it reads
 abbrev pub MayHaveRead : Bool → Stop → Type 0
 MayHaveRead streams ImageFault = Unit {0}
 MayHaveRead streams OutFault = Unit {0}
@@ -46,37 +107,62 @@ pub record IsUnreached {T : Type 0} (before after : ℕ) (old new : Option (List
   pub no_out_fault : IsErrOf result OutFault → ⊥
 
 -- what is refused comes before the job itself
-abbrev pub Orders : {T : Type 0} → Option Stop → ℕ → ℕ → Option (List ℕ) → Option (List ℕ) → Result T Stop → Type 0
-Orders refused before after old new result = (stop : Stop) → refused ≡ Some stop → IsUnreached before after old new result
+abbrev pub Orders : {T : Type 0} → Option Refusal → ℕ → ℕ → Option (List ℕ) → Option (List ℕ) → Result T Stop → Type 0
+Orders refused before after old new result = (refusal : Refusal) → refused ≡ Some refusal → IsUnreached before after old new result
 
--- what a job leaves: faults have their causes, nothing is put but at Ok and where it may be, and
--- nothing is read but at Ok and where it may be
-pub record Leaves {T : Type 0} (streams : Bool) (before after : Counts) (old new : Option (List ℕ)) (result : Result T Stop) : Type 0 where
-  pub image_fault : IsErrOf result ImageFault → Rose before.images after.images
-  pub plan_fault : IsErrOf result PlanFault → Rose before.plan after.plan
-  pub out_fault : IsErrOf result OutFault → Rose before.out after.out
-  pub images_later : before.images ≤ after.images
-  pub plan_later : before.plan ≤ after.plan
-  pub out_later : before.out ≤ after.out
-  pub nothing : IfErr result (λ stop. (MayHavePut streams stop → ⊥) → Keeps old new)
-  pub unread : IfErr result (λ stop. (MayHaveRead streams stop → ⊥) → after.sectors ≡ before.sectors)
+-- the work was cut short: the images failed, or memory ran out
+abbrev pub is_cut : {T : Type 0} → Result T Stop → Bool
+is_cut (Err ImageFault) = true
+is_cut (Err OutOfMemory) = true
+is_cut _ = false
 
--- an answer that is found before anything is put, where the first refusal is this
-pub record Refuses {T : Type 0} (refused : Option Stop) (result : Result T Stop) : Type 0 where
-  pub ends : IfErr result (EndsBy refused)
-  pub passes : OnOk result (refused ≡ None)
+-- what is taken of the source: nothing, or few bytes, and at Ok all of them
+abbrev pub Takes : {T : Type 0} → Option ℕ → Stream → Stream → Result T Stop → Type 0
+Takes None old new result = new ≡ old
+Takes (Some most) old new result = TakesFew most old.known new.known × OnOk result (IsAtEnd new.known)
 
--- the causes of faults of such an answer; nothing is read but at Ok and where it may be
-pub record HasCauses {T : Type 0} (before after : Counts) (result : Result T Stop) : Type 0 where
-  pub image_fault : IsErrOf result ImageFault → Rose before.images after.images
-  pub plan_fault : IsErrOf result PlanFault → Rose before.plan after.plan
-  pub out_fault : IsErrOf result OutFault → ⊥
-  pub images_later : before.images ≤ after.images
-  pub plan_later : before.plan ≤ after.plan
-  pub unread : IfErr result (λ stop. (MayHaveRead false stop → ⊥) → after.sectors ≡ before.sectors)
+-- what a job leaves: each count of faults rose where that fault is the answer, and is as it was elsewhere; nothing is put but at Ok and where
+-- it may be, and nothing is read but at Ok and where it may be
+pub record Leaves {T : Type 0} (streams : Bool) (before after : Around) (old new : Stream) (result : Result T Stop) : Type 0 where
+  pub images : Raises ImageFault before.images.faults after.images.faults result
+  pub source : Raises SourceFault before.source.faults after.source.faults result
+  pub out : Raises OutFault old.faults new.faults result
+  pub unput : IfErr result (λ stop. (MayHavePut streams stop → ⊥) → Keeps old.known new.known)
+  pub unread : IfErr result (λ stop. (MayHaveRead streams stop → ⊥) → after.images.sectors_read ≡ before.images.sectors_read)
 
--- an answer is put whole, or a prefix of it where the output fails; without an answer nothing is put
-abbrev pub IsPrinted : {T : Type 0} → Option (List ℕ) → Option (List ℕ) → ℕ → ℕ → Result (List ℕ) Stop → Result T Stop → Type 0
-IsPrinted old new before after (Err stop) result = (result ≡ Err stop) × (new ≡ old)
-IsPrinted old new before after (Ok text) result =
-    MatchResult result (λ _. Appends old new text) (λ stop. (stop ≡ OutFault) × AppendsFront old new text × Rose before after)
+-- a job is done: it ends by its refusal, its output or a fault, in its order, and reads, takes and leaves what it may
+pub record Does {T : Type 0} (job : Job) (given : Named) (before after : Around) (old new : Stream) (result : Result T Stop) : Type 0 where
+  pub ends : (said : job.Said) → job.Says before.source.known said → Ends (job.refused said given) (job.printed said given) old.known new.known result
+  pub order : (said : job.Said) → job.Says before.source.known said → length given.attached ≡ min given.names MOST_ATTACHED →
+      Orders (job.refused said given) before.images.sectors_read after.images.sectors_read old.known new.known result
+  pub reads : (said : job.Said) → job.Says before.source.known said → job.MayRead said given (is_cut result) before.images.sectors_read after.images.sectors_read
+  pub takes : Takes job.most before.source after.source result
+  pub leaves : Leaves job.streams before after old new result
+  pub apart : job.apart ≡ true → after.images ≡ before.images
+  pub world : after.images.world ≡ before.images.world
+
+-- the causes of an answer that is found before anything is put
+pub record HasCauses {T : Type 0} (before after : Around) (answer : Result T Stop) : Type 0 where
+  pub images : Raises ImageFault before.images.faults after.images.faults answer
+  pub source : Raises SourceFault before.source.faults after.source.faults answer
+  pub unput : IsErrOf answer OutFault → ⊥
+  pub unread : IfErr answer (λ stop. (MayHaveRead false stop → ⊥) → after.images.sectors_read ≡ before.images.sectors_read)
+
+-- the answer of a job is found, which has yet to be put
+pub record Answers (job : Job) (given : Named) (before after : Around) (answer : Result (List ℕ) Stop) : Type 0 where
+  pub refuses : (said : job.Said) → job.Says before.source.known said → Refuses (job.refused said given) answer
+  pub text : (said : job.Said) → job.Says before.source.known said → IfOk answer (λ text. IfSome (job.printed said given) (λ printed. text ≡ printed))
+  pub order : (said : job.Said) → job.Says before.source.known said → Orders (job.refused said given) before.images.sectors_read after.images.sectors_read None None answer
+  pub reads : (said : job.Said) → job.Says before.source.known said → job.MayRead said given (is_cut answer) before.images.sectors_read after.images.sectors_read
+  pub takes : Takes job.most before.source after.source answer
+  pub causes : HasCauses before after answer
+  pub apart : job.apart ≡ true → after.images ≡ before.images
+  pub world : after.images.world ≡ before.images.world
+
+-- an answer is put whole, or a front of it where the output fails; without an answer nothing is put
+abbrev pub IsPrinted : {T : Type 0} → Stream → Stream → Result (List ℕ) Stop → Result T Stop → Type 0
+IsPrinted old new (Err stop) result = (result ≡ Err stop) × (new ≡ old)
+IsPrinted old new (Ok text) result =
+    MatchResult result
+    (λ _. Appends old.known new.known text × (new.faults ≡ old.faults))
+    (λ stop. (stop ≡ OutFault) × AppendsFront old.known new.known text × Rose old.faults new.faults × (old.faults ≤ new.faults))

@@ -1,4 +1,6 @@
 pub mod Agreement
+pub mod Counts
+pub mod Cuts
 pub mod Jobs
 pub mod Source
 pub mod Stops

@@ -1,7 +1,7 @@
 -- Lines that several answers have.
 use Rattle.std.specs.Prelude.{ℕ, List, ◌++◌, codes, decimal}
 use Rattle.std.specs.declared.option.Option.{Option}
-use Rattle.plan_text.specs.Spelling.{line, slot_name}
+use Rattle.value_text.specs.Spelling.{line, slot_name}
 
 -- NAME N of M, where the name ends with a space
 unfoldable pub share_line : List ℕ → ℕ → ℕ → List ℕ

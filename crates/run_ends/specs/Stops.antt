@@ -1,5 +1,5 @@
 -- What a stop says: its status and its line.
-use Rattle.std.specs.Prelude.{ℕ, ◌≡◌, ◌^◌, ◌⊎◌, nat_le, if◌then◌else◌, List, [], ◌∷◌, ◌++◌, codes, decimal}
+use Rattle.std.specs.Prelude.{ℕ, ◌≡◌, ◌^◌, nat_le, if◌then◌else◌, List, [], ◌∷◌, ◌++◌, codes, decimal}
 use Rattle.std.specs.declared.option.Option.{Option}
 use Rattle.std.specs.declared.option.Option.TheVariants.{None, Some}
 use Rattle.raid_params.specs.declared.types.GeoFault.{GeoFault}
@@ -7,16 +7,12 @@ use Rattle.raid_params.specs.declared.types.GeoFault.TheVariants.{Members, Patte
 use Rattle.search_plan.specs.Places.{pattern_place, syndrome_place}
 use Rattle.search_plan.specs.Sets.{total_of}
 use Rattle.search_plan.specs.declared.plan.Plan.{Plan}
-use Rattle.page_engine.specs.declared.page_parts.PageFault.{PageFault}
-use Rattle.page_engine.specs.declared.page_parts.PageFault.TheVariants.{Many as PageMany, Cursor as PageCursor, ReadFault, Memory as PageMemory}
-use Rattle.virtual_volume.specs.declared.volume.VolumeFault.{VolumeFault}
-use Rattle.virtual_volume.specs.declared.volume.VolumeFault.TheVariants.{ReadFault as VolumeRead, WriteFault as VolumeWrite, Memory as VolumeMemory}
-use Rattle.plan_text.specs.declared.fault.PlanFault.{PlanFault as FaultOfPlan}
-use Rattle.plan_text.specs.declared.fault.PlanFault.TheVariants.{Line as PlanLineOf, Memory as PlanMemory}
 use Rattle.run_ends.specs.declared.agreement.Kind.{Kind}
 use Rattle.run_ends.specs.declared.agreement.Kind.TheVariants.{Count, Length, End}
+use Rattle.run_ends.specs.declared.stop.Refusal.{Refusal}
+use Rattle.run_ends.specs.declared.stop.Refusal.TheVariants.{Word, PlanLine, PlanIsLong, Images, Many, Cursor, Set, Slot, ArraySectors, VolumeSectors, Sector}
 use Rattle.run_ends.specs.declared.stop.Stop.{Stop}
-use Rattle.run_ends.specs.declared.stop.Stop.TheVariants.{Word, PlanLine, PlanIsLong, Images, Many, Cursor, Set, Slot, ArraySectors, VolumeSectors, Sector, ImageFault, PlanFault, OutFault, OutOfMemory}
+use Rattle.run_ends.specs.declared.stop.Stop.TheVariants.{Refused, ImageFault, SourceFault, OutFault, OutOfMemory}
 
 -- the number of a set rule, in the order of the rules
 abbrev pub rule_of : GeoFault → ℕ
@@ -40,42 +36,6 @@ value_of (Repeat n) = n
 value_of (Missing n) = n
 value_of (NoRow n) = n
 
--- the status with which the program ends at a stop
-abbrev pub status_of : Stop → ℕ
-status_of (Word number) = 1
-status_of (PlanLine number) = 2
-status_of PlanIsLong = 3
-status_of (Images fault) = 4
-status_of Many = 5
-status_of (Cursor fault) = 6
-status_of (Set fault) = 7
-status_of (Slot slot) = 7
-status_of (ArraySectors sectors) = 7
-status_of (VolumeSectors sectors) = 7
-status_of (Sector fault) = 8
-status_of ImageFault = 10
-status_of PlanFault = 11
-status_of OutFault = 12
-status_of OutOfMemory = 20
-
--- why a run ends where no plan was read
-abbrev pub stop_of_plan : FaultOfPlan → Stop
-stop_of_plan (PlanLineOf number) = PlanLine number
-stop_of_plan PlanMemory = OutOfMemory
-
--- why a run ends where a page could not be made
-abbrev pub stop_of_page : PageFault → Stop
-stop_of_page PageMany = Many
-stop_of_page (PageCursor fault) = Cursor fault
-stop_of_page ReadFault = ImageFault
-stop_of_page PageMemory = OutOfMemory
-
--- why a run ends where a volume or a member could not be written
-abbrev pub stop_of_volume : VolumeFault → Stop
-stop_of_volume VolumeRead = ImageFault
-stop_of_volume VolumeWrite = OutFault
-stop_of_volume VolumeMemory = OutOfMemory
-
 -- what of the images disagrees, as it is printed
 abbrev pub kind_text : Kind → List ℕ
 kind_text Count = codes "count"
@@ -86,54 +46,52 @@ kind_text End = codes "end"
 abbrev pub rule_line : ℕ → ℕ → List ℕ
 rule_line rule value = codes "reraid: set rule " ++ decimal rule ++ codes " value " ++ decimal value ++ codes "\n"
 
--- the line on the notes for a stop
+-- the status of each refusal, and its line on the notes
+abbrev pub refusal_notice : Refusal → ℕ × List ℕ
+refusal_notice (Word number) = (1, codes "reraid: word " ++ decimal number ++ codes " is not understood\n")
+refusal_notice (PlanLine number) = (2, codes "reraid: plan line " ++ decimal number ++ codes " is not understood\n")
+refusal_notice PlanIsLong = (3, codes "reraid: plan is longer than 4194304 bytes\n")
+refusal_notice (Images fault) =
+    (4, codes "reraid: images: " ++ kind_text fault.kind ++ codes " given " ++ decimal fault.given ++ codes " planned " ++ decimal fault.planned ++ codes "\n")
+refusal_notice Many = (5, codes "reraid: the product has more than 18446744073709551615 sets\n")
+refusal_notice (Cursor fault) = (6, codes "reraid: cursor " ++ decimal fault.from ++ codes " is past " ++ decimal fault.total ++ codes "\n")
+refusal_notice (Set fault) = (7, rule_line (rule_of fault) (value_of fault))
+refusal_notice (Slot slot) = (7, rule_line 9 slot)
+refusal_notice (ArraySectors sectors) = (7, rule_line 10 sectors)
+refusal_notice (VolumeSectors sectors) = (7, rule_line 11 sectors)
+refusal_notice (Sector fault) = (8, codes "reraid: sector " ++ decimal fault.sector ++ codes " of " ++ decimal fault.size ++ codes "\n")
+
+-- the status with which the program ends at a stop, and its line on the notes
+abbrev pub notice_of : Stop → ℕ × List ℕ
+notice_of (Refused refusal) = refusal_notice refusal
+notice_of ImageFault = (10, codes "reraid: image read fault\n")
+notice_of SourceFault = (11, codes "reraid: plan read fault\n")
+notice_of OutFault = (12, codes "reraid: output fault\n")
+notice_of OutOfMemory = (20, codes "reraid: out of memory\n")
+
+abbrev pub status_of : Stop → ℕ
+status_of stop = (notice_of stop).0
+
 abbrev pub note_of : Stop → List ℕ
-note_of (Word number) = codes "reraid: word " ++ decimal number ++ codes " is not understood\n"
-note_of (PlanLine number) = codes "reraid: plan line " ++ decimal number ++ codes " is not understood\n"
-note_of PlanIsLong = codes "reraid: plan is longer than 4194304 bytes\n"
-note_of (Images fault) = codes "reraid: images: " ++ kind_text fault.kind ++ codes " given " ++ decimal fault.given ++ codes " planned " ++ decimal fault.planned ++ codes "\n"
-note_of Many = codes "reraid: the product has more than 18446744073709551615 sets\n"
-note_of (Cursor fault) = codes "reraid: cursor " ++ decimal fault.from ++ codes " is past " ++ decimal fault.total ++ codes "\n"
-note_of (Set fault) = rule_line (rule_of fault) (value_of fault)
-note_of (Slot slot) = rule_line 9 slot
-note_of (ArraySectors sectors) = rule_line 10 sectors
-note_of (VolumeSectors sectors) = rule_line 11 sectors
-note_of (Sector fault) = codes "reraid: sector " ++ decimal fault.sector ++ codes " of " ++ decimal fault.size ++ codes "\n"
-note_of ImageFault = codes "reraid: image read fault\n"
-note_of PlanFault = codes "reraid: plan read fault\n"
-note_of OutFault = codes "reraid: output fault\n"
-note_of OutOfMemory = codes "reraid: out of memory\n"
+note_of stop = (notice_of stop).1
 
--- a stop whose cause is the outside or memory
-abbrev pub IsExcused : Stop → Type 0
-IsExcused ImageFault = Unit {0}
-IsExcused PlanFault = Unit {0}
-IsExcused OutFault = Unit {0}
-IsExcused OutOfMemory = Unit {0}
-IsExcused _ = ⊥
+-- the stop is this refusal, or its cause is the outside or memory
+abbrev pub EndsBy : Option Refusal → Stop → Type 0
+EndsBy refused (Refused refusal) = refused ≡ Some refusal
+EndsBy refused _ = Unit {0}
 
--- a stop whose cause is neither the outside nor memory
-abbrev pub IsRefusal : Stop → Type 0
-IsRefusal ImageFault = ⊥
-IsRefusal PlanFault = ⊥
-IsRefusal OutFault = ⊥
-IsRefusal OutOfMemory = ⊥
-IsRefusal _ = Unit {0}
-
--- a stop that comes before anything outside is touched
-unfoldable pub IsEarly : Stop → Type 0
-IsEarly stop = (stop ≡ OutOfMemory) ⊎ IsRefusal stop
-
--- the stop is this refusal, or one whose cause is the outside or memory
-abbrev pub EndsBy : Option Stop → Stop → Type 0
-EndsBy refused stop = IsExcused stop ⊎ (refused ≡ Some stop)
+-- a stop that comes before anything outside is touched: a refusal, or want of memory
+abbrev pub IsEarly : Stop → Type 0
+IsEarly (Refused refusal) = Unit {0}
+IsEarly OutOfMemory = Unit {0}
+IsEarly _ = ⊥
 
 -- the first refusal, of these in the order of work
-abbrev pub first_of : List (Option Stop) → Option Stop
+abbrev pub first_of : List (Option Refusal) → Option Refusal
 first_of [] = None
 first_of (None ∷ refusals) = first_of refusals
-first_of (Some stop ∷ refusals) = Some stop
+first_of (Some refusal ∷ refusals) = Some refusal
 
 -- the product has more sets than ranks
-abbrev pub many_refusal : Plan → Option Stop
+abbrev pub many_refusal : Plan → Option Refusal
 many_refusal plan = if nat_le (2 ^ 64) (total_of plan) then Some Many else None

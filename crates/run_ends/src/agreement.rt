@@ -1,12 +1,12 @@
 //! Whether the attached images are those that the plan or the command takes.
 ghost use Rattle.std.specs.Prelude.{◌≡◌, ◌≤◌, ◌<◌, IfSome, length, min, nat_eq, not, slice_index};
 ghost use Rattle.std.specs.Option.{option_map};
-ghost use Rattle.image_source.specs.Seen.{lengths_of};
+ghost use Rattle.outside.specs.Seen.{lengths_of};
 ghost use Rattle.run_ends.specs.Agreement.{count_fault as count_fault_of, end_of as end_of_images, length_fault as length_fault_of, other_length, limits_fault as limits_fault_of, plan_fault as plan_fault_of, shortest as shortest_of};
 
-use image_source::{Images, MOST_ATTACHED};
-use plan_text::Plan;
+use outside::{Images, MOST_ATTACHED};
 use raid_params::MOST;
+use search_plan::Plan;
 
 /// What of the images disagrees.
 #[derive(Clone, Copy)]

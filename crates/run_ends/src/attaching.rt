@@ -1,10 +1,10 @@
 //! Attaching the images of the words.
 ghost use Rattle.std.specs.Prelude.{◌≡◌, ◌+◌, ◌≤◌, ◌<◌, length, All, IsTrue, OnErr, OnOk, [], min};
-ghost use Rattle.image_source.specs.Attached.{AttachesSome};
-ghost use Rattle.image_source.specs.Causes.{HasCause};
+ghost use Rattle.outside.specs.Attached.{AttachesSome};
+ghost use Rattle.outside.specs.Causes.{HasCause};
 
 use command_words::Word;
-use image_source::{Failed, Images, MOST_ATTACHED};
+use outside::{Failed, Images, MOST_ATTACHED};
 
 /// Attaches the images of these names, in their order.
 #[tactic(auto, using(crate::proofs::OneByOne::none_attached, crate::proofs::OneByOne::attached_more, crate::proofs::OneByOne::attached_no_more))]

@@ -1,16 +1,15 @@
 //! Putting an answer to the output, and the parts of its text.
-ghost use Rattle.std.specs.Prelude.{◌≡◌, ◌≤◌, ◌++◌, OnOk};
-ghost use Rattle.run_ends.specs.Jobs.{IsPrinted};
+ghost use Rattle.std.specs.Prelude.{◌≡◌, ◌++◌, OnOk};
+ghost use Rattle.run_ends.specs.Jobs.{IsPrinted, stream};
 ghost use Rattle.run_ends.specs.Printing.{or_dash, share_line};
 
 use crate::stop::Stop;
-use image_source::{Memory, Sink};
-use plan_text::{Text, add_number};
+use outside::{Memory, Sink};
+use value_text::{Text, add_number};
 
 /// Puts the answer whole, if there is one, or says why there is none.
 pub fn print<K: Sink>(out: &mut K, answer: Result<Text, Stop>) -> Result<(), Stop>
-    ensures printed { IsPrinted (K.gained out.old) (K.gained out.new) (K.faults out.old) (K.faults out.new) answer result }
-    ensures later { K.faults out.old ≤ K.faults out.new }
+    ensures { IsPrinted (stream (K.gained out.old) (K.faults out.old)) (stream (K.gained out.new) (K.faults out.new)) answer result }
 {
     let text = answer?;
     match out.put(text.as_slice()) {

@@ -1,17 +1,23 @@
 //! Why a run ends without its answer.
 ghost use Rattle.std.specs.Prelude.{◌≡◌, ◌≤◌, ◌+◌, ◌++◌, codes, decimal, length};
-ghost use Rattle.run_ends.specs.Stops.{kind_text as kind_text_of, note_of, rule_of, status_of, stop_of_page, stop_of_plan, stop_of_volume, value_of};
-ghost use Rattle.run_ends.specs.declared.stop.Stop.TheVariants.{Images as ImagesOf, Cursor as CursorOf, OutOfMemory, Sector as SectorOf};
+ghost use Rattle.run_ends.specs.Stops.{kind_text as kind_text_of, note_of, refusal_notice, rule_of, status_of, value_of};
+ghost use Rattle.run_ends.specs.declared.stop.Stop.TheVariants.{OutOfMemory};
 
 use crate::agreement::{Disagreement, Kind};
 use arrayvec::ArrayString;
-use image_source::Memory;
 use itoa::Buffer;
-use page_engine::{CursorFault, PageFault};
-use plan_text::PlanFault;
+use outside::Memory;
 use raid_params::GeoFault;
 use search_plan::Placed;
-use virtual_volume::VolumeFault;
+
+/// A rank asked for, which is past the total.
+#[derive(Clone, Copy)]
+pub struct RankFault {
+    /// The rank that was asked for.
+    pub from: u64,
+    /// How many ranks there are.
+    pub total: u64,
+}
 
 /// A sector asked for, which is past the end of the volume.
 #[derive(Clone, Copy)]
@@ -22,13 +28,13 @@ pub struct SectorFault {
     pub size: u64,
 }
 
-/// Why a run ends without its answer.
+/// What is refused. A run is refused before anything is read of the images or put.
 #[derive(Clone, Copy)]
-pub enum Stop {
-    /// The refused word, counted from 1: the first with which no command line goes on, or the one after
+pub enum Refusal {
+    /// The word of this number, counted from 1: the first with which no command line goes on, or the one after
     /// the last.
     Word(u64),
-    /// The refused line of the plan, counted from 1: the first with which no plan goes on.
+    /// The line of the plan of this number, counted from 1: the first with which no plan goes on.
     PlanLine(u64),
     /// The source of the plan had more bytes left than a plan may have.
     PlanIsLong,
@@ -37,7 +43,7 @@ pub enum Stop {
     /// The product has more sets than ranks.
     Many,
     /// The first rank asked for is past the total.
-    Cursor(CursorFault),
+    Cursor(RankFault),
     /// The set breaks this rule.
     Set(GeoFault),
     /// The slot is none of the set's, or it holds an image.
@@ -48,14 +54,30 @@ pub enum Stop {
     VolumeSectors(u64),
     /// The sector asked for is past the end of the volume.
     Sector(SectorFault),
+}
+
+/// Why a run ends without its answer.
+#[derive(Clone, Copy)]
+pub enum Stop {
+    /// What was asked for is refused.
+    Refused(Refusal),
     /// The images failed.
     ImageFault,
-    /// The source of the plan failed.
-    PlanFault,
+    /// The source failed.
+    SourceFault,
     /// The output failed.
     OutFault,
     /// Out of memory.
     OutOfMemory,
+}
+
+/// What a stop says.
+#[derive(Clone, Copy)]
+pub struct Notice {
+    /// The status that the program ends with.
+    pub status: u8,
+    /// The line for the notes, with its line feed.
+    pub line: ArrayString<LINE>,
 }
 
 /// Room for the longest line, which holds three numbers.
@@ -69,85 +91,52 @@ impl From<Memory> for Stop {
     }
 }
 
-impl From<PlanFault> for Stop {
-    ghost from_gives = { λ fault stop. stop ≡ stop_of_plan fault };
-
-    fn from(fault: PlanFault) -> Stop {
-        match fault {
-            PlanFault::Line(number) => Stop::PlanLine(number),
-            PlanFault::Memory => Stop::OutOfMemory,
-        }
-    }
-}
-
-impl From<PageFault> for Stop {
-    ghost from_gives = { λ fault stop. stop ≡ stop_of_page fault };
-
-    fn from(fault: PageFault) -> Stop {
-        match fault {
-            PageFault::Many => Stop::Many,
-            PageFault::Cursor(fault) => Stop::Cursor(fault),
-            PageFault::ReadFault => Stop::ImageFault,
-            PageFault::Memory => Stop::OutOfMemory,
-        }
-    }
-}
-
-impl From<VolumeFault> for Stop {
-    ghost from_gives = { λ fault stop. stop ≡ stop_of_volume fault };
-
-    fn from(fault: VolumeFault) -> Stop {
-        match fault {
-            VolumeFault::ReadFault => Stop::ImageFault,
-            VolumeFault::WriteFault => Stop::OutFault,
-            VolumeFault::Memory => Stop::OutOfMemory,
-        }
-    }
-}
-
 impl Stop {
-    /// The status that the program ends with.
-    pub fn status(&self) -> u8
-        ensures { result ≡ status_of self.now }
+    /// The status that the program ends with, and the line for the notes.
+    pub fn notice(&self) -> Notice
+        ensures status { result.status ≡ status_of self.now }
+        ensures line { result.line.bytes ≡ note_of self.now }
     {
         match self {
-            Stop::Word(_) => 1,
-            Stop::PlanLine(_) => 2,
-            Stop::PlanIsLong => 3,
-            Stop::Images(_) => 4,
-            Stop::Many => 5,
-            Stop::Cursor(_) => 6,
-            Stop::Set(_) | Stop::Slot(_) | Stop::ArraySectors(_) | Stop::VolumeSectors(_) => 7,
-            Stop::Sector(_) => 8,
-            Stop::ImageFault => 10,
-            Stop::PlanFault => 11,
-            Stop::OutFault => 12,
-            Stop::OutOfMemory => 20,
+            Stop::Refused(refusal) => refusal.notice(),
+            Stop::ImageFault => says(10, text("reraid: image read fault\n")),
+            Stop::SourceFault => says(11, text("reraid: plan read fault\n")),
+            Stop::OutFault => says(12, text("reraid: output fault\n")),
+            Stop::OutOfMemory => says(20, text("reraid: out of memory\n")),
         }
     }
+}
 
-    /// The line for the notes, with its line feed.
-    pub fn line(&self) -> ArrayString<LINE>
-        ensures { result.bytes ≡ note_of self.now }
+impl Refusal {
+    /// The status of each refusal, and its line.
+    fn notice(&self) -> Notice
+        ensures status { result.status ≡ (refusal_notice self.now).0 }
+        ensures line { result.line.bytes ≡ (refusal_notice self.now).1 }
     {
         match self {
-            Stop::Word(number) => refused_line("reraid: word ", *number),
-            Stop::PlanLine(number) => refused_line("reraid: plan line ", *number),
-            Stop::PlanIsLong => text("reraid: plan is longer than 4194304 bytes\n"),
-            Stop::Images(fault) => images_line(fault),
-            Stop::Many => text("reraid: the product has more than 18446744073709551615 sets\n"),
-            Stop::Cursor(fault) => cursor_line(fault),
-            Stop::Set(fault) => rule_line(rule(fault), value(fault)),
-            Stop::Slot(slot) => rule_line(9, *slot as u64),
-            Stop::ArraySectors(sectors) => rule_line(10, *sectors),
-            Stop::VolumeSectors(sectors) => rule_line(11, *sectors),
-            Stop::Sector(fault) => sector_line(fault),
-            Stop::ImageFault => text("reraid: image read fault\n"),
-            Stop::PlanFault => text("reraid: plan read fault\n"),
-            Stop::OutFault => text("reraid: output fault\n"),
-            Stop::OutOfMemory => text("reraid: out of memory\n"),
+            Refusal::Word(number) => says(1, refused_line("reraid: word ", *number)),
+            Refusal::PlanLine(number) => says(2, refused_line("reraid: plan line ", *number)),
+            Refusal::PlanIsLong => says(3, text("reraid: plan is longer than 4194304 bytes\n")),
+            Refusal::Images(fault) => says(4, images_line(fault)),
+            Refusal::Many => says(
+                5,
+                text("reraid: the product has more than 18446744073709551615 sets\n"),
+            ),
+            Refusal::Cursor(fault) => says(6, cursor_line(fault)),
+            Refusal::Set(fault) => says(7, rule_line(rule(fault), value(fault))),
+            Refusal::Slot(slot) => says(7, rule_line(9, *slot as u64)),
+            Refusal::ArraySectors(sectors) => says(7, rule_line(10, *sectors)),
+            Refusal::VolumeSectors(sectors) => says(7, rule_line(11, *sectors)),
+            Refusal::Sector(fault) => says(8, sector_line(fault)),
         }
     }
+}
+
+/// A status with its line.
+fn says(status: u8, line: ArrayString<LINE>) -> Notice
+    ensures { (result.status ≡ status) × (result.line.bytes ≡ line.bytes) }
+{
+    Notice { status, line }
 }
 
 /// A line of a fixed text, which is shorter than the room.
@@ -173,7 +162,7 @@ fn refused_line(what: &str, number: u64) -> ArrayString<LINE>
 
 /// The line that says how the images disagree.
 fn images_line(fault: &Disagreement) -> ArrayString<LINE>
-    ensures { result.bytes ≡ note_of (ImagesOf fault.now) }
+    ensures { result.bytes ≡ (refusal_notice (Refusal.Images fault.now)).1 }
 {
     let mut line = kind_text(fault.kind);
     line.push_str(" given ");
@@ -207,8 +196,8 @@ fn length_text(image: u8) -> ArrayString<LINE>
 }
 
 /// The line that says how far the cursor is past.
-fn cursor_line(fault: &CursorFault) -> ArrayString<LINE>
-    ensures { result.bytes ≡ note_of (CursorOf fault.now) }
+fn cursor_line(fault: &RankFault) -> ArrayString<LINE>
+    ensures { result.bytes ≡ (refusal_notice (Refusal.Cursor fault.now)).1 }
 {
     let mut line = text("reraid: cursor ");
     push_number(&mut line, fault.from);
@@ -232,7 +221,7 @@ fn rule_line(rule: u8, value: u64) -> ArrayString<LINE>
 
 /// The line that says how far the sector is past.
 fn sector_line(fault: &SectorFault) -> ArrayString<LINE>
-    ensures { result.bytes ≡ note_of (SectorOf fault.now) }
+    ensures { result.bytes ≡ (refusal_notice (Refusal.Sector fault.now)).1 }
 {
     let mut line = text("reraid: sector ");
     push_number(&mut line, fault.sector);

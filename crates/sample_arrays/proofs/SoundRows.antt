@@ -5,8 +5,8 @@ use Rattle.std.specs.List.{count_by, flat_map, list_all, range_with_len}
 use Rattle.std.specs.Option.{is_none}
 use Rattle.std.specs.Prelude.{IsTrue}
 use Rattle.member_regions.specs.Members.{held}
-use Rattle.pq_parity.proofs.Columns.{holds}
-use Rattle.pq_parity.proofs.Members.{In, In-flat_map, In-map, In-range, any_passes}
+use Rattle.row_parity.proofs.Columns.{holds}
+use Rattle.row_parity.proofs.Members.{In, In-flat_map, In-map, In-range, any_passes}
 use Rattle.raid_layouts.proofs.Counts.{any_counted, count_cons, count_p, count_q, number as places}
 use Rattle.raid_layouts.proofs.Shapes.{shaped_head, shaped_slots}
 use Rattle.raid_params.specs.Validity.{is_valid_head}

@@ -6,14 +6,16 @@ ghost use Rattle.landmark_rules.specs.Marks.{slot_holding};
 ghost use Rattle.member_regions.specs.Members.{held as held_in};
 ghost use Rattle.raid_params.specs.Size.{volume_sectors as volume_sectors_of};
 ghost use Rattle.raid_params.specs.Validity.{first_fault, is_valid_head};
+ghost use Rattle.raid_params.specs.declared.limits.TheConstants.{MOST};
 ghost use Rattle.sample_arrays.specs.Arrays.{end_of, groups_of, image_of, sampled, slot_of as slot_of_image, IsFile};
 ghost use Rattle.sample_arrays.specs.Marks.{volume_sector};
 
 use crate::marks::{Filling, group_blocks};
-use crate::members::{data_blocks, image};
-use address_map::volume_sectors;
-use image_source::{MemImages, Memory};
+use crate::members::image;
+use address_map::{data_blocks, volume_sectors};
+use image_source::MemImages;
 use itoa::Buffer;
+use outside::Memory;
 use raid_params::{Geometry, Head};
 use std::alloc::Global;
 
@@ -35,8 +37,8 @@ pub fn sample(
     xfs: bool,
 ) -> Result<MemImages, Memory>
     requires set { first_fault geo.now (held_in geo.now.slots.items) (end_of geo.now.head rows) ≡ None }
-    requires size { geo.now.head.members * end_of geo.now.head rows ≤ MOST_SAMPLED }
-    requires marked { IsTrue xfs → LEAST_MARKED ≤ volume_sectors_of geo.now.head (end_of geo.now.head rows) }
+    requires size { geo.now.head.members * end_of geo.now.head rows ≤ 2097152 }
+    requires marked { IsTrue xfs → 512 ≤ volume_sectors_of geo.now.head (end_of geo.now.head rows) }
     ensures images { IfOk result (λ images. images ≡ record no_images { files = sampled number geo.now rows xfs }) }
     ensures long { OnOk result (All (IsFile (end_of geo.now.head rows)) (sampled number geo.now rows xfs)) }
 {
@@ -54,7 +56,7 @@ pub fn sample(
 fn groups(head: &Head, rows: u64, xfs: bool) -> Option<u32>
     requires head { IsTrue (is_valid_head head.now) }
     requires end { end_of head.now rows < 2 ^ 21 }
-    requires marked { IsTrue xfs → LEAST_MARKED ≤ volume_sectors_of head.now (end_of head.now rows) }
+    requires marked { IsTrue xfs → 512 ≤ volume_sectors_of head.now (end_of head.now rows) }
     ensures blocks { result ≡ groups_of head.now rows xfs }
     ensures some { IfSome result (λ blocks. 1 ≤ blocks) }
 {
@@ -68,7 +70,7 @@ fn groups(head: &Head, rows: u64, xfs: bool) -> Option<u32>
 /// How many slots hold an image.
 #[tactic(auto, unfolding(member_regions::specs::Members::held))]
 pub fn count_held(slots: &[Option<u8>]) -> u8
-    requires { length slots.now ≤ 16 }
+    requires { length slots.now ≤ MOST }
     ensures { result ≡ held_in slots.now }
 {
     slots.iter().filter(|held| held.is_some()).count() as u8
@@ -105,7 +107,7 @@ fn add_image(
 /// The slot that names an image, or the first one.
 fn slot_of(slots: &[Option<u8>], image: u8) -> u8
     requires some { 1 ≤ length slots.now }
-    requires few { length slots.now ≤ 16 }
+    requires few { length slots.now ≤ MOST }
     ensures slot { result ≡ unwrap_or (slot_holding image slots.now) 0 }
     ensures within { result < length slots.now }
 {

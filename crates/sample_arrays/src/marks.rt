@@ -3,7 +3,7 @@ ghost use Rattle.std.specs.Prelude.{◌≡◌, ◌<◌, ◌≤◌, ◌-◌, ◌*
 ghost use Rattle.sample_arrays.specs.Marks.{group_blocks as group_blocks_of, header_sector as header_sector_of, is_mark as is_mark_at, mark_sector as mark_sector_of, padded, super_sector as super_sector_of, volume_sector as volume_sector_of};
 
 use crate::words::{Sector, append, random_sector};
-use image_source::SECTOR;
+use outside::SECTOR;
 
 /// The groups of an XFS.
 const GROUPS: u32 = 64;

@@ -8,22 +8,14 @@ ghost use Rattle.sample_arrays.specs.Marks.{volume_sector as volume_sector_of};
 
 use crate::marks::{Filling, volume_sector};
 use crate::words::Sector;
+use address_map::data_blocks;
 use gf256::power;
-use image_source::{Memory, SECTOR};
 use lane_kernels::{scale_xor, xor_into};
 use member_regions::zeros;
+use outside::{Memory, SECTOR};
 use raid_layouts::{SlotRole, exponent, role, slot_of_item};
 use raid_params::{Head, Level};
 use std::alloc::Global;
-
-/// The data items of a row.
-#[tactic(auto, using(raid_layouts::proofs::Levels::enough))]
-pub(crate) fn data_blocks(head: &Head) -> u8
-    requires { IsTrue (is_valid_head head.now) }
-    ensures { result ≡ data_blocks_of head.now }
-{
-    head.members - head.level.redundancy()
-}
 
 /// The volume sector of an item at a sector of the members.
 #[tactic(auto, using(address_map::proofs::Heads::some_chunk, crate::proofs::Near::row_near))]

@@ -4,7 +4,7 @@ ghost use Rattle.rand_xoshiro.specs.SplitMix64.{next_state};
 ghost use Rattle.sample_arrays.specs.Words.{answers, random_sector as random_sector_of, state_after as state_after_words, word};
 
 use arrayvec::ArrayVec;
-use image_source::SECTOR;
+use outside::SECTOR;
 use rand_core::{Rng, SeedableRng};
 use rand_xoshiro::SplitMix64;
 

@@ -6,7 +6,7 @@ use Rattle.std.specs.Option.{is_some}
 use Rattle.command_words.proofs.Limits.{plain_asked}
 use Rattle.command_words.specs.Commands.{plain_survey}
 use Rattle.plan_text.specs.Parts.{AreMembers}
-use Rattle.image_source.specs.Seen.{Image}
+use Rattle.outside.specs.Seen.{Image}
 use Rattle.member_regions.specs.Members.{held}
 use Rattle.raid_layouts.proofs.Levels.{at_most, enough}
 use Rattle.raid_layouts.proofs.Shapes.{shaped_head, shaped_missing, shaped_slots}

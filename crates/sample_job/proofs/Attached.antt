@@ -13,9 +13,9 @@ use Rattle.std.proofs.lemmas.List.Elements.{All-cons, All-head, All-nil, All-tai
 use Rattle.std.proofs.lemmas.List.FromFn.{fill_by_all, get_or-map-range_with_len, length-map-range_with_len}
 use Rattle.std.specs.List.{range_with_len}
 use Rattle.std.specs.Option.{option_map}
-use Rattle.image_source.specs.Attached.{told_all}
+use Rattle.outside.specs.Attached.{told_all}
 use Rattle.image_source.specs.Memory.{Shelf, bytes_of, image_of, number_of, seen_of, told_bytes}
-use Rattle.image_source.specs.Seen.{Image, whole_sectors}
+use Rattle.outside.specs.Seen.{Image, whole_sectors}
 use Rattle.member_regions.specs.Members.{held}
 use Rattle.raid_params.specs.declared.types.Geometry.{Geometry}
 use Rattle.sample_arrays.specs.Arrays.{end_of, sampled, sampled_image, IsFile}

@@ -9,8 +9,8 @@ use Rattle.raid_params.specs.Validity.{first_fault}
 use Rattle.raid_params.specs.declared.types.GeoFault.{GeoFault}
 use Rattle.raid_params.specs.declared.types.Geometry.{Geometry}
 use Rattle.run_ends.specs.Stops.{first_of}
-use Rattle.run_ends.specs.declared.stop.Stop.{Stop}
-use Rattle.run_ends.specs.declared.stop.Stop.TheVariants.{Set, ArraySectors, VolumeSectors}
+use Rattle.run_ends.specs.declared.stop.Refusal.{Refusal}
+use Rattle.run_ends.specs.declared.stop.Refusal.TheVariants.{Set, ArraySectors, VolumeSectors}
 use Rattle.sample_arrays.specs.Arrays.{end_of}
 use Rattle.sample_job.specs.Sampling.{array_refusal, array_refusals, volume_refusal}
 
@@ -34,7 +34,7 @@ pub array_refused : (set : Geometry) (rows : ℕ) (xfs : Bool) (sectors : ℕ) �
     array_refusals set rows xfs ≡ Some (ArraySectors sectors)
 array_refused set rows xfs sectors none is more =
     let over : 2097152 < set.head.members * end_of set.head rows = omega arith in
-    kept set rows xfs none ∙ ap (λ (r : Option Stop). first_of (r ∷ volume_refusal set rows xfs ∷ [])) (large set rows over)
+    kept set rows xfs none ∙ ap (λ (r : Option Refusal). first_of (r ∷ volume_refusal set rows xfs ∷ [])) (large set rows over)
     ∙ ap (λ (n : ℕ). Some (ArraySectors n)) (let same : set.head.members * end_of set.head rows ≡ sectors = omega arith in same)
 
 small : (set : Geometry) (rows : ℕ) (xfs : Bool) → xfs ≡ true → volume_sectors set.head (end_of set.head rows) < 512 → volume_refusal set rows xfs ≡ Some (VolumeSectors (volume_sectors set.head (end_of set.head rows)))
@@ -48,12 +48,12 @@ pub volume_refused : (set : Geometry) (rows : ℕ) (xfs : Bool) (sectors : ℕ) 
     xfs ≡ true → sectors ≡ volume_sectors set.head (end_of set.head rows) → sectors < 512 → array_refusals set rows xfs ≡ Some (VolumeSectors sectors)
 volume_refused set rows xfs sectors none size marked is few =
     let under : volume_sectors set.head (end_of set.head rows) < 512 = omega arith in
-    kept set rows xfs none ∙ ap (λ (r : Option Stop). first_of (r ∷ volume_refusal set rows xfs ∷ [])) (not_large set rows size)
-    ∙ ap (λ (r : Option Stop). first_of (r ∷ [])) (small set rows xfs marked under)
+    kept set rows xfs none ∙ ap (λ (r : Option Refusal). first_of (r ∷ volume_refusal set rows xfs ∷ [])) (not_large set rows size)
+    ∙ ap (λ (r : Option Refusal). first_of (r ∷ [])) (small set rows xfs marked under)
     ∙ ap (λ (n : ℕ). Some (VolumeSectors n)) (let same : volume_sectors set.head (end_of set.head rows) ≡ sectors = omega arith in same)
 
 pub array_allowed : (set : Geometry) (rows : ℕ) (xfs : Bool) → first_fault set (held set.slots.items) (end_of set.head rows) ≡ None → set.head.members * end_of set.head rows ≤ 2097152 →
     (IsTrue xfs → 512 ≤ volume_sectors set.head (end_of set.head rows)) → array_refusals set rows xfs ≡ None
 array_allowed set rows xfs none size marked =
-    kept set rows xfs none ∙ ap (λ (r : Option Stop). first_of (r ∷ volume_refusal set rows xfs ∷ [])) (not_large set rows size)
-    ∙ ap (λ (r : Option Stop). first_of (r ∷ [])) (not_small set rows xfs marked)
+    kept set rows xfs none ∙ ap (λ (r : Option Refusal). first_of (r ∷ volume_refusal set rows xfs ∷ [])) (not_large set rows size)
+    ∙ ap (λ (r : Option Refusal). first_of (r ∷ [])) (not_small set rows xfs marked)

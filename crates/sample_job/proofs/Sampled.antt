@@ -2,8 +2,8 @@
 use Rattle.std.proofs.Common.{◌≡◌, ℕ, ◌-◌, ◌<◌, ◌≤◌, ◌^◌, ◌⊎◌, Bool, false, nat_eq, ◌||◌, map, List, [], ◌∷◌, All, IfSome, IfErr, OnOk, None, Some, Option, Ok, Err, Result, refl, sym, ap, ◌∙◌, subst, arith, inl, inr}
 use Rattle.std.proofs.lemmas.Bool.{cases_lt}
 use Rattle.std.proofs.lemmas.Bool.Decides.{nat_tests}
-use Rattle.image_source.specs.Attached.{told_all}
-use Rattle.image_source.specs.Seen.{Image}
+use Rattle.outside.specs.Attached.{told_all}
+use Rattle.outside.specs.Seen.{Image}
 use Rattle.page_engine.specs.Pages.{IsPageOf}
 use Rattle.page_engine.specs.declared.page_parts.Line.{Line}
 use Rattle.page_engine.specs.declared.page_parts.ListPage.{ListPage}
@@ -11,9 +11,10 @@ use Rattle.std.specs.List.{list_any}
 use Rattle.std.specs.Option.{option_map_or}
 use Rattle.raid_params.specs.declared.types.Geometry.{Geometry}
 use Rattle.run_ends.specs.Jobs.{Refuses}
-use Rattle.run_ends.specs.Stops.{IsEarly, IsExcused, IsRefusal, first_of, many_refusal}
+use Rattle.run_ends.specs.Stops.{first_of, many_refusal}
+use Rattle.run_ends.specs.declared.stop.Refusal.{Refusal}
+use Rattle.run_ends.specs.declared.stop.Refusal.TheVariants.{Many}
 use Rattle.run_ends.specs.declared.stop.Stop.{Stop}
-use Rattle.run_ends.specs.declared.stop.Stop.TheVariants.{Many, OutOfMemory}
 use Rattle.sample_arrays.specs.Arrays.{end_of, sampled, IsFile}
 use Rattle.search_plan.specs.Sets.{rank_of, total_of}
 use Rattle.search_plan.specs.declared.plan.Plan.{Plan}
@@ -55,19 +56,13 @@ text_is number set rows xfs end attached plan page text long there is made found
     ∙ ap (λ (p : Plan). sample_text set (end_of set.head rows) (sampled_bytes number set rows xfs) p) made
 
 -- the refusal is the first of those before the array is made, and then that of the product
-pub refused_before : (number : ℕ) (set : Geometry) (rows : ℕ) (xfs : Bool) (stop : Stop) → array_refusals set rows xfs ≡ Some stop → sample_refusal number set rows xfs ≡ Some stop
+pub refused_before : (number : ℕ) (set : Geometry) (rows : ℕ) (xfs : Bool) (refusal : Refusal) → array_refusals set rows xfs ≡ Some refusal → sample_refusal number set rows xfs ≡ Some refusal
 unfolding sample_refusal
-refused_before number set rows xfs stop e = ap (λ (r : Option Stop). first_of (r ∷ many_refusal (sample_plan number set rows xfs) ∷ [])) e
+refused_before number set rows xfs refusal e = ap (λ (r : Option Refusal). first_of (r ∷ many_refusal (sample_plan number set rows xfs) ∷ [])) e
 
-pub refused_many : (number : ℕ) (set : Geometry) (rows : ℕ) (xfs : Bool) (stop : Stop) → array_refusals set rows xfs ≡ None → many_refusal (sample_plan number set rows xfs) ≡ Some stop → sample_refusal number set rows xfs ≡ Some stop
-unfolding sample_refusal
-refused_many number set rows xfs stop none e =
-    ap (λ (r : Option Stop). first_of (r ∷ many_refusal (sample_plan number set rows xfs) ∷ [])) none ∙ ap (λ (r : Option Stop). first_of (r ∷ [])) e
-
-pub refused_none : (number : ℕ) (set : Geometry) (rows : ℕ) (xfs : Bool) → array_refusals set rows xfs ≡ None → many_refusal (sample_plan number set rows xfs) ≡ None → sample_refusal number set rows xfs ≡ None
-unfolding sample_refusal
-refused_none number set rows xfs none e =
-    ap (λ (r : Option Stop). first_of (r ∷ many_refusal (sample_plan number set rows xfs) ∷ [])) none ∙ ap (λ (r : Option Stop). first_of (r ∷ [])) e
+first_alone : (r : Option Refusal) → first_of (r ∷ []) ≡ r
+first_alone None = refl
+first_alone (Some refusal) = refl
 
 -- the product is not too large, or it is
 pub few_sets : (plan : Plan) → total_of plan < 2 ^ 64 → many_refusal plan ≡ None
@@ -88,20 +83,19 @@ any_rank [] rank = refl
 any_rank (held ∷ lines) rank = ap (λ (b : Bool). nat_eq held.rank rank || b) (any_rank lines rank)
 
 -- how the work of an array that may be made ends
-pub refused_is : (plan other : Plan) (stop : Stop) → plan ≡ other → (stop ≡ OutOfMemory) ⊎ ((many_refusal plan ≡ Some stop) × IsRefusal stop) → (stop ≡ OutOfMemory) ⊎ ((many_refusal other ≡ Some stop) × IsRefusal stop)
-refused_is plan other stop same is = subst (λ (p : Plan). (stop ≡ OutOfMemory) ⊎ ((many_refusal p ≡ Some stop) × IsRefusal stop)) same is
+pub found_refuses : (number : ℕ) (set : Geometry) (rows : ℕ) (xfs : Bool) (answer : Result (List ℕ) Stop) → array_refusals set rows xfs ≡ None → Refuses (many_refusal (sample_plan number set rows xfs)) answer →
+    Refuses (sample_refusal number set rows xfs) answer
+unfolding sample_refusal
+found_refuses number set rows xfs answer before refuses =
+    subst (λ (r : Option Refusal). Refuses r answer)
+    (sym (ap (λ (r : Option Refusal). first_of (r ∷ many_refusal (sample_plan number set rows xfs) ∷ [])) before ∙ first_alone (many_refusal (sample_plan number set rows xfs)))) refuses
 
-pub found_early : (answer : Result (List ℕ) Stop) (many : Option Stop) → IfErr answer (λ stop. (stop ≡ OutOfMemory) ⊎ ((many ≡ Some stop) × IsRefusal stop)) → IfErr answer IsEarly
-unfolding IsEarly
-found_early (Ok text) many ends = tt
-found_early (Err stop) many (inl short) = inl short
-found_early (Err stop) many (inr is) = inr is.1
+pub refuses_plan : {T : Type 0} (plan other : Plan) (answer : Result T Stop) → plan ≡ other → Refuses (many_refusal plan) answer → Refuses (many_refusal other) answer
+refuses_plan plan other answer same refuses = subst (λ (p : Plan). Refuses (many_refusal p) answer) same refuses
 
-pub found_refuses : (number : ℕ) (set : Geometry) (rows : ℕ) (xfs : Bool) (answer : Result (List ℕ) Stop) → array_refusals set rows xfs ≡ None → OnOk answer (many_refusal (sample_plan number set rows xfs) ≡ None) →
-    IfErr answer (λ stop. (stop ≡ OutOfMemory) ⊎ ((many_refusal (sample_plan number set rows xfs) ≡ Some stop) × IsRefusal stop)) → Refuses (sample_refusal number set rows xfs) answer
-found_refuses number set rows xfs (Ok text) before none ends = record { ends = tt; passes = refused_none number set rows xfs before none }
-found_refuses number set rows xfs (Err stop) before none (inl short) = record { ends = inl (subst IsExcused (sym short) tt); passes = tt }
-found_refuses number set rows xfs (Err stop) before none (inr is) = record { ends = inr (refused_many number set rows xfs stop before is.0); passes = tt }
+-- a refusal is one whatever the answer would have been
+pub refuses_same : (refused : Option Refusal) (stop : Stop) → Refuses {T = ListPage} refused (Err stop) → Refuses {T = List ℕ} refused (Err stop)
+refuses_same refused stop refuses = record { ends = refuses.ends; passes = tt }
 
 pub among_is : (plan : Plan) (set : Geometry) (lines : List Line) (rank : ℕ) (found : Bool) → rank_of plan set ≡ Some rank → found ≡ list_any (λ held. nat_eq held.rank rank) lines →
     found ≡ is_among plan set (map (λ held. held.rank) lines)

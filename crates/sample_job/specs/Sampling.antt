@@ -5,13 +5,13 @@ use Rattle.std.specs.Option.{option_map, option_map_or}
 use Rattle.std.specs.declared.option.Option.{Option}
 use Rattle.std.specs.declared.option.Option.TheVariants.{None, Some}
 use Rattle.image_source.specs.Memory.{image_of}
-use Rattle.image_source.specs.Seen.{Image}
+use Rattle.outside.specs.Seen.{Image}
 use Rattle.member_regions.specs.Members.{held}
 use Rattle.raid_params.specs.Size.{volume_sectors}
 use Rattle.raid_params.specs.Slots.{empties}
 use Rattle.raid_params.specs.Validity.{first_fault}
 use Rattle.raid_params.specs.declared.types.Geometry.{Geometry}
-use Rattle.raid_terms.specs.Page.{page_next, page_ranks}
+use Rattle.search_terms.specs.Page.{page_next, page_ranks}
 use Rattle.search_plan.specs.Sets.{passes_at, rank_of, total_of}
 use Rattle.search_plan.specs.declared.plan.Plan.{Plan}
 use Rattle.plan_text.specs.Spelling.{line}
@@ -21,12 +21,11 @@ use Rattle.survey_engine.specs.declared.ask.Ask.{Ask}
 use Rattle.survey_job.specs.Surveying.{ask_of, survey_plan}
 use Rattle.sample_arrays.specs.Arrays.{end_of, sampled}
 use Rattle.sample_arrays.specs.Laws.{sampled_bytes}
-use Rattle.sample_arrays.specs.declared.arrays.TheConstants.{LEAST_MARKED, MOST_SAMPLED}
-use Rattle.sample_job.specs.declared.sampling.TheConstants.{FIRST_PAGE}
+use Rattle.run_ends.specs.Jobs.{Job, imageless}
 use Rattle.run_ends.specs.Printing.{share_line}
 use Rattle.run_ends.specs.Stops.{first_of, many_refusal}
-use Rattle.run_ends.specs.declared.stop.Stop.{Stop}
-use Rattle.run_ends.specs.declared.stop.Stop.TheVariants.{Set, ArraySectors, VolumeSectors}
+use Rattle.run_ends.specs.declared.stop.Refusal.{Refusal}
+use Rattle.run_ends.specs.declared.stop.Refusal.TheVariants.{Set, ArraySectors, VolumeSectors}
 
 -- the images of the array as they are attached
 unfoldable pub sampled_images : ℕ → Geometry → ℕ → Bool → List Image
@@ -49,19 +48,19 @@ unfoldable pub sample_plan : ℕ → Geometry → ℕ → Bool → Plan
 sample_plan number set rows xfs =
     survey_plan (sample_ask set (end_of set.head rows)) (sampled_images number set rows xfs) (sampled_bytes number set rows xfs)
 
--- the members are too large together
-abbrev pub array_refusal : Geometry → ℕ → Option Stop
+-- the members are too large together: above 1 GiB
+abbrev pub array_refusal : Geometry → ℕ → Option Refusal
 array_refusal set rows =
-    if nat_lt MOST_SAMPLED (set.head.members * end_of set.head rows) then Some (ArraySectors (set.head.members * end_of set.head rows)) else None
+    if nat_lt 2097152 (set.head.members * end_of set.head rows) then Some (ArraySectors (set.head.members * end_of set.head rows)) else None
 
 -- the volume is too small for an XFS
-abbrev pub volume_refusal : Geometry → ℕ → Bool → Option Stop
+abbrev pub volume_refusal : Geometry → ℕ → Bool → Option Refusal
 volume_refusal set rows xfs =
-    if xfs && nat_lt (volume_sectors set.head (end_of set.head rows)) LEAST_MARKED then Some (VolumeSectors (volume_sectors set.head (end_of set.head rows))) else None
+    if xfs && nat_lt (volume_sectors set.head (end_of set.head rows)) 512 then Some (VolumeSectors (volume_sectors set.head (end_of set.head rows))) else None
 
 -- the refusals before the array is made: the rules of a set, over as many images as it has filled slots, and the two
 -- of a generated array
-unfoldable pub array_refusals : Geometry → ℕ → Bool → Option Stop
+unfoldable pub array_refusals : Geometry → ℕ → Bool → Option Refusal
 array_refusals set rows xfs =
     first_of (option_map (λ fault. Set fault) (first_fault set (held set.slots.items) (end_of set.head rows))
     ∷ array_refusal set rows
@@ -69,15 +68,15 @@ array_refusals set rows xfs =
     ∷ [])
 
 -- the first refusal of `sample`
-unfoldable pub sample_refusal : ℕ → Geometry → ℕ → Bool → Option Stop
+unfoldable pub sample_refusal : ℕ → Geometry → ℕ → Bool → Option Refusal
 sample_refusal number set rows xfs = first_of (array_refusals set rows xfs ∷ many_refusal (sample_plan number set rows xfs) ∷ [])
 
--- the ranks on the first page, and where it goes on
+-- the ranks on the first page, which has at most 1,000 sets, and where it goes on
 abbrev pub page_of : List (List ℕ) → Plan → List ℕ
-page_of images plan = page_ranks (passes_at images plan) (total_of plan) 0 FIRST_PAGE (2 ^ 64 - 1)
+page_of images plan = page_ranks (passes_at images plan) (total_of plan) 0 1000 (2 ^ 64 - 1)
 
 abbrev pub next_of : List (List ℕ) → Plan → ℕ
-next_of images plan = page_next (passes_at images plan) (total_of plan) 0 FIRST_PAGE (2 ^ 64 - 1)
+next_of images plan = page_next (passes_at images plan) (total_of plan) 0 1000 (2 ^ 64 - 1)
 
 -- the set is among these ranks of the plan
 abbrev pub is_among : Plan → Geometry → List ℕ → Bool
@@ -119,3 +118,7 @@ found_text set end plan page =
 unfoldable pub sample_output : ℕ → Geometry → ℕ → Bool → List ℕ
 sample_output number set rows xfs =
     sample_text set (end_of set.head rows) (sampled_bytes number set rows xfs) (sample_plan number set rows xfs)
+
+-- `sample`: it works on images of its own
+abbrev pub sample_job : ℕ → Geometry → ℕ → Bool → Job
+sample_job number set rows xfs = imageless (sample_refusal number set rows xfs) (Some (sample_output number set rows xfs))

@@ -2,11 +2,12 @@
 ghost use Rattle.std.specs.Prelude.{◌≡◌, ◌<◌, ◌/◌, [], IsOk, IsTrue, OnOk, length, slice_get};
 ghost use Rattle.std.specs.Option.{option_map};
 ghost use Rattle.image_source.specs.Bytes.{shelf_tells};
-ghost use Rattle.image_source.specs.Causes.{HasCause};
-ghost use Rattle.image_source.specs.Seen.{AreTold, AreWithin, Attaches, OnlyReads};
+ghost use Rattle.outside.specs.Causes.{HasCause};
+ghost use Rattle.outside.specs.Seen.{AreTold, AreWithin, Attaches, OnlyReads};
 ghost use Rattle.sample_job.specs.Own.{seen_of_own};
 
-use image_source::{Failed, Images, MOST_ATTACHED, MemImages};
+use image_source::MemImages;
+use outside::{Failed, Images, MOST_ATTACHED};
 use std::marker::Model;
 
 /// Images in memory of which no call is listed to fail: so none does.

@@ -1,7 +1,7 @@
 //! The command `sample`.
-ghost use Rattle.std.specs.Prelude.{◌≡◌, ◌<◌, ◌≤◌, ◌*◌, ◌-◌, ◌^◌, ◌++◌, ◌⊎◌, All, IfErr, IfOk, IfSome, IsTrue, None, OnOk, Some, sum_by, ℕ, [], ◌∷◌, decimal, false, length, map, nat_eq};
+ghost use Rattle.std.specs.Prelude.{◌≡◌, ◌<◌, ◌≤◌, ◌*◌, ◌-◌, ◌^◌, ◌++◌, All, IfErr, IfOk, IfSome, IsTrue, None, OnOk, Some, sum_by, ℕ, [], ◌∷◌, decimal, length, map, nat_eq};
 ghost use Rattle.std.specs.List.{list_any};
-ghost use Rattle.image_source.specs.Attached.{told_all};
+ghost use Rattle.outside.specs.Attached.{told_all};
 ghost use Rattle.image_source.specs.Memory.{number_of};
 ghost use Rattle.member_regions.specs.Members.{held as held_in};
 ghost use Rattle.plan_text.specs.SetText.{HasWord};
@@ -12,25 +12,27 @@ ghost use Rattle.search_plan.specs.Sets.{rank_of, total_of};
 ghost use Rattle.page_engine.specs.Pages.{IsPageOf};
 ghost use Rattle.survey_engine.specs.Surveys.{IsSurveyable};
 ghost use Rattle.survey_job.specs.Surveying.{survey_plan};
-ghost use Rattle.run_ends.specs.Jobs.{Ends, Leaves, Orders, Refuses};
-ghost use Rattle.run_ends.specs.Stops.{IsEarly, IsRefusal, many_refusal};
-ghost use Rattle.run_ends.specs.declared.stop.Stop.TheVariants.{OutOfMemory as OutOfMemoryOf};
+ghost use Rattle.outside.specs.Seen.{Seen};
+ghost use Rattle.outside.specs.Streams.{Stream};
+ghost use Rattle.run_ends.specs.Jobs.{Does, Named, Refuses, around, stream};
+ghost use Rattle.run_ends.specs.Stops.{IsEarly, many_refusal};
 ghost use Rattle.sample_arrays.specs.Arrays.{end_of, sampled, IsFile};
 ghost use Rattle.sample_job.specs.Own.{seen_of_own};
-ghost use Rattle.sample_job.specs.Sampling.{array_refusals, found_line, found_text as found_text_of, is_among, number_line, sample_ask, sample_output, sample_plan, sample_refusal, sampled_images};
+ghost use Rattle.sample_job.specs.Sampling.{array_refusals, found_line, found_text as found_text_of, is_among, number_line, sample_ask, sample_job, sample_output, sample_plan, sample_refusal, sampled_images};
 
 use crate::own::OwnImages;
 use address_map::volume_sectors;
 use arrayvec::ArrayVec;
 use command_words::{SurveyWords, plain_survey};
-use image_source::{Images, MOST_ATTACHED, MemImages, Memory, Sink};
+use gates::Gate;
+use image_source::MemImages;
 use itoa::Buffer;
 use landmark_rules::Group;
+use outside::{Images, MOST_ATTACHED, Memory, Sink};
 use page_engine::{Line, ListPage, PageFault, page};
 use plan_text::{Text, add_number};
 use raid_params::{Bounds, Geometry};
-use row_scan::Gate;
-use run_ends::{Stop, add_share, print};
+use run_ends::{Refusal, Stop, add_share, print};
 use sample_arrays::{LEAST_MARKED, MOST_SAMPLED, count_held};
 use search_plan::Plan;
 use set_product::product_rank;
@@ -70,12 +72,8 @@ pub fn sample<R: Threads + Sync, K: Sink, G: Gate + Sync>(
     requires set { HasWord set.now }
     requires some { 1 ≤ rows }
     requires most { rows ≤ 65536 }
-    ensures ends { Ends (sample_refusal number set.now rows xfs) (Some (sample_output number set.now rows xfs)) (K.gained out.old) (K.gained out.new) result }
-    ensures order { (read : ℕ) → Orders (sample_refusal number set.now rows xfs) read read (K.gained out.old) (K.gained out.new) result }
-    ensures leaves { (images plan read : ℕ) → Leaves false
-        (record { images = images; plan = plan; out = K.faults out.old; sectors = read })
-        (record { images = images; plan = plan; out = K.faults out.new; sectors = read })
-        (K.gained out.old) (K.gained out.new) result }
+    ensures { (given : Named) (images : Seen) (source : Stream) → Does (sample_job number set.now rows xfs) given (around images source) (around images source)
+        (stream (K.gained out.old) (K.faults out.old)) (stream (K.gained out.new) (K.faults out.new)) result }
 {
     let tools = Tools { rt, alloc, gate };
     print(out, answer(&tools, number, set, rows, xfs))
@@ -96,15 +94,15 @@ fn answer<R: Threads + Sync, G: Gate + Sync>(
     ensures refuses { Refuses (sample_refusal number set.now rows xfs) result }
     ensures early { IfErr result IsEarly }
 {
-    match checked_end(set, rows, xfs) {
-        Ok(end) => found(tools, number, set, rows, xfs, end),
-        Err(stop) => Err(stop),
+    match array_end(set, rows, xfs) {
+        Ok(end) => array_text(tools, number, set, rows, xfs, end),
+        Err(refusal) => Err(Stop::Refused(refusal)),
     }
 }
 
 /// The image sector after the last one of the members, where the array may be made.
 #[tactic(auto, using(crate::proofs::Refusals::set_refused, crate::proofs::Refusals::array_refused, crate::proofs::Refusals::volume_refused, crate::proofs::Refusals::array_allowed, sample_arrays::proofs::Sampled::ruled, sample_arrays::proofs::Sampled::near_end, raid_layouts::proofs::Shapes::shaped_head))]
-fn checked_end(set: &Geometry, rows: u64, xfs: bool) -> Result<u64, Stop>
+fn array_end(set: &Geometry, rows: u64, xfs: bool) -> Result<u64, Refusal>
     requires set { HasWord set.now }
     requires most { rows ≤ 65536 }
     ensures end { IfOk result (λ end. end ≡ end_of set.now.head rows) }
@@ -112,25 +110,25 @@ fn checked_end(set: &Geometry, rows: u64, xfs: bool) -> Result<u64, Stop>
     ensures size { OnOk result (set.now.head.members * end_of set.now.head rows ≤ MOST_SAMPLED) }
     ensures marked { OnOk result (IsTrue xfs → LEAST_MARKED ≤ volume_sectors_of set.now.head (end_of set.now.head rows)) }
     ensures allowed { OnOk result (array_refusals set.now rows xfs ≡ None) }
-    ensures refused { IfErr result (λ stop. (array_refusals set.now rows xfs ≡ Some stop) × IsRefusal stop) }
+    ensures refused { IfErr result (λ refusal. array_refusals set.now rows xfs ≡ Some refusal) }
 {
     let end = set.head.offset + rows * set.head.chunk;
     if let Err(fault) = set.validate(count_held(&set.slots), end) {
-        return Err(Stop::Set(fault));
+        return Err(Refusal::Set(fault));
     }
     let sectors = set.head.members as u64 * end;
     if sectors > MOST_SAMPLED {
-        return Err(Stop::ArraySectors(sectors));
+        return Err(Refusal::ArraySectors(sectors));
     }
     let volume = volume_sectors(&set.head, end);
     if xfs && volume < LEAST_MARKED {
-        return Err(Stop::VolumeSectors(volume));
+        return Err(Refusal::VolumeSectors(volume));
     }
     Ok(end)
 }
 
 /// The text of `sample` of an array that may be made, or why there is none.
-fn found<R: Threads + Sync, G: Gate + Sync>(
+fn array_text<R: Threads + Sync, G: Gate + Sync>(
     tools: &Tools<R, G>,
     number: u64,
     set: &Geometry,
@@ -143,11 +141,11 @@ fn found<R: Threads + Sync, G: Gate + Sync>(
     requires size { set.now.head.members * end_of set.now.head rows ≤ MOST_SAMPLED }
     requires marked { IsTrue xfs → LEAST_MARKED ≤ volume_sectors_of set.now.head (end_of set.now.head rows) }
     ensures text { IfOk result (λ text. text ≡ sample_output number set.now rows xfs) }
-    ensures allowed { OnOk result (many_refusal (sample_plan number set.now rows xfs) ≡ None) }
-    ensures refused { IfErr result (λ stop. (stop ≡ OutOfMemoryOf) ⊎ ((many_refusal (sample_plan number set.now rows xfs) ≡ Some stop) × IsRefusal stop)) }
+    ensures refuses { Refuses (many_refusal (sample_plan number set.now rows xfs)) result }
+    ensures early { IfErr result IsEarly }
 {
-    let mut images = attached(tools.alloc, number, set, rows, xfs)?;
-    let plan = surveyed(tools.alloc, &mut images, &ask_for(set, end))?;
+    let mut images = array_images(tools.alloc, number, set, rows, xfs)?;
+    let plan = plan_of(tools.alloc, &mut images, &ask_for(set, end))?;
     match first_page(tools, &mut images, &plan) {
         Ok(page) => Ok(lines(tools.alloc, set, end, &plan, &page)?),
         Err(stop) => Err(stop),
@@ -156,7 +154,7 @@ fn found<R: Threads + Sync, G: Gate + Sync>(
 
 /// The images of the array, attached in their order.
 #[tactic(auto, using(sample_arrays::proofs::Sampled::ruled, sample_arrays::proofs::Sampled::few_slots))]
-fn attached(
+fn array_images(
     alloc: Global,
     number: u64,
     set: &Geometry,
@@ -212,7 +210,7 @@ fn ask_for(set: &Geometry, end: u64) -> Ask
 }
 
 /// The plan of a survey of the images, which fails only out of memory.
-fn surveyed(alloc: Global, images: &mut OwnImages, ask: &Ask) -> Result<Plan, Memory>
+fn plan_of(alloc: Global, images: &mut OwnImages, ask: &Ask) -> Result<Plan, Memory>
     requires { IsSurveyable ask.now (seen_of_own images.old).attached }
     ensures plan { IfOk result IsPlan }
     ensures made { IfOk result (λ plan. IfSome (told_all (seen_of_own images.old).attached) (λ bytes. plan ≡ survey_plan ask.now (seen_of_own images.old).attached bytes)) }
@@ -236,13 +234,13 @@ fn first_page<R: Threads + Sync, G: Gate + Sync>(
     requires lengths { AgreeWith plan.now (seen_of_own images.old).attached }
     ensures page { IfOk result (λ page. IfSome (told_all (seen_of_own images.old).attached) (λ bytes. IsPageOf bytes plan.now 0 FIRST_PAGE (2 ^ 64 - 1) page)) }
     ensures total { IfOk result (λ page. page.total ≡ total_of plan.now) }
-    ensures allowed { OnOk result (many_refusal plan.now ≡ None) }
-    ensures refused { IfErr result (λ stop. (stop ≡ OutOfMemoryOf) ⊎ ((many_refusal plan.now ≡ Some stop) × IsRefusal stop)) }
+    ensures refuses { Refuses (many_refusal plan.now) result }
+    ensures early { IfErr result IsEarly }
 {
     let (rt, alloc, gate) = (tools.rt, tools.alloc, tools.gate);
     match page(rt, alloc, images, plan, 0, FIRST_PAGE, u64::MAX, gate) {
         Ok(found) => Ok(found),
-        Err(PageFault::Many) => Err(Stop::Many),
+        Err(PageFault::Many) => Err(Stop::Refused(Refusal::Many)),
         Err(PageFault::Memory) => Err(Stop::OutOfMemory),
         Err(PageFault::Cursor(_) | PageFault::ReadFault) => unreachable!(),
     }

@@ -2,52 +2,49 @@
 ghost use Rattle.std.specs.Prelude.{◌≡◌, ◌<◌, ◌≤◌, ◌+◌, ◌++◌, ◌^◌, ◌⊎◌, All, IfErr, IfOk, IfSome, IsTrue, None, OnOk, Some, codes, decimal, false, length, min, slice_index_or, unwrap_or};
 ghost use Rattle.run_ends.specs.Agreement.{end_of as end_of_images};
 ghost use Rattle.run_ends.specs.Printing.{or_dash};
-ghost use Rattle.run_ends.specs.Jobs.{Ends, Leaves, Orders, Refuses};
-ghost use Rattle.set_jobs.specs.Mapping.{map_refusal, map_text as map_text_of, name_line, place_line, sector_refusal, set_refusal};
-ghost use Rattle.run_ends.specs.Stops.{IsEarly, IsRefusal};
-ghost use Rattle.plan_text.specs.SetText.{HasWord};
+ghost use Rattle.outside.specs.Streams.{Stream};
+ghost use Rattle.run_ends.specs.Jobs.{Answers, Does, Refuses, around, named, stream};
+ghost use Rattle.run_ends.specs.Stops.{IsEarly};
+ghost use Rattle.set_jobs.specs.Mapping.{map_job, map_text as map_text_of, name_line, place_line, sector_refusal, set_refusal};
+ghost use Rattle.value_text.specs.SetText.{HasWord};
 ghost use Rattle.raid_params.specs.Validity.{first_fault, is_valid_head};
 ghost use Rattle.raid_layouts.specs.Names.{name_of};
 ghost use Rattle.raid_terms.specs.Role.{p_of, q_of};
 ghost use Rattle.raid_terms.specs.Address.{home_item, home_row, home_sector, home_slot};
 
 use address_map::{Home, locate, volume_sectors};
-use image_source::{Images, MOST_ATTACHED, Memory, Sink};
-use plan_text::{Text, add_number};
+use outside::{Images, MOST_ATTACHED, Memory, Sink};
 use raid_layouts::{md_name, p_slot, q_slot};
 use raid_params::{Geometry, Head};
-use run_ends::{SectorFault, Stop, add_or_dash, end_of, limits_fault, print};
+use run_ends::{Refusal, SectorFault, Stop, add_or_dash, end_of, limits_fault, print};
 use std::alloc::Global;
+use value_text::{Text, add_number};
 
 /// Prints where a sector of the volume of a set lies. The text is made before any of it is put, so only a
 /// fault of the output leaves a part of it. `names` is the number of images; `end` is the image sector after the
 /// last one of the members, or None for the shortest image's.
-#[tactic(auto, using(run_ends::proofs::Printed::ends_printed))]
 pub fn map<I: Images, K: Sink>(
     alloc: Global,
     images: &I,
     names: usize,
     set: &Geometry,
-    sector: u64,
     end: Option<u64>,
+    sector: u64,
     out: &mut K,
 ) -> Result<(), Stop>
     requires attached { length (I.seen images.now).attached ≡ min names MOST_ATTACHED }
     requires small { All (λ image. image.sectors < 2 ^ 55) (I.seen images.now).attached }
     requires set { HasWord set.now }
     requires end { IfSome end (λ sector. sector < 2 ^ 55) }
-    ensures ends { Ends (map_refusal set.now sector end names (I.seen images.now).attached) (Some (map_text_of set.now sector)) (K.gained out.old) (K.gained out.new) result }
-    ensures order { Orders (map_refusal set.now sector end names (I.seen images.now).attached) (I.seen images.now).sectors_read (I.seen images.now).sectors_read (K.gained out.old) (K.gained out.new) result }
-    ensures leaves { Leaves false
-        (record { images = (I.seen images.now).faults; plan = 0; out = K.faults out.old; sectors = (I.seen images.now).sectors_read })
-        (record { images = (I.seen images.now).faults; plan = 0; out = K.faults out.new; sectors = (I.seen images.now).sectors_read })
-        (K.gained out.old) (K.gained out.new) result }
+    ensures { (source : Stream) → Does (map_job set.now end sector) (named names (I.seen images.now).attached)
+        (around (I.seen images.now) source) (around (I.seen images.now) source)
+        (stream (K.gained out.old) (K.faults out.old)) (stream (K.gained out.new) (K.faults out.new)) result }
 {
     print(out, answer(alloc, images, names, set, end, sector))
 }
 
 /// The text of `map`, or why there is none.
-#[tactic(auto, using(crate::proofs::SetRefusals::map_set_refused, crate::proofs::SetRefusals::map_answered, raid_layouts::proofs::Shapes::shaped_head, raid_layouts::proofs::Shapes::shaped_slots, run_ends::proofs::Refusals::ruled_shape))]
+#[tactic(auto, using(raid_layouts::proofs::Shapes::shaped_head, raid_layouts::proofs::Shapes::shaped_slots, run_ends::proofs::Refusals::ruled_shape))]
 fn answer<I: Images>(
     alloc: Global,
     images: &I,
@@ -60,72 +57,71 @@ fn answer<I: Images>(
     requires small { All (λ image. image.sectors < 2 ^ 55) (I.seen images.now).attached }
     requires set { HasWord set.now }
     requires end { IfSome end (λ sector. sector < 2 ^ 55) }
-    ensures text { IfOk result (λ text. text ≡ map_text_of set.now sector) }
-    ensures refuses { Refuses (map_refusal set.now sector end names (I.seen images.now).attached) result }
-    ensures early { IfErr result IsEarly }
+    ensures { (source : Stream) → Answers (map_job set.now end sector) (named names (I.seen images.now).attached)
+        (around (I.seen images.now) source) (around (I.seen images.now) source) result }
 {
-    match checked_end(images, names, set, end) {
-        Ok(end) => located(alloc, set, sector, end),
-        Err(stop) => Err(stop),
+    match allowed_end(images, names, set, end) {
+        Ok(end) => place_text(alloc, set, end, sector),
+        Err(refusal) => Err(Stop::Refused(refusal)),
     }
 }
 
 /// The text of `map` over a set whose members end before the image sector `end`.
-fn located(alloc: Global, set: &Geometry, sector: u64, end: u64) -> Result<Text, Stop>
+fn place_text(alloc: Global, set: &Geometry, end: u64, sector: u64) -> Result<Text, Stop>
     requires head { IsTrue (is_valid_head set.now.head) }
     requires slots { length set.now.slots.items ≡ set.now.head.members }
     requires offset { set.now.head.offset < 2 ^ 55 }
     requires end { end < 2 ^ 55 }
     ensures text { IfOk result (λ text. text ≡ map_text_of set.now sector) }
-    ensures allowed { OnOk result (sector_refusal set.now.head sector end ≡ None) }
-    ensures refused { IfErr result (λ stop. (stop ≡ Stop.OutOfMemory) ⊎ ((sector_refusal set.now.head sector end ≡ Some stop) × IsRefusal stop)) }
+    ensures refuses { Refuses (sector_refusal set.now.head end sector) result }
+    ensures early { IfErr result IsEarly }
 {
     match home_of(&set.head, end, sector) {
         Ok(home) => Ok(map_text(alloc, set, &home)?),
-        Err(stop) => Err(stop),
+        Err(refusal) => Err(Stop::Refused(refusal)),
     }
 }
 
 /// The end of the members, where `names` images and the set are such that a command over the set goes on.
 #[tactic(auto, using(run_ends::proofs::Lengths::end_near, crate::proofs::SetRefusals::images_refused, crate::proofs::SetRefusals::rule_refused, crate::proofs::SetRefusals::set_allowed))]
-pub fn checked_end<I: Images>(
+pub fn allowed_end<I: Images>(
     images: &I,
     names: usize,
     set: &Geometry,
     end: Option<u64>,
-) -> Result<u64, Stop>
+) -> Result<u64, Refusal>
     requires attached { length (I.seen images.now).attached ≡ min names MOST_ATTACHED }
     requires small { All (λ image. image.sectors < 2 ^ 55) (I.seen images.now).attached }
     requires end { IfSome end (λ sector. sector < 2 ^ 55) }
     ensures end { IfOk result (λ e. (e ≡ end_of_images end (I.seen images.now).attached) × (e < 2 ^ 55)) }
     ensures allowed { OnOk result (set_refusal set.now end names (I.seen images.now).attached ≡ None) }
     ensures valid { IfOk result (λ e. first_fault set.now names e ≡ None) }
-    ensures refused { IfErr result (λ stop. (set_refusal set.now end names (I.seen images.now).attached ≡ Some stop) × IsRefusal stop) }
+    ensures refused { IfErr result (λ refusal. set_refusal set.now end names (I.seen images.now).attached ≡ Some refusal) }
 {
     if let Some(fault) = limits_fault(images, names, end) {
-        return Err(Stop::Images(fault));
+        return Err(Refusal::Images(fault));
     }
     let end = end_of(images, names, end);
     match set.validate(names as u8, end) {
         Ok(()) => Ok(end),
-        Err(fault) => Err(Stop::Set(fault)),
+        Err(fault) => Err(Refusal::Set(fault)),
     }
 }
 
 /// Where a sector of the volume lies.
 #[tactic(auto, using(crate::proofs::Homes::home_near, address_map::proofs::Lies::slot_in))]
-fn home_of(head: &Head, end: u64, sector: u64) -> Result<Home, Stop>
+fn home_of(head: &Head, end: u64, sector: u64) -> Result<Home, Refusal>
     requires head { IsTrue (is_valid_head head.now) }
     requires end { end < 2 ^ 55 }
     ensures home { IfOk result (λ home. (home.row ≡ home_row head.now sector) × (home.item ≡ home_item head.now sector)
         × (home.slot ≡ home_slot head.now sector) × (home.sector ≡ home_sector head.now sector) × (home.slot < head.now.members)) }
     ensures near { IfOk result (λ home. home.sector < 2 ^ 55) }
-    ensures allowed { OnOk result (sector_refusal head.now sector end ≡ None) }
-    ensures refused { IfErr result (λ stop. (sector_refusal head.now sector end ≡ Some stop) × IsRefusal stop) }
+    ensures allowed { OnOk result (sector_refusal head.now end sector ≡ None) }
+    ensures refused { IfErr result (λ refusal. sector_refusal head.now end sector ≡ Some refusal) }
 {
     match locate(head, end, sector) {
         Some(home) => Ok(home),
-        None => Err(Stop::Sector(SectorFault {
+        None => Err(Refusal::Sector(SectorFault {
             sector,
             size: volume_sectors(head, end),
         })),

@@ -1,24 +1,25 @@
 //! The commands `write` and `rebuild`.
-ghost use Rattle.std.specs.Prelude.{◌≡◌, ◌≤◌, ◌<◌, ◌+◌, ◌*◌, ◌^◌, ◌&&◌, All, IfErr, IfOk, IfSome, IsErrOf, None, OnOk, Some, is_none, length, min, nat_lt, slice_index_or, true};
-ghost use Rattle.image_source.specs.Attached.{told_all};
+ghost use Rattle.std.specs.Prelude.{◌≡◌, ◌<◌, ◌^◌, ◌&&◌, All, IfErr, IfOk, IfSome, None, OnOk, Some, is_none, length, min, nat_lt, slice_index_or};
+ghost use Rattle.outside.specs.Attached.{told_all};
+ghost use Rattle.outside.specs.Streams.{Stream};
 ghost use Rattle.run_ends.specs.Agreement.{end_of};
-ghost use Rattle.run_ends.specs.Jobs.{Ends, Leaves, Orders};
+ghost use Rattle.run_ends.specs.Jobs.{Does, around, named, stream};
+ghost use Rattle.set_jobs.specs.Faults.{stop_of_volume};
 ghost use Rattle.set_jobs.specs.Mapping.{set_refusal};
-ghost use Rattle.run_ends.specs.Stops.{IsRefusal};
-ghost use Rattle.set_jobs.specs.Writing.{rebuild_output, rebuild_refusal, slot_refusal, volume_reads, write_output};
-ghost use Rattle.plan_text.specs.SetText.{HasWord};
+ghost use Rattle.set_jobs.specs.Writing.{rebuild_job, rebuild_refusal, write_job};
+ghost use Rattle.value_text.specs.SetText.{HasWord};
 ghost use Rattle.raid_params.specs.Size.{data_blocks};
 ghost use Rattle.member_regions.specs.declared.regions.TheConstants.{BLOCK};
 ghost use Rattle.member_rebuild.specs.Sectors.{IsAheadBy};
-ghost use Rattle.virtual_volume.specs.Gained.{AppendsSectors, IsAhead, most_ahead};
+ghost use Rattle.virtual_volume.specs.Gained.{IsAhead, most_ahead};
 ghost use Rattle.virtual_volume.specs.Served.{IsServed};
 
-use crate::mapping::checked_end;
-use image_source::{Images, MOST_ATTACHED, Sink};
+use crate::mapping::allowed_end;
+use outside::{Images, MOST_ATTACHED, Sink};
 use raid_params::Geometry;
-use run_ends::Stop;
+use run_ends::{Refusal, Stop};
 use std::alloc::Global;
-use virtual_volume::write_volume;
+use virtual_volume::{VolumeFault, write_volume};
 
 /// Writes the volume of a set as it is read. `names` is the number of images; `end` is the image
 /// sector after the last one of the members, or None for the shortest image's.
@@ -34,63 +35,61 @@ pub fn write<I: Images, K: Sink>(
     requires small { All (λ image. image.sectors < 2 ^ 55) (I.seen images.old).attached }
     requires set { HasWord set.now }
     requires end { IfSome end (λ sector. sector < 2 ^ 55) }
-    ensures ends { Ends (set_refusal set.now end names (I.seen images.old).attached) (write_output set.now end (I.seen images.old).attached (told_all (I.seen images.old).attached)) (K.gained out.old) (K.gained out.new) result }
-    ensures order { Orders (set_refusal set.now end names (I.seen images.old).attached) (I.seen images.old).sectors_read (I.seen images.new).sectors_read (K.gained out.old) (K.gained out.new) result }
-    ensures leaves { Leaves true
-        (record { images = (I.seen images.old).faults; plan = 0; out = K.faults out.old; sectors = (I.seen images.old).sectors_read })
-        (record { images = (I.seen images.new).faults; plan = 0; out = K.faults out.new; sectors = (I.seen images.new).sectors_read })
-        (K.gained out.old) (K.gained out.new) result }
-    ensures whole { IsErrOf result Stop.ImageFault → IfSome (write_output set.now end (I.seen images.old).attached (told_all (I.seen images.old).attached))
-        (λ text. AppendsSectors (K.gained out.old) (K.gained out.new) text) }
-    ensures reads { (I.seen images.new).sectors_read ≤ (I.seen images.old).sectors_read + volume_reads set.now end (I.seen images.old).attached }
+    ensures does { (source : Stream) → Does (write_job set.now end) (named names (I.seen images.old).attached)
+        (around (I.seen images.old) source) (around (I.seen images.new) source)
+        (stream (K.gained out.old) (K.faults out.old)) (stream (K.gained out.new) (K.faults out.new)) result }
     ensures ahead { IfSome (told_all (I.seen images.old).attached)
         (λ bytes. IsAhead (most_ahead set.now.head) (I.seen images.old).sectors_read (I.seen images.new).sectors_read (K.gained out.old) (K.gained out.new)) }
-    ensures world { (I.seen images.new).world ≡ (I.seen images.old).world }
     ensures kept { (I.seen images.new).attached ≡ (I.seen images.old).attached }
 {
     match served_end(images, names, set, end) {
         Ok(end) => match write_volume(alloc, images, set, end, out) {
             Ok(()) => Ok(()),
-            Err(fault) => Err(Stop::from(fault)),
+            Err(fault) => Err(stop_of(fault)),
         },
-        Err(stop) => Err(stop),
+        Err(refusal) => Err(Stop::Refused(refusal)),
     }
 }
 
-/// Writes the member of an empty slot of a set as the others are read.
+/// Writes the member of an empty slot of a set as the others are read. `names` is the number of images; `end` is the
+/// image sector after the last one of the members, or None for the shortest image's.
 pub fn rebuild<I: Images, K: Sink>(
     alloc: Global,
     images: &mut I,
     names: usize,
     set: &Geometry,
-    slot: u8,
     end: Option<u64>,
+    slot: u8,
     out: &mut K,
 ) -> Result<(), Stop>
     requires attached { length (I.seen images.old).attached ≡ min names MOST_ATTACHED }
     requires small { All (λ image. image.sectors < 2 ^ 55) (I.seen images.old).attached }
     requires set { HasWord set.now }
     requires end { IfSome end (λ sector. sector < 2 ^ 55) }
-    ensures ends { Ends (rebuild_refusal set.now slot end names (I.seen images.old).attached) (rebuild_output set.now slot end (I.seen images.old).attached (told_all (I.seen images.old).attached)) (K.gained out.old) (K.gained out.new) result }
-    ensures order { Orders (rebuild_refusal set.now slot end names (I.seen images.old).attached) (I.seen images.old).sectors_read (I.seen images.new).sectors_read (K.gained out.old) (K.gained out.new) result }
-    ensures leaves { Leaves true
-        (record { images = (I.seen images.old).faults; plan = 0; out = K.faults out.old; sectors = (I.seen images.old).sectors_read })
-        (record { images = (I.seen images.new).faults; plan = 0; out = K.faults out.new; sectors = (I.seen images.new).sectors_read })
-        (K.gained out.old) (K.gained out.new) result }
-    ensures whole { IsErrOf result Stop.ImageFault → IfSome (rebuild_output set.now slot end (I.seen images.old).attached (told_all (I.seen images.old).attached))
-        (λ text. AppendsSectors (K.gained out.old) (K.gained out.new) text) }
-    ensures reads { (I.seen images.new).sectors_read ≤ (I.seen images.old).sectors_read + volume_reads set.now end (I.seen images.old).attached }
+    ensures does { (source : Stream) → Does (rebuild_job set.now end slot) (named names (I.seen images.old).attached)
+        (around (I.seen images.old) source) (around (I.seen images.new) source)
+        (stream (K.gained out.old) (K.faults out.old)) (stream (K.gained out.new) (K.faults out.new)) result }
     ensures ahead { IfSome (told_all (I.seen images.old).attached)
         (λ bytes. IsAheadBy (data_blocks set.now.head) BLOCK (I.seen images.old).sectors_read (I.seen images.new).sectors_read (K.gained out.old) (K.gained out.new)) }
-    ensures world { (I.seen images.new).world ≡ (I.seen images.old).world }
     ensures kept { (I.seen images.new).attached ≡ (I.seen images.old).attached }
 {
-    match missing_end(images, names, set, slot, end) {
+    match missing_end(images, names, set, end, slot) {
         Ok(end) => match member_rebuild::rebuild(alloc, images, set, end, slot, out) {
             Ok(()) => Ok(()),
-            Err(fault) => Err(Stop::from(fault)),
+            Err(fault) => Err(stop_of(fault)),
         },
-        Err(stop) => Err(stop),
+        Err(refusal) => Err(Stop::Refused(refusal)),
+    }
+}
+
+/// Why writing ends at a fault.
+fn stop_of(fault: VolumeFault) -> Stop
+    ensures { result ≡ stop_of_volume fault }
+{
+    match fault {
+        VolumeFault::ReadFault => Stop::ImageFault,
+        VolumeFault::WriteFault => Stop::OutFault,
+        VolumeFault::Memory => Stop::OutOfMemory,
     }
 }
 
@@ -101,7 +100,7 @@ fn served_end<I: Images>(
     names: usize,
     set: &Geometry,
     end: Option<u64>,
-) -> Result<u64, Stop>
+) -> Result<u64, Refusal>
     requires attached { length (I.seen images.now).attached ≡ min names MOST_ATTACHED }
     requires small { All (λ image. image.sectors < 2 ^ 55) (I.seen images.now).attached }
     requires set { HasWord set.now }
@@ -109,20 +108,20 @@ fn served_end<I: Images>(
     ensures end { IfOk result (λ e. e ≡ end_of end (I.seen images.now).attached) }
     ensures served { IfOk result (λ e. IsServed set.now e (I.seen images.now).attached) }
     ensures allowed { OnOk result (set_refusal set.now end names (I.seen images.now).attached ≡ None) }
-    ensures refused { IfErr result (λ stop. (set_refusal set.now end names (I.seen images.now).attached ≡ Some stop) × IsRefusal stop) }
+    ensures refused { IfErr result (λ refusal. set_refusal set.now end names (I.seen images.now).attached ≡ Some refusal) }
 {
-    checked_end(images, names, set, end)
+    allowed_end(images, names, set, end)
 }
 
-/// The same, of a set whose slot is empty.
+/// The end of the members of a set of which one slot is empty, whose member can be written.
 #[tactic(auto, using(crate::proofs::Written::set_refused, crate::proofs::Written::slot_refused, crate::proofs::Written::slot_allowed))]
 fn missing_end<I: Images>(
     images: &I,
     names: usize,
     set: &Geometry,
-    slot: u8,
     end: Option<u64>,
-) -> Result<u64, Stop>
+    slot: u8,
+) -> Result<u64, Refusal>
     requires attached { length (I.seen images.now).attached ≡ min names MOST_ATTACHED }
     requires small { All (λ image. image.sectors < 2 ^ 55) (I.seen images.now).attached }
     requires set { HasWord set.now }
@@ -130,13 +129,13 @@ fn missing_end<I: Images>(
     ensures end { IfOk result (λ e. e ≡ end_of end (I.seen images.now).attached) }
     ensures served { IfOk result (λ e. IsServed set.now e (I.seen images.now).attached) }
     ensures slot { OnOk result ((slot < set.now.head.members) × (slice_index_or set.now.slots.items slot None ≡ None)) }
-    ensures allowed { OnOk result (rebuild_refusal set.now slot end names (I.seen images.now).attached ≡ None) }
-    ensures refused { IfErr result (λ stop. (rebuild_refusal set.now slot end names (I.seen images.now).attached ≡ Some stop) × IsRefusal stop) }
+    ensures allowed { OnOk result (rebuild_refusal set.now end slot names (I.seen images.now).attached ≡ None) }
+    ensures refused { IfErr result (λ refusal. rebuild_refusal set.now end slot names (I.seen images.now).attached ≡ Some refusal) }
 {
     match served_end(images, names, set, end) {
         Ok(end) if is_missing(set, slot) => Ok(end),
-        Ok(_) => Err(Stop::Slot(slot)),
-        Err(stop) => Err(stop),
+        Ok(_) => Err(Refusal::Slot(slot)),
+        Err(refusal) => Err(refusal),
     }
 }
 

@@ -1,26 +1,31 @@
 -- What is asked of a survey, and how it ends.
-use Rattle.std.proofs.Common.{◌≡◌, ℕ, ◌<◌, ◌≤◌, ◌^◌, ◌⊎◌, min, max, Bool, false, cond, nat_eq, List, [], length, All, None, Some, Option, Result, Ok, Err, IfOk, IfErr, IfSome, sym, ap, ◌∙◌, subst, arith, inl, inr, ◌∷◌, suc}
+use Rattle.std.proofs.Common.{◌≡◌, refl, OnOk, ℕ, ◌<◌, ◌≤◌, ◌^◌, ◌⊎◌, min, max, Bool, false, cond, nat_eq, List, [], length, All, None, Some, Option, Result, Ok, Err, IfOk, IfErr, IfSome, sym, ap, ◌∙◌, subst, arith, inl, inr, ◌∷◌, suc}
 use Rattle.std.proofs.lemmas.Bool.Decides.{nat_tests}
 use Rattle.std.specs.Option.{option_map}
 use Rattle.std.proofs.lemmas.List.Elements.{All-cons, All-nil}
-use Rattle.image_source.specs.Causes.{Rose}
-use Rattle.image_source.specs.Seen.{Image, OnlyReads, Seen}
+use Rattle.outside.specs.Attached.{told_all}
+use Rattle.outside.specs.Seen.{Image, OnlyReads, Seen}
+use Rattle.outside.specs.Streams.{Stream}
 use Rattle.raid_params.specs.declared.limits.TheConstants.{MOST}
 use Rattle.command_words.specs.Commands.{AreAsked}
 use Rattle.command_words.specs.declared.command.SurveyWords.{SurveyWords}
 use Rattle.run_ends.proofs.Lengths.{end_near}
 use Rattle.run_ends.proofs.Limits.{all_reach, no_limits}
 use Rattle.run_ends.specs.Agreement.{end_of, limits_fault}
-use Rattle.run_ends.specs.Jobs.{Refuses}
-use Rattle.run_ends.specs.Stops.{IsExcused}
+use Rattle.run_ends.proofs.CutShort.{cut_ends, cut_images, cut_other, cut_read}
+use Rattle.run_ends.proofs.Printed.{no_raise, order_allowed}
+use Rattle.run_ends.specs.Cuts.{CutsShort}
+use Rattle.run_ends.specs.Jobs.{Answers, around, named}
 use Rattle.run_ends.specs.declared.agreement.Disagreement.{Disagreement}
 use Rattle.run_ends.specs.declared.stop.Stop.{Stop}
-use Rattle.run_ends.specs.declared.stop.Stop.TheVariants.{Images, ImageFault, OutOfMemory}
+use Rattle.run_ends.specs.declared.stop.Refusal.{Refusal}
+use Rattle.run_ends.specs.declared.stop.Refusal.TheVariants.{Images}
+use Rattle.run_ends.specs.declared.stop.Stop.TheVariants.{SourceFault, OutFault}
 use Rattle.plan_text.specs.Parts.{AreMembers}
 use Rattle.plan_text.specs.PlanText.{plan_text}
 use Rattle.survey_engine.specs.Surveys.{survey_reads as reads_of, IsSurveyable}
 use Rattle.survey_engine.specs.declared.ask.Ask.{Ask}
-use Rattle.survey_job.specs.Surveying.{ask_of, members_for, survey_output, survey_plan, survey_reads, survey_refusal, window_for}
+use Rattle.survey_job.specs.Surveying.{ask_of, members_for, survey_job, survey_output, survey_plan, survey_reads, survey_refusal, window_for}
 
 -- the images are refused, or not
 pub images_refused : (asked : SurveyWords) (names : ℕ) (attached : List Image) (fault : Disagreement) → limits_fault asked.end names attached ≡ Some fault → survey_refusal asked names attached ≡ Some (Images fault)
@@ -85,16 +90,6 @@ text_told asked names end attached told answer ask same is h =
     told_text asked names attached told answer
     (subst (λ (a : Ask). IfOk answer (λ text. IfSome told (λ bytes. text ≡ plan_text (survey_plan a attached bytes)))) (is ∙ ap (ask_of asked names) same) h)
 
--- a survey that is not refused ends without a plan only out of memory or at a fault of the images
-pub surveyed_refuses : (refused : Option Stop) (old new : Seen) (answer : Result (List ℕ) Stop) → refused ≡ None → IfErr answer (λ stop. ((stop ≡ ImageFault) × Rose old.faults new.faults) ⊎ (stop ≡ OutOfMemory)) → Refuses refused answer
-surveyed_refuses refused old new (Ok text) none h = record { ends = tt; passes = none }
-surveyed_refuses refused old new (Err stop) none (inl h) = record { ends = inl (subst IsExcused (sym h.0) tt); passes = tt }
-surveyed_refuses refused old new (Err stop) none (inr h) = record { ends = inl (subst IsExcused (sym h) tt); passes = tt }
-
--- images that are refused end the survey
-pub ending : (asked : SurveyWords) (names : ℕ) (attached : List Image) (fault : Disagreement) → limits_fault asked.end names attached ≡ Some fault → Refuses {T = List ℕ} (survey_refusal asked names attached) (Err (Images fault))
-ending asked names attached fault e = record { ends = inr (images_refused asked names attached fault e); passes = tt }
-
 -- what is read where the images are not refused: each of them is attached
 pub read_for : (asked : SurveyWords) (names end : ℕ) (old new : Seen) (ask : Ask) → limits_fault asked.end names old.attached ≡ None → length old.attached ≡ min names 65536 → end ≡ end_of asked.end old.attached → ask ≡ ask_of asked names end →
     OnlyReads old new (reads_of ask old.attached) → OnlyReads old new (survey_reads asked old.attached)
@@ -102,3 +97,25 @@ read_for asked names end old new ask none count same is reads =
     let few = (no_limits asked.end names old.attached none).few in
     let all : names ≡ length old.attached = omega (arith, few, count) in
     subst (λ (a : Ask). OnlyReads old new (reads_of a old.attached)) (is ∙ ap (ask_of asked names) same ∙ ap (λ (n : ℕ). ask_of asked n (end_of asked.end old.attached)) all) reads
+
+-- the answer of a survey that is not refused
+pub survey_answers : (asked : SurveyWords) (names : ℕ) (old new : Seen) (source : Stream) (answer : Result (List ℕ) Stop) → limits_fault asked.end names old.attached ≡ None →
+    IfOk answer (λ text. IfSome (survey_output asked names old.attached (told_all old.attached)) (λ printed. text ≡ printed)) → OnlyReads old new (survey_reads asked old.attached) → OnOk answer (new.faults ≡ old.faults) → IfErr answer (CutsShort old new) →
+    Answers (survey_job asked) (named names old.attached) (around old source) (around new source) answer
+survey_answers asked names old new source answer none text reads quiet ends =
+    let allowed = images_allowed asked names old.attached none in
+    record {
+      refuses = λ said says. cut_ends old new answer (survey_refusal asked names old.attached) allowed ends;
+      text = λ said says. text;
+      order = λ said says. order_allowed (survey_refusal asked names old.attached) old.sectors_read new.sectors_read None None answer allowed;
+      reads = λ said says. reads.sectors_read;
+      takes = refl;
+      causes = record {
+        images = cut_images old new (survey_reads asked old.attached) answer reads quiet ends;
+        source = no_raise SourceFault source.faults answer (cut_other old new answer SourceFault ends (λ h. h));
+        unput = cut_other old new answer OutFault ends (λ h. h);
+        unread = cut_read old new answer ends;
+      };
+      apart = λ e. absurd (cc);
+      world = reads.world;
+    }

@@ -1,8 +1,8 @@
 -- What `survey` refuses and prints.
-use Rattle.std.specs.Prelude.{ℕ, max, nat_eq, if◌then◌else◌, List, [], ◌∷◌, length, unwrap_or}
+use Rattle.std.specs.Prelude.{ℕ, false, max, nat_eq, if◌then◌else◌, List, [], ◌∷◌, length, unwrap_or}
 use Rattle.std.specs.Option.{option_map}
 use Rattle.std.specs.declared.option.Option.{Option}
-use Rattle.image_source.specs.Seen.{Image, lengths_of}
+use Rattle.outside.specs.Seen.{Image, lengths_of}
 use Rattle.search_plan.specs.declared.plan.Plan.{Plan}
 use Rattle.survey_engine.specs.Origins.{origins_of}
 use Rattle.survey_engine.specs.Owners.{groups_of}
@@ -10,9 +10,11 @@ use Rattle.survey_engine.specs.Surveys.{found_in, survey_reads as reads_of}
 use Rattle.survey_engine.specs.declared.ask.Ask.{Ask}
 use Rattle.plan_text.specs.PlanText.{plan_text}
 use Rattle.command_words.specs.declared.command.SurveyWords.{SurveyWords}
+use Rattle.outside.specs.Attached.{told_all}
 use Rattle.run_ends.specs.Agreement.{end_of, limits_fault}
-use Rattle.run_ends.specs.declared.stop.Stop.{Stop}
-use Rattle.run_ends.specs.declared.stop.Stop.TheVariants.{Images}
+use Rattle.run_ends.specs.Jobs.{Job, textless}
+use Rattle.run_ends.specs.declared.stop.Refusal.{Refusal}
+use Rattle.run_ends.specs.declared.stop.Refusal.TheVariants.{Images}
 
 -- the numbers of members to try: those that are asked for, or as many as there are images, and at least 2
 abbrev pub members_for : List ℕ → ℕ → List ℕ
@@ -50,7 +52,7 @@ survey_plan ask attached images = record {
 }
 
 -- the first refusal of `survey`
-unfoldable pub survey_refusal : SurveyWords → ℕ → List Image → Option Stop
+unfoldable pub survey_refusal : SurveyWords → ℕ → List Image → Option Refusal
 survey_refusal asked names attached = option_map (λ fault. Images fault) (limits_fault asked.end names attached)
 
 -- what `survey` prints, where the bytes of the images are known
@@ -62,3 +64,8 @@ survey_output asked names attached told =
 -- entries for each header that counts and that entries follow
 abbrev pub survey_reads : SurveyWords → List Image → ℕ
 survey_reads asked attached = reads_of (ask_of asked (length attached) (end_of asked.end attached)) attached
+
+-- `survey`
+abbrev pub survey_job : SurveyWords → Job
+survey_job asked =
+    textless false (λ given. survey_refusal asked given.names given.attached) (λ given. survey_output asked given.names given.attached (told_all given.attached)) (λ given. survey_reads asked given.attached)

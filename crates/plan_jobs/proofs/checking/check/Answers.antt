@@ -1,27 +1,23 @@
-use Rattle.image_source.specs.Attached.{told_all}
-use Rattle.plan_jobs.specs.Checking.{check_refusal}
-use Rattle.plan_jobs.proofs.Checks.{check_ends}
-use Rattle.plan_jobs.proofs.Prepared.{counts_of}
-use Rattle.run_ends.proofs.Printed.{leaves_printed}
-use Rattle.plan_jobs.proofs.Ordered.{orders_printed}
+use Rattle.std.proofs.Common.{refl, arith}
+use Rattle.run_ends.proofs.Printed.{does_printed}
+use Rattle.run_ends.specs.Jobs.{around, named, stream}
+use Rattle.plan_jobs.proofs.Prepared.{prepared, unprepared}
+use Rattle.plan_jobs.specs.Checking.{check_job, check_over}
 use Rattle.plan_jobs.proofs.checking.check.Goals as goal
 
-pub returns-clause-ends : goal.returns-clause-ends
-returns-clause-ends g c =
-    let attached = (g.I.Images.seen c.args.images.now).attached in
-    check_ends (g.S.Source.left c.args.source.now) c.args.set.now c.args.names attached (told_all attached)
-    (g.K.Sink.gained c.args.out.now) (g.K.Sink.gained c.print.new.out) (g.K.Sink.faults c.args.out.now) (g.K.Sink.faults c.print.new.out) c.answer.result c.print.result
-    c.answer.ensures.refuses c.answer.ensures.text c.print.ensures.printed
-
-pub returns-clause-leaves : goal.returns-clause-leaves
-returns-clause-leaves g c =
-    leaves_printed (counts_of (g.I.Images.seen c.args.images.now) (g.S.Source.faults c.args.source.now)) (counts_of (g.I.Images.seen c.answer.new.images) (g.S.Source.faults c.answer.new.source))
-    (g.K.Sink.gained c.args.out.now) (g.K.Sink.gained c.print.new.out) (g.K.Sink.faults c.args.out.now) (g.K.Sink.faults c.print.new.out) c.answer.result c.print.result
-    c.answer.ensures.causes c.print.ensures.printed c.print.ensures.later
-
-pub returns-clause-order : goal.returns-clause-order
-returns-clause-order g c =
+pub returns-in-Ok-clause-does : goal.returns-in-Ok-clause-does
+returns-in-Ok-clause-does g c =
     let seen = g.I.Images.seen c.args.images.now in
-    orders_printed (g.S.Source.left c.args.source.now) (λ text plan. check_refusal c.args.set.now text plan c.args.names seen.attached) seen.sectors_read (g.I.Images.seen c.answer.new.images).sectors_read
-    (g.K.Sink.gained c.args.out.now) (g.K.Sink.gained c.print.new.out) (g.K.Sink.faults c.args.out.now) (g.K.Sink.faults c.print.new.out) c.answer.result c.print.result
-    c.answer.ensures.refuses c.answer.ensures.order c.print.ensures.printed
+    let new = g.I.Images.seen c.text_over.new.images in
+    let source = stream (g.S.Source.left c.args.source.now) (g.S.Source.faults c.args.source.now) in
+    let taken = stream (g.S.Source.left c.prepare.new.source) (g.S.Source.faults c.prepare.new.source) in
+    does_printed (check_job c.args.set.now) (named c.args.names seen.attached) (around seen source) (around new taken)
+    (stream (g.K.Sink.gained c.args.out.now) (g.K.Sink.faults c.args.out.now)) (stream (g.K.Sink.gained c.print.new.out) (g.K.Sink.faults c.print.new.out)) c.text_over.result c.print.result refl
+    (prepared (check_over c.args.set.now) c.args.names seen new source taken c.in-Ok.plan c.text_over.result c.in-Ok.ensures.prepared c.prepare.ensures.takes c.in-Ok.ensures.end c.in-Ok.ensures.faults c.text_over.ensures)
+    c.print.ensures
+
+pub returns-in-Err-clause-does : goal.returns-in-Err-clause-does
+returns-in-Err-clause-does g c =
+    let seen = g.I.Images.seen c.args.images.now in
+    unprepared (check_over c.args.set.now) c.args.names seen (stream (g.S.Source.left c.args.source.now) (g.S.Source.faults c.args.source.now)) (stream (g.S.Source.left c.prepare.new.source) (g.S.Source.faults c.prepare.new.source))
+    (stream (g.K.Sink.gained c.args.out.now) (g.K.Sink.faults c.args.out.now)) c.in-Err.stop c.in-Err.ensures.ends c.prepare.ensures.takes c.in-Err.ensures.faults (λ plan. omega arith)

@@ -1,5 +1,5 @@
 use Rattle.std.proofs.Common.{◌≡◌, take}
-use Rattle.image_source.specs.Seen.{lengths_of}
+use Rattle.outside.specs.Seen.{lengths_of}
 use Rattle.run_ends.specs.Agreement.{shortest}
 use Rattle.run_ends.proofs.agreement.shortest.Given as goal
 

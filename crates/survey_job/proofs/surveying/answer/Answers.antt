@@ -1,38 +1,31 @@
-use Rattle.std.proofs.Common.{sym, ◌∙◌, None}
-use Rattle.image_source.specs.Attached.{told_all}
-use Rattle.run_ends.proofs.Printed.{order_allowed}
-use Rattle.survey_job.specs.Surveying.{survey_refusal}
-use Rattle.survey_job.proofs.Surveyed.{ending, images_allowed, read_for, surveyable, surveyed_refuses, text_told}
+use Rattle.std.proofs.Common.{sym, ◌∙◌, refl, arith, Err}
+use Rattle.outside.specs.Attached.{told_all}
+use Rattle.run_ends.proofs.Refusals.{early_answers}
+use Rattle.run_ends.specs.Jobs.{around, named}
+use Rattle.run_ends.specs.declared.stop.Refusal.TheVariants.{Images}
+use Rattle.run_ends.specs.declared.stop.Stop.TheVariants.{Refused}
+use Rattle.survey_job.specs.Surveying.{survey_job}
+use Rattle.survey_job.proofs.Surveyed.{images_refused, read_for, survey_answers, surveyable, text_told}
 use Rattle.survey_job.proofs.surveying.answer.Goals as goal
 
-pub returns-in-Some-clause-refuses : goal.returns-in-Some-clause-refuses
-returns-in-Some-clause-refuses g c =
-    ending c.args.asked c.args.names (g.I.Images.seen c.args.images.now).attached c.in-Some.fault (sym c.limits_fault.ensures ∙ c.in-Some.is)
+pub returns-in-Some-clause-answers : goal.returns-in-Some-clause-answers
+returns-in-Some-clause-answers g c source =
+    let seen = g.I.Images.seen c.args.images.now in
+    early_answers (survey_job c.args.asked) (named c.args.names seen.attached) (around seen source) (Err (Refused (Images c.in-Some.fault))) refl tt
+    (λ said. record { ends = images_refused c.args.asked c.args.names seen.attached c.in-Some.fault (sym c.limits_fault.ensures ∙ c.in-Some.is); passes = tt })
+    (λ said. tt) (λ said. omega arith)
 
-pub surveyed-requires : goal.surveyed-requires
-surveyed-requires g c =
+pub plan_lines-requires : goal.plan_lines-requires
+plan_lines-requires g c =
     let attached = (g.I.Images.seen c.args.images.now).attached in
     rw c.ask_of-ask.ensures (rw c.end_of-end.ensures (surveyable c.args.asked c.args.names attached (sym c.limits_fault.ensures ∙ c.in_default.is) c.requires.asked c.requires.small c.requires.attached))
 
-pub returns-clause-text : goal.returns-clause-text
-returns-clause-text g c =
-    let attached = (g.I.Images.seen c.args.images.now).attached in
-    text_told c.args.asked c.args.names c.end_of-end.result attached (told_all attached) c.surveyed.result c.ask_of-ask.result
-    c.end_of-end.ensures c.ask_of-ask.ensures c.surveyed.ensures.text
-
-pub returns-clause-refuses : goal.returns-clause-refuses
-returns-clause-refuses g c =
-    let attached = (g.I.Images.seen c.args.images.now).attached in
-    surveyed_refuses (survey_refusal c.args.asked c.args.names attached) (g.I.Images.seen c.args.images.now) (g.I.Images.seen c.surveyed.new.images) c.surveyed.result
-    (images_allowed c.args.asked c.args.names attached (sym c.limits_fault.ensures ∙ c.in_default.is)) c.surveyed.ensures.ends
-
-pub returns-clause-order : goal.returns-clause-order
-returns-clause-order g c =
+pub returns-clause-answers : goal.returns-clause-answers
+returns-clause-answers g c source =
     let seen = g.I.Images.seen c.args.images.now in
-    order_allowed (survey_refusal c.args.asked c.args.names seen.attached) seen.sectors_read (g.I.Images.seen c.surveyed.new.images).sectors_read None None c.surveyed.result
-    (images_allowed c.args.asked c.args.names seen.attached (sym c.limits_fault.ensures ∙ c.in_default.is))
-
-pub returns-clause-reads : goal.returns-clause-reads
-returns-clause-reads g c =
-    read_for c.args.asked c.args.names c.end_of-end.result (g.I.Images.seen c.args.images.now) (g.I.Images.seen c.surveyed.new.images) c.ask_of-ask.result
-    (sym c.limits_fault.ensures ∙ c.in_default.is) c.requires.attached c.end_of-end.ensures c.ask_of-ask.ensures c.surveyed.ensures.reads
+    let new = g.I.Images.seen c.plan_lines.new.images in
+    let none = sym c.limits_fault.ensures ∙ c.in_default.is in
+    survey_answers c.args.asked c.args.names seen new source c.plan_lines.result none
+    (text_told c.args.asked c.args.names c.end_of-end.result seen.attached (told_all seen.attached) c.plan_lines.result c.ask_of-ask.result c.end_of-end.ensures c.ask_of-ask.ensures c.plan_lines.ensures.text)
+    (read_for c.args.asked c.args.names c.end_of-end.result seen new c.ask_of-ask.result none c.requires.attached c.end_of-end.ensures c.ask_of-ask.ensures c.plan_lines.ensures.reads)
+    c.plan_lines.ensures.quiet c.plan_lines.ensures.ends

@@ -1,7 +1,7 @@
 use Rattle.std.proofs.Common.{◌≡◌, []}
 use Rattle.std.specs.List.{range_with_len}
 use Rattle.sample_arrays.specs.Arrays.{sampled}
-use Rattle.sample_job.proofs.sampling.attached.Given as goal
+use Rattle.sample_job.proofs.sampling.array_images.Given as goal
 
 abbrev pub invariant-loop-image : goal.invariant-loop-image
 invariant-loop-image l =

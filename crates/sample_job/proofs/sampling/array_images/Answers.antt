@@ -9,7 +9,7 @@ use Rattle.sample_arrays.proofs.Sampled.{ruled}
 use Rattle.sample_arrays.specs.Arrays.{end_of}
 use Rattle.sample_job.proofs.Asked.{few_held}
 use Rattle.sample_job.proofs.Attached.{attached_are, number_is}
-use Rattle.sample_job.proofs.sampling.attached.Goals as goal
+use Rattle.sample_job.proofs.sampling.array_images.Goals as goal
 
 pub attach-requires-clause-there : goal.attach-requires-clause-there
 attach-requires-clause-there c =

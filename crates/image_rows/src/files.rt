@@ -1,7 +1,8 @@
 //! What images that are files give.
 ghost use Rattle.std.specs.Prelude.{◌+◌, ◌<◌, ◌≤◌, ◌^◌, length};
 
-use image_source::{FileImages, Images};
+use image_source::FileImages;
+use outside::Images;
 use std::fs;
 use std::fs::File;
 use std::io::{Seek, SeekFrom, Write};
@@ -97,6 +98,27 @@ fn files_are_images(rt: HostRuntime) -> Result<(), Fail> {
     Ok(())
 }
 
+// What is read of the images of two names that differ in a space alone.
+fn read_both(rt: &HostRuntime) -> Result<[Option<[u8; 512]>; 2], Fail> {
+    fs::write(rt, "a", [1; 512].as_slice())?;
+    fs::write(rt, " a", [2; 1024].as_slice())?;
+    let mut images = FileImages::new(rt, rt.alloc())?;
+    let _sectors = [attached(&mut images, " a"), attached(&mut images, "a")];
+    Ok([sector_of(&mut images, 0, 1), sector_of(&mut images, 1, 0)])
+}
+
+// A name is the whole name: a space before it is part of it.
+#[test]
+fn a_name_is_taken_as_it_stands(rt: HostRuntime) -> Result<(), Fail> {
+    let sectors = read_both(&rt)?;
+    assert!(rt; is_full(&sectors[0], 2));
+    assert!(rt; is_full(&sectors[1], 1));
+    for name in ["a", " a"] {
+        assert!(rt; is_removed(&rt, name));
+    }
+    Ok(())
+}
+
 // Whether no image of the name can be attached.
 fn is_fault(rt: &HostRuntime, name: &str) -> bool {
     match FileImages::new(rt, rt.alloc()) {
@@ -105,10 +127,10 @@ fn is_fault(rt: &HostRuntime, name: &str) -> bool {
     }
 }
 
-// A folder and a device are no images, nor is what is not there.
+// A folder and devices are no images, nor is what is not there. /dev/zero gives bytes without end.
 #[test]
 fn regular_files_alone_are_images(rt: HostRuntime) {
-    for name in [".", "/dev/null", "missing.img"] {
+    for name in [".", "/dev/null", "/dev/zero", "missing.img"] {
         assert!(rt; is_fault(&rt, name), "{name}");
     }
 }

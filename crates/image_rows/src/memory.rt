@@ -1,5 +1,6 @@
 //! That the calls which take memory succeed.
-use image_source::{Images, ListOf, MemImages, MemSink, MemSource, Sink, Source};
+use image_source::{MemImages, MemSink, MemSource};
+use outside::{Images, ListOf, Sink, Source};
 use std::alloc::Global;
 use std::test::Fail;
 

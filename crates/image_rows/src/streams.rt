@@ -1,5 +1,6 @@
 //! What sources and sinks over files do.
-use image_source::{Sink, Source, StdSink, StdSource};
+use image_source::{StdSink, StdSource};
+use outside::{Sink, Source};
 use std::fs::File;
 use std::io::{Cursor, ErrorKind, Read};
 use std::test::Fail;
@@ -72,5 +73,35 @@ impl Read for Interrupted {
 fn interrupted_reads_are_made_again(rt: HostRuntime) {
     let mut source = StdSource::new(Interrupted { calls: 0 });
     assert!(rt; taken(&mut source) == Some((1, *b"x\0\0\0\0\0\0\0")));
+    assert!(rt; taken(&mut source) == Some((1, *b"x\0\0\0\0\0\0\0")));
+}
+
+// A reader that fails at its first call, otherwise than by an interruption, and gives bytes `x` from then on.
+#[derive(Drop)]
+struct Broken {
+    has_failed: bool,
+}
+
+impl Read for Broken {
+    fn read(&mut self, to: &mut [u8]) -> io::Result<usize> {
+        if !self.has_failed {
+            self.has_failed = true;
+            return Err(io::Error::from(ErrorKind::WouldBlock));
+        }
+        match to {
+            [first, ..] => {
+                *first = b'x';
+                Ok(1)
+            }
+            [] => Ok(0),
+        }
+    }
+}
+
+// A read that failed otherwise is a fault at once: it is not made again before the next call.
+#[test]
+fn reads_that_fail_are_not_made_again(rt: HostRuntime) {
+    let mut source = StdSource::new(Broken { has_failed: false });
+    assert!(rt; taken(&mut source).is_none());
     assert!(rt; taken(&mut source) == Some((1, *b"x\0\0\0\0\0\0\0")));
 }

@@ -3,7 +3,8 @@
 ghost use Rattle.std.specs.Prelude.{◌≡◌, ◌≤◌, [], IfOk};
 
 use address_map::volume_sectors;
-use image_source::{Images, MemImages};
+use image_source::MemImages;
+use outside::Images;
 use raid_params::{Geometry, Head, Level, Pattern, Slots, Syndrome};
 use sample_arrays::{LEAST_MARKED, MOST_SAMPLED, count_held, sample};
 use std::process::Abort;

@@ -1,6 +1,8 @@
 //! Walks whose leaves and asked prefixes are written out.
-ghost use Rattle.std.specs.Prelude.{◌≡◌, ◌<◌, ◌∷◌, [], Some, not};
+ghost use Rattle.std.specs.Prelude.{◌≡◌, ◌<◌, ◌+◌, ◌∷◌, [], IsNone, Some, not};
 ghost use Rattle.std.specs.List.{starts_with};
+ghost use Rattle.candidate_enum.specs.Survivors.{question};
+ghost use Rattle.candidate_enum.specs.Tests.{tests};
 
 use candidate_enum::{Family, Leaf, Survivors};
 use raid_params::Slots;
@@ -43,7 +45,7 @@ impl Family for NotOne {
     }
 }
 
-/// The prefixes that a walk from rank 1 to rank 5 asks, in their order.
+/// The prefixes that a walk from rank 1 up to and not including rank 5 asks, in their order.
 const ASKED: [&[Option<u8>]; 8] = [
     &[],
     &[Some(0)],
@@ -56,12 +58,9 @@ const ASKED: [&[Option<u8>]; 8] = [
 ];
 
 // The walk of these ranks.
-fn walk_of<'a, R: Abort, F: Family>(
-    rt: &R,
-    family: &'a F,
-    from: u64,
-    stop: u64,
-) -> Survivors<'a, F> {
+fn walk_of<'a, R: Abort, F: Family>(rt: &R, family: &'a F, from: u64, stop: u64) -> Survivors<'a, F>
+    ensures { result.allowance ≡ tests (question (F.space_of family.now) (F.admits family.now) from stop) (F.space_of family.now).members [] }
+{
     let space = family.space();
     assert!(rt; space.images <= 16 && space.members <= 16);
     assert!(rt; from <= stop && stop as u128 <= space.total());
@@ -74,10 +73,10 @@ fn next_leaf<F: Family>(walk: &mut Survivors<F>) -> Option<Leaf> {
 }
 
 // The next leaf, with its steps counted.
-fn counted_leaf<F: Family, L: Ledger>(
-    walk: &mut Survivors<F>,
-    steps: &mut Steps<L>,
-) -> Option<Leaf> {
+fn counted_leaf<F: Family, L: Ledger>(walk: &mut Survivors<F>, steps: &mut Steps<L>) -> Option<Leaf>
+    ensures cost { steps.new + walk.new.allowance ≡ steps.old + walk.old.allowance }
+    ensures end { IsNone result → walk.new.allowance ≡ 0 }
+{
     walk.advance(steps)
 }
 
@@ -88,39 +87,39 @@ fn is_leaf(leaf: &Option<Leaf>, rank: u64, slots: &[Option<u8>]) -> bool {
     }
 }
 
-fn two_leaves<R: Abort, L: Ledger>(rt: &R, family: &NotOne, blank: Blank)
+// The leaves of ranks 1 to 4, by a walk whose steps are counted to its end, and how many steps it took.
+fn two_leaves<R: Abort, L: Ledger>(rt: &R, family: &NotOne, steps: &mut Steps<L>) -> usize
+    ensures { steps.new ≡ steps.old + result }
+{
+    assert!(rt; family.space().total() == 6);
+    let mut walk = walk_of(rt, family, 1, 5);
+    let first = counted_leaf(&mut walk, steps);
+    assert!(rt; is_leaf(&first, 1, &[Some(0), Some(2), Some(1)]));
+    let second = counted_leaf(&mut walk, steps);
+    assert!(rt; is_leaf(&second, 4, &[Some(2), Some(0), Some(1)]));
+    assert!(rt; counted_leaf(&mut walk, steps).is_none());
+    assert!(rt; counted_leaf(&mut walk, steps).is_none());
+    ASKED.len()
+}
+
+// How many steps the same walk takes, with a counter of its own.
+fn steps_of<R: Abort, L: Ledger>(rt: &R, family: &NotOne, blank: Blank) -> usize
     requires name { blank.name ≡ L.name }
     requires parts { blank.parts ≡ L.parts }
     requires some { 0 < L.parts }
 {
-    assert!(rt; family.space().total() == 6);
     let mut steps = Steps::<L>::new(blank);
-    let mut walk = walk_of(rt, family, 1, 5);
-    assert!(rt;
-        is_leaf(
-            &counted_leaf(&mut walk, &mut steps),
-            1,
-            &[Some(0), Some(2), Some(1)]
-        )
-    );
-    assert!(rt;
-        is_leaf(
-            &counted_leaf(&mut walk, &mut steps),
-            4,
-            &[Some(2), Some(0), Some(1)]
-        )
-    );
-    assert!(rt; counted_leaf(&mut walk, &mut steps).is_none());
-    assert!(rt; counted_leaf(&mut walk, &mut steps).is_none());
+    two_leaves(rt, family, &mut steps)
 }
 
+// The steps that are counted are the calls that the family saw, one by one.
 #[test]
 fn advanced(rt: HostRuntime) {
     let family = NotOne {
         asked: Cell::new(Some(0)),
     };
-    two_leaves::<HostRuntime, Brand>(&rt, &family, Blank::new(1));
-    assert!(rt; family.asked.get() == Some(ASKED.len()));
+    let steps = steps_of::<HostRuntime, Brand>(&rt, &family, Blank::new(1));
+    assert!(rt; family.asked.get() == Some(steps));
 }
 
 #[test]

@@ -1,13 +1,12 @@
 //! Listings and tests of sets with Q.
 use crate::plans::{LEVEL_SIX, LEVEL_SIX_LOST, SIX_MEMBERS};
 use crate::rows::{DOUBLE, Row, TORN, check, check_all};
-use crate::words::{Command, Operand};
 use std::test::Fail;
 
 /// The runs over sets with Q.
 const WITH_Q: [Row; 4] = [
     Row {
-        command: Command::List(&[Operand::From(0), Operand::Size(100)]),
+        line: "list from=0 size=100 -- a b c d",
         images: DOUBLE,
         plan: LEVEL_SIX,
         status: 0,
@@ -15,7 +14,7 @@ const WITH_Q: [Row; 4] = [
         notes: "",
     },
     Row {
-        command: Command::Check(&[Operand::Set("6:ls:after-q:1:0:0,1,2,3")]),
+        line: "check set=6:ls:after-q:1:0:0,1,2,3 -- a b c d",
         images: DOUBLE,
         plan: LEVEL_SIX,
         status: 0,
@@ -23,7 +22,7 @@ const WITH_Q: [Row; 4] = [
         notes: "",
     },
     Row {
-        command: Command::Check(&[Operand::Set("6:ls:by-slot:1:0:0,1,2,3")]),
+        line: "check set=6:ls:by-slot:1:0:0,1,2,3 -- a b c d",
         images: DOUBLE,
         plan: LEVEL_SIX,
         status: 0,
@@ -31,7 +30,7 @@ const WITH_Q: [Row; 4] = [
         notes: "",
     },
     Row {
-        command: Command::Check(&[Operand::Set("6:ls:after-q:1:0:0,-,1,2")]),
+        line: "check set=6:ls:after-q:1:0:0,-,1,2 -- a b c",
         images: TORN,
         plan: LEVEL_SIX_LOST,
         status: 0,
@@ -96,11 +95,11 @@ const BY_SLOT: &[&[u8]] = &[
     &[0x10, 0xCB, 0x44, 0x5B, 0x72, 0x89],
 ];
 
-/// A test of a set: the images, the set, and what `check` prints.
+/// A test of a set: the images, the line, and what it prints.
 #[derive(Clone, Copy)]
 struct Tested {
     images: &'static [&'static [u8]],
-    set: &'static str,
+    line: &'static str,
     out: &'static str,
 }
 
@@ -108,47 +107,47 @@ struct Tested {
 const TESTED: [Tested; 9] = [
     Tested {
         images: AFTER_Q,
-        set: "6:la:after-q:1:0:0,1,2,3,4,5",
+        line: "check set=6:la:after-q:1:0:0,1,2,3,4,5 -- a b c d e f",
         out: "rank 1440\nunsound 0 of 6\npass\n",
     },
     Tested {
         images: AFTER_Q,
-        set: "6:la:by-data:1:0:0,1,2,3,4,5",
+        line: "check set=6:la:by-data:1:0:0,1,2,3,4,5 -- a b c d e f",
         out: "rank 2160\nunsound 3 of 6\nfail\n",
     },
     Tested {
         images: AFTER_Q,
-        set: "6:la:by-slot:1:0:0,1,2,3,4,5",
+        line: "check set=6:la:by-slot:1:0:0,1,2,3,4,5 -- a b c d e f",
         out: "rank 2880\nunsound 5 of 6\nfail\n",
     },
     Tested {
         images: BY_DATA,
-        set: "6:la:after-q:1:0:0,1,2,3,4,5",
+        line: "check set=6:la:after-q:1:0:0,1,2,3,4,5 -- a b c d e f",
         out: "rank 1440\nunsound 3 of 6\nfail\n",
     },
     Tested {
         images: BY_DATA,
-        set: "6:la:by-data:1:0:0,1,2,3,4,5",
+        line: "check set=6:la:by-data:1:0:0,1,2,3,4,5 -- a b c d e f",
         out: "rank 2160\nunsound 0 of 6\npass\n",
     },
     Tested {
         images: BY_DATA,
-        set: "6:la:by-slot:1:0:0,1,2,3,4,5",
+        line: "check set=6:la:by-slot:1:0:0,1,2,3,4,5 -- a b c d e f",
         out: "rank 2880\nunsound 5 of 6\nfail\n",
     },
     Tested {
         images: BY_SLOT,
-        set: "6:la:after-q:1:0:0,1,2,3,4,5",
+        line: "check set=6:la:after-q:1:0:0,1,2,3,4,5 -- a b c d e f",
         out: "rank 1440\nunsound 5 of 6\nfail\n",
     },
     Tested {
         images: BY_SLOT,
-        set: "6:la:by-data:1:0:0,1,2,3,4,5",
+        line: "check set=6:la:by-data:1:0:0,1,2,3,4,5 -- a b c d e f",
         out: "rank 2160\nunsound 5 of 6\nfail\n",
     },
     Tested {
         images: BY_SLOT,
-        set: "6:la:by-slot:1:0:0,1,2,3,4,5",
+        line: "check set=6:la:by-slot:1:0:0,1,2,3,4,5 -- a b c d e f",
         out: "rank 2880\nunsound 0 of 6\npass\n",
     },
 ];
@@ -159,7 +158,7 @@ const TESTED: [Tested; 9] = [
 fn the_orders_of_q_differ(rt: HostRuntime) -> Result<(), Fail> {
     for tested in &TESTED {
         let row = Row {
-            command: Command::Check(&[Operand::Set(tested.set)]),
+            line: tested.line,
             images: tested.images,
             plan: SIX_MEMBERS,
             status: 0,

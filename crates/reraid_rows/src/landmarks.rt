@@ -4,7 +4,6 @@ use crate::plans::{
     XFS_AT_THE_START,
 };
 use crate::rows::{Row, STRIPES, check, check_all};
-use crate::words::{Command, Operand};
 use std::test::Fail;
 
 /// Two images of two sectors.
@@ -12,7 +11,7 @@ const TWO: &[&[u8]] = &[&[0, 0], &[0, 0]];
 
 /// The listing over a header.
 const ORDERED: Row = Row {
-    command: Command::List(&[]),
+    line: "list -- a b",
     images: TWO,
     plan: ONE_HEADER,
     status: 0,
@@ -31,7 +30,7 @@ fn a_header_tells_the_order_of_a_stripe(rt: HostRuntime) -> Result<(), Fail> {
 const EQUAL: &[&[u8]] = &[&[0], &[7], &[7], &[0]];
 
 /// A test of a set that leaves out an image.
-const FOREIGN: Command = Command::Check(&[Operand::Set("5:ls:none:1:0:0,3,1")]);
+const FOREIGN: &str = "check set=5:ls:none:1:0:0,3,1 -- a b c d";
 
 /// What it prints.
 const REFUSED: &str = "rank 4\nunsound 1 of 1\ngroup 0 gpt none\nfail\n";
@@ -39,7 +38,7 @@ const REFUSED: &str = "rank 4\nunsound 1 of 1\ngroup 0 gpt none\nfail\n";
 /// The runs over equal headers.
 const ON_PARITY: [Row; 3] = [
     Row {
-        command: Command::List(&[]),
+        line: "list -- a b c",
         images: &[&[0], &[7], &[7]],
         plan: TWO_HEADERS,
         status: 0,
@@ -47,7 +46,7 @@ const ON_PARITY: [Row; 3] = [
         notes: "",
     },
     Row {
-        command: FOREIGN,
+        line: FOREIGN,
         images: EQUAL,
         plan: TWO_HEADERS_OF_FOUR,
         status: 0,
@@ -55,7 +54,7 @@ const ON_PARITY: [Row; 3] = [
         notes: "",
     },
     Row {
-        command: FOREIGN,
+        line: FOREIGN,
         images: EQUAL,
         plan: ONE_HEADER_OF_FOUR,
         status: 0,
@@ -78,7 +77,7 @@ const LONG: &[&[u8]] = &[&[0; 640], &[0; 640], &[0; 640], &[0; 640]];
 /// The runs over the landmarks of a file system.
 const OVER_XFS: [Row; 4] = [
     Row {
-        command: Command::List(&[]),
+        line: "list -- a b c d",
         images: LONG,
         plan: XFS,
         status: 0,
@@ -86,7 +85,7 @@ const OVER_XFS: [Row; 4] = [
         notes: "",
     },
     Row {
-        command: Command::Check(&[Operand::Set("0:plain:none:8:0:0,1,2,3")]),
+        line: "check set=0:plain:none:8:0:0,1,2,3 -- a b c d",
         images: LONG,
         plan: XFS,
         status: 0,
@@ -94,7 +93,7 @@ const OVER_XFS: [Row; 4] = [
         notes: "",
     },
     Row {
-        command: Command::List(&[]),
+        line: "list -- a b c d",
         images: LONG,
         plan: XFS_AT_THE_START,
         status: 0,
@@ -102,7 +101,7 @@ const OVER_XFS: [Row; 4] = [
         notes: "",
     },
     Row {
-        command: Command::List(&[]),
+        line: "list -- a b c",
         images: STRIPES,
         plan: NO_DISTANCE,
         status: 0,

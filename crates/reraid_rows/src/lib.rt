@@ -1,32 +1,49 @@
 //! Tests that run the whole program over objects in memory.
 //!
-//! Each run has words, images and a plan, and a status, an output and a note that were worked out by hand.
-//! `listings`, `checks`, `landmarks`, `samples`, `surveys` and `volumes` have answers, `refusals` what is refused. In
-//! `side_by_side` pieces of a scan wait for each other. That objects are ready for a run stands in `specs/Named`. What
-//! fails, is cut off or stands at a limit is tried in `reraid_faults`.
+//! A run has its words as one line, images and a plan, and a status, an output and a note that were worked out by hand.
+//! `listings`, `checks`, `landmarks`, `samples`, `surveys` and `volumes` have answers, `refusals` and `refused_words` what is
+//! refused, and `defaults` operands that are not given. `failing` has each call of each object made to fail in turn, `cut` plans
+//! whose end is missing, and `plan_limits`, `sector_limits` and `image_limits` what stands at both sides of each limit. In
+//! `side_by_side` pieces of a scan wait for each other. That objects are ready for a run stands in `specs/Ready`.
 #![tactic(auto)]
 
 #[cfg(test)]
 mod checks;
 #[cfg(test)]
+mod cut;
+#[cfg(test)]
+mod defaults;
+#[cfg(test)]
+mod failing;
+#[cfg(test)]
+mod image_limits;
+#[cfg(test)]
 mod landmarks;
 #[cfg(test)]
 mod listings;
 #[cfg(test)]
-mod outside;
+mod objects;
+#[cfg(test)]
+mod pieces;
+#[cfg(test)]
+mod placed;
+#[cfg(test)]
+mod plan_limits;
 #[cfg(test)]
 mod plans;
 #[cfg(test)]
 mod refusals;
 #[cfg(test)]
+mod refused_words;
+#[cfg(test)]
 mod rows;
 #[cfg(test)]
 mod samples;
+#[cfg(test)]
+mod sector_limits;
 #[cfg(test)]
 mod side_by_side;
 #[cfg(test)]
 mod surveys;
 #[cfg(test)]
 mod volumes;
-#[cfg(test)]
-mod words;

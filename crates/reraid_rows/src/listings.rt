@@ -1,7 +1,6 @@
 //! Listings whose answers were worked out by hand.
 use crate::plans::{LISTING, ONE_FOREIGN, ONE_LOST, PLAN, PLAN_WITH_A_BAD_ROW, TWO_LEVELS};
 use crate::rows::{Row, STRIPES, check_all};
-use crate::words::{Command, Operand};
 use std::test::Fail;
 
 /// The first listing as JSON.
@@ -14,7 +13,7 @@ const STRIPES_BROKEN: &[&[u8]] = &[&[1, 2], &[3, 4], &[2, 7]];
 /// The listings, of images that pass and of others.
 const FILTERED: [Row; 7] = [
     Row {
-        command: Command::List(&[Operand::From(0), Operand::Size(10), Operand::Span(u64::MAX)]),
+        line: "list from=0 size=10 span=18446744073709551615 -- a b c",
         images: STRIPES,
         plan: PLAN,
         status: 0,
@@ -22,7 +21,7 @@ const FILTERED: [Row; 7] = [
         notes: "",
     },
     Row {
-        command: Command::List(&[Operand::From(0), Operand::Size(10), Operand::Span(u64::MAX)]),
+        line: "list from=0 size=10 span=18446744073709551615 -- a b c",
         images: STRIPES_BROKEN,
         plan: PLAN,
         status: 0,
@@ -30,7 +29,7 @@ const FILTERED: [Row; 7] = [
         notes: "",
     },
     Row {
-        command: Command::List(&[Operand::From(0), Operand::Size(2), Operand::Span(u64::MAX)]),
+        line: "list from=0 size=2 span=18446744073709551615 -- a b c",
         images: STRIPES,
         plan: PLAN,
         status: 0,
@@ -38,7 +37,7 @@ const FILTERED: [Row; 7] = [
         notes: "",
     },
     Row {
-        command: Command::List(&[Operand::From(2), Operand::Size(4), Operand::Span(u64::MAX)]),
+        line: "list from=2 size=4 span=18446744073709551615 -- a b c",
         images: STRIPES,
         plan: PLAN,
         status: 0,
@@ -46,7 +45,7 @@ const FILTERED: [Row; 7] = [
         notes: "",
     },
     Row {
-        command: Command::List(&[Operand::From(6), Operand::Size(4), Operand::Span(u64::MAX)]),
+        line: "list from=6 size=4 span=18446744073709551615 -- a b c",
         images: STRIPES,
         plan: PLAN,
         status: 0,
@@ -54,7 +53,7 @@ const FILTERED: [Row; 7] = [
         notes: "",
     },
     Row {
-        command: Command::List(&[Operand::From(7), Operand::Size(4), Operand::Span(u64::MAX)]),
+        line: "list from=7 size=4 span=18446744073709551615 -- a b c",
         images: STRIPES,
         plan: PLAN,
         status: 6,
@@ -63,7 +62,7 @@ const FILTERED: [Row; 7] = [
     },
     // with one bad row allowed the images of the second listing pass
     Row {
-        command: Command::List(&[Operand::From(0), Operand::Size(10), Operand::Span(u64::MAX)]),
+        line: "list from=0 size=10 span=18446744073709551615 -- a b c",
         images: STRIPES_BROKEN,
         plan: PLAN_WITH_A_BAD_ROW,
         status: 0,
@@ -81,7 +80,7 @@ fn listings_go_on_to_the_whole_filter(rt: HostRuntime) -> Result<(), Fail> {
 /// The listings of several pages, and as JSON.
 const PAGES: [Row; 4] = [
     Row {
-        command: Command::List(&[Operand::Size(4), Operand::Said("pages=2")]),
+        line: "list size=4 pages=2 -- a b c",
         images: STRIPES,
         plan: PLAN,
         status: 0,
@@ -89,7 +88,7 @@ const PAGES: [Row; 4] = [
         notes: "",
     },
     Row {
-        command: Command::List(&[Operand::Size(6), Operand::Said("pages=5")]),
+        line: "list size=6 pages=5 -- a b c",
         images: STRIPES,
         plan: PLAN,
         status: 0,
@@ -97,7 +96,7 @@ const PAGES: [Row; 4] = [
         notes: "",
     },
     Row {
-        command: Command::List(&[Operand::From(6), Operand::Said("pages=5")]),
+        line: "list from=6 pages=5 -- a b c",
         images: STRIPES,
         plan: PLAN,
         status: 0,
@@ -105,7 +104,7 @@ const PAGES: [Row; 4] = [
         notes: "",
     },
     Row {
-        command: Command::List(&[Operand::Size(10), Operand::Said("form=json")]),
+        line: "list size=10 form=json -- a b c",
         images: STRIPES,
         plan: PLAN,
         status: 0,
@@ -123,7 +122,7 @@ fn pages_and_objects(rt: HostRuntime) -> Result<(), Fail> {
 /// The listings over other numbers of members than images.
 const OTHER_MEMBERS: [Row; 4] = [
     Row {
-        command: Command::List(&[Operand::From(0), Operand::Size(10)]),
+        line: "list from=0 size=10 -- a b",
         images: &[&[1, 2], &[3, 4]],
         plan: ONE_LOST,
         status: 0,
@@ -131,7 +130,7 @@ const OTHER_MEMBERS: [Row; 4] = [
         notes: "",
     },
     Row {
-        command: Command::List(&[Operand::From(0), Operand::Size(10)]),
+        line: "list from=0 size=10 -- a b c d",
         images: &[&[1, 2], &[3, 4], &[2, 6], &[0, 0]],
         plan: ONE_FOREIGN,
         status: 0,
@@ -139,7 +138,7 @@ const OTHER_MEMBERS: [Row; 4] = [
         notes: "",
     },
     Row {
-        command: Command::List(&[Operand::From(12), Operand::Size(1)]),
+        line: "list from=12 size=1 -- a b c",
         images: STRIPES,
         plan: TWO_LEVELS,
         status: 0,
@@ -147,7 +146,7 @@ const OTHER_MEMBERS: [Row; 4] = [
         notes: "",
     },
     Row {
-        command: Command::List(&[Operand::From(0), Operand::Size(1)]),
+        line: "list from=0 size=1 -- a b c",
         images: STRIPES,
         plan: TWO_LEVELS,
         status: 0,

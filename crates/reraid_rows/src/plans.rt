@@ -1,4 +1,6 @@
 //! The texts of plans.
+use outside::Memory;
+use std::alloc::Global;
 
 /// The plan of the first listing: three images of two sectors, RAID 5 left-symmetric, chunks of
 /// one sector.
@@ -33,9 +35,9 @@ pub const LEVEL_SIX: &str =
 pub const LEVEL_SIX_LOST: &str =
     "reraid-plan 1\nimages 3\nlength 1\nlength 1\nlength 1\nend 1\nlevels 6\nmembers 4\npatterns ls\nsyndromes after-q\nchunks 1\noffsets 0\norigins 0\nmissing 1\nforeign 0\nbadrows 0\nwindow 1\nmisfits 0\nleast 1\ndone\n";
 
-/// Level 6 over six members of one sector, with one order of Q.
+/// Level 5 over six members of one sector.
 pub const SIX_IMAGES: &str =
-    "reraid-plan 1\nimages 6\nlength 1\nlength 1\nlength 1\nlength 1\nlength 1\nlength 1\nend 1\nlevels 6\nmembers 6\npatterns ls\nsyndromes after-q\nchunks 1\noffsets 0\norigins 0\nmissing 0\nforeign 0\nbadrows 0\nwindow 1\nmisfits 0\nleast 1\ndone\n";
+    "reraid-plan 1\nimages 6\nlength 1\nlength 1\nlength 1\nlength 1\nlength 1\nlength 1\nend 1\nlevels 5\nmembers 6\npatterns ls\nsyndromes none\nchunks 1\noffsets 0\norigins 0\nmissing 0\nforeign 0\nbadrows 0\nwindow 1\nmisfits 0\nleast 1\ndone\n";
 
 /// Levels 5 and 6 over six members, two patterns, and each order of Q.
 pub const SIX_MEMBERS: &str =
@@ -72,3 +74,38 @@ pub const XFS_AT_THE_START: &str =
 /// A mark that lies nowhere: its rule has no distance.
 pub const NO_DISTANCE: &str =
     "reraid-plan 1\nimages 3\nlength 2\nlength 2\nlength 2\nend 2\nlevels 5\nmembers 3\npatterns ls\nsyndromes none\nchunks 1\noffsets 0\norigins 0\nmissing 0\nforeign 0\nbadrows 0\nwindow 2\nmisfits 0\nleast 1\ngroup ntfs\nmark boot 0 0 every:0:0:0\ndone\n";
+
+/// What `survey` prints of three images of 100 sectors without a landmark.
+pub const NO_LANDMARK: &str =
+    "reraid-plan 1\nimages 3\nlength 100\nlength 100\nlength 100\nend 100\nlevels 0,5,6\nmembers 3\npatterns plain,la,ra,ls,rs,parity-first,parity-last,n-restart,n-continue,la-6,ra-6,ls-6,rs-6,parity-first-6\nsyndromes none,after-q,by-data,by-slot\nchunks 8,16,32,64,128,256,512,1024,2048\noffsets 0,2048,262144,264192\norigins 0,2048\nmissing 0\nforeign 0\nbadrows 0\nwindow 100\nmisfits 0\nleast 1\ndone\n";
+
+/// Five members of one sector, of which every order is tried.
+pub const FIVE_MEMBERS: &str =
+    "reraid-plan 1\nimages 5\nlength 1\nlength 1\nlength 1\nlength 1\nlength 1\nend 1\nlevels 5\nmembers 5\npatterns ls\nsyndromes none\nchunks 1\noffsets 0\norigins 0\nmissing 0\nforeign 0\nbadrows 0\nwindow 1\nmisfits 0\nleast 1\ndone\n";
+
+/// Level 6 over sixteen images of one sector: 13 patterns, 3 orders of Q, 15 chunks of two sectors and more, and 64 offsets.
+pub const NO_WHOLE_ROW: &str =
+    "reraid-plan 1\nimages 16\nlength 1\nlength 1\nlength 1\nlength 1\nlength 1\nlength 1\nlength 1\nlength 1\nlength 1\nlength 1\nlength 1\nlength 1\nlength 1\nlength 1\nlength 1\nlength 1\nend 1\nlevels 6\nmembers 16\npatterns la,ra,ls,rs,parity-first,parity-last,n-restart,n-continue,la-6,ra-6,ls-6,rs-6,parity-first-6\nsyndromes after-q,by-data,by-slot\nchunks 2,4,8,16,32,64,128,256,512,1024,2048,4096,8192,16384,32768\noffsets 0,1,2,3,4,5,6,7,8,9,10,11,12,13,14,15,16,17,18,19,20,21,22,23,24,25,26,27,28,29,30,31,32,33,34,35,36,37,38,39,40,41,42,43,44,45,46,47,48,49,50,51,52,53,54,55,56,57,58,59,60,61,62,63\norigins 0\nmissing 1\nforeign 1\nbadrows 0\nwindow 1\nmisfits 0\nleast 1\ndone\n";
+
+/// The bytes of a text.
+pub fn bytes_of(alloc: Global, text: &str) -> Result<Vec<u8>, Memory> {
+    text.as_bytes().to_vec(alloc).map_err(|_| Memory)
+}
+
+/// The plan of the first listing with another text in the place of a line, counted from 1.
+pub fn with_line(alloc: Global, number: usize, text: &str) -> Result<Vec<u8>, Memory> {
+    let mut bytes = Vec::new(alloc);
+    let mut place = 0usize;
+    for line in PLAN.split('\n') {
+        place = place.saturating_add(1);
+        let line = if place == number { text } else { line };
+        bytes
+            .extend_from_slice(line.as_bytes())
+            .map_err(|_| Memory)?;
+        bytes.push(b'\n').map_err(|_| Memory)?;
+    }
+
+    // What follows the last line feed is no line.
+    bytes.pop();
+    Ok(bytes)
+}

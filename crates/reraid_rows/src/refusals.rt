@@ -1,15 +1,15 @@
 //! Refusals of plans, images and sets.
+use crate::objects::images_of;
 use crate::plans::{PLAN, TOO_MANY_SETS, TWO_LEVELS};
-use crate::rows::{End, Row, SET, STRIPES, STRIPES_LOST, check, check_all, compare, run};
-use crate::words::{Command, Operand};
-use image_source::Memory;
+use crate::rows::{End, Row, SIXTEEN, STRIPES, STRIPES_LOST, check, check_all, ends_so};
+use outside::Memory;
 use std::alloc::Global;
 use std::process::Abort;
 use std::test::Fail;
 use std::thread::Threads;
 
 /// The first ten sets.
-const FIRST: Command<'static> = Command::List(&[Operand::From(0), Operand::Size(10)]);
+const FIRST: &str = "list from=0 size=10 -- a b c";
 
 /// One byte more than a plan may have.
 const TOO_LONG: usize = 4_194_305;
@@ -43,9 +43,8 @@ fn check_plan_of<R: Threads + Sync + Abort>(
     end: &End,
 ) -> Result<(), Fail> {
     let plan = plan_of(alloc, length)?;
-    let (status, met) = run(rt, alloc, &FIRST, STRIPES, &plan)?;
-    compare(rt, status, &met, end);
-    Ok(())
+    let contents = images_of(alloc, STRIPES)?;
+    ends_so(rt, alloc, FIRST, &contents, &plan, end)
 }
 
 // A plan that is too long, and the same without its last byte.
@@ -55,14 +54,9 @@ fn a_plan_may_be_too_long(rt: HostRuntime) -> Result<(), Fail> {
     check_plan_of(&rt, rt.alloc(), TOO_LONG - 1, &AFTER_DONE)
 }
 
-/// An image of one sector of zeros, and sixteen of them.
-const ZEROS: &[u8] = &[0];
-
-const SIXTEEN: &[&[u8]] = &[ZEROS; 16];
-
 /// A listing over too many sets.
 const TOO_LARGE: Row = Row {
-    command: Command::List(&[]),
+    line: "list -- a b c d e f g h i j k l m n o p",
     images: SIXTEEN,
     plan: TOO_MANY_SETS,
     status: 5,
@@ -80,7 +74,7 @@ fn a_product_may_be_too_large(rt: HostRuntime) -> Result<(), Fail> {
 /// The runs over other images than a plan or a command asks for.
 const OTHER_IMAGES: [Row; 5] = [
     Row {
-        command: FIRST,
+        line: "list from=0 size=10 -- a b",
         images: &[&[1, 2], &[3, 4]],
         plan: PLAN,
         status: 4,
@@ -88,7 +82,7 @@ const OTHER_IMAGES: [Row; 5] = [
         notes: "reraid: images: count given 2 planned 3\n",
     },
     Row {
-        command: FIRST,
+        line: FIRST,
         images: &[&[1, 2], &[3, 4], &[2, 6, 0]],
         plan: TWO_LEVELS,
         status: 4,
@@ -96,7 +90,7 @@ const OTHER_IMAGES: [Row; 5] = [
         notes: "reraid: images: length 2 given 3 planned 2\n",
     },
     Row {
-        command: Command::Write(&[Operand::Set(SET), Operand::End(3)]),
+        line: "write set=5:ls:none:1:0:0,1,2 end=3 -- a b c",
         images: STRIPES,
         plan: "",
         status: 4,
@@ -104,7 +98,7 @@ const OTHER_IMAGES: [Row; 5] = [
         notes: "reraid: images: end given 3 planned 2\n",
     },
     Row {
-        command: Command::Map(&[Operand::Set(SET), Operand::Sector(0), Operand::End(3)]),
+        line: "map set=5:ls:none:1:0:0,1,2 sector=0 end=3 -- a b c",
         images: STRIPES,
         plan: "",
         status: 4,
@@ -112,11 +106,7 @@ const OTHER_IMAGES: [Row; 5] = [
         notes: "reraid: images: end given 3 planned 2\n",
     },
     Row {
-        command: Command::Rebuild(&[
-            Operand::Set("5:ls:none:1:0:-,0,1"),
-            Operand::Slot(0),
-            Operand::End(3),
-        ]),
+        line: "rebuild set=5:ls:none:1:0:-,0,1 slot=0 end=3 -- a b",
         images: STRIPES_LOST,
         plan: "",
         status: 4,
@@ -133,7 +123,7 @@ fn images_are_not_those_that_are_asked_for(rt: HostRuntime) -> Result<(), Fail> 
 /// The runs over sets that break a rule.
 const BROKEN_SETS: [Row; 3] = [
     Row {
-        command: Command::Map(&[Operand::Set("5:ls:none:3:0:0,1,2"), Operand::Sector(0)]),
+        line: "map set=5:ls:none:3:0:0,1,2 sector=0 -- a b c",
         images: STRIPES,
         plan: "",
         status: 7,
@@ -141,7 +131,7 @@ const BROKEN_SETS: [Row; 3] = [
         notes: "reraid: set rule 4 value 3\n",
     },
     Row {
-        command: Command::Write(&[Operand::Set("5:ls:none:3:0:0,1,2")]),
+        line: "write set=5:ls:none:3:0:0,1,2 -- a b c",
         images: STRIPES,
         plan: "",
         status: 7,
@@ -149,7 +139,7 @@ const BROKEN_SETS: [Row; 3] = [
         notes: "reraid: set rule 4 value 3\n",
     },
     Row {
-        command: Command::Rebuild(&[Operand::Set(SET), Operand::Slot(0)]),
+        line: "rebuild set=5:ls:none:1:0:0,1,2 slot=0 -- a b c",
         images: STRIPES,
         plan: "",
         status: 7,

@@ -1,51 +1,26 @@
 //! Generated arrays, and what is found of them. The totals were worked out by hand, the marks by another program.
-use crate::outside::{Outside, images_of, run_command};
-use crate::rows::{End, compare};
-use crate::words::{Command, Operand};
-use image_source::Memory;
+use crate::rows::{End, ends_so};
 use std::alloc::Global;
 use std::process::Abort;
 use std::test::Fail;
 use std::thread::Threads;
 
-/// Runs `sample` with these words, over no images.
-fn run<R: Threads + Sync>(
-    rt: &R,
-    alloc: Global,
-    operands: &[Operand],
-) -> Result<(u8, Outside), Memory> {
-    let mut met = images_of(alloc, &[], &[], b"")?;
-    let status = run_command(rt, alloc, &Command::Sample(operands), &[], &mut met)?;
-    Ok((status, met))
-}
-
 /// Three members of two rows of chunks of eight sectors: 16 sectors, in which chunks of 8 and of 16 have a row.
 /// So 6 patterns of level 5, 2 chunks and 6 orders pass, and below them are 7 chunks and 3 offsets more that
 /// have no row: 6 * 9 * 4 * 6 are 1296.
-const SMALL: &[Operand] = &[
-    Operand::Said("number=7"),
-    Operand::Set("5:ls:none:8:0:0,1,2"),
-    Operand::Said("rows=2"),
-    Operand::Said("marks=none"),
-];
+const SMALL: &str = "sample number=7 set=5:ls:none:8:0:0,1,2 rows=2 marks=none --";
 
 /// The same, with the marks left to their default. (With marks these words are refused, as below.)
-const UNSAID: &[Operand] = &[
-    Operand::Said("number=7"),
-    Operand::Set("5:ls:none:8:0:0,1,2"),
-    Operand::Said("rows=2"),
-];
+const UNSAID: &str = "sample number=7 set=5:ls:none:8:0:0,1,2 rows=2 --";
 
-/// Runs `sample` with these words, and compares what it leaves.
+/// Runs `sample`, over no images, and compares what it leaves.
 fn check<R: Threads + Sync + Abort>(
     rt: &R,
     alloc: Global,
-    operands: &[Operand],
+    line: &str,
     end: &End,
 ) -> Result<(), Fail> {
-    let (status, met) = run(rt, alloc, operands)?;
-    compare(rt, status, &met, end);
-    Ok(())
+    ends_so(rt, alloc, line, &[], b"", end)
 }
 
 /// What is found of it.
@@ -57,20 +32,16 @@ const FOUND: End = End {
 
 #[test]
 fn an_array_without_marks(rt: HostRuntime) -> Result<(), Fail> {
-    for operands in [SMALL, SMALL, UNSAID] {
-        check(&rt, rt.alloc(), operands, &FOUND)?;
+    for line in [SMALL, SMALL, UNSAID] {
+        check(&rt, rt.alloc(), line, &FOUND)?;
     }
     Ok(())
 }
 
 /// Twelve members, of which the six at even places have the landmarks. The others have none, and at level 5 the
 /// order of members does not change their sum: so their 720 orders pass, and no other set does.
-const MARKED: &[Operand] = &[
-    Operand::Said("number=7"),
-    Operand::Set("5:ls:none:8:0:0,1,2,3,4,5,6,7,8,9,10,11"),
-    Operand::Said("rows=200"),
-    Operand::Said("marks=xfs"),
-];
+const MARKED: &str =
+    "sample number=7 set=5:ls:none:8:0:0,1,2,3,4,5,6,7,8,9,10,11 rows=200 marks=xfs --";
 
 /// What is found of them.
 const FOUND_MARKED: End = End {
@@ -84,58 +55,42 @@ fn an_array_with_landmarks(rt: HostRuntime) -> Result<(), Fail> {
     check(&rt, rt.alloc(), MARKED, &FOUND_MARKED)
 }
 
-/// A refusal by the rule of a set, and its line.
-type Refusal = (&'static [Operand<'static>], &'static str);
-
-const REFUSED: &[Refusal] = &[
+/// Lines that are refused by a rule of the set, and what is noted.
+const REFUSED: [(&str, &str); 3] = [
     (
-        &[
-            Operand::Said("number=7"),
-            Operand::Set("5:ls:none:8:0:0,1,2"),
-            Operand::Said("rows=2"),
-            Operand::Said("marks=xfs"),
-        ],
+        "sample number=7 set=5:ls:none:8:0:0,1,2 rows=2 marks=xfs --",
         "reraid: set rule 11 value 32\n",
     ),
     (
-        &[
-            Operand::Said("number=7"),
-            Operand::Set("5:ls:none:8:0:0,2,-"),
-            Operand::Said("rows=2"),
-        ],
+        "sample number=7 set=5:ls:none:8:0:0,2,- rows=2 --",
         "reraid: set rule 5 value 2\n",
     ),
     // 3 * (699,051 + 1) sectors are 2,097,156.
     (
-        &[
-            Operand::Said("number=7"),
-            Operand::Set("5:ls:none:1:699051:0,1,2"),
-            Operand::Said("rows=1"),
-            Operand::Said("marks=xfs"),
-        ],
+        "sample number=7 set=5:ls:none:1:699051:0,1,2 rows=1 marks=xfs --",
         "reraid: set rule 10 value 2097156\n",
     ),
 ];
 
-/// Runs `sample` with words that are refused by a rule, and compares what it leaves.
+/// Runs a line that is refused by a rule, and compares what it leaves.
 fn refused<R: Threads + Sync + Abort>(
     rt: &R,
     alloc: Global,
-    operands: &[Operand],
     line: &str,
+    noted: &str,
 ) -> Result<(), Fail> {
     let end = End {
         status: 7,
         out: b"",
-        notes: line.as_bytes(),
+        notes: noted.as_bytes(),
     };
-    check(rt, alloc, operands, &end)
+    check(rt, alloc, line, &end)
 }
 
 #[test]
 fn arrays_that_are_refused(rt: HostRuntime) -> Result<(), Fail> {
-    for (operands, line) in REFUSED {
-        refused(&rt, rt.alloc(), operands, line)?;
+    for (line, noted) in REFUSED {
+        refused(&rt, rt.alloc(), line, noted)?;
     }
     Ok(())
 }

@@ -1,70 +1,17 @@
 //! Surveys of images that hold landmarks, and listings over their plans.
-use crate::outside::{Outside, first_names, images_with, run_command};
+use crate::placed::{Field, Placed, images};
 use crate::plans::XFS;
-use crate::rows::{End, compare, same_status};
-use crate::words::{Command, Operand};
-use image_source::{Memory, SECTOR};
+use crate::rows::{End, compare, ends_so, run, same_status};
+use outside::{Memory, SECTOR};
 use std::alloc::Global;
 use std::process::Abort;
 use std::test::Fail;
 use std::thread::Threads;
 
-/// A field of a landmark sector: where it stands, and its bytes.
-type Field = (usize, &'static [u8]);
-
-/// A landmark sector of an image: its number, and its fields.
-#[derive(Clone, Copy)]
-struct Placed<'a> {
-    image: usize,
-    sector: usize,
-    fields: &'a [Field],
-}
-
-/// Images of these lengths in bytes, zero but for these sectors.
-fn images(alloc: Global, lengths: &[usize], placed: &[Placed]) -> Result<Vec<Vec<u8>>, Memory> {
-    let mut made = Vec::new(alloc);
-    for length in lengths {
-        let bytes = vec![in alloc; 0u8; *length].map_err(|_| Memory)?;
-        made.push(bytes).map_err(|_| Memory)?;
-    }
-    for one in placed {
-        if let Some(bytes) = made.get_mut(one.image) {
-            put(bytes, one);
-        }
-    }
-    Ok(made)
-}
-
-/// Puts the fields of a sector, where it lies within the image.
-fn put(bytes: &mut Vec<u8>, placed: &Placed) {
-    for (at, field) in placed.fields {
-        let start = placed.sector.saturating_mul(SECTOR).saturating_add(*at);
-        for (place, byte) in field.iter().enumerate() {
-            if let Some(old) = bytes.get_mut(start.saturating_add(place)) {
-                *old = *byte;
-            }
-        }
-    }
-}
-
-/// Runs a command over images of these bytes.
-fn run<R: Threads + Sync>(
-    rt: &R,
-    alloc: Global,
-    command: &Command,
-    contents: &[Vec<u8>],
-    plan: &[u8],
-) -> Result<(u8, Outside), Memory> {
-    let names = first_names(contents.len());
-    let mut met = images_with(alloc, names, contents, plan)?;
-    let status = run_command(rt, alloc, command, names, &mut met)?;
-    Ok((status, met))
-}
-
-/// One survey: its command, the lengths of its images in bytes, the sectors that are not zero, and the plan that it must print.
+/// One survey: its line, the lengths of its images in bytes, the sectors that are not zero, and the plan that it must print.
 #[derive(Clone, Copy)]
 struct Surveyed<'a> {
-    command: Command<'a>,
+    line: &'a str,
     lengths: &'a [usize],
     placed: &'a [Placed<'a>],
     plan: &'a str,
@@ -90,21 +37,7 @@ fn check<R: Threads + Sync + Abort>(rt: &R, alloc: Global, survey: &Surveyed) ->
         out: survey.plan.as_bytes(),
         notes: b"",
     };
-    ends_so(rt, alloc, &survey.command, &contents, b"", &end)
-}
-
-/// Runs a command over images of these bytes, and compares what it leaves.
-fn ends_so<R: Threads + Sync + Abort>(
-    rt: &R,
-    alloc: Global,
-    command: &Command,
-    contents: &[Vec<u8>],
-    plan: &[u8],
-    end: &End,
-) -> Result<(), Fail> {
-    let (status, met) = run(rt, alloc, command, contents, plan)?;
-    compare(rt, status, &met, end);
-    Ok(())
+    ends_so(rt, alloc, survey.line, &contents, b"", &end)
 }
 
 /// A header of a partition table in block 1 whose last copy is in block 127, with entries in block 2. Its
@@ -331,40 +264,40 @@ fn group(number: usize) -> [Placed<'static>; 3] {
     ]
 }
 
-/// The operands for images that hold a table.
-const AT_ZERO: Command<'static> = Command::Survey(&[Operand::Said("origins=0")]);
-
-const DROPPED: Command<'static> = Command::Survey(&[
-    Operand::Said("origins=0"),
-    Operand::Said("drop=0:1"),
-]);
-
-const TO_ZERO: Command<'static> = Command::Survey(&[Operand::End(0)]);
-
-const DEFAULTS: Command<'static> = Command::Survey(&[]);
-
 /// The surveys of partition tables.
-const TABLES: [Surveyed; 4] = [
+const TABLES: [Surveyed; 6] = [
     Surveyed {
-        command: AT_ZERO,
+        line: "survey origins=0 -- a b",
         lengths: SMALL,
         placed: TABLE,
         plan: "reraid-plan 1\nimages 2\nlength 64\nlength 64\nend 64\nlevels 0,5,6\nmembers 2\npatterns plain,la,ra,ls,rs,parity-first,parity-last,n-restart,n-continue,la-6,ra-6,ls-6,rs-6,parity-first-6\nsyndromes none,after-q,by-data,by-slot\nchunks 8,16,32,64,128,256,512,1024,2048\noffsets 0,2048,262144,264192\norigins 0,40\nmissing 0\nforeign 0\nbadrows 0\nwindow 64\nmisfits 0\nleast 1\ngroup gpt\nmark gpt 0 1 at:1\ndone\n",
     },
     Surveyed {
-        command: AT_ZERO,
+        line: "survey origins=0 -- a b",
         lengths: SMALL,
         placed: CHANGED_TABLE,
         plan: "reraid-plan 1\nimages 2\nlength 64\nlength 64\nend 64\nlevels 0,5,6\nmembers 2\npatterns plain,la,ra,ls,rs,parity-first,parity-last,n-restart,n-continue,la-6,ra-6,ls-6,rs-6,parity-first-6\nsyndromes none,after-q,by-data,by-slot\nchunks 8,16,32,64,128,256,512,1024,2048\noffsets 0,2048,262144,264192\norigins 0\nmissing 0\nforeign 0\nbadrows 0\nwindow 64\nmisfits 0\nleast 1\ndone\n",
     },
     Surveyed {
-        command: DROPPED,
+        line: "survey origins=0 drop=0:1 -- a b",
         lengths: SMALL,
         placed: TABLE,
         plan: "reraid-plan 1\nimages 2\nlength 64\nlength 64\nend 64\nlevels 0,5,6\nmembers 2\npatterns plain,la,ra,ls,rs,parity-first,parity-last,n-restart,n-continue,la-6,ra-6,ls-6,rs-6,parity-first-6\nsyndromes none,after-q,by-data,by-slot\nchunks 8,16,32,64,128,256,512,1024,2048\noffsets 0,2048,262144,264192\norigins 0\nmissing 0\nforeign 0\nbadrows 0\nwindow 64\nmisfits 0\nleast 1\ndone\n",
     },
     Surveyed {
-        command: DEFAULTS,
+        line: "survey -- a b c",
+        lengths: LARGE,
+        placed: OWN_TABLES,
+        plan: "reraid-plan 1\nimages 3\nlength 10000\nlength 10000\nlength 10000\nend 10000\nlevels 0,5,6\nmembers 3\npatterns plain,la,ra,ls,rs,parity-first,parity-last,n-restart,n-continue,la-6,ra-6,ls-6,rs-6,parity-first-6\nsyndromes none,after-q,by-data,by-slot\nchunks 8,16,32,64,128,256,512,1024,2048\noffsets 0,2048,262144,264192\norigins 0,2048\nmissing 0\nforeign 0\nbadrows 0\nwindow 10000\nmisfits 0\nleast 1\ndone\n",
+    },
+    Surveyed {
+        line: "survey kinds=gpt origins=0 -- a b",
+        lengths: SMALL,
+        placed: TABLE,
+        plan: "reraid-plan 1\nimages 2\nlength 64\nlength 64\nend 64\nlevels 0,5,6\nmembers 2\npatterns plain,la,ra,ls,rs,parity-first,parity-last,n-restart,n-continue,la-6,ra-6,ls-6,rs-6,parity-first-6\nsyndromes none,after-q,by-data,by-slot\nchunks 8,16,32,64,128,256,512,1024,2048\noffsets 0,2048,262144,264192\norigins 0,40\nmissing 0\nforeign 0\nbadrows 0\nwindow 64\nmisfits 0\nleast 1\ngroup gpt\nmark gpt 0 1 at:1\ndone\n",
+    },
+    Surveyed {
+        line: "survey kinds=gpt -- a b c",
         lengths: LARGE,
         placed: OWN_TABLES,
         plan: "reraid-plan 1\nimages 3\nlength 10000\nlength 10000\nlength 10000\nend 10000\nlevels 0,5,6\nmembers 3\npatterns plain,la,ra,ls,rs,parity-first,parity-last,n-restart,n-continue,la-6,ra-6,ls-6,rs-6,parity-first-6\nsyndromes none,after-q,by-data,by-slot\nchunks 8,16,32,64,128,256,512,1024,2048\noffsets 0,2048,262144,264192\norigins 0,2048\nmissing 0\nforeign 0\nbadrows 0\nwindow 10000\nmisfits 0\nleast 1\ndone\n",
@@ -379,13 +312,13 @@ fn tables_become_a_plan(rt: HostRuntime) -> Result<(), Fail> {
 /// The surveys of file systems.
 const FILE_SYSTEMS: [Surveyed; 2] = [
     Surveyed {
-        command: DEFAULTS,
+        line: "survey -- a",
         lengths: ONE,
         placed: NTFS,
         plan: "reraid-plan 1\nimages 1\nlength 200\nend 200\nlevels 0,5,6\nmembers 2\npatterns plain,la,ra,ls,rs,parity-first,parity-last,n-restart,n-continue,la-6,ra-6,ls-6,rs-6,parity-first-6\nsyndromes none,after-q,by-data,by-slot\nchunks 8,16,32,64,128,256,512,1024,2048\noffsets 0,2048,262144,264192\norigins 0,2048\nmissing 0\nforeign 0\nbadrows 0\nwindow 200\nmisfits 0\nleast 1\ngroup ntfs\nmark boot 0 10 either:0:100\nmark record 0 44 either:34:18\nmark boot 0 110 either:0:100\ndone\n",
     },
     Surveyed {
-        command: DEFAULTS,
+        line: "survey -- a",
         lengths: ONE,
         placed: OLD_NTFS,
         plan: "reraid-plan 1\nimages 1\nlength 200\nend 200\nlevels 0,5,6\nmembers 2\npatterns plain,la,ra,ls,rs,parity-first,parity-last,n-restart,n-continue,la-6,ra-6,ls-6,rs-6,parity-first-6\nsyndromes none,after-q,by-data,by-slot\nchunks 8,16,32,64,128,256,512,1024,2048\noffsets 0,2048,262144,264192\norigins 0,2048\nmissing 0\nforeign 0\nbadrows 0\nwindow 200\nmisfits 0\nleast 1\ngroup ntfs\nmark boot 0 10 either:0:100\nmark boot 0 110 either:0:100\ndone\n",
@@ -400,13 +333,13 @@ fn file_systems_become_a_plan(rt: HostRuntime) -> Result<(), Fail> {
 /// The surveys up to sector 0, and of less than a sector.
 const SHORT: [Surveyed; 2] = [
     Surveyed {
-        command: TO_ZERO,
+        line: "survey end=0 -- a b",
         lengths: SMALL,
         placed: TABLE,
         plan: "reraid-plan 1\nimages 2\nlength 64\nlength 64\nend 0\nlevels 0,5,6\nmembers 2\npatterns plain,la,ra,ls,rs,parity-first,parity-last,n-restart,n-continue,la-6,ra-6,ls-6,rs-6,parity-first-6\nsyndromes none,after-q,by-data,by-slot\nchunks 8,16,32,64,128,256,512,1024,2048\noffsets 0,2048,262144,264192\norigins 0,2048\nmissing 0\nforeign 0\nbadrows 0\nwindow 1\nmisfits 0\nleast 1\ndone\n",
     },
     Surveyed {
-        command: DEFAULTS,
+        line: "survey -- a",
         lengths: TORN,
         placed: &[],
         plan: "reraid-plan 1\nimages 1\nlength 0\nend 0\nlevels 0,5,6\nmembers 2\npatterns plain,la,ra,ls,rs,parity-first,parity-last,n-restart,n-continue,la-6,ra-6,ls-6,rs-6,parity-first-6\nsyndromes none,after-q,by-data,by-slot\nchunks 8,16,32,64,128,256,512,1024,2048\noffsets 0,2048,262144,264192\norigins 0,2048\nmissing 0\nforeign 0\nbadrows 0\nwindow 1\nmisfits 0\nleast 1\ndone\n",
@@ -430,16 +363,11 @@ fn images_of_xfs(alloc: Global) -> Result<Vec<Vec<u8>>, Memory> {
 }
 
 /// What a survey of them is asked for.
-const ASKED: Command<'static> = Command::Survey(&[
-    Operand::Said("levels=0"),
-    Operand::Said("patterns=plain"),
-    Operand::Said("syndromes=none"),
-    Operand::Said("chunks=8,16"),
-    Operand::Said("offsets=0"),
-]);
+const ASKED: &str =
+    "survey levels=0 patterns=plain syndromes=none chunks=8,16 offsets=0 -- a b c d";
 
 /// A page of at most a hundred sets.
-const LIST: Command<'static> = Command::List(&[]);
+const LIST: &str = "list -- a b c d";
 
 /// What a listing over its plan leaves.
 const LISTED: End = End {
@@ -459,15 +387,18 @@ fn a_survey_and_then_a_listing(rt: HostRuntime) -> Result<(), Fail> {
         out: XFS.as_bytes(),
         notes: b"",
     };
-    let (status, met) = run(&rt, alloc, &ASKED, &contents, b"")?;
-    compare(&rt, status, &met, &surveyed);
-    ends_so(&rt, alloc, &LIST, &contents, met.out.bytes(), &LISTED)
+    let (status, met) = run(&rt, alloc, ASKED, &contents, b"")?;
+    compare(&rt, status, &met, &surveyed, ASKED);
+    ends_so(&rt, alloc, LIST, &contents, met.out.bytes(), &LISTED)
 }
 
 /// A set of rank 3288, and none from rank 3312 on.
-const ONE_SET: Command<'static> = Command::List(&[Operand::From(3288), Operand::Size(1)]);
+const ONE_SET: &str = "list from=3288 size=1 -- a b c d";
 
-const NO_SET: Command<'static> = Command::List(&[Operand::From(3312), Operand::Span(48)]);
+const NO_SET: &str = "list from=3312 span=48 -- a b c d";
+
+/// The survey whose plan they list.
+const DEFAULTS: &str = "survey -- a b c d";
 
 /// What they leave.
 const WITH_ONE: End = End {
@@ -489,8 +420,8 @@ const WITH_NONE: End = End {
 fn the_defaults_of_a_survey(rt: HostRuntime) -> Result<(), Fail> {
     let alloc = rt.alloc();
     let contents = images(alloc, &[8192 * SECTOR; 4], &[])?;
-    let (status, met) = run(&rt, alloc, &DEFAULTS, &contents, b"")?;
-    same_status(&rt, status, 0);
-    ends_so(&rt, alloc, &ONE_SET, &contents, met.out.bytes(), &WITH_ONE)?;
-    ends_so(&rt, alloc, &NO_SET, &contents, met.out.bytes(), &WITH_NONE)
+    let (status, met) = run(&rt, alloc, DEFAULTS, &contents, b"")?;
+    same_status(&rt, status, 0, DEFAULTS);
+    ends_so(&rt, alloc, ONE_SET, &contents, met.out.bytes(), &WITH_ONE)?;
+    ends_so(&rt, alloc, NO_SET, &contents, met.out.bytes(), &WITH_NONE)
 }

@@ -1,6 +1,5 @@
 //! Volumes and members whose sectors were worked out by hand.
-use crate::rows::{Row, SET, STRIPES, STRIPES_LOST, TORN, Written, check_all, writes_all};
-use crate::words::{Command, Operand};
+use crate::rows::{Row, STRIPES, STRIPES_LOST, TORN, Written, check_all, writes_all};
 use std::test::Fail;
 
 /// Four images of five sectors.
@@ -14,7 +13,7 @@ const LONG: &[&[u8]] = &[
 /// The sectors and their places.
 const PLACES: [Row; 4] = [
     Row {
-        command: Command::Map(&[Operand::Set(SET), Operand::Sector(2)]),
+        line: "map set=5:ls:none:1:0:0,1,2 sector=2 -- a b c",
         images: STRIPES,
         plan: "",
         status: 0,
@@ -22,7 +21,7 @@ const PLACES: [Row; 4] = [
         notes: "",
     },
     Row {
-        command: Command::Map(&[Operand::Set("6:ls:after-q:2:1:0,1,2,3"), Operand::Sector(5)]),
+        line: "map set=6:ls:after-q:2:1:0,1,2,3 sector=5 -- a b c d",
         images: LONG,
         plan: "",
         status: 0,
@@ -30,7 +29,7 @@ const PLACES: [Row; 4] = [
         notes: "",
     },
     Row {
-        command: Command::Map(&[Operand::Set("6:ls:after-q:2:1:0,1,2,3"), Operand::Sector(8)]),
+        line: "map set=6:ls:after-q:2:1:0,1,2,3 sector=8 -- a b c d",
         images: LONG,
         plan: "",
         status: 8,
@@ -38,7 +37,7 @@ const PLACES: [Row; 4] = [
         notes: "reraid: sector 8 of 8\n",
     },
     Row {
-        command: Command::Map(&[Operand::Set(SET), Operand::Sector(4)]),
+        line: "map set=5:ls:none:1:0:0,1,2 sector=4 -- a b c",
         images: STRIPES,
         plan: "",
         status: 8,
@@ -56,17 +55,17 @@ fn a_sector_is_found_on_its_member(rt: HostRuntime) -> Result<(), Fail> {
 /// What is written of sets with P.
 const WITH_P: [Written; 3] = [
     Written {
-        command: Command::Write(&[Operand::Set(SET)]),
+        line: "write set=5:ls:none:1:0:0,1,2 -- a b c",
         images: STRIPES,
         out: &[1, 3, 6, 2],
     },
     Written {
-        command: Command::Write(&[Operand::Set("5:ls:none:1:0:-,0,1")]),
+        line: "write set=5:ls:none:1:0:-,0,1 -- a b",
         images: STRIPES_LOST,
         out: &[1, 3, 6, 2],
     },
     Written {
-        command: Command::Rebuild(&[Operand::Set("5:ls:none:1:0:-,0,1"), Operand::Slot(0)]),
+        line: "rebuild set=5:ls:none:1:0:-,0,1 slot=0 -- a b",
         images: STRIPES_LOST,
         out: &[1, 2],
     },
@@ -81,32 +80,32 @@ fn volumes_and_members_with_p(rt: HostRuntime) -> Result<(), Fail> {
 /// What is written of sets with Q.
 const WRITTEN_WITH_Q: [Written; 6] = [
     Written {
-        command: Command::Write(&[Operand::Set("6:ls:after-q:1:0:0,-,-,1")]),
+        line: "write set=6:ls:after-q:1:0:0,-,-,1 -- a b",
         images: &[&[0x1C], &[0x81]],
         out: &[0x01, 0x80],
     },
     Written {
-        command: Command::Write(&[Operand::Set("6:ls:after-q:1:0:0,-,1,-")]),
+        line: "write set=6:ls:after-q:1:0:0,-,1,- -- a b",
         images: &[&[0x1C], &[0x80]],
         out: &[0x01, 0x80],
     },
     Written {
-        command: Command::Write(&[Operand::Set("6:ls:after-q:1:0:-,-,0,1")]),
+        line: "write set=6:ls:after-q:1:0:-,-,0,1 -- a b",
         images: &[&[0x80], &[0x81]],
         out: &[0x01, 0x80],
     },
     Written {
-        command: Command::Write(&[Operand::Set("6:ls:after-q:1:0:-,0,1,-")]),
+        line: "write set=6:ls:after-q:1:0:-,0,1,- -- a b",
         images: &[&[0x01], &[0x80]],
         out: &[0x01, 0x80],
     },
     Written {
-        command: Command::Write(&[Operand::Set("6:ls:after-q:1:0:0,-,1,2")]),
+        line: "write set=6:ls:after-q:1:0:0,-,1,2 -- a b c",
         images: TORN,
         out: &[0x01, 0x80],
     },
     Written {
-        command: Command::Rebuild(&[Operand::Set("6:ls:after-q:1:0:-,0,1,2"), Operand::Slot(0)]),
+        line: "rebuild set=6:ls:after-q:1:0:-,0,1,2 slot=0 -- a b c",
         images: &[&[0x01], &[0x80], &[0x81]],
         out: &[0x1C],
     },

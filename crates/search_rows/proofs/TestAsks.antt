@@ -1,5 +1,5 @@
 -- What the tests ask for.
-use Rattle.image_source.specs.Seen.{Image}
+use Rattle.outside.specs.Seen.{Image}
 use Rattle.std.specs.Option.{is_some, option_map}
 use Rattle.std.proofs.Common.{◌≡◌, ℕ, zero, suc, ◌^◌, ◌<◌, ◌≤◌, List, [], ◌∷◌, Bool, not, length, map, true, refl, ap, arith, All, Option, Some, None, IsSomeAnd, slice_get}
 use Rattle.std.proofs.lemmas.List.Elements.{All-cons, All-nil}

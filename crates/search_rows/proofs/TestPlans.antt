@@ -2,7 +2,7 @@
 use Rattle.std.proofs.Common.{ℕ, zero, suc, ◌≡◌, ◌<◌, ◌≤◌, ◌+◌, ◌^◌, Bool, true, ◌&&◌, nat_le, nat_lt, List, [], ◌∷◌, length, map, refl, sym, arith, All, IsTrue, subst, get_or, None, Some, ap, ◌∙◌}
 use Rattle.std.specs.List.{slice_get}
 use Rattle.std.specs.Option.{option_map}
-use Rattle.image_source.specs.Seen.{Image}
+use Rattle.outside.specs.Seen.{Image}
 use Rattle.std.specs.List.{slice_index}
 use Rattle.std.specs.List.Sorted.{IsStrictlyIncreasing}
 use Rattle.std.proofs.lemmas.Bool.{and_parts, leb-true, ltb-true}
@@ -10,14 +10,15 @@ use Rattle.std.proofs.lemmas.List.Elements.{All-cons, All-nil}
 use Rattle.std.proofs.lemmas.List.Sorted.{IsNonDecreasingBy-short}
 use Rattle.landmark_rules.specs.Groups.{AreGroups, IsMark, group_place, kind_place, mark_place, marks_in, most_groups}
 use Rattle.landmark_rules.specs.declared.marks.Group.{Group}
-use Rattle.landmark_rules.specs.declared.marks.GroupKind.{GroupKind}
-use Rattle.landmark_rules.specs.declared.marks.GroupKind.TheVariants.{Gpt as GptGroup, Ntfs, Xfs}
-use Rattle.landmark_rules.specs.declared.marks.Kind.{Kind}
-use Rattle.landmark_rules.specs.declared.marks.Kind.TheVariants.{Gpt, Boot, FileRecord, Super, Agf, Agi}
+use Rattle.mark_kinds.specs.declared.groups.GroupKind.{GroupKind}
+use Rattle.mark_kinds.specs.declared.groups.GroupKind.TheVariants.{Gpt as GptGroup, Ntfs, Xfs}
+use Rattle.mark_kinds.specs.declared.sectors.Kind.{Kind}
+use Rattle.mark_kinds.specs.declared.sectors.Kind.TheVariants.{Gpt, Boot, FileRecord, Super, Agf, Agi}
 use Rattle.landmark_rules.specs.declared.marks.Mark.{Mark}
 use Rattle.landmark_rules.specs.declared.marks.Rule.TheVariants.{At}
 use Rattle.std.specs.Prelude.{◌==◌, IsSomeAnd, count_by}
-use Rattle.raid_params.specs.declared.limits.TheConstants.{MOST, MOST_MARKS, MOST_MISSING, MOST_OFFSETS, MOST_ORIGINS}
+use Rattle.landmark_rules.specs.declared.limits.TheConstants.{MOST_MARKS, MOST_ORIGINS}
+use Rattle.raid_params.specs.declared.limits.TheConstants.{MOST, MOST_MISSING, MOST_OFFSETS}
 use Rattle.raid_params.specs.declared.types.Level.{Level}
 use Rattle.raid_params.specs.declared.types.Pattern.{Pattern}
 use Rattle.raid_params.specs.declared.types.Syndrome.{Syndrome}
@@ -203,23 +204,17 @@ a_header image = record { kind = Gpt; image = image; sector = 0; rule = At 1 }
 abbrev pub headers : List Group
 headers = record { kind = GptGroup; marks = a_header 1 ∷ a_header 2 ∷ [] } ∷ []
 
-header_is : (image : ℕ) → image < 3 → IsMark (1 ∷ 1 ∷ 1 ∷ []) GptGroup (a_header image)
-header_is image few = record { kind_of = refl; image = omega arith; sector = there image few; rule = omega arith }
-  where
-    there : (image : ℕ) → image < 3 → IsSomeAnd (slice_get (1 ∷ 1 ∷ 1 ∷ []) image) (λ n. 0 < n)
-    there zero lt = omega arith
-    there (suc zero) lt = omega arith
-    there (suc (suc zero)) lt = omega arith
-    there (suc (suc (suc i))) lt = absurd (omega arith)
+header_is : (lengths : List ℕ) (image : ℕ) → image < MOST → IsSomeAnd (slice_get lengths image) (λ n. 0 < n) → IsMark lengths GptGroup (a_header image)
+header_is lengths image few there = record { kind_of = refl; image = few; sector = there; rule = omega arith }
 
-pub two_headers_are : AreGroups (1 ∷ 1 ∷ 1 ∷ []) headers
-two_headers_are = record {
+pub headers_are : (lengths : List ℕ) → IsSomeAnd (slice_get lengths 1) (λ n. 0 < n) → IsSomeAnd (slice_get lengths 2) (λ n. 0 < n) → AreGroups lengths headers
+headers_are lengths second third = record {
   order = IsNonDecreasingBy-short (λ x. x) (map (λ (group : Group). group_place group.kind) headers) (omega arith);
   few = few;
-  marks = All-cons (λ group. All (IsMark (1 ∷ 1 ∷ 1 ∷ []) group.kind) group.marks) (record { kind = GptGroup; marks = a_header 1 ∷ a_header 2 ∷ [] }) []
-      (All-cons (IsMark (1 ∷ 1 ∷ 1 ∷ []) GptGroup) (a_header 1) (a_header 2 ∷ []) (header_is 1 (omega arith))
-      (All-cons (IsMark (1 ∷ 1 ∷ 1 ∷ []) GptGroup) (a_header 2) [] (header_is 2 (omega arith)) (All-nil (IsMark (1 ∷ 1 ∷ 1 ∷ []) GptGroup))))
-      (All-nil (λ group. All (IsMark (1 ∷ 1 ∷ 1 ∷ []) group.kind) group.marks));
+  marks = All-cons (λ group. All (IsMark lengths group.kind) group.marks) (record { kind = GptGroup; marks = a_header 1 ∷ a_header 2 ∷ [] }) []
+      (All-cons (IsMark lengths GptGroup) (a_header 1) (a_header 2 ∷ []) (header_is lengths 1 (omega arith) second)
+      (All-cons (IsMark lengths GptGroup) (a_header 2) [] (header_is lengths 2 (omega arith) third) (All-nil (IsMark lengths GptGroup))))
+      (All-nil (λ group. All (IsMark lengths group.kind) group.marks));
   rising = All-cons (λ group. IsStrictlyIncreasing (map mark_place group.marks)) (record { kind = GptGroup; marks = a_header 1 ∷ a_header 2 ∷ [] }) []
       (rising (map mark_place (a_header 1 ∷ a_header 2 ∷ [])) refl) (All-nil (λ group. IsStrictlyIncreasing (map mark_place group.marks)));
   few_marks = few_marks;

@@ -2,7 +2,7 @@
 use Rattle.std.proofs.Common.{Option, Bool, not, ◌≡◌, ℕ, ◌≤◌, ◌<◌, ◌^◌, List, [], ◌∷◌, length, get_or, true, refl, ap, ◌∙◌, Some, None, All, IsSomeAnd, slice_get}
 use Rattle.std.specs.Option.{is_some, option_map}
 use Rattle.std.proofs.lemmas.List.Elements.{All-cons, All-nil}
-use Rattle.image_source.specs.Seen.{Image}
+use Rattle.outside.specs.Seen.{Image}
 use Rattle.raid_params.specs.Validity.{is_shaped}
 use Rattle.raid_params.specs.declared.types.Geometry.{Geometry}
 use Rattle.row_scan.specs.Scan.{IsScannable}

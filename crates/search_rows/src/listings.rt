@@ -2,20 +2,22 @@
 ghost use Rattle.std.specs.Prelude.{◌≤◌};
 ghost use Rattle.search_plan.specs.Plans.{IsPlan};
 
-use crate::objects::{agree, three_images};
-use crate::plans::two_levels;
-use image_source::{Images, MemImages};
-use page_engine::{ListPage, PageList, PageRequest, page, pages};
+use crate::objects::{agree, four_images, three_images};
+use crate::plans::{four_with_each_order, three_of_two, two_levels};
+use image_source::MemImages;
+use outside::Images;
+use page_engine::{ListPage, PageList, page, pages};
 use row_scan::OpenGate;
 use search_plan::Plan;
 use std::process::Abort;
 use std::test::Fail;
 use std::thread::Threads;
+use test_objects::Counted;
 
 // A page of the sets that pass, of at most `size`.
-fn page_of<R: Threads + Sync + AllocGlobal + Abort>(
+fn page_of<R: Threads + Sync + AllocGlobal + Abort, I: Images>(
     rt: &R,
-    images: &mut MemImages,
+    images: &mut I,
     plan: &Plan,
     size: u64,
 ) -> Option<ListPage>
@@ -51,13 +53,7 @@ fn few_pages<R: Threads + Sync + AllocGlobal + Abort>(rt: &R) -> Result<PageList
     let plan = two_levels(rt.alloc());
     let mut images = three_images(rt, [&[1; 1024], &[3; 1024], &[7; 1024]])?;
     assert!(rt; agree(&images, &plan));
-    let asked = PageRequest {
-        from: 3,
-        size: 7,
-        span: 7,
-        count: 5,
-    };
-    let made = pages(rt, rt.alloc(), &mut images, &plan, asked, &OpenGate);
+    let made = pages(rt, rt.alloc(), &mut images, &plan, 3, 7, 7, 5, &OpenGate);
     Ok(made.expect(rt, "pages"))
 }
 
@@ -98,5 +94,48 @@ fn each_image_is_read_once(rt: HostRuntime) -> Result<(), Fail> {
         let expected = if call < 7 { None } else { Some(18) };
         assert_eq!(rt; lines_without(&rt, call)?, expected);
     }
+    Ok(())
+}
+
+// How many lines a page of at most a hundred has, where the next begins, and how many sectors are read for it.
+fn read_by_page<R: Threads + Sync + AllocGlobal + Abort>(
+    rt: &R,
+    images: MemImages,
+    plan: &Plan,
+) -> (usize, u64, u64)
+    requires { IsPlan plan.now }
+{
+    let mut counted = Counted::new(images);
+    let made = page_of(rt, &mut counted, plan, 100).expect(rt, "a page");
+    (made.lines.as_slice().len(), made.next, counted.all_reads())
+}
+
+// Four images of one sector: the tables of rows take a reading of each, and leave 18 sets. One scan of these reads at most 64 samples
+// and the one tested row, of each image.
+#[test]
+fn few_sectors_are_read_for_many_sets(rt: HostRuntime) -> Result<(), Fail> {
+    let images = four_images(
+        &rt,
+        [&[0x1C; 512], &[0x01; 512], &[0x80; 512], &[0x81; 512]],
+    )?;
+    let plan = four_with_each_order(rt.alloc());
+    let (lines, next, sectors) = read_by_page(&rt, images, &plan);
+    assert_eq!(rt; (lines, next), (2, 72));
+    assert!(rt; sectors <= 264);
+    Ok(())
+}
+
+// 2, 4 and 7 do not cancel bit by bit, so that no set is left once the three images of two sectors were read.
+#[test]
+fn refused_sets_are_not_read_again(rt: HostRuntime) -> Result<(), Fail> {
+    let (mut a, mut b, mut c) = ([1; 1024], [3; 1024], [2; 1024]);
+    a[512..].fill(2);
+    b[512..].fill(4);
+    c[512..].fill(7);
+    let images = three_images(&rt, [&a, &b, &c])?;
+    let plan = three_of_two(rt.alloc());
+    let (lines, next, sectors) = read_by_page(&rt, images, &plan);
+    assert_eq!(rt; (lines, next), (0, 6));
+    assert!(rt; sectors <= 6);
     Ok(())
 }

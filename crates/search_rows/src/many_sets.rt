@@ -6,19 +6,16 @@ ghost use Rattle.row_scan.specs.declared.many_sets.TheConstants.{MOST_SETS};
 use crate::objects::{three_images, three_reach};
 use crate::plans::three_rows;
 use crate::row_counts::three_members;
-use image_source::{Images, MemImages};
+use image_source::MemImages;
+use outside::Images;
 use raid_params::Geometry;
 use row_scan::{Gate, MOST_SETS, OpenGate, ScanFault, Verdicts, scan};
 use search_plan::Plan;
 use std::alloc::Global;
-use std::hint;
 use std::process::Abort;
-use std::sync::atomic::{AtomicBool, Ordering};
 use std::test::Fail;
 use std::thread::Threads;
-
-/// How often a piece looks for the other before it gives up.
-const TURNS: u32 = 50_000_000;
+use test_objects::Meeting;
 
 // Sets number `first` on of three members, of which every third begins at sector 0 and the others at sector 1.
 fn some_sets(alloc: Global, first: usize, count: usize) -> Result<Vec<Geometry>, Fail>
@@ -29,6 +26,18 @@ fn some_sets(alloc: Global, first: usize, count: usize) -> Result<Vec<Geometry>,
     let mut sets = Vec::new(alloc);
     for k in first..first + count {
         sets.push(set_at(if k % 3 == 0 { 0 } else { 1 }))?;
+    }
+    Ok(sets)
+}
+
+// As many equal sets of three members, which begin at sector 0.
+fn equal_sets(alloc: Global, count: usize) -> Result<Vec<Geometry>, Fail>
+    ensures long { IfOk result (λ sets. vec_len sets ≡ count) }
+    ensures near { IfOk result (λ sets. All (λ geo. geo.head.offset < 2 ^ 55) sets.items) }
+{
+    let mut sets = Vec::new(alloc);
+    for _ in 0..count {
+        sets.push(set_at(0))?;
     }
     Ok(sets)
 }
@@ -164,46 +173,6 @@ fn a_reading_fails(rt: HostRuntime) -> Result<(), Fail> {
     Ok(())
 }
 
-// Pieces 0 and 1 each wait until the other has come.
-#[derive(Drop)]
-struct Meeting {
-    first: AtomicBool,
-    second: AtomicBool,
-    gave_up: AtomicBool,
-}
-
-impl Meeting {
-    fn new() -> Meeting {
-        Meeting {
-            first: AtomicBool::new(false),
-            second: AtomicBool::new(false),
-            gave_up: AtomicBool::new(false),
-        }
-    }
-
-    fn wait_for(&self, other: &AtomicBool) {
-        for _ in 0..TURNS {
-            if other.load(Ordering::SeqCst) {
-                return;
-            }
-            hint::spin_loop();
-        }
-        self.gave_up.store(true, Ordering::SeqCst);
-    }
-}
-
-impl Gate for Meeting {
-    fn pass(&self, piece: usize) {
-        if piece == 0 {
-            self.first.store(true, Ordering::SeqCst);
-            self.wait_for(&self.second);
-        } else if piece == 1 {
-            self.second.store(true, Ordering::SeqCst);
-            self.wait_for(&self.first);
-        }
-    }
-}
-
 // A scan whose pieces pass a gate.
 fn gated<R: Threads + Sync + Abort + AllocGlobal>(
     rt: &R,
@@ -211,16 +180,17 @@ fn gated<R: Threads + Sync + Abort + AllocGlobal>(
 ) -> Result<Verdicts, Fail> {
     let mut images = two_rows(rt, 2)?;
     let plan = three_rows(rt.alloc(), 2, 2);
-    let sets = some_sets(rt.alloc(), 0, 1024)?;
+    let sets = equal_sets(rt.alloc(), 1024)?;
     Ok(verdicts(rt, rt.alloc(), &mut images, &plan, &sets, gate)?)
 }
 
-// 1, 3 and 2 cancel bit by bit, so that all sets are tested to the end, in two pieces.
+// 1, 3 and 2 cancel bit by bit, so that all sets are tested to the end, in two pieces, each of which passes the gate once.
 #[test]
 fn pieces_meet(rt: HostRuntime) -> Result<(), Fail> {
     let gate = Meeting::new();
     let found = gated(&rt, &gate)?;
-    assert!(rt; !gate.gave_up.load(Ordering::SeqCst));
+    assert!(rt; gate.met_once());
+    assert_eq!(rt; found.as_slice().len(), 1024);
     assert!(rt; found.as_slice().iter().all(|passes| *passes));
     Ok(())
 }

@@ -4,7 +4,8 @@ ghost use Rattle.image_source.specs.Memory.{seen_of};
 ghost use Rattle.search_plan.specs.Plans.{AgreeWith};
 
 use arrayvec::ArrayVec;
-use image_source::{Images, MemImages};
+use image_source::MemImages;
+use outside::Images;
 use search_plan::Plan;
 use std::test::Fail;
 
@@ -47,8 +48,8 @@ pub fn four_images<R: AllocGlobal>(rt: &R, bytes: [&[u8]; 4]) -> Result<MemImage
 }
 
 // Whether the attached images have the planned lengths.
-pub fn agree(images: &MemImages, plan: &Plan) -> bool
-    ensures { IsTrue result → AgreeWith plan.now (seen_of images.now).attached }
+pub fn agree<I: Images>(images: &I, plan: &Plan) -> bool
+    ensures { IsTrue result → AgreeWith plan.now (I.seen images.now).attached }
 {
     let planned = plan.lengths.as_slice();
     for (image, sectors) in planned.iter().enumerate() {

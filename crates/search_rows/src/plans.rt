@@ -1,7 +1,7 @@
 //! Small plans that the tests search.
 ghost use Rattle.std.specs.Prelude.{◌≡◌, ◌<◌, ◌≤◌, ◌^◌, Contains, IfOk, length};
 ghost use Rattle.raid_params.specs.declared.types.Level.TheVariants.{Raid5, Raid6};
-ghost use Rattle.landmark_rules.specs.declared.marks.Kind.TheVariants.{Gpt as GptMark};
+ghost use Rattle.mark_kinds.specs.declared.sectors.Kind.TheVariants.{Gpt as GptMark};
 ghost use Rattle.landmark_rules.specs.declared.marks.Rule.TheVariants.{At as AtDistance};
 ghost use Rattle.search_plan.specs.Plans.{IsPlan};
 
@@ -199,6 +199,36 @@ pub fn four_of_one(alloc: Global) -> Plan
     }
 }
 
+// Four members of level 6 over four images of one sector, with each order of Q.
+pub fn four_with_each_order(alloc: Global) -> Plan
+    ensures { IsPlan result }
+{
+    Plan {
+        lengths: filled(&[1, 1, 1, 1]),
+        end: 1,
+        bounds: Bounds {
+            levels: filled(&[Level::Raid6]),
+            members: filled(&[4]),
+            patterns: filled(&[Pattern::Ls]),
+            syndromes: filled(&[Syndrome::AfterQ, Syndrome::ByData, Syndrome::BySlot]),
+            chunks: filled(&[1]),
+            offsets: filled(&[0]),
+            missing: 0,
+            foreign: 0,
+        },
+        limits: Limits {
+            badrows: 0,
+            window: 1,
+        },
+        tests: MarkTests {
+            origins: filled(&[0]),
+            misfits: 0,
+            least: 1,
+        },
+        groups: Groups::new(alloc),
+    }
+}
+
 // A header of a partition table that says that it lies on volume sector 1.
 fn header(image: u8) -> Mark
     ensures { result ≡ record { kind = GptMark; image = image; sector = 0; rule = AtDistance 1 } }
@@ -235,6 +265,44 @@ pub fn two_headers(alloc: Global) -> Result<Plan, Fail>
             offsets: filled(&[0]),
             missing: 0,
             foreign: 0,
+        },
+        limits: Limits {
+            badrows: 1,
+            window: 1,
+        },
+        tests: MarkTests {
+            origins: filled(&[0]),
+            misfits: 0,
+            least: 1,
+        },
+        groups,
+    })
+}
+
+// Three members of level 5 over four images of one sector, of which one may be foreign: the second and the third hold such a header.
+pub fn two_headers_of_four(alloc: Global) -> Result<Plan, Fail>
+    ensures { IfOk result (λ plan. IsPlan plan × (length plan.lengths.items ≡ 4) × Contains plan.bounds.levels.items Raid5) }
+{
+    let mut marks = Marks::new(alloc);
+    marks.push(header(1))?;
+    marks.push(header(2))?;
+    let mut groups = Groups::new(alloc);
+    groups.push(Group {
+        kind: GroupKind::Gpt,
+        marks,
+    })?;
+    Ok(Plan {
+        lengths: filled(&[1, 1, 1, 1]),
+        end: 1,
+        bounds: Bounds {
+            levels: filled(&[Level::Raid5]),
+            members: filled(&[3]),
+            patterns: filled(&[Pattern::Ls]),
+            syndromes: filled(&[Syndrome::NoQ]),
+            chunks: filled(&[1]),
+            offsets: filled(&[0]),
+            missing: 0,
+            foreign: 1,
         },
         limits: Limits {
             badrows: 1,

@@ -7,8 +7,11 @@ ghost use Rattle.search_plan.specs.Plans.{IsPlan, AgreeWith};
 ghost use Rattle.prune_filters.specs.Hopeful.{IsPrefix};
 
 use crate::objects::{agree, four_images, three_images};
-use crate::plans::{allowing, four_of_one, three_of_two, two_headers};
-use image_source::{Images, MemImages};
+use crate::plans::{
+    allowing, four_of_one, one_missing, three_of_two, two_headers, two_headers_of_four,
+};
+use image_source::MemImages;
+use outside::Images;
 use prune_filters::{MarkTable, XorTable, needs_table, prefix_may_pass};
 use raid_params::{Head, Level, Pattern, Slots, Syndrome};
 use search_plan::Plan;
@@ -129,11 +132,47 @@ fn a_header_may_not_come_first(rt: HostRuntime) -> Result<(), Fail> {
     Ok(())
 }
 
-// Four images for three members, and three images for four.
+// Whether a prefix of a head that needs no table of rows is hopeful.
+fn admits_alone<R: Abort>(
+    rt: &R,
+    alloc: Global,
+    plan: &Plan,
+    head: &Head,
+    prefix: &Slots,
+) -> Option<bool>
+    requires plan { IsPlan plan.now }
+    requires prefix { IsPrefix plan.now head.now prefix.now.items }
+{
+    assert!(rt; head.is_valid());
+    assert!(rt; !needs_table(plan, head));
+    let marks = MarkTable::build(alloc, plan, head).ok()?;
+    Some(prefix_may_pass(&marks, None, plan, head, prefix))
+}
+
+// What is said of an image in slot 0, over four images, of which one may be foreign, and the headers of two.
+fn one_of_four_admits<R: AllocGlobal + Abort>(rt: &R, image: u8) -> Result<Option<bool>, Fail>
+    requires { image < 4 }
+{
+    let plan = two_headers_of_four(rt.alloc())?;
+    let head = head_of(Level::Raid5, 3, Syndrome::NoQ);
+    Ok(admits_alone(rt, rt.alloc(), &plan, &head, &first(image)))
+}
+
+// Four images for three members: no table of rows is asked, and still no header may come first.
 #[test]
-fn no_table_is_needed(rt: HostRuntime) {
-    let plan = four_of_one(rt.alloc());
-    assert!(rt; !needs_table(&plan, &head_of(Level::Raid5, 3, Syndrome::NoQ)));
-    let plan = three_of_two(rt.alloc());
-    assert!(rt; !needs_table(&plan, &head_of(Level::Raid5, 4, Syndrome::NoQ)));
+fn a_foreign_image_needs_no_table(rt: HostRuntime) -> Result<(), Fail> {
+    assert_eq!(rt; one_of_four_admits(&rt, 0)?, Some(true));
+    assert_eq!(rt; one_of_four_admits(&rt, 1)?, Some(false));
+    assert_eq!(rt; one_of_four_admits(&rt, 2)?, Some(false));
+    assert_eq!(rt; one_of_four_admits(&rt, 3)?, Some(true));
+    Ok(())
+}
+
+// Two images for three members: no table of rows is asked.
+#[test]
+fn an_empty_slot_needs_no_table(rt: HostRuntime) {
+    let plan = one_missing(rt.alloc());
+    let head = head_of(Level::Raid5, 3, Syndrome::NoQ);
+    let found = admits_alone(&rt, rt.alloc(), &plan, &head, &Slots::new());
+    assert_eq!(rt; found, Some(true));
 }

@@ -3,7 +3,8 @@ ghost use Rattle.std.specs.Prelude.{◌≡◌, ◌^◌, ◌<◌, length};
 
 use crate::objects::{three_images, three_reach};
 use crate::plans::three_rows;
-use image_source::{Images, MemImages};
+use image_source::MemImages;
+use outside::Images;
 use raid_params::{Geometry, Head, Level, Pattern, Slots, Syndrome};
 use row_scan::unsound;
 use std::process::Abort;

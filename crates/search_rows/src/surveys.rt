@@ -5,8 +5,9 @@ ghost use Rattle.survey_engine.specs.Surveys.{IsAsk};
 
 use crate::objects::four_images;
 use arrayvec::ArrayVec;
-use image_source::{Images, MemImages};
+use image_source::MemImages;
 use landmark_rules::{Kind, Mark, MarkTests, Rule};
+use outside::Images;
 use raid_params::{Bounds, Level, Pattern, SECTORS_END, Syndrome};
 use search_plan::{DropAt, Kinds, Limits, Plan};
 use std::process::Abort;

@@ -1,9 +1,12 @@
 //! Tests of the libraries that read and write texts.
 //!
-//! `plans` reads and writes plans and parameter sets, `words` reads command lines, `objects` writes lines of JSON. The
+//! `plans` reads and writes plans and parameter sets, `mirrors` those of mirrors, `words` reads command lines, `objects`
+//! writes lines of JSON. The
 //! texts were written out by hand. The tests stand here, since a library with tests is proved a second time with them.
 #![tactic(auto)]
 
+#[cfg(test)]
+mod mirrors;
 #[cfg(test)]
 mod objects;
 #[cfg(test)]

@@ -199,6 +199,33 @@ fn a_set_is_read(rt: HostRuntime) -> Result<(), Fail> {
     Ok(())
 }
 
+/// The words of the sets of three images in three slots.
+static ORDERS: [&[u8]; 6] = [
+    b"5:ls:none:1:0:0,1,2",
+    b"5:ls:none:1:0:0,2,1",
+    b"5:ls:none:1:0:1,0,2",
+    b"5:ls:none:1:0:1,2,0",
+    b"5:ls:none:1:0:2,0,1",
+    b"5:ls:none:1:0:2,1,0",
+];
+
+/// The word of the set that a word stands for.
+fn written_again(alloc: Global, word: &[u8]) -> Result<Option<Text>, Fail> {
+    match read_set(word) {
+        Some(set) => Ok(Some(write_set(alloc, &set)?)),
+        None => Ok(None),
+    }
+}
+
+#[test]
+fn sets_are_written_as_they_were_read(rt: HostRuntime) -> Result<(), Fail> {
+    for word in &ORDERS {
+        let again = written_again(rt.alloc(), word)?;
+        assert!(rt; again.is_some_and(|text| text.as_slice() == *word));
+    }
+    Ok(())
+}
+
 /// Words that are no sets.
 static OTHER_WORDS: [&[u8]; 7] = [
     b"5:ls:none:0128:0:0,1,2",

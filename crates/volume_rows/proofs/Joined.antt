@@ -9,7 +9,7 @@ use Rattle.std.proofs.lemmas.List.Folds.{position_or_len_push}
 use Rattle.std.proofs.lemmas.List.Sums.{prefix_len-le-length}
 use Rattle.std.proofs.lemmas.Slice.Eq.{bytes_eq-Decides}
 use Rattle.image_source.specs.Memory.{number_of}
-use Rattle.image_source.specs.Seen.{Image}
+use Rattle.outside.specs.Seen.{Image}
 use Rattle.volume_rows.proofs.TestSets.{absent}
 
 below_known : (a b : ℕ) → a < b → is_some (cond (nat_lt a b) (Some a) None) ≡ true

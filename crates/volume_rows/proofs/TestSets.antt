@@ -2,7 +2,7 @@
 use Rattle.std.proofs.Common.{Option, Bool, not, ◌≡◌, ℕ, zero, suc, ◌≤◌, ◌<◌, ◌^◌, List, [], ◌∷◌, length, true, refl, ap, ◌∙◌, arith, Some, None, All, IsSomeAnd, slice_get}
 use Rattle.std.specs.Option.{is_some, option_map}
 use Rattle.std.proofs.lemmas.List.Elements.{All-cons, All-nil}
-use Rattle.image_source.specs.Seen.{Image}
+use Rattle.outside.specs.Seen.{Image}
 use Rattle.raid_params.specs.Validity.{first_fault}
 use Rattle.raid_params.specs.declared.types.Geometry.{Geometry}
 use Rattle.virtual_volume.specs.Served.{IsServed}

@@ -2,8 +2,9 @@
 ghost use Rattle.std.specs.Prelude.{◌≡◌, ◌≤◌, IsTrue, None, slice_index_or};
 
 use crate::objects::{Looker, NO, are_sectors, images_of, serve, set_of, sink_of, two_of_ones};
-use image_source::{Images, MemImages, MemSink, Sink};
+use image_source::{MemImages, MemSink};
 use member_rebuild::rebuild;
+use outside::{Images, Sink};
 use raid_params::{Geometry, Level, Pattern, Syndrome};
 use std::alloc::Global;
 use std::process::Abort;

@@ -2,7 +2,8 @@
 ghost use Rattle.std.specs.Prelude.{◌≡◌, ◌≤◌, length, All, IsSomeAnd, IsTrue, None, slice_get};
 ghost use Rattle.virtual_volume.specs.Served.{IsServed};
 
-use image_source::{Failed, Images, MemImages, MemSink, SECTOR, Sink};
+use image_source::{MemImages, MemSink};
+use outside::{Failed, Images, SECTOR, Sink};
 use raid_params::{Geometry, Head, Level, Pattern, Slots, Syndrome};
 use std::alloc::Global;
 use std::process::Abort;

@@ -1,7 +1,8 @@
 //! In which pieces a volume goes to its sink: images of ones, in two striped members.
 use crate::objects::{Looker, repeat, set_of, sink_of, two_of_ones};
 use crate::volumes::write;
-use image_source::{MemSink, SECTOR, Sink};
+use image_source::MemSink;
+use outside::{SECTOR, Sink};
 use raid_params::{Level, Pattern, Syndrome};
 use std::alloc::Global;
 use std::process::Abort;

@@ -1,55 +1,19 @@
 //! How many sectors of each image are read for a volume. The counts were worked out by hand.
-ghost use Rattle.std.specs.Prelude.{◌≡◌, ◌≤◌, IsTrue, OnOk, length};
-ghost use Rattle.image_source.specs.Bytes.{shelf_tells};
-ghost use Rattle.image_source.specs.Memory.{seen_of};
-
 use crate::objects::{NO, are_sectors, images_of, set_of};
 use crate::volumes::write;
-use image_source::{Failed, Images, MemImages, MemSink, SECTOR};
+use image_source::MemSink;
 use raid_params::{Level, Pattern, Syndrome};
 use std::alloc::Global;
 use std::process::Abort;
 use std::test::Fail;
-
-/// Images in memory, with the sectors that were asked for of each of the first four.
-#[derive(Drop)]
-struct Counted {
-    images: MemImages,
-    reads: [u64; 4],
-}
-
-impl Images for Counted {
-    ghost seen = { λ counted. seen_of counted.images };
-
-    ghost tells_bytes = { λ counted. shelf_tells counted.images };
-
-    fn attach(&mut self, name: &str) -> Result<u64, Failed> {
-        self.images.attach(name)
-    }
-
-    fn read(&mut self, image: u32, sector: u64, to: &mut [u8]) -> Result<(), Failed> {
-        let sectors = (to.len() / SECTOR) as u64;
-        if (image as usize) < self.reads.len() {
-            let count = self.reads[image as usize];
-            self.reads[image as usize] = count.wrapping_add(sectors);
-        }
-        self.images.read(image, sector, to)
-    }
-
-    fn length(&self, image: u32) -> Option<u64> {
-        self.images.length(image)
-    }
-}
+use test_objects::Counted;
 
 // Four images of four sectors of zeros.
 fn four_images<R: Abort>(rt: &R, alloc: Global) -> Result<Counted, Fail> {
     let zeros = [0; 4];
     let blank = ("zeros", zeros.as_slice());
     let images = images_of(rt, alloc, &[blank, blank, blank, blank])?;
-    Ok(Counted {
-        images,
-        reads: [0; 4],
-    })
+    Ok(Counted::new(images))
 }
 
 // Looks how many sectors are read of each of the four images for the volume of eight sectors, of a set of four
@@ -66,7 +30,7 @@ fn look<R: Abort>(
     let mut sink = MemSink::new(alloc, 4096)?;
     assert!(rt; write(rt, alloc, &mut counted, 4, &geo, 4, &mut sink).is_ok());
     assert!(rt; are_sectors(sink.bytes(), &[0; 8]));
-    assert!(rt; counted.reads == reads);
+    assert!(rt; counted.reads() == reads);
     Ok(())
 }
 

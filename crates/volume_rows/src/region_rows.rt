@@ -9,7 +9,7 @@ ghost use Rattle.std.specs.Prelude.{◌<◌};
 ghost use Rattle.raid_terms.specs.Parity.{IsRow};
 
 use crate::cells::four_cells;
-use image_source::SECTOR;
+use outside::SECTOR;
 use pq_parity::{solve_data, solve_parity};
 use raid_params::{Cell, Part};
 use std::process::Abort;

@@ -3,7 +3,7 @@ ghost use Rattle.std.specs.Prelude.{◌<◌, ◌≡◌};
 ghost use Rattle.raid_terms.specs.Parity.{IsRow};
 
 use crate::cells::{four_cells, six};
-use image_source::SECTOR;
+use outside::SECTOR;
 use pq_parity::{row_holds, solve};
 use raid_params::Cell;
 use std::process::Abort;

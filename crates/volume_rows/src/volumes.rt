@@ -1,7 +1,8 @@
 //! Volumes that were worked out by hand, over images in memory.
 use crate::objects::{NO, are_sectors, images_of, repeat, serve, set_of, sink_of};
 use address_map::volume_sectors;
-use image_source::{Images, MemImages, MemSink, Sink};
+use image_source::{MemImages, MemSink};
+use outside::{Images, Sink};
 use raid_params::{Geometry, Level, Pattern, Syndrome};
 use std::alloc::Global;
 use std::process::Abort;

@@ -1,6 +1,5 @@
 use Rattle.std.proofs.Common.{◌≡◌, ◌≤◌, ℕ, Bool, true, false, not, length, Option, Some, None, arith, refl, sym, ◌∙◌}
 use Rattle.std.specs.Option.{is_some}
-use Rattle.image_source.specs.Memory.{seen_of}
 use Rattle.search_rows.proofs.TestPlans.{have_lengths}
 use Rattle.search_rows.proofs.objects.agree.Goals as goal
 
@@ -10,9 +9,9 @@ nothing_there (Some n) true e t = (cc)
 nothing_there (Some n) false e t = (cc)
 
 pub returns : goal.returns
-returns c = λ none.
+returns g c = λ none.
     let planned = c.as_slice-planned.result.now in
     let is : length c.as_slice-planned.result.now ≤ c.loop-image.image = c.loop-image-test.false in
-    have_lengths (seen_of c.args.images.now).attached c.as_slice-planned.result.now (λ i lt. c.loop-image.invariant i (omega arith))
+    have_lengths (g.I.Images.seen c.args.images.now).attached c.as_slice-planned.result.now (λ i lt. c.loop-image.invariant i (omega arith))
     (sym c.length-2.ensures ∙ nothing_there c.length-2.result c.is_none.result c.is_none.ensures none)
     ∙ c.as_slice-planned.ensures.value

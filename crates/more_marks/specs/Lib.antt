@@ -1,0 +1,2 @@
+pub mod Btrfs
+pub mod Lvm

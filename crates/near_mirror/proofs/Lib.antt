@@ -1,0 +1,4 @@
+pub mod Chunks
+pub mod Heads
+pub mod Homes
+pub mod NearWords

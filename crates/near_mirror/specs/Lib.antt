@@ -1,0 +1,5 @@
+pub mod Validity
+pub mod Words
+pub mod Copies
+pub mod Laws
+pub mod Volume

@@ -1,0 +1,23 @@
+-- The texts of the parameter set of a mirror.
+use Rattle.std.specs.Prelude.{ℕ, ◌≡◌, ◌^◌, ◌≤◌, ◌<◌, List, [], ◌∷◌, length, map, codes, decimal, All, IfSome}
+use Rattle.raid_params.specs.declared.limits.TheConstants.{MOST}
+use Rattle.near_mirror.specs.declared.types.NearSet.{NearSet}
+use Rattle.value_text.specs.Spelling.{slot_name, commas, colons, named, line}
+
+-- near2:CHUNK:OFFSET:SLOTS
+abbrev pub near_word : NearSet → List ℕ
+near_word set = colons (codes "near2" ∷ decimal set.head.chunk ∷ decimal set.head.offset ∷ commas (map slot_name set.slots.items) ∷ [])
+
+-- the set is one that a near word stands for: as many members as slots, from 1 to 16, each slot an
+-- image from 0 to 15 or none, and numbers of sectors in range. Whether it makes sense is another matter
+pub record HasNearWord (set : NearSet) : Type 0 where
+  pub some : 1 ≤ length set.slots.items
+  pub most : length set.slots.items ≤ MOST
+  pub members : set.head.members ≡ length set.slots.items
+  pub images : All (λ slot. IfSome slot (λ image. image < MOST)) set.slots.items
+  pub chunk : set.head.chunk < 2 ^ 32
+  pub offset : set.head.offset < 2 ^ 55
+
+-- RANK NEARWORD
+abbrev pub near_line : ℕ → NearSet → List ℕ
+near_line rank set = line (named (decimal rank) (near_word set))

@@ -29,7 +29,7 @@ some_left level n h = omega arith
 pub some_data : (head : Head) → IsTrue (is_valid_head head) → 0 < data_blocks head
 some_data head h = some_left head.level head.members (enough head h)
 
-pub few_data : (head : Head) → IsTrue (is_valid_head head) → data_blocks head ≤ 16
+pub few_data : (head : Head) → IsTrue (is_valid_head head) → data_blocks head ≤ 24
 few_data head h = let x = at_most head h in omega arith
 
 -- whole chunks do not reach past what they are cut from
@@ -40,7 +40,7 @@ whole_below x n r e =
     omega arith
 
 -- a volume of short members is numbered in 64 bits
-pub volume_fits : (area d : ℕ) → area < 2 ^ 55 → d ≤ 16 → area * d < 2 ^ 64
+pub volume_fits : (area d : ℕ) → area < 2 ^ 55 → d ≤ 24 → area * d < 2 ^ 64
 volume_fits area d h k =
-    let most : area * d ≤ 2 ^ 55 * 16 = mul-le area d (2 ^ 55) 16 (omega arith) k in
+    let most : area * d ≤ 2 ^ 55 * 24 = mul-le area d (2 ^ 55) 24 (omega arith) k in
     omega arith

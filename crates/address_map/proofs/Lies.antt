@@ -13,11 +13,11 @@ use Rattle.address_map.proofs.Heads.{some_chunk, some_data, few_data, short_chun
 use Rattle.address_map.proofs.Sectors.{made_row, made_item, made_at, same_parts, same_place, volume_below, sector_below, sector_small}
 
 -- a sector of the volume is numbered in 64 bits, with all that it is made of
-made_fits : (row d item c at : ℕ) → row * c + at < 2 ^ 55 → item < d → d ≤ 16 → at < c → c ≤ 32768 → (row * d + item) * c + at < 2 ^ 64
+made_fits : (row d item c at : ℕ) → row * c + at < 2 ^ 55 → item < d → d ≤ 24 → at < c → c ≤ 32768 → (row * d + item) * c + at < 2 ^ 64
 made_fits row d item c at h k few below short =
-    let wide : row * d ≤ row * 16 = mul-le row d row 16 (omega arith) few in
-    let most : (row * d + item) * c ≤ (row * 16 + 15) * c = mul-le (row * d + item) c (row * 16 + 15) c (omega arith) (omega arith) in
-    let turned : (row * 16 + 15) * c ≡ 16 * (row * c) + 15 * c = grind arith in
+    let wide : row * d ≤ row * 24 = mul-le row d row 24 (omega arith) few in
+    let most : (row * d + item) * c ≤ (row * 24 + 23) * c = mul-le (row * d + item) c (row * 24 + 23) c (omega arith) (omega arith) in
+    let turned : (row * 24 + 23) * c ≡ 24 * (row * c) + 23 * c = grind arith in
     omega arith
 
 pub sector_fits : (head : Head) (row item at d : ℕ) → IsTrue (is_valid_head head) → row * head.chunk + at < 2 ^ 55 → item < data_blocks head → at < head.chunk →

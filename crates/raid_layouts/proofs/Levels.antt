@@ -107,8 +107,8 @@ layout_at Raid6 pattern n row h =
 pub enough : (head : Head) → IsTrue (is_valid_head head) → fewest head.level ≤ head.members
 enough head h = grind (arith, leb-true)
 
--- nor more than 16
-pub at_most : (head : Head) → IsTrue (is_valid_head head) → head.members ≤ 16
+-- nor more than 24
+pub at_most : (head : Head) → IsTrue (is_valid_head head) → head.members ≤ 24
 at_most head h = grind (arith, leb-true)
 
 pub layout_of : (head : Head) (row : ℕ) → IsTrue (is_valid_head head) → IsLayout head.members (data_blocks head) (p_of head row) (q_of head row) (item_of head row)

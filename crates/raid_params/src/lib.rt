@@ -7,7 +7,8 @@
 //!
 //! The limits of an array stand here, each by its name, and nearly every crate above uses these types. How
 //! large an array is stands in `specs/Size`, what slots hold in `specs/Slots`, and the rules that a set has
-//! to keep in `specs/Validity`, the order of levels, patterns and orders of Q in `specs/Places`. What the parameters mean for the sectors is in `raid_terms`.
+//! to keep in `specs/Validity`, the order of levels, patterns and orders of Q in `specs/Places`, and offsets that differ from image to image
+//! in `specs/Bases` and `specs/Wide`. What the parameters mean for the sectors is in `raid_terms`.
 #![tactic(auto)]
 
 mod limits;
@@ -15,6 +16,7 @@ mod places;
 mod slots;
 mod types;
 mod validity;
+mod wide;
 
 pub use limits::{
     LARGEST_CHUNK, MOST, MOST_CHUNKS, MOST_LESS_ONE, MOST_LEVELS, MOST_MISSING, MOST_OFFSETS,
@@ -23,4 +25,5 @@ pub use limits::{
 pub use places::Placed;
 pub use slots::{count_empty, stands_among};
 pub use types::{Bounds, Cell, GeoFault, Geometry, Head, Level, Part, Pattern, Slots, Syndrome};
-pub use validity::is_chunk;
+pub use validity::{first_absent, first_repeat, is_chunk};
+pub use wide::{Wide, WideFault};

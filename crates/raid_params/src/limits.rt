@@ -1,7 +1,7 @@
 //! The limits of an array and of a search over its parameters, each once.
 
 /// The most images, members, slots, lengths and cells.
-pub const MOST: usize = 16;
+pub const MOST: usize = 24;
 
 /// The most numbers of members in a plan: those from 2 to `MOST`.
 pub const MOST_LESS_ONE: usize = MOST - 1;

@@ -148,8 +148,8 @@ fn broken_slots(level: Level, images: u8, slots: &[Option<u8>]) -> Option<GeoFau
     }
 }
 
-/// The first image in a slot that is not below `images`.
-fn first_absent(slots: &[Option<u8>], images: u8) -> Option<u8>
+/// The first image in a slot that is not below `images`: one that is not there.
+pub fn first_absent(slots: &[Option<u8>], images: u8) -> Option<u8>
     ensures { result ≡ first_absent_of images slots.now }
 {
     match absent_place(slots, images) {
@@ -177,8 +177,8 @@ fn is_absent(slots: &[Option<u8>], at: usize, images: u8) -> bool
     }
 }
 
-/// The first image that stands in a slot before it too.
-fn first_repeat(slots: &[Option<u8>]) -> Option<u8>
+/// The first image, in the order of the slots, that stands in a slot before it too.
+pub fn first_repeat(slots: &[Option<u8>]) -> Option<u8>
     ensures { result ≡ first_repeat_of slots.now }
 {
     match repeated_place(slots) {

@@ -122,7 +122,7 @@ passes_parity images geo end window bad_rows = nat_le (unsound_rows images geo (
 abbrev pub exponents : List Cell → List ℕ
 exponents cells = filter_map (λ c. exponent_in c.part) cells
 
--- cells that a row may have: 2 to 16 of them; at most one is P and at most one Q, and Q only beside P;
+-- cells that a row may have: 2 to 24 of them; at most one is P and at most one Q, and Q only beside P;
 -- where there is a Q, the exponents of the data cells differ and are below 255; and no more cells are
 -- missing than hold parity
 pub record IsRow (cells : List Cell) : Type 0 where

@@ -7,11 +7,11 @@ use Rattle.raid_params.specs.Validity.{is_valid_head}
 use Rattle.raid_params.specs.declared.types.Head.{Head}
 use Rattle.address_map.proofs.Heads.{few_data, short_chunk, some_chunk, whole_below}
 
-near : (row d item c at : ℕ) → row * c < 2 ^ 32 → item < d → d ≤ 16 → at < c → c ≤ 32768 → (row * d + item) * c + at < 2 ^ 40
+near : (row d item c at : ℕ) → row * c < 2 ^ 32 → item < d → d ≤ 24 → at < c → c ≤ 32768 → (row * d + item) * c + at < 2 ^ 40
 near row d item c at h k few below short =
-    let wide : row * d ≤ row * 16 = mul-le row d row 16 (omega arith) few in
-    let most : (row * d + item) * c ≤ (row * 16 + 15) * c = mul-le (row * d + item) c (row * 16 + 15) c (omega arith) (omega arith) in
-    let turned : (row * 16 + 15) * c ≡ 16 * (row * c) + 15 * c = grind arith in
+    let wide : row * d ≤ row * 24 = mul-le row d row 24 (omega arith) few in
+    let most : (row * d + item) * c ≤ (row * 24 + 23) * c = mul-le (row * d + item) c (row * 24 + 23) c (omega arith) (omega arith) in
+    let turned : (row * 24 + 23) * c ≡ 24 * (row * c) + 23 * c = grind arith in
     omega arith
 
 pub row_near : (head : Head) (sector item d : ℕ) → IsTrue (is_valid_head head) → sector < 2 ^ 32 → item < data_blocks head → d ≡ data_blocks head →

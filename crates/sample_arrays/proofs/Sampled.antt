@@ -71,7 +71,7 @@ near_end geo rows kept most =
     let few = few_sectors geo.head.members (end_of geo.head rows) (omega arith) most in
     omega arith
 
-pub few_slots : (geo : Geometry) (images : ℕ) → is_shaped geo images ≡ true → length geo.slots.items ≤ 16
+pub few_slots : (geo : Geometry) (images : ℕ) → is_shaped geo images ≡ true → length geo.slots.items ≤ 24
 few_slots geo images shaped =
     let same = shaped_slots geo images shaped in
     let few = at_most geo.head (shaped_head geo images shaped) in
@@ -86,5 +86,5 @@ some_blocks sectors items large =
 pub short_volume : (head : Head) (end : ℕ) → IsTrue (is_valid_head head) → end < 2 ^ 21 → volume_sectors head end < 2 ^ 32
 short_volume head end valid short =
     let whole = whole_below (end - head.offset) head.chunk ((end - head.offset) / head.chunk) refl in
-    let most : area head end * data_blocks head ≤ 2 ^ 21 * 16 = mul-le (area head end) (data_blocks head) (2 ^ 21) 16 (omega arith) (few_data head valid) in
+    let most : area head end * data_blocks head ≤ 2 ^ 21 * 24 = mul-le (area head end) (data_blocks head) (2 ^ 21) 24 (omega arith) (few_data head valid) in
     omega arith

@@ -44,7 +44,7 @@ all_places (Some i ∷ slots) = omega (arith, sum_by-cons (λ (s : Option ℕ). 
 two_at_least : (level : Level) → 2 + redundancy level ≤ fewest level
 two_at_least level = omega arith
 
--- a set that keeps the rules has from 2 to 16 members that are there
+-- a set that keeps the rules has from 2 to 24 members that are there
 pub some_held : (set : Geometry) (images : ℕ) → is_shaped set images ≡ true → 1 ≤ held set.slots.items
 some_held set images shaped =
     let places = all_places set.slots.items in
@@ -54,7 +54,7 @@ some_held set images shaped =
     let two = two_at_least set.head.level in
     omega arith
 
-pub few_held : (set : Geometry) (images : ℕ) → is_shaped set images ≡ true → held set.slots.items ≤ 16
+pub few_held : (set : Geometry) (images : ℕ) → is_shaped set images ≡ true → held set.slots.items ≤ 24
 few_held set images shaped =
     let places = all_places set.slots.items in
     let slots = shaped_slots set images shaped in
@@ -62,12 +62,12 @@ few_held set images shaped =
     omega arith
 
 -- the parameters to try
-bounds_are : (asked : AreBounds (record plain_survey.bounds { members = record { items = 2 ∷ [] } })) (level : Level) (members missing : ℕ) → 2 ≤ members → members ≤ 16 → missing ≤ 2 →
+bounds_are : (asked : AreBounds (record plain_survey.bounds { members = record { items = 2 ∷ [] } })) (level : Level) (members missing : ℕ) → 2 ≤ members → members ≤ 24 → missing ≤ 2 →
     AreBounds (record plain_survey.bounds { levels = record { items = level ∷ [] }; members = record { items = members ∷ [] }; missing = missing })
 bounds_are asked level members missing some most few = record {
   levels = one_rises (level_place level);
   members = one_rises members;
-  few_members = All-cons (λ n. (2 ≤ n) × (n ≤ 16)) members [] (some, most) (All-nil (λ n. (2 ≤ n) × (n ≤ 16)));
+  few_members = All-cons (λ n. (2 ≤ n) × (n ≤ 24)) members [] (some, most) (All-nil (λ n. (2 ≤ n) × (n ≤ 24)));
   patterns = asked.patterns;
   syndromes = asked.syndromes;
   chunks = asked.chunks;
@@ -80,7 +80,7 @@ bounds_are asked level members missing some most few = record {
 }
 
 two_are : AreMembers (2 ∷ [])
-two_are = (one_rises 2, All-cons (λ n. (2 ≤ n) × (n ≤ 16)) 2 [] (omega arith, omega arith) (All-nil (λ n. (2 ≤ n) × (n ≤ 16))))
+two_are = (one_rises 2, All-cons (λ n. (2 ≤ n) × (n ≤ 24)) 2 [] (omega arith, omega arith) (All-nil (λ n. (2 ≤ n) × (n ≤ 24))))
 
 window_is : (window : Option ℕ) (end : ℕ) → end < 2 ^ 55 → IfSome window (λ n. (1 ≤ n) × (n < 2 ^ 55)) → (1 ≤ window_for window end) × (window_for window end < 2 ^ 55)
 window_is None end near given = (omega arith, omega arith)

@@ -105,7 +105,7 @@ number_in f n j test below others own =
     let found : nat_lt (position_or_len test (map f (range_with_len 0 n))) (length (map f (range_with_len 0 n))) ≡ true = grind (arith, nat_tests) in
     ap (λ (b : Bool). cond b (Some (position_or_len test (map f (range_with_len 0 n)))) None) found ∙ ap (λ (k : ℕ). Some k) first
 
-pub number_is : (number : ℕ) (set : Geometry) (rows : ℕ) (xfs : Bool) (j : ℕ) → j < held set.slots.items → held set.slots.items ≤ 16 → number_of (sampled number set rows xfs) (decimal j) ≡ Some j
+pub number_is : (number : ℕ) (set : Geometry) (rows : ℕ) (xfs : Bool) (j : ℕ) → j < held set.slots.items → held set.slots.items ≤ 24 → number_of (sampled number set rows xfs) (decimal j) ≡ Some j
 unfolding sampled
 number_is number set rows xfs j below few =
     number_in (λ image. (decimal image, sampled_image number set rows xfs image)) (held set.slots.items) j (λ file. bytes_eq file.0 (decimal j)) below

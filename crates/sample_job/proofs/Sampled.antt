@@ -5,7 +5,7 @@ use Rattle.std.proofs.lemmas.Bool.Decides.{nat_tests}
 use Rattle.outside.specs.Attached.{told_all}
 use Rattle.outside.specs.Seen.{Image}
 use Rattle.page_engine.specs.Pages.{IsPageOf}
-use Rattle.page_engine.specs.declared.page_parts.Line.{Line}
+use Rattle.head_walk.specs.declared.parts.Line.{Line}
 use Rattle.page_engine.specs.declared.page_parts.ListPage.{ListPage}
 use Rattle.std.specs.List.{list_any}
 use Rattle.std.specs.Option.{option_map_or}

@@ -7,6 +7,7 @@ ghost use Rattle.member_regions.specs.Members.{held as held_in};
 ghost use Rattle.plan_text.specs.SetText.{HasWord};
 ghost use Rattle.raid_params.specs.Size.{volume_sectors as volume_sectors_of};
 ghost use Rattle.raid_params.specs.Validity.{first_fault};
+ghost use Rattle.raid_params.specs.declared.limits.TheConstants.{MOST};
 ghost use Rattle.search_plan.specs.Plans.{IsPlan, AgreeWith};
 ghost use Rattle.search_plan.specs.Sets.{rank_of, total_of};
 ghost use Rattle.page_engine.specs.Pages.{IsPageOf};
@@ -191,7 +192,7 @@ fn attach(images: &mut MemImages, number: u8)
 /// members and of missing ones, which are the set's.
 #[tactic(auto, using(crate::proofs::Asked::all_places), unfolding(crate::specs::Sampling::sample_ask))]
 fn ask_for(set: &Geometry, end: u64) -> Ask
-    requires few { length set.now.slots.items ≤ 16 }
+    requires few { length set.now.slots.items ≤ MOST }
     ensures { result ≡ sample_ask set.now end }
 {
     let plain = plain_survey();
@@ -256,7 +257,7 @@ fn lines(
     page: &ListPage,
 ) -> Result<Text, Memory>
     requires plan { IsPlan plan.now }
-    requires few { length set.now.slots.items ≤ 16 }
+    requires few { length set.now.slots.items ≤ MOST }
     requires allowed { many_refusal plan.now ≡ None }
     ensures { IfOk result (λ text. text ≡ found_text_of set.now end plan.now page.now) }
 {

@@ -15,8 +15,8 @@ set_word geo = colons
     ∷ commas (map slot_name geo.slots.items)
     ∷ [])
 
--- the set is one that a set word stands for: as many members as slots, from 1 to 16, each slot an
--- image from 0 to 15 or none, and numbers of sectors in range. Whether it makes sense is another matter
+-- the set is one that a set word stands for: as many members as slots, from 1 to 24, each slot an
+-- image from 0 to 23 or none, and numbers of sectors in range. Whether it makes sense is another matter
 pub record HasWord (geo : Geometry) : Type 0 where
   pub some : 1 ≤ length geo.slots.items
   pub most : length geo.slots.items ≤ MOST

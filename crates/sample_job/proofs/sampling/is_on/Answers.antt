@@ -1,6 +1,6 @@
 use Rattle.std.proofs.Common.{nat_eq, List, sym, ap, ◌∙◌}
 use Rattle.std.specs.List.{list_any}
-use Rattle.page_engine.specs.declared.page_parts.Line.{Line}
+use Rattle.head_walk.specs.declared.parts.Line.{Line}
 use Rattle.sample_job.proofs.Sampled.{among_is}
 use Rattle.sample_job.proofs.sampling.is_on.Goals as goal
 

@@ -5,3 +5,4 @@ pub mod NeededSums
 pub mod DataFound
 pub mod NeededRows
 pub mod ParityFound
+pub mod OneSector

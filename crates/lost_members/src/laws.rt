@@ -8,7 +8,7 @@ pub fn as_many_are_needed_as_are_data()
     ensures { NeedsAsManyAsData }
 {}
 
-/// So a volume is found by as many member sectors as it has sectors.
+/// A volume is found by as many member sectors as it has sectors, whichever members are lost.
 #[tactic(auto, using(crate::proofs::NeededRows::as_many_as_volume))]
 pub fn as_many_are_needed_as_the_volume_has()
     ensures { NeedsAsManyAsTheVolume }

@@ -140,25 +140,6 @@ reads_all old new slots k count reads = reads_up old new reads (mul-le-mul_right
 pub reads_images : (old new : Seen) (geo : Geometry) (images rows : ℕ) → is_shaped geo images ≡ true → OnlyReads old new (held geo.slots.items * rows) → OnlyReads old new (images * rows)
 reads_images old new geo images rows shaped reads = reads_up old new reads (mul-le-mul_right rows (held_few geo images shaped))
 
--- where one sector of each is
-pub reads_once : (old new : Seen) (slots : List (Option ℕ)) → OnlyReads old new (held slots * 1) → OnlyReads old new (held slots)
-reads_once old new slots reads = reads_up old new reads (omega arith)
-
--- a slot that holds an image is one of those that do
-held_some : (slots : List (Option ℕ)) (slot : ℕ) (d : Option ℕ) → slot < length slots → is_none (get_or slots slot d) ≡ false → 1 ≤ held slots
-held_some slots slot d lt some =
-    let here = held_next slots slot 1 d (get_or slots slot d) lt refl in
-    let one : held (take (slot + 1) slots) * 1 ≡ held (take slot slots) * 1 + 1 = rw some at here in
-    omega (arith, one, held_within slots (slot + 1))
-
--- no more is read than of all members, where one sector of one of them is
-pub reads_one : (old new : Seen) (slots : List (Option ℕ)) (slot sectors : ℕ) (d s : Option ℕ) → OnlyReads old new (if is_none s then 0 else sectors) →
-    sectors ≤ 1 → slot < length slots → get_or slots slot d ≡ s → is_none s ≡ false → OnlyReads old new (held slots)
-reads_one old new slots slot sectors d s reads few lt is some =
-    let there : is_none (get_or slots slot d) ≡ false = ap (λ (o : Option ℕ). is_none o) is ∙ some in
-    let one : OnlyReads old new sectors = rw some at reads in
-    reads_up old new one (omega (arith, held_some slots slot d lt there))
-
 -- the readings so far and of one more block
 pub reads_on : (old mid new : Seen) (n first count rows : ℕ) → OnlyReads old mid (n * first) → OnlyReads mid new (n * count) → first + count ≤ rows → OnlyReads old new (n * rows)
 reads_on old mid new n first count rows before block within =

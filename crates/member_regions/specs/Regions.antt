@@ -1,5 +1,6 @@
 -- The members' sectors in memory: a region for each member, one after the other, each of `stride` bytes.
 use Rattle.std.specs.Prelude.{ℕ, ◌≡◌, ◌+◌, ◌*◌, ◌<◌, ◌≤◌, false, List, slice_index, slice_index_or}
+use Rattle.std.specs.declared.option.Option.{Option}
 use Rattle.std.specs.declared.option.Option.TheVariants.{None}
 use Rattle.std.specs.Option.{is_none}
 use Rattle.raid_params.specs.declared.types.Geometry.{Geometry}
@@ -22,11 +23,12 @@ pub record KeepsRoom (old new : Room) : Type 0 where
   pub members : new.members ≡ old.members
   pub stride : new.stride ≡ old.stride
 
--- of the first n slots, the regions of those with an image hold `bytes` bytes of their members from sector `first` on
-abbrev pub HoldRead : List (List ℕ) → Geometry → ℕ → ℕ → ℕ → ℕ → List ℕ → Type 0
-HoldRead images geo stride first bytes n sectors =
-    (i y : ℕ) → i < n → y < bytes → is_none (slice_index_or geo.slots.items i None) ≡ false →
-    slice_index sectors (stride * i + y) ≡ member_byte images geo.head.offset first y (slice_index_or geo.slots.items i None)
+-- of the first n slots, the regions of those with an image hold `bytes` bytes of their members from sector `first` on, where
+-- the members begin at image sector `offset`
+abbrev pub HoldRead : List (List ℕ) → List (Option ℕ) → ℕ → ℕ → ℕ → ℕ → ℕ → List ℕ → Type 0
+HoldRead images slots offset stride first bytes n sectors =
+    (i y : ℕ) → i < n → y < bytes → is_none (slice_index_or slots i None) ≡ false →
+    slice_index sectors (stride * i + y) ≡ member_byte images offset first y (slice_index_or slots i None)
 
 -- the region of a slot holds `count` of its member sectors from sector `first` on, those of its image or the lost ones
 abbrev pub HoldSlot : List (List ℕ) → Geometry → ℕ → ℕ → ℕ → ℕ → List ℕ → Type 0

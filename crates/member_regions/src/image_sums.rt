@@ -15,16 +15,16 @@ use raid_params::MOST;
 /// What the exclusive or of the sectors of all images at a place is.
 #[derive(Clone, Copy, Default)]
 pub struct ImageSum {
-    /// It is zeros.
+    /// The exclusive or is zeros.
     pub is_zero: bool,
     /// All of the sectors are zeros.
     pub is_blank: bool,
-    /// It is the sector of this image, of the first images alone.
+    /// The exclusive or is the sector of this image, of the first images alone.
     pub is_image: [bool; MOST],
 }
 
-/// What it is at each of the first `places` places of the regions of the first `images` images. Of other places and
-/// images nothing is said.
+/// What the exclusive or of the sectors of the first `images` images is at each of the first `places` places of their
+/// regions. Of other places and images nothing is said.
 pub fn sum_images(regions: &Regions, images: usize, places: usize) -> [ImageSum; BLOCK]
     requires images { images ≤ MOST }
     requires places { places ≤ BLOCK }
@@ -38,7 +38,7 @@ pub fn sum_images(regions: &Regions, images: usize, places: usize) -> [ImageSum;
     sums
 }
 
-/// What it is at one place.
+/// What the exclusive or of the sectors of the first `images` images is at one place.
 fn image_sum(regions: &Regions, images: usize, place: usize) -> ImageSum
     requires images { images ≤ MOST }
     requires room { IsRoomFor images (place + 1) regions.now }

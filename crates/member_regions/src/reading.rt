@@ -1,45 +1,13 @@
-//! Reads the members' regions, one after the other.
-ghost use Rattle.std.specs.Prelude.{ℕ, ◌≡◌, if◌then◌else◌, ◌+◌, ◌*◌, ◌%◌, ◌/◌, ◌^◌, ◌<◌, ◌≤◌, length, slice_index, false, All, OnOk, IfSome};
+//! Reads sectors of one member.
+ghost use Rattle.std.specs.Prelude.{ℕ, ◌≡◌, if◌then◌else◌, ◌+◌, ◌%◌, ◌/◌, ◌^◌, ◌<◌, length, slice_index, false, OnOk, IfSome};
 ghost use Rattle.std.specs.Option.{is_none};
 ghost use Rattle.outside.specs.Attached.{told_all};
 ghost use Rattle.outside.specs.Causes.{HasCause};
 ghost use Rattle.outside.specs.Seen.{OnlyReads};
 ghost use Rattle.raid_terms.specs.Parity.{member_byte};
-ghost use Rattle.member_regions.specs.Members.{IsTestable, Reaches, held as held_of};
-ghost use Rattle.member_regions.specs.Regions.{HoldRead};
+ghost use Rattle.member_regions.specs.Members.{Reaches};
 
-use outside::{Failed, Images, SECTOR};
-use raid_params::Geometry;
-
-/// Reads `count` sectors of each member that is there into its region, from member sector `first`
-/// on. A region has `stride` bytes.
-#[tactic(auto, using(row_parity::proofs::Regions::region_inside))]
-pub fn read_members<I: Images>(
-    images: &mut I,
-    sectors: &mut [u8],
-    geo: &Geometry,
-    stride: usize,
-    first: u64,
-    count: usize,
-) -> Result<(), Failed>
-    requires held { All (Reaches (I.seen images.old).attached (geo.now.head.offset + (first + count)))
-        geo.now.slots.items }
-    requires near { geo.now.head.offset + (first + count) < 2 ^ 55 }
-    requires sectors { stride * length geo.now.slots.items ≤ length sectors.old }
-    requires some { 1 ≤ count }
-    requires fits { 512 * count ≤ stride }
-    ensures told { OnOk result (IfSome (told_all (I.seen images.old).attached)
-        (λ bytes. HoldRead bytes geo.now stride first (512 * count) (length geo.now.slots.items) sectors.new)) }
-    ensures reads { OnlyReads (I.seen images.old) (I.seen images.new) (held_of geo.now.slots.items * count) }
-    ensures cause { HasCause (I.seen images.old).faults (I.seen images.new).faults result }
-{
-    for (slot, held) in geo.slots.iter().enumerate() {
-        let at = stride * slot;
-        let to = &mut sectors[at..at + SECTOR * count];
-        read_member(images, *held, geo.head.offset, first, to)?;
-    }
-    Ok(())
-}
+use outside::{Failed, Images};
 
 /// Fills `to` with the sectors of the member in a slot from number `first` on, where there is one.
 pub fn read_member<I: Images>(

@@ -8,15 +8,15 @@ ghost use Rattle.row_parity.specs.Regions.{region_column};
 ghost use Rattle.member_regions.specs.Members.{held, Reaches};
 ghost use Rattle.member_regions.specs.Regions.{HoldRead, IsRoomFor, KeepsRoom};
 
-use crate::reading::read_members;
+use crate::reading::read_member;
 use outside::{Failed, Images, Memory, SECTOR};
-use raid_params::{Cell, Geometry};
+use raid_params::Cell;
 use row_parity::sectors_hold;
 use std::alloc::Global;
 use std::marker::Model;
 
 /// The sectors of a member that are read at once where no more are needed, 128 KiB: a read then costs
-/// little beside the bytes that it brings, and the regions of 16 members take 2 MiB.
+/// little beside the bytes that it brings, and the regions of 24 members take 3 MiB.
 pub const BLOCK: usize = 256;
 
 /// A region of sectors for each member, one region after the other.
@@ -57,28 +57,35 @@ impl Regions {
         })
     }
 
-    /// Reads `count` sectors of each member that is there into its region, from member sector `first`
-    /// on.
-    #[tactic(auto, using(crate::proofs::Room::room_inside))]
+    /// Reads `count` sectors of the image in each slot that holds one into the slot's region: the members begin at image
+    /// sector `offset`, and are read from their sector `first` on.
+    #[tactic(auto, using(crate::proofs::Room::room_inside, row_parity::proofs::Regions::region_inside))]
     pub fn read<I: Images>(
         &mut self,
         images: &mut I,
-        geo: &Geometry,
+        slots: &[Option<u8>],
+        offset: u64,
         first: u64,
         count: usize,
     ) -> Result<(), Failed>
-        requires room { IsRoomFor (length geo.now.slots.items) count self.old }
-        requires held { All (Reaches (I.seen images.old).attached (geo.now.head.offset + (first + count)))
-            geo.now.slots.items }
-        requires near { geo.now.head.offset + (first + count) < 2 ^ 55 }
+        requires room { IsRoomFor (length slots.now) count self.old }
+        requires held { All (Reaches (I.seen images.old).attached (offset + (first + count))) slots.now }
+        requires near { offset + (first + count) < 2 ^ 55 }
         requires some { 1 ≤ count }
         ensures room { KeepsRoom self.old self.new }
         ensures told { OnOk result (IfSome (told_all (I.seen images.old).attached) (λ bytes.
-            HoldRead bytes geo.now self.new.stride first (512 * count) (length geo.now.slots.items) self.new.bytes)) }
-        ensures reads { OnlyReads (I.seen images.old) (I.seen images.new) (held geo.now.slots.items * count) }
+            HoldRead bytes slots.now offset self.new.stride first (512 * count) (length slots.now) self.new.bytes)) }
+        ensures reads { OnlyReads (I.seen images.old) (I.seen images.new) (held slots.now * count) }
         ensures cause { HasCause (I.seen images.old).faults (I.seen images.new).faults result }
     {
-        read_members(images, &mut self.sectors, geo, self.stride, first, count)
+        let stride = self.stride;
+        let sectors = self.sectors.as_mut_slice();
+        for (slot, held) in slots.iter().enumerate() {
+            let at = stride * slot;
+            let to = &mut sectors[at..at + SECTOR * count];
+            read_member(images, *held, offset, first, to)?;
+        }
+        Ok(())
     }
 
     /// Whether the sectors number `j` of the regions are a sound row of these cells.
@@ -104,7 +111,7 @@ impl Regions {
     }
 }
 
-/// So many bytes of 0.
+/// A list of `count` bytes of 0.
 pub fn zeros(alloc: Global, count: usize) -> Result<Vec<u8>, Memory>
     ensures zeros { IfOk result (λ bytes. bytes.items ≡ replicate count 0) }
     ensures length { IfOk result (λ bytes. length bytes.items ≡ count) }

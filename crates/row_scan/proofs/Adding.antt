@@ -1,5 +1,5 @@
 -- What a run adds to a tally.
-use Rattle.std.proofs.Common.{◌≡◌, ℕ, ◌+◌, ◌<◌, ◌≤◌, true, false, inl, inr, List, length, set, get_or, refl, sym, subst, ◌∙◌, arith, Bool, ◌&&◌}
+use Rattle.std.proofs.Common.{◌≡◌, ℕ, ◌+◌, ◌<◌, ◌≤◌, true, false, inl, inr, List, length, set, get_or, refl, sym, subst, ◌∙◌, arith}
 use Rattle.std.proofs.lemmas.Bool.{cases_lt}
 use Rattle.std.proofs.lemmas.List.{get_or_default, get_or-set_other, get_or-set_same}
 use Rattle.raid_params.specs.declared.types.Geometry.{Geometry}

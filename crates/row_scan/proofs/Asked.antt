@@ -1,11 +1,12 @@
 -- What is read for the tallies that ask.
-use Rattle.std.proofs.Common.{◌≡◌, ℕ, ◌+◌, ◌*◌, ◌<◌, ◌≤◌, true, inl, inr, List, [], length, get_or, ap, ◌∙◌, arith, Option, Some, None, All, IfSome, Result, Ok, Err, OnOk}
+use Rattle.std.proofs.Common.{◌≡◌, ℕ, ◌+◌, ◌*◌, ◌<◌, ◌≤◌, true, inl, inr, List, [], length, get_or, ap, subst, sym, ◌∙◌, arith, Option, Some, None, All, IfSome}
 use Rattle.std.specs.Option.{is_none, is_some}
 use Rattle.std.proofs.lemmas.Bool.{cases_lt}
 use Rattle.std.proofs.lemmas.List.Sums.{count_by-le-length}
 use Rattle.std.proofs.Math.ListN.{get_or-eq_default}
 use Rattle.std.proofs.Math.Nat.{mul-le-mul_right}
-use Rattle.outside.specs.Seen.{Seen, OnlyReads}
+use Rattle.outside.specs.Attached.{told_all}
+use Rattle.outside.specs.Seen.{Image, Seen, OnlyReads}
 use Rattle.outside.proofs.Reading.{reads_up}
 use Rattle.raid_params.specs.declared.types.Geometry.{Geometry}
 use Rattle.raid_terms.specs.Parity.{member_byte}
@@ -14,7 +15,7 @@ use Rattle.member_regions.specs.Members.{held}
 use Rattle.member_regions.specs.Regions.{HoldRead, Room}
 use Rattle.member_regions.proofs.IfTold.{if_told}
 use Rattle.row_scan.specs.ImageRows.{asks}
-use Rattle.row_scan.specs.Pass.{HoldAsked}
+use Rattle.row_scan.specs.Pass.{CanScan, HoldAsked}
 use Rattle.row_scan.specs.Wanted.{AreWanted}
 use Rattle.row_scan.specs.declared.runs.Run.{Run}
 use Rattle.row_scan.specs.declared.tally.Tally.{Tally}
@@ -38,21 +39,34 @@ stands_wanted : (plan : Plan) (sets : List Geometry) (tallies : List Tally) (run
     get_or (get_or sets i e).slots.items slot None ≡ Some image → get_or slots image None ≡ Some image
 stands_wanted plan sets tallies run slots n i slot image d e wanted below inside asking is =
     elim (wanted image below) [
-      | inl stands ↦ stands
+      | inl stands ↦ stands.0
       | inr left ↦ absurd (left.1 i d e inside asking slot is)
     ]
 
 -- the regions of the images that were read hold what the asking tallies need
-pub hold_asked : (bytes : List (List ℕ)) (plan : Plan) (sets : List Geometry) (tallies : List Tally) (run : Run) (wanted : Geometry) (room : Room) →
-    wanted.head.offset ≡ 0 → AreWanted plan sets tallies run wanted.slots.items (length wanted.slots.items) →
-    All (λ geo. All (λ slot. IfSome slot (λ image. image < length wanted.slots.items)) geo.slots.items) sets →
-    HoldRead bytes wanted room.stride run.first (512 * run.count) (length wanted.slots.items) room.bytes → HoldAsked bytes plan sets tallies run room
-hold_asked bytes plan sets tallies run wanted room at are there hold = λ i d e inside asking slot image is y within.
-    let below : image < length wanted.slots.items = image_there (get_or sets i e).slots.items (length wanted.slots.items) slot image (there i e inside) is in
-    let stands = stands_wanted plan sets tallies run wanted.slots.items (length wanted.slots.items) i slot image d e are below inside asking is in
+hold_asked : (bytes : List (List ℕ)) (plan : Plan) (sets : List Geometry) (tallies : List Tally) (run : Run) (slots : List (Option ℕ)) (room : Room) →
+    AreWanted plan sets tallies run slots (length slots) → All (λ geo. All (λ slot. IfSome slot (λ image. image < length slots)) geo.slots.items) sets →
+    HoldRead bytes slots 0 room.stride run.first (512 * run.count) (length slots) room.bytes → HoldAsked bytes plan sets tallies run room
+hold_asked bytes plan sets tallies run slots room are there hold = λ i d e inside asking slot image is y within.
+    let below : image < length slots = image_there (get_or sets i e).slots.items (length slots) slot image (there i e inside) is in
+    let stands = stands_wanted plan sets tallies run slots (length slots) i slot image d e are below inside asking is in
     let read = hold image y below within (ap is_none stands) in
-    let place : 512 * (wanted.head.offset + run.first) + y ≡ 512 * run.first + y = omega arith in
-    read ∙ ap (member_byte bytes wanted.head.offset run.first y) stands ∙ ap (λ k. get_or (get_or bytes image []) k 0) place
+    let place : 512 * (0 + run.first) + y ≡ 512 * run.first + y = omega arith in
+    read ∙ ap (member_byte bytes 0 run.first y) stands ∙ ap (λ k. get_or (get_or bytes image []) k 0) place
+
+-- so it is after a reading of the wanted images, where all bytes are known; the sets can be scanned over the images with which the scan began
+pub wanted_held : (attached start : List Image) (plan : Plan) (sets : List Geometry) (tallies : List Tally) (run : Run) (wanted slots : List (Option ℕ)) (before room : Room) →
+    CanScan plan sets start before → AreWanted plan sets tallies run wanted (length wanted) → length wanted ≡ length plan.lengths.items → slots ≡ wanted →
+    IfSome (told_all attached) (λ bytes. HoldRead bytes slots 0 room.stride run.first (512 * run.count) (length slots) room.bytes) →
+    IfSome (told_all attached) (λ bytes. HoldAsked bytes plan sets tallies run room)
+wanted_held attached start plan sets tallies run wanted slots before room can are long same hold =
+    let few : length wanted ≡ length start = long ∙ sym can.planned in
+    let there : All (λ (geo : Geometry). All (λ (slot : Option ℕ). IfSome slot (λ image. image < length wanted)) geo.slots.items) sets =
+    subst (λ (n : ℕ). All (λ (geo : Geometry). All (λ (slot : Option ℕ). IfSome slot (λ image. image < n)) geo.slots.items) sets) (sym few) can.there in
+    let read : IfSome (told_all attached) (λ bytes. HoldRead bytes wanted 0 room.stride run.first (512 * run.count) (length wanted) room.bytes) =
+    subst (λ (l : List (Option ℕ)). IfSome (told_all attached) (λ bytes. HoldRead bytes l 0 room.stride run.first (512 * run.count) (length l) room.bytes)) same hold in
+    if_told (told_all attached) (λ bytes. HoldRead bytes wanted 0 room.stride run.first (512 * run.count) (length wanted) room.bytes)
+    (λ bytes. HoldAsked bytes plan sets tallies run room) (λ bytes. hold_asked bytes plan sets tallies run wanted room are there) read
 
 -- no more is read than of all images
 pub reads_wanted : (old new : Seen) (slots : List (Option ℕ)) (images count : ℕ) → length slots ≡ images → OnlyReads old new (held slots * count) → OnlyReads old new (images * count)
@@ -60,9 +74,3 @@ unfolding held
 reads_wanted old new slots images count few reads =
     let le : held slots ≤ images = omega (arith, count_by-le-length is_some slots) in
     reads_up old new reads (mul-le-mul_right count le)
-
--- what follows where a call succeeded and all bytes are known
-pub ok_then : {T E : Type 0} (result : Result T E) (told : Option (List (List ℕ))) (P Q : List (List ℕ) → Type 0) → ((bytes : List (List ℕ)) → P bytes → Q bytes) →
-    OnOk result (IfSome told P) → OnOk result (IfSome told Q)
-ok_then (Ok x) told P Q then is = if_told told P Q then is
-ok_then (Err e) told P Q then is = tt

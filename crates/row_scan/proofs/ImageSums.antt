@@ -150,15 +150,15 @@ added_next f cells slots marks others n place image d added inside long held cou
     rw add-one (added_suc f cells slots marks others n place image d added inside long held counts turns so_far)
 
 -- at first no image is marked, and no cell was added
-all_clear : (i : ℕ) → get_or (replicate 16 false) i false ≡ false
+all_clear : (i : ℕ) → get_or (replicate 24 false) i false ≡ false
 all_clear i =
-    elim (cases_lt i 16) [
-      | inl less ↦ get_or-replicate 16 i false false less
-      | inr more ↦ get_or-eq_default (replicate 16 false) false more
+    elim (cases_lt i 24) [
+      | inl less ↦ get_or-replicate 24 i false false less
+      | inr more ↦ get_or-eq_default (replicate 24 false) false more
     ]
 
-pub all_unmarked : (f : ℕ → ℕ) (bytes : List ℕ) (n : ℕ) → known_sum in_p [] bytes ≡ marked_sum f (replicate 16 false) n
-all_unmarked f bytes n = sum_none bytes ∙ sym (none_marked f (replicate 16 false) n all_clear)
+pub all_unmarked : (f : ℕ → ℕ) (bytes : List ℕ) (n : ℕ) → known_sum in_p [] bytes ≡ marked_sum f (replicate 24 false) n
+all_unmarked f bytes n = sum_none bytes ∙ sym (none_marked f (replicate 24 false) n all_clear)
 
 -- one more slot holds an image
 pub one_more_held : (slots : List (Option ℕ)) (place n image : ℕ) → ((i : ℕ) (d : Option ℕ) → i < place → IsSomeAnd (get_or slots i d) (λ k. k < n)) →

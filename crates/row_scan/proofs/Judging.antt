@@ -1,18 +1,21 @@
 -- From tallies to verdicts.
-use Rattle.std.proofs.Common.{◌≡◌, ℕ, ◌+◌, ◌<◌, ◌≤◌, Bool, true, false, List, [], ◌∷◌, length, get_or, map, cond, refl, sym, ap, subst, ◌∙◌, arith, Option, Some, None, All, IfSome}
+use Rattle.std.proofs.Common.{◌≡◌, ℕ, suc, ◌<◌, ◌≤◌, Bool, true, false, List, [], ◌∷◌, length, get_or, map, cond, refl, sym, ap, subst, ◌∙◌, arith, Option, Some, None, All, IfSome}
 use Rattle.std.proofs.lemmas.List.{ext_get_or, get_or-map, length-map}
+use Rattle.std.specs.List.{list_any}
+use Rattle.std.specs.Prelude.{◌||◌}
 use Rattle.outside.specs.Attached.{told_all}
 use Rattle.outside.specs.Seen.{Image, TellsBytes}
 use Rattle.raid_layouts.proofs.Shapes.{shaped_images}
 use Rattle.raid_params.specs.declared.types.Geometry.{Geometry}
 use Rattle.raid_terms.specs.Parity.{passes_parity, unsound_rows}
 use Rattle.search_plan.specs.declared.plan.Plan.{Plan}
-use Rattle.member_regions.specs.Regions.{IsRoomFor, Room}
+use Rattle.member_regions.proofs.Room.{room_kept}
+use Rattle.member_regions.specs.Regions.{IsRoomFor, KeepsRoom, Room}
 use Rattle.member_regions.specs.declared.regions.TheConstants.{BLOCK}
 use Rattle.row_scan.specs.ImageRows.{rows_before, rows_of}
-use Rattle.row_scan.specs.Pass.{BeginAnew, CanScan, IsAnew, IsDecided, TalliesSome, TalliesTo}
+use Rattle.row_scan.specs.Pass.{BeginAnew, CanScan, IsAnew, TalliesAll, TalliesSome, TalliesTo}
 use Rattle.row_scan.specs.Scan.{is_unbreakable, IsScannable}
-use Rattle.row_scan.specs.Tallies.{AllTallies, BeginsAs, has_passed, unbroken_tally}
+use Rattle.row_scan.specs.Tallies.{AllTallies, BeginsAs, has_passed, is_open, NoneOpen, unbroken_tally}
 use Rattle.row_scan.specs.Verdicts.{verdicts_of}
 use Rattle.row_scan.specs.declared.tally.Tally.{Tally}
 use Rattle.row_scan.specs.declared.tally.Tally.TheVariants.{Left, Passes, Fails}
@@ -40,13 +43,19 @@ can_scan plan sets attached room some all planned fits =
       regions = fits;
     }
 
+-- so they can while the images stay and the bytes alone change
+pub can_later : (plan : Plan) (sets : List Geometry) (attached now : List Image) (room new : Room) → CanScan plan sets attached room → now ≡ attached → KeepsRoom room new → CanScan plan sets now new
+can_later plan sets attached now room new can same kept =
+    subst (λ (there : List Image). CanScan plan sets there new) (sym same)
+    (record { scanned = can.scanned; there = can.there; near = can.near; planned = can.planned; long = can.long; regions = room_kept (length plan.lengths.items) BLOCK room new can.regions kept })
+
 -- a set passes where rows may be unsound still
-verdict_of : (images : List (List ℕ)) (plan : Plan) (geo : Geometry) (tally : Tally) → IsDecided images plan geo tally → has_passed tally ≡ passes_parity images geo plan.end plan.limits.window plan.limits.badrows
+verdict_of : (images : List (List ℕ)) (plan : Plan) (geo : Geometry) (tally : Tally) → TalliesAll images plan geo tally → has_passed tally ≡ passes_parity images geo plan.end plan.limits.window plan.limits.badrows
 verdict_of images plan geo (Left left) decided = sym (at_most (unsound_rows images geo (rows_of plan geo)) plan.limits.badrows (omega arith))
 verdict_of images plan geo Passes decided = sym decided
 verdict_of images plan geo Fails decided = sym (above (unsound_rows images geo (rows_of plan geo)) plan.limits.badrows decided)
 
-verdicts_at : (images : List (List ℕ)) (plan : Plan) (e : Geometry) (sets : List Geometry) (tallies : List Tally) (i : ℕ) → AllTallies (IsDecided images plan) sets tallies → length tallies ≡ length sets →
+verdicts_at : (images : List (List ℕ)) (plan : Plan) (e : Geometry) (sets : List Geometry) (tallies : List Tally) (i : ℕ) → AllTallies (TalliesAll images plan) sets tallies → length tallies ≡ length sets →
     i < length sets → get_or (map has_passed tallies) i false ≡ get_or (verdicts_of images plan sets) i false
 verdicts_at images plan e sets tallies i all long below =
     get_or-map has_passed tallies i Fails false (omega arith)
@@ -54,7 +63,7 @@ verdicts_at images plan e sets tallies i all long below =
     ∙ sym (get_or-map (λ (geo : Geometry). passes_parity images geo plan.end plan.limits.window plan.limits.badrows) sets i e false below)
 
 -- the verdicts are those of the parity test
-are_verdicts : (images : List (List ℕ)) (plan : Plan) (sets : List Geometry) (tallies : List Tally) → AllTallies (IsDecided images plan) sets tallies → length tallies ≡ length sets →
+are_verdicts : (images : List (List ℕ)) (plan : Plan) (sets : List Geometry) (tallies : List Tally) → AllTallies (TalliesAll images plan) sets tallies → length tallies ≡ length sets →
     map has_passed tallies ≡ verdicts_of images plan sets
 are_verdicts images plan [] [] all long = refl
 are_verdicts images plan [] (tally ∷ tallies) all long = absurd (omega arith)
@@ -64,7 +73,7 @@ are_verdicts images plan (geo ∷ sets) tallies all long =
     ext_get_or false (map has_passed tallies) (verdicts_of images plan (geo ∷ sets)) (same ∙ long ∙ sym other)
     (λ i below. verdicts_at images plan geo (geo ∷ sets) tallies i all long (omega arith))
 
-pub told_verdicts : (told : Option (List (List ℕ))) (plan : Plan) (sets : List Geometry) (tallies : List Tally) → length tallies ≡ length sets → IfSome told (λ bytes. AllTallies (IsDecided bytes plan) sets tallies) →
+pub told_verdicts : (told : Option (List (List ℕ))) (plan : Plan) (sets : List Geometry) (tallies : List Tally) → length tallies ≡ length sets → IfSome told (λ bytes. AllTallies (TalliesAll bytes plan) sets tallies) →
     IfSome told (λ bytes. map has_passed tallies ≡ verdicts_of bytes plan sets)
 told_verdicts None plan sets tallies long decided = tt
 told_verdicts (Some bytes) plan sets tallies long decided = are_verdicts bytes plan sets tallies decided long
@@ -108,7 +117,7 @@ all_anew (Some bytes) plan at sets sampled anew long begin so_far = λ i d e bel
 
 -- a sweep of such tallies tells the verdicts
 pub swept_verdicts : (told : Option (List (List ℕ))) (plan : Plan) (sets : List Geometry) (first swept : List Tally) → length swept ≡ length sets → IfSome told (λ bytes. AllTallies (TalliesTo bytes plan 0) sets first) →
-    IfSome told (λ bytes. AllTallies (TalliesTo bytes plan 0) sets first → AllTallies (IsDecided bytes plan) sets swept) → IfSome told (λ bytes. map has_passed swept ≡ verdicts_of bytes plan sets)
+    IfSome told (λ bytes. AllTallies (TalliesTo bytes plan 0) sets first → AllTallies (TalliesAll bytes plan) sets swept) → IfSome told (λ bytes. map has_passed swept ≡ verdicts_of bytes plan sets)
 swept_verdicts None plan sets first swept long begin goes = tt
 swept_verdicts (Some bytes) plan sets first swept long begin goes = are_verdicts bytes plan sets swept (goes begin) long
 
@@ -129,3 +138,14 @@ pub passed_of : (passed : List Bool) (tallies : List Tally) → length passed �
 passed_of passed tallies long told =
     ext_get_or false passed (map has_passed tallies) (long ∙ sym (length-map tallies has_passed))
     (λ i less. told i false Fails (omega arith) ∙ sym (get_or-map has_passed tallies i Fails false (omega arith)))
+
+-- where nothing can break a row of any set, no tally is open at first
+pub none_open : (plan : Plan) (sets : List Geometry) (tallies : List Tally) → tallies ≡ map (unbroken_tally plan) sets → All (λ geo. is_unbreakable geo ≡ true) sets → NoneOpen tallies
+none_open plan sets tallies is all = ap (list_any is_open) is ∙ each sets all
+  where
+    each : (sets : List Geometry) → All (λ geo. is_unbreakable geo ≡ true) sets → list_any is_open (map (unbroken_tally plan) sets) ≡ false
+    each [] all = refl
+    each (geo ∷ sets) all =
+        let here : is_unbreakable geo ≡ true = all 0 geo (omega arith) in
+        ap (λ (b : Bool). is_open (cond b Passes (Left plan.limits.badrows)) || list_any is_open (map (unbroken_tally plan) sets)) here
+        ∙ each sets (λ k d below. all (suc k) d (omega arith))

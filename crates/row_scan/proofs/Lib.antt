@@ -13,3 +13,5 @@ pub mod Judging
 pub mod ImageSums
 pub mod WholeRows
 pub mod BlankRows
+pub mod Marked
+pub mod Points

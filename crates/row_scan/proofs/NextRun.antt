@@ -15,7 +15,7 @@ use Rattle.row_scan.specs.Verdicts.{offsets_of}
 use Rattle.row_scan.specs.Windows.{is_in_window}
 use Rattle.row_scan.specs.declared.runs.Run.{Run}
 use Rattle.row_scan.specs.declared.tally.Tally.{Tally}
-use Rattle.row_scan.specs.declared.tally.Tally.TheVariants.{Left, Passes, Fails}
+use Rattle.row_scan.specs.declared.tally.Tally.TheVariants.{Left, Fails}
 
 -- no rows of a set lie past the end or its window
 rows_below : (plan : Plan) (geo : Geometry) → (rows_of plan geo ≤ plan.end - geo.head.offset) × (rows_of plan geo ≤ plan.limits.window)

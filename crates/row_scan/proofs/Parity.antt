@@ -1,5 +1,5 @@
 -- The rows of a block are those of the array.
-use Rattle.std.proofs.Common.{◌≡◌, ℕ, zero, suc, ◌+◌, ◌*◌, ◌/◌, ◌<◌, ◌≤◌, Bool, true, false, not, cond, List, length, get_or, sym, ap, ◌∙◌, arith, IfSome, Some, None}
+use Rattle.std.proofs.Common.{◌≡◌, ℕ, zero, suc, ◌+◌, ◌*◌, ◌/◌, ◌<◌, ◌≤◌, Bool, true, false, not, cond, List, length, get_or, ap, ◌∙◌, arith, IfSome, Some, None}
 use Rattle.std.specs.Prelude.{nat_le}
 use Rattle.std.proofs.lemmas.Bool.Decides.{nat_tests}
 use Rattle.std.specs.declared.option.Option.{Option}
@@ -15,7 +15,7 @@ use Rattle.row_scan.proofs.Columns.{sound_alike, unsound_none, unsound_more}
 
 -- a row of a block is that of the array
 held_sound : (images : List (List ℕ)) (geo : Geometry) (first count : ℕ) (room : Room) (j : ℕ) →
-    HoldRead images geo room.stride first (512 * count) (length geo.slots.items) room.bytes → j < count → is_sound_in geo room first j ≡ is_sound_row images geo (first + j)
+    HoldRead images geo.slots.items geo.head.offset room.stride first (512 * count) (length geo.slots.items) room.bytes → j < count → is_sound_in geo room first j ≡ is_sound_row images geo (first + j)
 unfolding is_sound_in
 held_sound images geo first count room j hold below =
     sound_alike (row_cells geo ((first + j) / geo.head.chunk)) (region_column (length geo.slots.items) room.stride room.bytes j) (member_column images geo (first + j))
@@ -24,7 +24,7 @@ held_sound images geo first count room j hold below =
 
 -- the unsound rows of the block come after those before it
 pub unsound_after : (images : List (List ℕ)) (geo : Geometry) (first count : ℕ) (room : Room) (n : ℕ) →
-    HoldRead images geo room.stride first (512 * count) (length geo.slots.items) room.bytes → n ≤ count → unsound_rows images geo (first + n) ≡ unsound_rows images geo first + unsound_in geo room first n
+    HoldRead images geo.slots.items geo.head.offset room.stride first (512 * count) (length geo.slots.items) room.bytes → n ≤ count → unsound_rows images geo (first + n) ≡ unsound_rows images geo first + unsound_in geo room first n
 unsound_after images geo first count room zero hold le =
     let at : first + 0 ≡ first = omega arith in
     rw at (omega (arith, unsound_none geo room first))
@@ -40,7 +40,7 @@ unsound_after images geo first count room (suc n) hold le =
 
 -- after a block, where its bytes are known
 pub told_after : (told : Option (List (List ℕ))) (geo : Geometry) (first count n : ℕ) (room : Room) →
-    IfSome told (λ bytes. HoldRead bytes geo room.stride first (512 * count) (length geo.slots.items) room.bytes) → n ≡ unsound_in geo room first count →
+    IfSome told (λ bytes. HoldRead bytes geo.slots.items geo.head.offset room.stride first (512 * count) (length geo.slots.items) room.bytes) → n ≡ unsound_in geo room first count →
     IfSome told (λ bytes. unsound_rows bytes geo (first + count) ≡ unsound_rows bytes geo first + n)
 told_after None geo first count n room hold is = tt
 told_after (Some bytes) geo first count n room hold is = omega (arith, unsound_after bytes geo first count room count hold (omega arith))

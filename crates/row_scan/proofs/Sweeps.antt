@@ -1,6 +1,6 @@
 -- What a pass reads.
-use Rattle.std.proofs.Common.{◌≡◌, ℕ, zero, suc, ◌+◌, ◌*◌, ◌<◌, ◌≤◌, Bool, true, cond, List, length, ap, arith, Option, None, IfSome, Result, Ok, Err, OnOk}
-use Rattle.std.proofs.Math.Nat.{mul-add}
+use Rattle.std.proofs.Common.{◌≡◌, ℕ, zero, suc, ◌+◌, ◌*◌, ◌<◌, ◌≤◌, Bool, true, cond, List, length, ap, arith, Option, IfSome}
+use Rattle.std.proofs.Math.Nat.{mul-add, mul-le-mul_left}
 use Rattle.std.specs.List.{list_any}
 use Rattle.outside.specs.Attached.{told_all}
 use Rattle.outside.specs.Seen.{Image, Seen, OnlyReads}
@@ -9,10 +9,10 @@ use Rattle.outside.proofs.Reading.{reads_join, reads_none, reads_up}
 use Rattle.raid_params.specs.declared.types.Geometry.{Geometry}
 use Rattle.search_plan.specs.declared.plan.Plan.{Plan}
 use Rattle.member_regions.proofs.Counting.{count_grows, count_suc}
-use Rattle.row_scan.specs.Pass.{IsDecided, IsNextRun, ReadsWindows, SweptTo, TalliesTo}
+use Rattle.row_scan.specs.Pass.{IsNextRun, ReadsWindows, SweptTo, TalliesTo}
 use Rattle.row_scan.specs.Tallies.{AllTallies}
 use Rattle.row_scan.specs.Verdicts.{offsets_of}
-use Rattle.row_scan.specs.Windows.{is_in_window, sectors_below}
+use Rattle.row_scan.specs.Windows.{is_in_window, scan_reads, sectors_below, window_sectors}
 use Rattle.row_scan.specs.declared.runs.Run.{Run}
 use Rattle.row_scan.specs.declared.tally.Tally.{Tally}
 
@@ -80,6 +80,16 @@ windows_join old mid new plan sets from between to first second =
       within = omega (arith, first.within, second.within);
     }
 
+-- what a scan reads: samples, and the windows
+pub scan_read : (old mid new : Seen) (plan : Plan) (sets : List Geometry) → OnlyReads old mid (length old.attached * 64) → ReadsWindows mid new plan sets 0 plan.end →
+    OnlyReads old new (scan_reads (length old.attached) plan.end plan.limits.window (offsets_of sets))
+scan_read old mid new plan sets first swept =
+    let same : length mid.attached ≡ length old.attached = ap length first.attached in
+    let more : OnlyReads mid new (length old.attached * swept.each) = rw same at swept.reads in
+    let few : swept.each ≤ window_sectors plan.end plan.limits.window (offsets_of sets) = omega (arith, swept.within) in
+    let most : length old.attached * swept.each ≤ length old.attached * window_sectors plan.end plan.limits.window (offsets_of sets) = mul-le-mul_left (length old.attached) few in
+    reads_up old new (reads_join old mid new first more) (omega (arith, most, mul-add (length old.attached) 64 (window_sectors plan.end plan.limits.window (offsets_of sets))))
+
 -- the tallies go on, where all bytes are known
 pub swept_on : (old mid : List Image) (plan : Plan) (sets : List Geometry) (from at : ℕ) (next : Option ℕ) (first tallies new : List Tally) → mid ≡ old →
     IfSome (told_all old) (λ bytes. AllTallies (TalliesTo bytes plan from) sets first → AllTallies (TalliesTo bytes plan at) sets tallies) →
@@ -90,11 +100,3 @@ swept_on old mid plan sets from at next first tallies new same so_far more =
     (λ bytes. AllTallies (TalliesTo bytes plan at) sets tallies → SweptTo bytes plan sets next new)
     (λ bytes. AllTallies (TalliesTo bytes plan from) sets first → SweptTo bytes plan sets next new)
     (λ bytes before after begun. after (before begun)) so_far (rw same at more)
-
--- and to their end, where a call succeeded
-pub swept_result : {T E : Type 0} (result : Result T E) (old mid : List Image) (plan : Plan) (sets : List Geometry) (at : ℕ) (first tallies new : List Tally) → mid ≡ old →
-    IfSome (told_all old) (λ bytes. AllTallies (TalliesTo bytes plan 0) sets first → AllTallies (TalliesTo bytes plan at) sets tallies) →
-    OnOk result (IfSome (told_all mid) (λ bytes. AllTallies (TalliesTo bytes plan at) sets tallies → AllTallies (IsDecided bytes plan) sets new)) →
-    OnOk result (IfSome (told_all old) (λ bytes. AllTallies (TalliesTo bytes plan 0) sets first → AllTallies (IsDecided bytes plan) sets new))
-swept_result (Ok t) old mid plan sets at first tallies new same so_far more = swept_on old mid plan sets 0 at None first tallies new same so_far more
-swept_result (Err e) old mid plan sets at first tallies new same so_far more = tt

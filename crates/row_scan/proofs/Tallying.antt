@@ -7,7 +7,7 @@ use Rattle.raid_terms.specs.Parity.{unsound_rows}
 use Rattle.search_plan.specs.declared.plan.Plan.{Plan}
 use Rattle.member_regions.specs.Regions.{Room}
 use Rattle.row_scan.specs.ImageRows.{AddAll, AddsRun, asks, HoldsSet, IsLeftAfter, rows_before, rows_of}
-use Rattle.row_scan.specs.Pass.{HoldAsked, IsDecided, IsNextRun, NothingLeft, TalliesSome, TalliesTo}
+use Rattle.row_scan.specs.Pass.{HoldAsked, TalliesAll, IsNextRun, NothingLeft, TalliesSome, TalliesTo}
 use Rattle.row_scan.specs.Tallies.{is_open, AllTallies}
 use Rattle.row_scan.specs.declared.runs.Run.{Run}
 use Rattle.row_scan.specs.declared.tally.Tally.{Tally}
@@ -98,14 +98,14 @@ to_after images plan sets run room at old new long next adds hold so_far = λ i 
     (added_to plan sets run room old new i d e adds (omega arith)) (hold i d e below) (so_far i d e below)
 
 decided_step : (images : List (List ℕ)) (plan : Plan) (geo : Geometry) (at : ℕ) (tally : Tally) →
-    (is_open tally ≡ true → rows_before plan geo at ≡ rows_of plan geo) → TalliesTo images plan at geo tally → IsDecided images plan geo tally
+    (is_open tally ≡ true → rows_before plan geo at ≡ rows_of plan geo) → TalliesTo images plan at geo tally → TalliesAll images plan geo tally
 decided_step images plan geo at Fails all so_far = so_far
 decided_step images plan geo at Passes all so_far = so_far
 decided_step images plan geo at (Left left) all so_far = let same = ap (unsound_rows images geo) (all refl) in omega (arith, so_far, same)
 
 -- and are whole where no rows are left
 pub decided_after : (images : List (List ℕ)) (plan : Plan) (sets : List Geometry) (at : ℕ) (tallies : List Tally) →
-    NothingLeft plan sets tallies (length sets) at → AllTallies (TalliesTo images plan at) sets tallies → AllTallies (IsDecided images plan) sets tallies
+    NothingLeft plan sets tallies (length sets) at → AllTallies (TalliesTo images plan at) sets tallies → AllTallies (TalliesAll images plan) sets tallies
 decided_after images plan sets at tallies none so_far = λ i d e below.
     decided_step images plan (get_or sets i e) at (get_or tallies i d) (none i d e below) (so_far i d e below)
 
@@ -119,7 +119,7 @@ still_asks plan geo Passes first = refl
 still_asks plan geo Fails first = refl
 
 pub decided_still : (images : List (List ℕ)) (plan : Plan) (sets : List Geometry) (room : Room) (at : ℕ) (old new : List Tally) → length old ≡ length sets →
-    AddAll plan sets 0 (record { first = 0; count = 0 }) room old new → NothingLeft plan sets old (length sets) at → AllTallies (TalliesTo images plan at) sets old → AllTallies (IsDecided images plan) sets new
+    AddAll plan sets 0 (record { first = 0; count = 0 }) room old new → NothingLeft plan sets old (length sets) at → AllTallies (TalliesTo images plan at) sets old → AllTallies (TalliesAll images plan) sets new
 decided_still images plan sets room at old new long adds none so_far = λ i d e below.
     let here = added_to plan sets (record { first = 0; count = 0 }) room old new i d e adds (omega arith) in
     rw (here.kept (still_asks plan (get_or sets i e) (get_or old i d) 0)) (decided_after images plan sets at old none so_far i d e below)

@@ -1,5 +1,5 @@
 -- Where nothing can break a row, none is unsound.
-use Rattle.std.proofs.Common.{◌≡◌, ℕ, zero, suc, ◌/◌, ◌*◌, Bool, true, not, cond, List, length, sym, ap, ◌∙◌, refl, arith, All, Option, None, Some, IfSome}
+use Rattle.std.proofs.Common.{◌≡◌, ℕ, zero, suc, ◌/◌, Bool, true, not, cond, List, sym, ap, refl, arith, All, Option, None, Some, IfSome}
 use Rattle.std.proofs.lemmas.Bool.{eqb-true}
 use Rattle.outside.specs.Attached.{told_all}
 use Rattle.outside.specs.Seen.{Image, OnlyReads, Seen, TellsBytes}

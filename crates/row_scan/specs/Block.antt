@@ -1,10 +1,9 @@
 -- The rows of regions, and how many may be unsound still.
-use Rattle.std.specs.Prelude.{ℕ, ◌≡◌, ◌+◌, ◌/◌, ◌<◌, Bool, not, List, length, count_by, MatchOption}
-use Rattle.std.specs.declared.option.Option.{Option}
+use Rattle.std.specs.Prelude.{ℕ, ◌+◌, ◌/◌, Bool, not, length, count_by}
 use Rattle.std.specs.List.{range_with_len}
 use Rattle.raid_params.specs.declared.types.Geometry.{Geometry}
 use Rattle.raid_terms.specs.Cells.{row_cells}
-use Rattle.raid_terms.specs.Parity.{is_sound, unsound_rows}
+use Rattle.raid_terms.specs.Parity.{is_sound}
 use Rattle.row_parity.specs.Regions.{region_column}
 use Rattle.member_regions.specs.Regions.{Room}
 

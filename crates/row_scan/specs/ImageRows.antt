@@ -1,6 +1,5 @@
 -- The rows of a set where a block of image sectors is in memory: a region for each image.
-use Rattle.std.specs.Prelude.{ℕ, ◌≡◌, ◌+◌, ◌-◌, ◌*◌, ◌<◌, Bool, true, false, nat_lt, ◌&&◌, not, min, List, [], length, slice_index, slice_index_or, MatchOption, All, IfSome, ◌^◌}
-use Rattle.std.specs.declared.option.Option.{Option}
+use Rattle.std.specs.Prelude.{ℕ, ◌≡◌, ◌+◌, ◌-◌, ◌*◌, ◌<◌, Bool, true, false, nat_lt, ◌&&◌, min, List, [], length, slice_index, slice_index_or, All, IfSome, ◌^◌}
 use Rattle.std.specs.declared.option.Option.TheVariants.{None, Some}
 use Rattle.raid_params.specs.declared.types.Geometry.{Geometry}
 use Rattle.raid_terms.specs.Parity.{tested_rows, unsound_rows}

@@ -4,6 +4,7 @@ pub mod Block
 pub mod Windows
 pub mod Verdicts
 pub mod ImageRows
+pub mod Samples
 pub mod Pass
 pub mod Wanted
 pub mod ImageSums

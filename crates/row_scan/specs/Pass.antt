@@ -1,5 +1,5 @@
 -- A pass over the images, run by run.
-use Rattle.std.specs.Prelude.{ℕ, ◌≡◌, ◌+◌, ◌*◌, ◌<◌, ◌≤◌, ◌^◌, max, true, false, List, length, slice_index_or, Result, Ok, Err, All, IfSome, IsSomeAnd, MatchOption}
+use Rattle.std.specs.Prelude.{ℕ, ◌≡◌, ◌+◌, ◌*◌, ◌<◌, ◌≤◌, ◌^◌, max, true, List, length, slice_index_or, Result, Ok, Err, All, IfSome, IsSomeAnd}
 use Rattle.std.specs.List.{list_any}
 use Rattle.std.specs.declared.option.Option.{Option}
 use Rattle.std.specs.declared.option.Option.TheVariants.{None, Some}
@@ -70,14 +70,14 @@ TalliesSome images plan at geo Passes = MeetsTest images plan geo
 TalliesSome images plan at geo Fails = FailsTest images plan geo
 
 -- a tally of all rows
-abbrev pub IsDecided : List (List ℕ) → Plan → Geometry → Tally → Type 0
-IsDecided images plan geo (Left left) = unsound_rows images geo (rows_of plan geo) + left ≡ plan.limits.badrows
-IsDecided images plan geo Passes = MeetsTest images plan geo
-IsDecided images plan geo Fails = FailsTest images plan geo
+abbrev pub TalliesAll : List (List ℕ) → Plan → Geometry → Tally → Type 0
+TalliesAll images plan geo (Left left) = unsound_rows images geo (rows_of plan geo) + left ≡ plan.limits.badrows
+TalliesAll images plan geo Passes = MeetsTest images plan geo
+TalliesAll images plan geo Fails = FailsTest images plan geo
 
 -- the tallies up to a sector, or those of all rows
 abbrev pub SweptTo : List (List ℕ) → Plan → List Geometry → Option ℕ → List Tally → Type 0
-SweptTo images plan sets None tallies = AllTallies (IsDecided images plan) sets tallies
+SweptTo images plan sets None tallies = AllTallies (TalliesAll images plan) sets tallies
 SweptTo images plan sets (Some sector) tallies = AllTallies (TalliesTo images plan sector) sets tallies
 
 -- what is asked of the sets, the images and the room of a scan

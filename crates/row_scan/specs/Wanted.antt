@@ -8,24 +8,38 @@ use Rattle.row_scan.specs.ImageRows.{asks}
 use Rattle.row_scan.specs.declared.runs.Run.{Run}
 use Rattle.row_scan.specs.declared.tally.Tally.{Tally}
 
--- the image stands in none of the slots
+-- the image stands in none of the slots, or in one of them
 abbrev pub HasNone : List (Option ℕ) → ℕ → Type 0
 HasNone slots image = (slot : ℕ) → slice_index_or slots slot None ≢ Some image
+
+abbrev pub HasOne : List (Option ℕ) → ℕ → Type 0
+HasOne slots image = (slot : ℕ) × (slice_index_or slots slot None ≡ Some image)
 
 -- it stands in no slot of those of the first n sets whose tallies ask for the run
 abbrev pub IsNotWanted : Plan → List Geometry → List Tally → Run → ℕ → ℕ → Type 0
 IsNotWanted plan sets tallies run n image =
     (k : ℕ) (d : Tally) (e : Geometry) → k < n → asks plan (slice_index_or sets k e) (slice_index_or tallies k d) run ≡ true → HasNone (slice_index_or sets k e).slots.items image
 
--- each of the first n slots holds the image of its own number, or nothing, and then no asking tally needs it
+-- it stands in a slot of one of them
+abbrev pub IsWanted : Plan → List Geometry → List Tally → Run → ℕ → ℕ → Type 0
+IsWanted plan sets tallies run n image =
+    (k : ℕ) × (k < n) × ((d : Tally) (e : Geometry) → (asks plan (slice_index_or sets k e) (slice_index_or tallies k d) run ≡ true) × HasOne (slice_index_or sets k e).slots.items image)
+
+-- each of the first n slots holds the image of its own number where an asking tally needs it, and else nothing
 abbrev pub AreWanted : Plan → List Geometry → List Tally → Run → List (Option ℕ) → ℕ → Type 0
 AreWanted plan sets tallies run slots n =
-    (i : ℕ) → i < n → (slice_index_or slots i None ≡ Some i) ⊎ ((slice_index_or slots i None ≡ None) × IsNotWanted plan sets tallies run (length sets) i)
+    (i : ℕ) → i < n → ((slice_index_or slots i None ≡ Some i) × IsWanted plan sets tallies run (length sets) i)
+    ⊎ ((slice_index_or slots i None ≡ None) × IsNotWanted plan sets tallies run (length sets) i)
 
 -- an image that is not marked now was not before
 abbrev pub KeepMarks : List Bool → List Bool → Type 0
 KeepMarks old new = (image : ℕ) → slice_index_or new image false ≡ false → slice_index_or old image false ≡ false
 
--- the images that are not marked are needed by none of the first n tallies
-abbrev pub MarkWanted : Plan → List Geometry → List Tally → Run → ℕ → List Bool → Type 0
-MarkWanted plan sets tallies run n marks = (image : ℕ) → slice_index_or marks image false ≡ false → IsNotWanted plan sets tallies run n image
+-- one that is marked now was before, or this holds of it
+abbrev pub MarkOnly : List Bool → List Bool → (ℕ → Type 0) → Type 0
+MarkOnly old new holds = (image : ℕ) → slice_index_or new image false ≡ true → (slice_index_or old image false ≡ true) ⊎ holds image
+
+-- the images that are marked are those that the first n tallies need
+pub record MarkWanted (plan : Plan) (sets : List Geometry) (tallies : List Tally) (run : Run) (n : ℕ) (marks : List Bool) : Type 0 where
+  pub all : (image : ℕ) → slice_index_or marks image false ≡ false → IsNotWanted plan sets tallies run n image
+  pub only : (image : ℕ) → slice_index_or marks image false ≡ true → IsWanted plan sets tallies run n image

@@ -1,7 +1,6 @@
 -- The image sectors that a scan may read.
 use Rattle.std.specs.Prelude.{ℕ, ◌+◌, ◌*◌, Bool, nat_le, nat_lt, ◌&&◌, List, min, count_by}
 use Rattle.std.specs.List.{list_any, range_with_len}
-use Rattle.row_scan.specs.declared.samples.TheConstants.{SAMPLES}
 
 -- the image sector lies in the window that begins at the offset, before the end
 abbrev pub is_in_window : ℕ → ℕ → ℕ → ℕ → Bool
@@ -15,6 +14,7 @@ sectors_below end window offsets below = count_by (λ sector. list_any (is_in_wi
 abbrev pub window_sectors : ℕ → ℕ → List ℕ → ℕ
 window_sectors end window offsets = sectors_below end window offsets end
 
--- the most sectors that a scan of sets with these offsets reads of the images: the samples, and each sector of a window once
+-- the most sectors that a scan of sets with these offsets reads of the images: 64 samples of each, and each sector of a window
+-- once
 abbrev pub scan_reads : ℕ → ℕ → ℕ → List ℕ → ℕ
-scan_reads images end window offsets = images * (SAMPLES + window_sectors end window offsets)
+scan_reads images end window offsets = images * (64 + window_sectors end window offsets)

@@ -13,28 +13,26 @@ use crate::image_sums::ImageSums;
 use crate::left_out::{ChunkRow, chunk_row, turn_row};
 use crate::runs::Run;
 use crate::tally::Tally;
-use address_map::area;
 use member_regions::Regions;
 use outside::SECTOR;
 use raid_params::{Cell, Geometry, MOST, Part};
 use row_parity::row_holds;
-use search_plan::Plan;
+use search_plan::{Plan, tested_rows};
 
 /// The bytes of a row of as many members as there may be.
 const ROW: usize = MOST * SECTOR;
 
 /// How many rows of a set a search by this plan tests.
-#[tactic(auto, using(raid_layouts::proofs::Shapes::shaped_head, member_regions::proofs::Sets::area_below))]
 pub fn rows_of(plan: &Plan, geo: &Geometry) -> u64
     requires { IsTestable geo.now }
     ensures rows { result ≡ tested plan.now geo.now }
     ensures within { result ≤ plan.now.end - geo.now.head.offset }
     ensures short { result ≤ plan.now.limits.window }
 {
-    area(&geo.head, plan.end).min(plan.limits.window)
+    tested_rows(plan, geo.head.chunk, geo.head.offset)
 }
 
-/// How many of them lie before an image sector.
+/// How many of the tested rows of a set lie before an image sector.
 pub fn rows_before(plan: &Plan, geo: &Geometry, sector: u64) -> u64
     requires { IsTestable geo.now }
     ensures { result ≡ tested_before plan.now geo.now sector }

@@ -18,14 +18,14 @@ use raid_params::Cell;
 pub struct ImageSums {
     /// How many images there are.
     pub images: usize,
-    /// At how many places it is known.
+    /// At how many places the exclusive or is known.
     pub places: usize,
-    /// What it is there.
+    /// What the exclusive or is at each of these places.
     pub sums: [ImageSum; BLOCK],
 }
 
 impl ImageSums {
-    /// At no place.
+    /// The sums of which no place is known.
     pub fn none() -> ImageSums
         ensures sums { (room : Room) → AreImageSums room result }
     {
@@ -36,7 +36,7 @@ impl ImageSums {
         }
     }
 
-    /// At the first `places` places of the regions of the first `images` images.
+    /// The sums at the first `places` places of the regions of the first `images` images.
     pub fn over(regions: &Regions, images: usize, places: usize) -> ImageSums
         requires images { images ≤ MOST }
         requires places { places ≤ BLOCK }

@@ -2,7 +2,6 @@
 ghost use Rattle.std.specs.Prelude.{ℕ, ◌≡◌, ◌<◌, ◌≤◌, ◌+◌, if◌then◌else◌, bit_xor, length, map, slice_index_or, All, Bool, IfSome, IsSomeAnd, IsTrue, List, false};
 ghost use Rattle.raid_params.specs.declared.limits.TheConstants.{MOST};
 ghost use Rattle.raid_terms.specs.Parity.{has_p as has_p_of, in_p};
-ghost use Rattle.row_parity.specs.LostBytes.{first_missing};
 ghost use Rattle.row_parity.specs.Syndromes.{known_in, known_sum};
 ghost use Rattle.member_regions.specs.Members.{IsTestable};
 ghost use Rattle.row_scan.specs.ImageSums.{AddsAllBut, held_byte, IsChunkRow, IsUnmarked, IsWhole, marked_sum};
@@ -10,6 +9,7 @@ ghost use Rattle.row_scan.specs.ImageSums.{AddsAllBut, held_byte, IsChunkRow, Is
 use arrayvec::ArrayVec;
 use raid_layouts::row_cells;
 use raid_params::{Cell, Geometry, MOST, Part};
+use row_parity::missing_part;
 
 /// Which of the images P's equation adds up: all, or all but one.
 #[derive(Clone, Copy)]
@@ -23,10 +23,13 @@ pub enum LeftOut {
 /// A chunk row of a set: its cells, and which of the images P's equation leaves out there, where that is known.
 #[derive(Drop)]
 pub struct ChunkRow {
+    /// Its number among the rows of chunks.
     pub at: u64,
+    /// A cell for each slot.
     pub cells: ArrayVec<Cell, MOST>,
     /// Each slot that is not empty holds one of the images.
     pub within: bool,
+    /// Which of the images P's equation leaves out, where that is known.
     pub out: Option<LeftOut>,
 }
 
@@ -65,7 +68,7 @@ fn is_within(held: Option<u8>, images: usize) -> bool
     }
 }
 
-/// Makes a chunk row another.
+/// Makes a chunk row of a set another one of it, where it is not that already.
 pub fn turn_row(geo: &Geometry, row: &mut ChunkRow, at: u64, images: usize)
     requires set { IsTestable geo.now }
     requires images { images ≤ MOST }
@@ -97,13 +100,6 @@ fn has_p(cells: &[Cell]) -> bool
     ensures { result ≡ has_p_of cells.now }
 {
     cells.iter().any(|cell| matches!(cell.part, Part::P))
-}
-
-/// What the first missing cell holds.
-fn missing_part(cells: &[Cell]) -> Option<Part>
-    ensures { result ≡ first_missing cells.now }
-{
-    cells.iter().find(|cell| cell.missing).map(|cell| cell.part)
 }
 
 /// Marks those of the first `images` images that P's equation adds up. None where a slot is empty or holds another.

@@ -15,8 +15,9 @@
 //! to 128 KiB a call. [`nothing_can_break`] finds the sets that pass whatever the bytes.
 //!
 //! Which rows are tested stands in `Parity` of `raid_terms`, what is asked of a set in `specs/Scan`, the tallies in
-//! `specs/Tallies`, the verdicts in `specs/Verdicts`, the sectors that a scan may read in `specs/Windows`, the rows of a run in `specs/ImageRows`,
-//! `specs/ImageSums` and `specs/Block`, and the pass in `specs/Pass` and `specs/Wanted`.
+//! `specs/Tallies`, the verdicts in `specs/Verdicts`, the sectors that a scan may read in `specs/Windows`, the samples in
+//! `specs/Samples`, the rows of a run in `specs/ImageRows`, `specs/ImageSums` and `specs/Block`, and the pass in `specs/Pass` and
+//! `specs/Wanted`.
 #![tactic(auto)]
 
 mod image_rows;
@@ -24,7 +25,6 @@ mod image_sums;
 mod left_out;
 mod many_sets;
 mod one_set;
-mod reading;
 mod rows;
 mod runs;
 mod samples;

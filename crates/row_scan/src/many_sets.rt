@@ -1,11 +1,9 @@
 //! The parity test of many parameter sets in one pass over the images.
-ghost use Rattle.std.specs.Prelude.{ℕ, ◌≡◌, ◌+◌, ◌*◌, ◌^◌, ◌<◌, ◌≤◌, length, map, All, IfErr, IfOk, IfSome, OnOk};
+ghost use Rattle.std.specs.Prelude.{ℕ, ◌≡◌, ◌+◌, ◌*◌, ◌^◌, ◌<◌, ◌≤◌, length, map, true, All, IfErr, IfOk, IfSome, OnOk};
 ghost use Rattle.outside.specs.Attached.{told_all};
-ghost use Rattle.outside.specs.Causes.{HasCause};
 ghost use Rattle.outside.specs.Seen.{OnlyReads};
 ghost use Rattle.member_regions.specs.Regions.{IsRoomFor};
-ghost use Rattle.row_scan.specs.Pass.{CanScan};
-ghost use Rattle.row_scan.specs.Scan.{EndsScan, IsScannable};
+ghost use Rattle.row_scan.specs.Scan.{EndsScan, is_unbreakable, IsScannable};
 ghost use Rattle.row_scan.specs.Tallies.{AllTallies, BeginsAs, has_passed, KeepSettled, NoneOpen, unbroken_tally};
 ghost use Rattle.row_scan.specs.Verdicts.{offsets_of, verdicts_of};
 ghost use Rattle.row_scan.specs.Windows.{scan_reads};
@@ -18,7 +16,7 @@ use crate::tally::Tally;
 use crate::verdict_list::Verdicts;
 use gates::Gate;
 use member_regions::{BLOCK, Regions};
-use outside::{Failed, Images, Memory};
+use outside::{Images, Memory};
 use raid_params::Geometry;
 use search_plan::Plan;
 use std::alloc::Global;
@@ -33,8 +31,8 @@ pub const MOST_SETS: usize = 4096;
 /// Some rows of each set are tested first, as samples, and most sets that are wrong are settled by them. Then all
 /// sets that are left are tested in one pass over the images, in the order of image sectors. A set of which more
 /// rows are unsound than may be is tested no further, and an image is not read where no set that is left needs it.
-/// In the pass pieces of the sets may run side by side: each passes the gate once, before its first rows. Memory is
-/// taken before the first reading.
+/// Where nothing can break a row of any of the sets, nothing is read. In the pass pieces of the sets may run side by
+/// side: each passes the gate once, before its first rows. Memory is taken before the first reading.
 pub fn scan<R: Threads + Sync, I: Images, G: Gate + Sync>(
     rt: &R,
     alloc: Global,
@@ -44,7 +42,7 @@ pub fn scan<R: Threads + Sync, I: Images, G: Gate + Sync>(
     gate: &G,
 ) -> Result<Verdicts, ScanFault>
     requires some { 1 ≤ length sets.now }
-    requires most { length sets.now ≤ MOST_SETS }
+    requires most { length sets.now ≤ 4096 }
     requires sets { All (λ geo. IsScannable geo plan.now.end (I.seen images.old).attached) sets.now }
     requires images { length (I.seen images.old).attached ≡ length plan.now.lengths.items }
     ensures verdicts { IfOk result (λ verdicts. length verdicts ≡ length sets.now) }
@@ -52,6 +50,7 @@ pub fn scan<R: Threads + Sync, I: Images, G: Gate + Sync>(
         (λ bytes. verdicts ≡ verdicts_of bytes plan.now sets.now)) }
     ensures reads { OnlyReads (I.seen images.old) (I.seen images.new)
         (scan_reads (length (I.seen images.old).attached) plan.now.end plan.now.limits.window (offsets_of sets.now)) }
+    ensures unread { All (λ geo. is_unbreakable geo ≡ true) sets.now → I.seen images.new ≡ I.seen images.old }
     ensures quiet { OnOk result ((I.seen images.new).faults ≡ (I.seen images.old).faults) }
     ensures ends { IfErr result (EndsScan (I.seen images.old) (I.seen images.new)) }
 {
@@ -99,7 +98,7 @@ pub fn scan_tallied<R: Threads + Sync, I: Images, G: Gate + Sync>(
     gate: &G,
 ) -> Result<(), ScanFault>
     requires some { 1 ≤ length sets.now }
-    requires most { length sets.now ≤ MOST_SETS }
+    requires most { length sets.now ≤ 4096 }
     requires sets { All (λ geo. IsScannable geo plan.now.end (I.seen images.old).attached) sets.now }
     requires images { length (I.seen images.old).attached ≡ length plan.now.lengths.items }
     requires long { length tallies.old ≡ length sets.now }
@@ -117,33 +116,8 @@ pub fn scan_tallied<R: Threads + Sync, I: Images, G: Gate + Sync>(
     let mut regions = image_regions(alloc, plan).map_err(|_| ScanFault::Memory)?;
     let scanned = Scanned { plan, sets };
     let threads = Threading { rt, gate };
-    judge(&threads, &scanned, images, &mut regions, tallies).map_err(|_| ScanFault::ReadFault)?;
-    Ok(())
-}
-
-/// Brings the tallies of some sets to their end, with a region for each image.
-fn judge<R: Threads + Sync, I: Images, G: Gate + Sync>(
-    threads: &Threading<R, G>,
-    scanned: &Scanned,
-    images: &mut I,
-    regions: &mut Regions,
-    tallies: &mut [Tally],
-) -> Result<(), Failed>
-    requires can { CanScan scanned.now.plan.now scanned.now.sets.now (I.seen images.old).attached regions.old }
-    requires some { 1 ≤ length scanned.now.sets.now }
-    requires long { length tallies.old ≡ length scanned.now.sets.now }
-    requires begin { AllTallies (BeginsAs (told_all (I.seen images.old).attached) scanned.now.plan.now) scanned.now.sets.now tallies.old }
-    ensures long { length tallies.new ≡ length scanned.now.sets.now }
-    ensures settled { KeepSettled tallies.old tallies.new }
-    ensures told { OnOk result (IfSome (told_all (I.seen images.old).attached)
-        (λ bytes. map has_passed tallies.new ≡ verdicts_of bytes scanned.now.plan.now scanned.now.sets.now)) }
-    ensures reads { OnlyReads (I.seen images.old) (I.seen images.new)
-        (scan_reads (length (I.seen images.old).attached) scanned.now.plan.now.end scanned.now.plan.now.limits.window (offsets_of scanned.now.sets.now)) }
-    ensures unread { NoneOpen tallies.old → I.seen images.new ≡ I.seen images.old }
-    ensures cause { HasCause (I.seen images.old).faults (I.seen images.new).faults result }
-{
-    test_samples(scanned, images, regions, tallies)?;
-    sweep(threads, scanned, images, regions, tallies)?;
+    test_samples(&scanned, images, &mut regions, tallies).map_err(|_| ScanFault::ReadFault)?;
+    sweep(&threads, &scanned, images, &mut regions, tallies).map_err(|_| ScanFault::ReadFault)?;
     Ok(())
 }
 

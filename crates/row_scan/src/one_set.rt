@@ -8,8 +8,8 @@ ghost use Rattle.member_regions.specs.Members.{held, IsTestable, Reaches};
 ghost use Rattle.member_regions.specs.Regions.{IsRoomFor, KeepsRoom};
 ghost use Rattle.row_scan.specs.Scan.{EndsScan, is_unbreakable, IsScannable, read_rows};
 
+use crate::image_rows::rows_of;
 use crate::rows::unsound_of;
-use address_map::area;
 use member_regions::{BLOCK, Regions};
 use outside::{Failed, Images};
 use raid_params::{Geometry, count_empty};
@@ -47,26 +47,23 @@ pub fn unsound<I: Images>(
     ensures ends { IfErr result (EndsScan (I.seen images.old) (I.seen images.new)) }
 {
     let mut regions = Regions::new(alloc, geo.slots.len(), BLOCK).map_err(|_| ScanFault::Memory)?;
-    count_unsound(images, &mut regions, geo, plan.end, plan.limits.window).map_err(
-        |_| ScanFault::ReadFault,
-    )
+    count_unsound(images, &mut regions, plan, geo).map_err(|_| ScanFault::ReadFault)
 }
 
-/// How many of the tested sector rows of a parameter set are unsound, those before the image sector `end` and below `window`,
-/// with room for the members' blocks. Nothing is read where nothing can break a row.
-pub(crate) fn count_unsound<I: Images>(
+/// How many of the tested sector rows of a parameter set are unsound, with room for the members' blocks. Nothing is read where
+/// nothing can break a row.
+fn count_unsound<I: Images>(
     images: &mut I,
     regions: &mut Regions,
+    plan: &Plan,
     geo: &Geometry,
-    end: u64,
-    window: u64,
 ) -> Result<u64, Failed>
-    requires set { IsScannable geo.now end (I.seen images.old).attached }
+    requires set { IsScannable geo.now plan.now.end (I.seen images.old).attached }
     requires room { IsRoomFor (length geo.now.slots.items) BLOCK regions.old }
     ensures told { IfOk result (λ n. IfSome (told_all (I.seen images.old).attached)
-        (λ bytes. n ≡ unsound_rows bytes geo.now (tested_rows geo.now end window))) }
+        (λ bytes. n ≡ unsound_rows bytes geo.now (tested_rows geo.now plan.now.end plan.now.limits.window))) }
     ensures reads { OnlyReads (I.seen images.old) (I.seen images.new)
-        (length (I.seen images.old).attached * read_rows geo.now end window) }
+        (length (I.seen images.old).attached * read_rows geo.now plan.now.end plan.now.limits.window) }
     ensures unread { is_unbreakable geo.now ≡ true → I.seen images.new ≡ I.seen images.old }
     ensures cause { HasCause (I.seen images.old).faults (I.seen images.new).faults result }
     ensures room { KeepsRoom regions.old regions.new }
@@ -74,7 +71,7 @@ pub(crate) fn count_unsound<I: Images>(
     if nothing_can_break(geo) {
         return Ok(0);
     }
-    let rows = rows_to_test(geo, end, window);
+    let rows = rows_of(plan, geo);
     count_rows(images, regions, geo, rows)
 }
 
@@ -113,16 +110,6 @@ fn count_rows<I: Images>(
     Ok(sum)
 }
 
-/// How many member sectors lie below the area and the window.
-#[tactic(auto, using(raid_layouts::proofs::Shapes::shaped_head, member_regions::proofs::Sets::area_below))]
-fn rows_to_test(geo: &Geometry, end: u64, window: u64) -> u64
-    requires { IsTestable geo.now }
-    ensures value { result ≡ tested_rows geo.now end window }
-    ensures within { result ≤ end - geo.now.head.offset }
-{
-    area(&geo.head, end).min(window)
-}
-
 /// How many of the `count` rows from `first` on are unsound. It reads a block of each member that is there.
 fn count_block<I: Images>(
     images: &mut I,
@@ -145,6 +132,6 @@ fn count_block<I: Images>(
     ensures cause { HasCause (I.seen images.old).faults (I.seen images.new).faults result }
 {
     let count = count as usize;
-    regions.read(images, geo, first, count)?;
+    regions.read(images, &geo.slots, geo.head.offset, first, count)?;
     Ok(unsound_of(geo, regions, first, count))
 }

@@ -14,14 +14,14 @@ use search_plan::Plan;
 /// Some image sectors, one after the other.
 #[derive(Clone, Copy)]
 pub struct Run {
-    /// The first of them.
+    /// The first of the sectors.
     pub first: u64,
-    /// How many there are.
+    /// How many sectors there are.
     pub count: u64,
 }
 
 impl Run {
-    /// No sectors.
+    /// The run of no sectors.
     pub fn empty() -> Run
         ensures { result ≡ record { first = 0; count = 0 } }
     {

@@ -1,20 +1,25 @@
 //! Samples: some rows of each set, tested before the others.
-ghost use Rattle.std.specs.Prelude.{ℕ, ◌≡◌, ◌+◌, ◌*◌, ◌^◌, ◌<◌, ◌≤◌, length, All, IfOk, IfSome, OnOk};
+ghost use Rattle.std.specs.Prelude.{ℕ, ◌≡◌, ◌+◌, ◌*◌, ◌^◌, ◌<◌, ◌≤◌, length, map, All, IfOk, IfSome, OnOk};
+ghost use Rattle.std.specs.List.{range_with_len};
+ghost use Rattle.std.specs.List.Sorted.{IsNonDecreasing, IsPermutation};
 ghost use Rattle.outside.specs.Attached.{told_all};
 ghost use Rattle.outside.specs.Causes.{HasCause};
 ghost use Rattle.outside.specs.Seen.{OnlyReads};
 ghost use Rattle.member_regions.specs.Regions.{KeepsRoom};
+ghost use Rattle.row_scan.specs.ImageRows.{rows_of as tested};
 ghost use Rattle.row_scan.specs.Pass.{BeginAnew, CanScan, IsScanned, TalliesSome, TalliesTo};
+ghost use Rattle.row_scan.specs.Samples.{sample_in, sample_of};
 ghost use Rattle.row_scan.specs.Tallies.{AllTallies, BeginsAs, KeepSettled, NoneOpen};
 
 use crate::image_rows::rows_of;
-use crate::reading::read_wanted;
 use crate::runs::{Run, are_open};
 use crate::scan_parts::Scanned;
 use crate::tallies::{add_to_piece, sums_for};
 use crate::tally::Tally;
+use crate::wanted::wanted_images;
 use member_regions::Regions;
 use outside::{Failed, Images};
+use raid_params::Geometry;
 use search_plan::Plan;
 
 /// The most sectors of each image that are read as samples.
@@ -41,7 +46,7 @@ pub fn test_samples<I: Images>(
     ensures long { length tallies.new ≡ length scanned.now.sets.now }
     ensures settled { KeepSettled tallies.old tallies.new }
     ensures room { KeepsRoom regions.old regions.new }
-    ensures reads { OnlyReads (I.seen images.old) (I.seen images.new) (length (I.seen images.old).attached * SAMPLES) }
+    ensures reads { OnlyReads (I.seen images.old) (I.seen images.new) (length (I.seen images.old).attached * 64) }
     ensures closed { NoneOpen tallies.old → (I.seen images.new ≡ I.seen images.old) × (tallies.new ≡ tallies.old) }
     ensures cause { HasCause (I.seen images.old).faults (I.seen images.new).faults result }
 {
@@ -100,23 +105,37 @@ fn test_sample<I: Images>(
         first: point,
         count: 1,
     };
-    read_wanted(scanned, images, regions, tallies, run)?;
+    let wanted = wanted_images(scanned, tallies, run);
+    regions.read(images, &wanted, 0, point, 1)?;
     let sums = sums_for(scanned.plan, tallies, regions, run);
     add_to_piece(scanned, 0, tallies, regions, &sums, run);
     Ok(point + 1)
 }
 
-/// The image sectors to take samples at, rising: each is a tested row of some set.
+/// The image sectors to take samples at, rising. Samples are spread over the sets, and each is a tested row of its set, where
+/// that has one.
 fn sample_points(scanned: &Scanned) -> [u64; SAMPLES]
     requires sets { All (IsScanned scanned.now.plan.now) scanned.now.sets.now }
     requires some { 1 ≤ length scanned.now.sets.now }
+    ensures points { (none : Geometry) → IsPermutation (map (sample_of scanned.now.plan.now scanned.now.sets.now none) (range_with_len 0 64)) result }
+    ensures rising { IsNonDecreasing result }
 {
     let mut points = [0; SAMPLES];
     for k in 0..SAMPLES {
-        let geo = &scanned.sets[(k * scanned.sets.len() / SAMPLES).min(scanned.sets.len() - 1)];
-        let part = (k * STEP % SAMPLES) as u64;
-        points[k] = geo.head.offset + rows_of(scanned.plan, geo) * part / SAMPLES as u64;
+        let geo = &scanned.sets[k * scanned.sets.len() / SAMPLES];
+        points[k] = sample_point(scanned.plan, geo, k);
     }
     points.sort_unstable();
     points
+}
+
+/// The image sector of the sample with a number, where it is taken of this set: so many parts into its tested rows.
+fn sample_point(plan: &Plan, geo: &Geometry, number: usize) -> u64
+    requires set { IsScanned plan.now geo.now }
+    requires number { number < 64 }
+    ensures point { result ≡ sample_in plan.now geo.now number }
+    ensures tested { 1 ≤ tested plan.now geo.now → result < geo.now.head.offset + tested plan.now geo.now }
+{
+    let part = (number * STEP % SAMPLES) as u64;
+    geo.head.offset + rows_of(plan, geo) * part / SAMPLES as u64
 }

@@ -23,13 +23,15 @@ pub const PIECE: usize = 512;
 /// As many open tallies as make sums of all images, and threads, worth their cost.
 const MANY: usize = 16;
 
-/// Adds the rows of a run to the tallies, in pieces where many are open.
-pub fn add_run<R: Threads + Sync>(
-    rt: &R,
+/// Adds the rows of a run to the tallies, in pieces where many are open. The first run of a pass is always added in pieces, which
+/// pass the gate.
+pub fn add_run<R: Threads + Sync, G: Gate + Sync>(
+    threads: &Threading<R, G>,
     scanned: &Scanned,
     tallies: &mut [Tally],
     regions: &Regions,
     run: Run,
+    is_first: bool,
 )
     requires long { length tallies.old ≡ length scanned.now.sets.now }
     requires sets { All (IsTallied regions.now) scanned.now.sets.now }
@@ -39,8 +41,12 @@ pub fn add_run<R: Threads + Sync>(
     ensures added { AddAll scanned.now.plan.now scanned.now.sets.now 0 run regions.now tallies.old tallies.new }
     ensures long { length tallies.new ≡ length tallies.old }
 {
+    if is_first {
+        add_in_pieces(threads, scanned, tallies, regions, run);
+        return;
+    }
     let threads = Threading {
-        rt,
+        rt: threads.rt,
         gate: &OpenGate,
     };
     if are_many(tallies) {

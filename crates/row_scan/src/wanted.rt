@@ -3,28 +3,26 @@ ghost use Rattle.std.specs.Prelude.{ℕ, ◌≡◌, ◌≢◌, ◌+◌, ◌^◌,
 ghost use Rattle.raid_params.specs.declared.limits.TheConstants.{MOST};
 ghost use Rattle.member_regions.specs.Members.{IsTestable};
 ghost use Rattle.row_scan.specs.ImageRows.{asks as asks_for};
-ghost use Rattle.row_scan.specs.Wanted.{AreWanted, HasNone, KeepMarks, MarkWanted};
+ghost use Rattle.row_scan.specs.Wanted.{AreWanted, HasNone, HasOne, KeepMarks, MarkOnly, MarkWanted};
 
 use crate::image_rows::asks;
 use crate::runs::Run;
 use crate::scan_parts::Scanned;
 use crate::tally::Tally;
-use raid_params::{Geometry, Head, Level, Pattern, Slots, Syndrome};
+use raid_params::{Geometry, Slots};
 use search_plan::Plan;
 
-/// The images of which some asking tally needs a run, each in the slot of its own number, the others left out.
-pub fn wanted_images(scanned: &Scanned, tallies: &[Tally], run: Run) -> Geometry
+/// The images of which some asking tally needs a run, each in the slot of its own number; the slots of the others are empty.
+pub fn wanted_images(scanned: &Scanned, tallies: &[Tally], run: Run) -> Slots
     requires sets { All IsTestable scanned.now.sets.now }
     requires long { length tallies.now ≡ length scanned.now.sets.now }
     requires run { run.first + run.count < 2 ^ 64 }
-    ensures wanted { AreWanted scanned.now.plan.now scanned.now.sets.now tallies.now run result.slots.items (length result.slots.items) }
-    ensures slots { length result.slots.items ≡ length scanned.now.plan.now.lengths.items }
-    ensures offset { result.head.offset ≡ 0 }
+    ensures wanted { AreWanted scanned.now.plan.now scanned.now.sets.now tallies.now run result.items (length result.items) }
+    ensures slots { length result.items ≡ length scanned.now.plan.now.lengths.items }
 {
-    let images = scanned.plan.lengths.len();
     let marks = wanted_marks(scanned, tallies, run);
     let mut slots = Slots::new();
-    for image in 0..images {
+    for image in 0..scanned.plan.lengths.len() {
         let image = image as u8;
         slots.push(if marks[image as usize] {
             Some(image)
@@ -32,15 +30,7 @@ pub fn wanted_images(scanned: &Scanned, tallies: &[Tally], run: Run) -> Geometry
             None
         });
     }
-    let head = Head {
-        level: Level::Raid0,
-        members: images as u8,
-        pattern: Pattern::Plain,
-        syndrome: Syndrome::NoQ,
-        chunk: 1,
-        offset: 0,
-    };
-    Geometry { head, slots }
+    slots
 }
 
 /// Marks the images of which some asking tally needs a run.
@@ -64,6 +54,7 @@ fn mark_set(marks: &mut [bool], plan: &Plan, geo: &Geometry, tally: Tally, run: 
     requires run { run.first + run.count < 2 ^ 64 }
     ensures kept { KeepMarks marks.old marks.new }
     ensures marked { asks_for plan.now geo.now tally run ≡ true → (image : ℕ) → slice_index_or marks.new image false ≡ false → HasNone geo.now.slots.items image }
+    ensures only { MarkOnly marks.old marks.new (λ image. (asks_for plan.now geo.now tally run ≡ true) × HasOne geo.now.slots.items image) }
     ensures long { length marks.new ≡ 256 }
 {
     if asks(plan, geo, tally, run) {
@@ -76,6 +67,7 @@ fn mark_images(marks: &mut [bool], slots: &[Option<u8>])
     requires { length marks.old ≡ 256 }
     ensures kept { KeepMarks marks.old marks.new }
     ensures marked { (image : ℕ) → slice_index_or marks.new image false ≡ false → HasNone slots.now image }
+    ensures only { MarkOnly marks.old marks.new (HasOne slots.now) }
     ensures long { length marks.new ≡ 256 }
 {
     for slot in 0..slots.len() {
@@ -88,6 +80,7 @@ fn mark_slot(marks: &mut [bool], held: Option<u8>)
     requires { length marks.old ≡ 256 }
     ensures kept { KeepMarks marks.old marks.new }
     ensures marked { (image : ℕ) → slice_index_or marks.new image false ≡ false → held ≢ Some image }
+    ensures only { MarkOnly marks.old marks.new (λ image. held ≡ Some image) }
     ensures long { length marks.new ≡ 256 }
 {
     if let Some(image) = held {

@@ -7,15 +7,13 @@ use Rattle.std.proofs.lemmas.Grind.{same_number_lists}
 use Rattle.std.proofs.lemmas.Nat.{div-mul-add}
 use Rattle.raid_params.specs.declared.types.Geometry.{Geometry}
 use Rattle.std.specs.Option.{is_none}
-use Rattle.raid_params.specs.declared.types.Cell.{Cell}
-use Rattle.raid_terms.specs.Cells.{part_of, row_cells}
-use Rattle.raid_terms.specs.Parity.{column_of, is_data, member_byte}
-use Rattle.raid_terms.specs.Solving.{lost_byte}
+use Rattle.raid_terms.specs.Cells.{part_of}
+use Rattle.raid_terms.specs.Parity.{is_data, member_byte}
 use Rattle.raid_terms.specs.Volume.{byte_in, member_sector}
-use Rattle.member_regions.proofs.Solved.{held_byte, row_lost}
+use Rattle.member_regions.proofs.Solved.{held_byte}
 use Rattle.virtual_volume.specs.Parts.{chunk_of}
 use Rattle.lost_members.specs.Needs.{HoldData, is_data_at}
-use Rattle.member_regions.specs.Regions.{HoldRead, HoldSlot}
+use Rattle.member_regions.specs.Regions.{HoldSlot}
 use Rattle.virtual_volume.proofs.Ranges.{flat_more, flat_same}
 
 -- one more block of a list
@@ -85,7 +83,7 @@ region_sectors images geo stride first count slot at n sectors part hold few wit
     part_sectors images geo stride first slot at n sectors part (λ j x below inside. hold (at + j) x (omega arith) inside) within is
 
 -- a sector of the chunk of a data slot is data
-chunk_data : (geo : Geometry) (row slot t j : ℕ) → is_data (part_of geo.head row slot) ≡ true → j < geo.head.chunk → t ≡ row * geo.head.chunk + j → is_data_at geo slot t ≡ true
+pub chunk_data : (geo : Geometry) (row slot t j : ℕ) → is_data (part_of geo.head row slot) ≡ true → j < geo.head.chunk → t ≡ row * geo.head.chunk + j → is_data_at geo slot t ≡ true
 chunk_data geo row slot t j holds below e =
     let here : t / geo.head.chunk ≡ row = ap (λ (n : ℕ). n / geo.head.chunk) e ∙ div-mul-add row geo.head.chunk j below in
     ap (λ (r : ℕ). is_data (part_of geo.head r slot)) here ∙ holds
@@ -109,15 +107,6 @@ sector_read images geo slot t to long there bytes =
     same_number_lists to (member_sector images geo slot t) (long ∙ sym (sector_long images geo slot t))
     (λ k h. bytes k h there ∙ held_byte images geo t slot k (slice_index_or geo.slots.items slot None) there ∙ sym (sector_byte images geo slot t k (omega arith)))
 
--- a sector that was found
-sector_found : (images : List (List ℕ)) (geo : Geometry) (slot t : ℕ) (row to : List ℕ) (cells : List Cell) → cells ≡ row_cells geo (t / geo.head.chunk) → slice_index_or geo.slots.items slot None ≡ None →
-    HoldRead images geo 512 t (512 * 1) (length geo.slots.items) row → length to ≡ 512 → ((x : ℕ) → x < 512 → get_or to x 0 ≡ lost_byte cells (column_of (length cells) row x) slot) → to ≡ member_sector images geo slot t
-sector_found images geo slot t row to cells are empty hold long found =
-    same_number_lists to (member_sector images geo slot t) (long ∙ sym (sector_long images geo slot t))
-    (λ x h. let inside : x < 512 = omega arith in
-    found x inside ∙ row_lost images geo t x slot row cells are hold inside
-    ∙ ap (λ (o : Option ℕ). byte_in images geo t slot x o) (sym empty) ∙ sym (sector_byte images geo slot t x inside))
-
 -- where it is known
 pub read_told : {T E : Type 0} (told : Option (List (List ℕ))) (geo : Geometry) (slot t : ℕ) (held : Option ℕ) (result : Result T E) (to : List ℕ) →
     held ≡ slice_index_or geo.slots.items slot None → is_none held ≡ false → length to ≡ 512 →
@@ -128,11 +117,3 @@ read_told None geo slot t held (Ok v) to same there long bytes = tt
 read_told (Some images) geo slot t held (Ok v) to same there long bytes =
     sector_read images geo slot t to long (ap (λ (o : Option ℕ). is_none o) (sym same) ∙ there)
     (λ y h some. bytes y h there ∙ ap (λ (o : Option ℕ). member_byte images geo.head.offset t y o) same)
-
-pub found_told : (told : Option (List (List ℕ))) (geo : Geometry) (slot t k : ℕ) (sectors row to : List ℕ) (cells : List Cell) → cells ≡ row_cells geo (t / geo.head.chunk) → slice_index_or geo.slots.items slot None ≡ None →
-    row ≡ take k sectors → k ≡ 512 * length geo.slots.items → length to ≡ 512 → ((x : ℕ) → x < 512 → get_or to x 0 ≡ lost_byte cells (column_of (length cells) row x) slot) →
-    IfSome told (λ bytes. HoldRead bytes geo 512 t (512 * 1) (length geo.slots.items) sectors) → IfSome told (λ bytes. to ≡ member_sector bytes geo slot t)
-found_told None geo slot t k sectors row to cells are empty is size long found hold = tt
-found_told (Some images) geo slot t k sectors row to cells are empty is size long found hold =
-    sector_found images geo slot t row to cells are empty
-    (λ i y within below there. ap (λ (l : List ℕ). get_or l (512 * i + y) 0) is ∙ get_or-take k sectors (512 * i + y) 0 (omega arith) ∙ hold i y within below there) long found

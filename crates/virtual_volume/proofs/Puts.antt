@@ -1,6 +1,6 @@
 -- Rows that are put item by item.
-use Rattle.std.proofs.Common.{◌≡◌, ℕ, ◌+◌, ◌-◌, ◌*◌, ◌<◌, ◌≤◌, List, [], ◌++◌, length, take, drop, Option, Result, Ok, Err, refl, sym, ap, ◌∙◌, subst, arith, append_assoc, true}
-use Rattle.std.proofs.lemmas.Nat.{mul-le}
+use Rattle.std.proofs.Common.{◌≡◌, ℕ, ◌+◌, ◌-◌, ◌*◌, ◌%◌, ◌<◌, ◌≤◌, List, [], ◌++◌, length, take, drop, Option, Result, Ok, Err, refl, sym, ap, ◌∙◌, subst, arith, append_assoc, true}
+use Rattle.std.proofs.lemmas.Nat.{mod_below, mul-le}
 use Rattle.outside.specs.Streams.{AppendsFront, Puts}
 use Rattle.raid_params.specs.Size.{data_blocks, rows}
 use Rattle.raid_params.specs.Validity.{is_valid_head}
@@ -10,13 +10,14 @@ use Rattle.raid_params.specs.declared.types.Part.{Part}
 use Rattle.raid_layouts.proofs.Parts.{part_data}
 use Rattle.raid_terms.specs.Cells.{part_of}
 use Rattle.raid_terms.specs.Parity.{is_data}
+use Rattle.raid_terms.specs.Address.{home_item, home_row, LiesAt}
 use Rattle.raid_terms.specs.Role.{item_of}
 use Rattle.virtual_volume.specs.Parts.{chunk_of, items_of, rows_of}
-use Rattle.member_regions.proofs.Sets.{testable_head}
+use Rattle.member_regions.proofs.Sets.{testable_chunk, testable_head}
 use Rattle.member_regions.specs.Members.{IsTestable}
-use Rattle.lost_members.specs.Needs.{HoldData}
+use Rattle.lost_members.specs.Needs.{HoldData, is_data_at}
 use Rattle.virtual_volume.specs.Waiting.{Passed, Passes}
-use Rattle.virtual_volume.proofs.Blocks.{region_chunk}
+use Rattle.virtual_volume.proofs.Blocks.{chunk_data, region_chunk}
 use Rattle.std.specs.Io.KnownBytes.{Appends}
 use Rattle.std.specs.Prelude.{IsTrue, MatchResult, OnOk, slice_range}
 use Rattle.std.specs.Result.{IsErrAnd}
@@ -33,7 +34,7 @@ row_inside r rows chunk h =
     omega arith
 
 -- an item's slot is data
-item_data : (head : Head) (row item slot : ℕ) → IsTrue (is_valid_head head) → item < data_blocks head → slot ≡ item_of head row item → is_data (part_of head row slot) ≡ true
+pub item_data : (head : Head) (row item slot : ℕ) → IsTrue (is_valid_head head) → item < data_blocks head → slot ≡ item_of head row item → is_data (part_of head row slot) ≡ true
 item_data head row item slot valid below is = ap (λ (p : Part). is_data p) (part_data head row slot valid (item, (below, is)))
 
 -- the part of the regions that is put for an item is the chunk of its slot
@@ -46,6 +47,13 @@ item_part images geo stride first count row item slot at sectors part set below 
     region_chunk images geo stride first count slot row at sectors part within (item_data geo.head row item slot (testable_head geo set) below is) hold place few long
     (cut ∙ ap (λ (n : ℕ). take n (drop (stride * slot + 512 * at) sectors)) size)
     ∙ ap (λ (s : ℕ). chunk_of images geo row s) is
+
+-- a sector of the volume lies on data
+pub home_data : (geo : Geometry) (slot sector v : ℕ) → IsTestable geo → LiesAt geo.head slot sector v → is_data_at geo slot sector ≡ true
+home_data geo slot sector v set lies =
+    let valid = testable_head geo set in
+    chunk_data geo (home_row geo.head v) slot sector (v % geo.head.chunk) (item_data geo.head (home_row geo.head v) (home_item geo.head v) slot valid lies.item.0 lies.item.1)
+    (mod_below v geo.head.chunk (testable_chunk geo set)) lies.place
 
 pub items_start : (images : List (List ℕ)) (geo : Geometry) (row : ℕ) (old : Option (List ℕ)) (waits : List ℕ) → Passes old old waits waits (items_of images geo row 0)
 items_start images geo row old waits = subst (λ (l : List ℕ). Passes old old waits waits l) (sym (items_none images geo row)) (passes_none old waits)

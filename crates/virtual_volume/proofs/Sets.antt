@@ -8,7 +8,6 @@ use Rattle.outside.proofs.Reading.{reads_join, reads_up}
 use Rattle.outside.specs.Seen.{Image, OnlyReads, Seen}
 use Rattle.address_map.proofs.Heads.{some_chunk}
 use Rattle.address_map.proofs.Lies.{inside_back, slot_in}
-use Rattle.raid_layouts.proofs.Levels.{at_most}
 use Rattle.raid_terms.specs.Address.{LiesAt}
 use Rattle.raid_params.specs.Size.{area, rows, volume_sectors}
 use Rattle.raid_params.specs.Validity.{is_shaped, is_valid_head, row_fault, shape_fault}
@@ -110,13 +109,6 @@ pub few_rows : (first rows chunk : ℕ) → 0 < chunk → first + rows ≤ first
 few_rows first rows chunk h =
     let a : first * 1 ≤ first * chunk = mul-le first 1 first chunk (omega arith) h in
     let b : rows * 1 ≤ rows * chunk = mul-le rows 1 rows chunk (omega arith) h in
-    omega arith
-
--- no more than 16 slots
-pub few_slots : (geo : Geometry) → IsTestable geo → length geo.slots.items ≤ 16
-few_slots geo t =
-    let most = at_most geo.head (shaped_head geo t.images t.shaped) in
-    let slots = shaped_slots geo t.images t.shaped in
     omega arith
 
 -- a sector of the volume lies within the members

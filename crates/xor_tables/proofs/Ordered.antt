@@ -7,7 +7,6 @@ use Rattle.outside.proofs.Reading.{reads_join, reads_up}
 use Rattle.outside.specs.Seen.{Image, OnlyReads, Seen}
 use Rattle.std.proofs.lemmas.Nat.{mul-le}
 use Rattle.raid_layouts.proofs.Counts.{count_cons}
-use Rattle.raid_params.specs.declared.types.Geometry.{Geometry}
 use Rattle.raid_terms.specs.Parity.{member_byte}
 use Rattle.member_regions.specs.Members.{held, Reaches}
 use Rattle.member_regions.specs.Regions.{HoldRead, Room}
@@ -70,14 +69,14 @@ plan_near plan is_plan =
     omega arith
 
 -- what was read of the members are rows of the images
-pub rows_held : (images : List (List ℕ)) (geo : Geometry) (count first sectors : ℕ) (room : Room) → geo.slots.items ≡ in_order count →
-    HoldRead images geo room.stride first (512 * sectors) (length geo.slots.items) room.bytes → HoldRows images count (geo.head.offset + first) sectors room
-rows_held images geo count first sectors room e hold = λ j low i x below lt.
-    let long : length geo.slots.items ≡ count = ap length e ∙ order_length count in
-    let here : get_or geo.slots.items i None ≡ Some i = ap (λ (l : List (Option ℕ)). get_or l i None) e ∙ order_at count i None below in
-    let at : 512 * (geo.head.offset + first) + (512 * j + x) ≡ 512 * (geo.head.offset + first + j) + x = omega arith in
+pub rows_held : (images : List (List ℕ)) (slots : List (Option ℕ)) (count sector sectors : ℕ) (room : Room) → slots ≡ in_order count →
+    HoldRead images slots sector room.stride 0 (512 * sectors) (length slots) room.bytes → HoldRows images count sector sectors room
+rows_held images slots count sector sectors room e hold = λ j low i x below lt.
+    let long : length slots ≡ count = ap length e ∙ order_length count in
+    let here : get_or slots i None ≡ Some i = ap (λ (l : List (Option ℕ)). get_or l i None) e ∙ order_at count i None below in
+    let at : 512 * (sector + 0) + (512 * j + x) ≡ 512 * (sector + j) + x = omega arith in
     let read = hold i (512 * j + x) (omega arith) (omega arith) (ap (λ (o : Option ℕ). is_none o) here) in
-    subst (λ (o : Option ℕ). get_or room.bytes (room.stride * i + (512 * j + x)) 0 ≡ member_byte images geo.head.offset first (512 * j + x) o) here read
+    subst (λ (o : Option ℕ). get_or room.bytes (room.stride * i + (512 * j + x)) 0 ≡ member_byte images sector 0 (512 * j + x) o) here read
     ∙ ap (λ (k : ℕ). slice_index (slice_index_or images i []) k) at
 
 -- what is read of the members is read of the images

@@ -7,7 +7,8 @@ use Rattle.address_map.proofs.Heads.{chunk_above}
 use Rattle.search_plan.specs.declared.plan.Plan.{Plan}
 use Rattle.raid_params.specs.declared.limits.TheConstants.{LARGEST_CHUNK}
 use Rattle.xor_tables.specs.Early.{AreEarlyTables, AreKnown, CountFirst}
-use Rattle.xor_tables.specs.Xors.{tested_with, AreFew, CountRows, RowTable}
+use Rattle.xor_tables.specs.Xors.{AreFew, CountRows, RowTable}
+use Rattle.search_plan.specs.Rows.{tested_with}
 
 pub chunk_short : (chunk : ℕ) → IsTrue (is_chunk chunk) → chunk ≤ LARGEST_CHUNK
 unfolding is_chunk

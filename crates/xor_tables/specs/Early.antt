@@ -6,7 +6,8 @@ use Rattle.raid_params.specs.declared.types.Level.{Level}
 use Rattle.raid_params.specs.declared.types.Level.TheVariants.{Raid0, Raid5, Raid6}
 use Rattle.search_plan.specs.declared.plan.Plan.{Plan}
 use Rattle.xor_tables.specs.Rows.{needs_table}
-use Rattle.xor_tables.specs.Xors.{tested_with, AreFew, CountRows, RowTable}
+use Rattle.xor_tables.specs.Xors.{AreFew, CountRows, RowTable}
+use Rattle.search_plan.specs.Rows.{tested_with}
 
 -- a table is settled for a level: more rows break than may, whatever images stand on Q, in each of the rows of chunks
 -- that are tested

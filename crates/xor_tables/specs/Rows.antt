@@ -4,12 +4,13 @@ use Rattle.std.specs.List.{list_any, range_with_len}
 use Rattle.std.specs.Option.{option_map_or, option_and_then}
 use Rattle.std.specs.declared.option.Option.{Option}
 use Rattle.std.specs.declared.option.Option.TheVariants.{None}
-use Rattle.raid_params.specs.Size.{area, redundancy}
+use Rattle.raid_params.specs.Size.{redundancy}
 use Rattle.raid_params.specs.declared.types.Head.{Head}
 use Rattle.raid_params.specs.declared.types.Level.{Level}
 use Rattle.raid_params.specs.declared.types.Level.TheVariants.{Raid0, Raid5, Raid6}
 use Rattle.raid_terms.specs.Role.{q_of}
 use Rattle.member_regions.specs.ImageSums.{xor_all}
+use Rattle.search_plan.specs.Rows.{tested_with}
 use Rattle.search_plan.specs.declared.plan.Plan.{Plan}
 
 -- the exclusive or of byte `at` of some of the images
@@ -48,7 +49,7 @@ rows_decide plan head = needs_table plan head && is_raid5 head.level
 
 -- as many of the first rows of sectors are tested
 abbrev pub tested : Plan → Head → ℕ
-tested plan head = min (area head plan.end) plan.limits.window
+tested plan head = tested_with plan head.chunk head.offset
 
 -- a row of sectors in which the images differ
 abbrev pub differ_in_row : List (List ℕ) → Plan → Head → ℕ → Bool

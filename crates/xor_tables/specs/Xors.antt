@@ -9,6 +9,7 @@ use Rattle.raid_params.specs.declared.types.Level.TheVariants.{Raid0, Raid5, Rai
 use Rattle.member_regions.specs.ImageSums.{room_byte}
 use Rattle.member_regions.specs.Regions.{Room}
 use Rattle.member_regions.specs.declared.image_sums.ImageSum.{ImageSum}
+use Rattle.search_plan.specs.Rows.{tested_with}
 use Rattle.search_plan.specs.declared.plan.Plan.{Plan}
 use Rattle.xor_tables.specs.Rows.{differ, every, needs_table, on_q, others}
 
@@ -24,11 +25,7 @@ pub record CountRows (images : List (List ℕ)) (count chunk offset rows : ℕ) 
   pub beside : (k i : ℕ) → k < count → i < count →
       slice_index (slice_index_or table.beside k []) i ≡ count_by (λ t. (t / chunk % count == k) && differ images (others count i) (offset + t)) (range_with_len 0 rows)
 
--- the rows that a plan tests with a chunk and an offset
-abbrev pub tested_with : Plan → ℕ → ℕ → ℕ
-tested_with plan chunk offset = min ((plan.end - offset) / chunk * chunk) plan.limits.window
-
--- the most of them that one of some chunks has
+-- the most rows that a plan tests with an offset and one of some chunks
 unfoldable pub most_tested : Plan → List ℕ → ℕ → ℕ
 most_tested plan chunks offset = fold (λ most chunk. max most (tested_with plan chunk offset)) 0 chunks
 

@@ -9,17 +9,18 @@ ghost use Rattle.member_regions.specs.declared.regions.TheConstants.{BLOCK};
 ghost use Rattle.search_plan.specs.Plans.{IsPlan, AgreeWith};
 ghost use Rattle.xor_tables.specs.Early.{AreAllFew, AreEarlyTables, CountFirst};
 ghost use Rattle.xor_tables.specs.Reading.{EndsTable};
-ghost use Rattle.xor_tables.specs.Xors.{most_tested, tested_with, AreFew, AreSumsOf, CountRows};
+ghost use Rattle.xor_tables.specs.Xors.{most_tested, AreFew, AreSumsOf, CountRows};
+ghost use Rattle.search_plan.specs.Rows.{tested_with};
 ghost use Rattle.xor_tables.specs.declared.xor_table.TableFault.TheVariants.{Memory};
 
+use crate::most_tested::most_rows;
 use crate::row_sums::row_sums;
 use crate::row_tally::RowTally;
 use crate::settling::tables_suffice;
-use crate::tested_rows::{count_tested, most_rows};
 use crate::xor_table::TableFault;
 use member_regions::{BLOCK, ImageSum, Regions};
 use outside::{Failed, Images};
-use search_plan::Plan;
+use search_plan::{Plan, tested_rows};
 use std::alloc::Global;
 use std::marker::Model;
 
@@ -99,7 +100,7 @@ impl EarlyTable {
             CountRows bytes (length plan.now.lengths.items) chunk offset (min (first + count) (tested_with plan.now chunk offset)) self.new }
         ensures few { AreFew (first + count) self.new }
     {
-        let tested = count_tested(plan, chunk, offset);
+        let tested = tested_rows(plan, chunk, offset);
         if first < tested {
             let rows = (tested - first).min(count as u64) as usize;
             self.rows

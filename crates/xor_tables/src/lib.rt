@@ -15,12 +15,12 @@
 #![tactic(auto)]
 
 mod early_table;
+mod most_tested;
 mod row_counts;
 mod row_sums;
 mod row_tally;
 mod rows;
 mod settling;
-mod tested_rows;
 mod xor_table;
 
 pub use early_table::EarlyTable;

@@ -12,7 +12,7 @@ ghost use Rattle.xor_tables.specs.Xors.{AreSumsOf};
 
 use member_regions::{BLOCK, ImageSum, Regions, sum_images};
 use outside::{Failed, Images};
-use raid_params::{Geometry, Head, Level, MOST, Pattern, Slots, Syndrome};
+use raid_params::Slots;
 use search_plan::Plan;
 
 /// The exclusive or of the images of a plan in each of `count` rows of sectors from an image sector on, with room for
@@ -36,28 +36,19 @@ pub(crate) fn row_sums<I: Images>(
     ensures reads { OnlyReads (I.seen images.old) (I.seen images.new) (length plan.now.lengths.items * count) }
     ensures cause { HasCause (I.seen images.old).faults (I.seen images.new).faults result }
 {
-    let geo = all_images(plan.lengths.len(), sector);
-    regions.read(images, &geo, 0, count)?;
+    let slots = all_images(plan.lengths.len());
+    regions.read(images, &slots, sector, 0, count)?;
     Ok(sum_images(regions, plan.lengths.len(), count))
 }
 
-/// `count` images as members, each in the slot of its number.
-fn all_images(count: usize, offset: u64) -> Geometry
+/// Slots that hold `count` images, each in the slot of its number.
+fn all_images(count: usize) -> Slots
     requires { count ≤ MOST }
-    ensures slots { result.slots.items ≡ map (λ i. Some i) (range_with_len 0 count) }
-    ensures offset { result.head.offset ≡ offset }
+    ensures { result.items ≡ map (λ i. Some i) (range_with_len 0 count) }
 {
     let mut slots = Slots::new();
     for image in 0..count {
         slots.push(Some(image as u8));
     }
-    let head = Head {
-        level: Level::Raid0,
-        members: count as u8,
-        pattern: Pattern::Plain,
-        syndrome: Syndrome::NoQ,
-        chunk: 1,
-        offset,
-    };
-    Geometry { head, slots }
+    slots
 }

@@ -119,7 +119,7 @@ impl RowTally {
         sum
     }
 
-    /// Those among the rows of chunks `turn`, counted round the members.
+    /// The rows of which that is so among the rows of chunks `turn`, counted round the members.
     fn beside_q(&self, head: &Head, prefix: &[Option<u8>], turn: u8) -> u64
         requires head { IsTrue (is_valid_head head.now) }
         requires images { AllImages MOST prefix.now }

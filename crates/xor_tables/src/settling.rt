@@ -4,14 +4,13 @@ ghost use Rattle.raid_params.specs.Validity.{is_chunk};
 ghost use Rattle.raid_params.specs.declared.limits.TheConstants.{LARGEST_CHUNK, MOST};
 ghost use Rattle.search_plan.specs.Plans.{IsPlan};
 ghost use Rattle.xor_tables.specs.Early.{AreKnown, IsSettled, IsSettledFor};
-ghost use Rattle.xor_tables.specs.Xors.{tested_with};
+ghost use Rattle.search_plan.specs.Rows.{tested_with};
 
 use crate::early_table::EarlyTable;
 use crate::row_counts::RowCounts;
 use crate::row_tally::RowTally;
-use crate::tested_rows::count_tested;
 use raid_params::{Level, MOST};
-use search_plan::Plan;
+use search_plan::{Plan, tested_rows};
 
 /// Whether each table, with the rows before row `first`, counts all that are tested or is settled.
 pub(crate) fn tables_suffice(
@@ -42,7 +41,7 @@ impl RowTally {
         requires chunk { IsTrue (is_chunk chunk) }
         ensures { result ≡ true → (tested_with plan.now chunk offset ≤ first) ⊎ IsSettled plan.now chunk offset self.now }
     {
-        let rows = count_tested(plan, chunk, offset);
+        let rows = tested_rows(plan, chunk, offset);
         if rows <= first {
             return true;
         }

@@ -7,15 +7,15 @@ ghost use Rattle.raid_params.specs.Validity.{is_chunk};
 ghost use Rattle.member_regions.specs.Regions.{IsRoomFor};
 ghost use Rattle.member_regions.specs.declared.regions.TheConstants.{BLOCK};
 ghost use Rattle.search_plan.specs.Plans.{IsPlan, AgreeWith};
-ghost use Rattle.xor_tables.specs.Xors.{tested_with, IsXorTable};
+ghost use Rattle.xor_tables.specs.Xors.{IsXorTable};
+ghost use Rattle.search_plan.specs.Rows.{tested_with};
 ghost use Rattle.xor_tables.specs.Reading.{EndsTable};
 
 use crate::row_sums::row_sums;
 use crate::row_tally::RowTally;
-use crate::tested_rows::count_tested;
 use member_regions::{BLOCK, Regions};
 use outside::{Failed, Images};
-use search_plan::Plan;
+use search_plan::{Plan, tested_rows};
 use std::alloc::Global;
 use std::marker::Model;
 use thiserror::Error;
@@ -99,7 +99,7 @@ fn tally_rows<I: Images>(
         (length plan.now.lengths.items * tested_with plan.now chunk offset) }
     ensures cause { HasCause (I.seen images.old).faults (I.seen images.new).faults result }
 {
-    let rows = count_tested(plan, chunk, offset);
+    let rows = tested_rows(plan, chunk, offset);
     let mut tally = RowTally::new();
     let mut first = 0;
     while first < rows {

@@ -7,7 +7,7 @@ use Rattle.row_scan.proofs.Unbroken.{none_told}
 use Rattle.row_scan.proofs.one_set.count_unsound.Goals as goal
 
 pub count_rows-requires-clause-held : goal.count_rows-requires-clause-held
-count_rows-requires-clause-held g c = λ some. scannable_held c.args.geo.now c.args.end (c.args.geo.now.head.offset + c.rows_to_test-rows.result) (g.I.Images.seen c.args.images.now).attached c.requires.set (omega arith)
+count_rows-requires-clause-held g c = λ some. scannable_held c.args.geo.now c.args.plan.now.end (c.args.geo.now.head.offset + c.rows_of-rows.result) (g.I.Images.seen c.args.images.now).attached c.requires.set (omega arith)
 
 pub returns-clause-reads : goal.returns-clause-reads
 returns-clause-reads g c =
@@ -16,5 +16,5 @@ returns-clause-reads g c =
 
 pub returns-then-nothing_can_break-clause-told : goal.returns-then-nothing_can_break-clause-told
 returns-then-nothing_can_break-clause-told g c =
-    none_told (g.I.Images.seen c.args.images.now).attached c.args.geo.now (tested_rows c.args.geo.now c.args.end c.args.window) (g.met.I.Images.tells_bytes c.args.images.now)
-    (scannable_testable c.args.geo.now c.args.end (g.I.Images.seen c.args.images.now).attached c.requires.set) (sym c.nothing_can_break.ensures ∙ c.if-nothing_can_break.true)
+    none_told (g.I.Images.seen c.args.images.now).attached c.args.geo.now (tested_rows c.args.geo.now c.args.plan.now.end c.args.plan.now.limits.window) (g.met.I.Images.tells_bytes c.args.images.now)
+    (scannable_testable c.args.geo.now c.args.plan.now.end (g.I.Images.seen c.args.images.now).attached c.requires.set) (sym c.nothing_can_break.ensures ∙ c.if-nothing_can_break.true)

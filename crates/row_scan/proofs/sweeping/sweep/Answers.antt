@@ -1,48 +1,80 @@
-use Rattle.std.proofs.Common.{◌≡◌, ◌+◌, length, rules, arith, None, Some, sym, ap, ◌∙◌, IfSome}
+use Rattle.std.proofs.Common.{◌≡◌, ◌+◌, length, rules, Some, sym, ap, ◌∙◌}
 use Rattle.outside.specs.Attached.{told_all}
-use Rattle.member_regions.proofs.IfTold.{if_any, if_told}
-use Rattle.row_scan.specs.Pass.{HoldAsked, IsDecided, TalliesTo}
-use Rattle.row_scan.specs.Tallies.{AllTallies}
+use Rattle.member_regions.proofs.IfTold.{if_told}
+use Rattle.row_scan.specs.Pass.{HoldAsked, TalliesAll, TalliesTo}
+use Rattle.std.specs.List.{list_any}
+use Rattle.row_scan.specs.Tallies.{AllTallies, is_open, NoneOpen}
+use Rattle.row_scan.proofs.Asked.{reads_wanted, wanted_held}
 use Rattle.row_scan.proofs.Settled.{keep_added, keep_both}
-use Rattle.row_scan.proofs.Sweeps.{swept_result, windows_join, windows_more, windows_none, windows_run}
-use Rattle.row_scan.proofs.Tallying.{decided_still, to_after}
+use Rattle.row_scan.proofs.Sweeps.{swept_on, windows_join, windows_more, windows_run}
+use Rattle.row_scan.proofs.Tallying.{decided_after, decided_still, to_after}
 use Rattle.row_scan.proofs.sweeping.sweep.Goals as goal
 
-pub returns-in_default-clause-told : goal.returns-in_default-clause-told
-returns-in_default-clause-told g c =
-    if_any (told_all (g.I.Images.seen c.args.images.now).attached)
-    (λ bytes. AllTallies (TalliesTo bytes c.args.scanned.now.plan.now 0) c.args.scanned.now.sets.now c.args.tallies.now → AllTallies (IsDecided bytes c.args.scanned.now.plan.now) c.args.scanned.now.sets.now c.add_in_pieces.new.tallies)
-    (λ bytes so_far. decided_still bytes c.args.scanned.now.plan.now c.args.scanned.now.sets.now c.args.regions.now 0 c.args.tallies.now c.add_in_pieces.new.tallies c.requires.long (rw c.empty.ensures at c.add_in_pieces.ensures.added) c.in_default.ensures.next so_far)
+pub returns-in_err-read-clause-reads : goal.returns-in_err-read-clause-reads
+returns-in_err-read-clause-reads g c =
+    let few : length c.deref.result.now ≡ length (g.I.Images.seen c.loop-run.images).attached =
+    ap length c.deref.ensures.0 ∙ c.wanted_images-wanted.ensures.slots ∙ sym c.requires.can.planned ∙ sym (ap length c.loop-run.invariant.reads.reads.attached) in
+    windows_join (g.I.Images.seen c.args.images.now) (g.I.Images.seen c.loop-run.images) (g.I.Images.seen c.read.new.images) c.args.scanned.now.plan.now c.args.scanned.now.sets.now 0 c.loop-run.at c.args.scanned.now.plan.now.end c.loop-run.invariant.reads
+    (windows_more (g.I.Images.seen c.loop-run.images) (g.I.Images.seen c.read.new.images) c.args.scanned.now.plan.now c.args.scanned.now.sets.now c.loop-run.at (c.in-Some.run'.first + c.in-Some.run'.count) c.args.scanned.now.plan.now.end c.in-Some.ensures.next.within
+    (windows_run (g.I.Images.seen c.loop-run.images) (g.I.Images.seen c.read.new.images) c.args.scanned.now.plan.now c.args.scanned.now.sets.now c.loop-run.tallies (length c.args.scanned.now.sets.now) c.loop-run.at c.in-Some.run' c.in-Some.ensures.next
+    (reads_wanted (g.I.Images.seen c.loop-run.images) (g.I.Images.seen c.read.new.images) c.deref.result.now (length (g.I.Images.seen c.loop-run.images).attached) c.in-Some.run'.count few c.read.ensures.reads)))
 
-pub returns-in_default-clause-settled : goal.returns-in_default-clause-settled
-returns-in_default-clause-settled g c = keep_added c.args.scanned.now.plan.now c.args.scanned.now.sets.now c.empty.result c.args.regions.now c.args.tallies.now c.add_in_pieces.new.tallies c.requires.long c.add_in_pieces.ensures.added
+pub loop-run-preserved : goal.loop-run-preserved
+loop-run-preserved g c =
+    let few : length c.deref.result.now ≡ length (g.I.Images.seen c.loop-run.images).attached =
+    ap length c.deref.ensures.0 ∙ c.wanted_images-wanted.ensures.slots ∙ sym c.requires.can.planned ∙ sym (ap length c.loop-run.invariant.reads.reads.attached) in
+    record {
+      reads =
+          windows_join (g.I.Images.seen c.args.images.now) (g.I.Images.seen c.loop-run.images) (g.I.Images.seen c.read.new.images) c.args.scanned.now.plan.now c.args.scanned.now.sets.now 0 c.loop-run.at (c.in-Some.run'.first + c.in-Some.run'.count) c.loop-run.invariant.reads
+          (windows_run (g.I.Images.seen c.loop-run.images) (g.I.Images.seen c.read.new.images) c.args.scanned.now.plan.now c.args.scanned.now.sets.now c.loop-run.tallies (length c.args.scanned.now.sets.now) c.loop-run.at c.in-Some.run' c.in-Some.ensures.next
+          (reads_wanted (g.I.Images.seen c.loop-run.images) (g.I.Images.seen c.read.new.images) c.deref.result.now (length (g.I.Images.seen c.loop-run.images).attached) c.in-Some.run'.count few c.read.ensures.reads));
+      unread = λ none.
+          let closed : NoneOpen c.loop-run.tallies = ap (list_any is_open) (c.loop-run.invariant.unread none).1 ∙ none in
+          let nothing = c.in-Some.ensures.closed closed in
+          absurd (cc);
+      quiet = search rules;
+      told =
+          swept_on (g.I.Images.seen c.args.images.now).attached (g.I.Images.seen c.loop-run.images).attached c.args.scanned.now.plan.now c.args.scanned.now.sets.now 0 c.loop-run.at (Some (c.in-Some.run'.first + c.in-Some.run'.count)) c.args.tallies.now c.loop-run.tallies c.add_run.new.tallies
+          c.loop-run.invariant.reads.reads.attached c.loop-run.invariant.told
+          (if_told (told_all (g.I.Images.seen c.loop-run.images).attached)
+          (λ bytes. HoldAsked bytes c.args.scanned.now.plan.now c.args.scanned.now.sets.now c.loop-run.tallies c.in-Some.run' c.read.new.self)
+          (λ bytes. AllTallies (TalliesTo bytes c.args.scanned.now.plan.now c.loop-run.at) c.args.scanned.now.sets.now c.loop-run.tallies → AllTallies (TalliesTo bytes c.args.scanned.now.plan.now (c.in-Some.run'.first + c.in-Some.run'.count)) c.args.scanned.now.sets.now c.add_run.new.tallies)
+          (λ bytes hold so_far. to_after bytes c.args.scanned.now.plan.now c.args.scanned.now.sets.now c.in-Some.run' c.read.new.self c.loop-run.at c.loop-run.tallies c.add_run.new.tallies c.loop-run.invariant.long c.in-Some.ensures.next c.add_run.ensures.added hold so_far)
+          (wanted_held (g.I.Images.seen c.loop-run.images).attached (g.I.Images.seen c.args.images.now).attached c.args.scanned.now.plan.now c.args.scanned.now.sets.now c.loop-run.tallies c.in-Some.run' c.wanted_images-wanted.result.items c.deref.result.now c.args.regions.now c.read.new.self
+          c.requires.can c.wanted_images-wanted.ensures.wanted c.wanted_images-wanted.ensures.slots c.deref.ensures.0 c.in_ok-read.ensures.told));
+      long = search rules;
+      settled =
+          keep_both c.args.tallies.now c.loop-run.tallies c.add_run.new.tallies (c.loop-run.invariant.long ∙ sym c.requires.long) c.loop-run.invariant.settled
+          (keep_added c.args.scanned.now.plan.now c.args.scanned.now.sets.now c.in-Some.run' c.read.new.self c.loop-run.tallies c.add_run.new.tallies c.loop-run.invariant.long c.add_run.ensures.added);
+      room = search rules;
+      within = search rules;
+    }
 
-pub returns-in_default-clause-reads : goal.returns-in_default-clause-reads
-returns-in_default-clause-reads g c = windows_none (g.I.Images.seen c.args.images.now) c.args.scanned.now.plan.now c.args.scanned.now.sets.now 0 c.args.scanned.now.plan.now.end (omega arith)
+pub returns-then-at-eq0-clause-told : goal.returns-then-at-eq0-clause-told
+returns-then-at-eq0-clause-told g c =
+    if_told (told_all (g.I.Images.seen c.args.images.now).attached)
+    (λ bytes. AllTallies (TalliesTo bytes c.args.scanned.now.plan.now 0) c.args.scanned.now.sets.now c.args.tallies.now → AllTallies (TalliesTo bytes c.args.scanned.now.plan.now c.loop-run.at) c.args.scanned.now.sets.now c.loop-run.tallies)
+    (λ bytes. AllTallies (TalliesTo bytes c.args.scanned.now.plan.now 0) c.args.scanned.now.sets.now c.args.tallies.now → AllTallies (TalliesAll bytes c.args.scanned.now.plan.now) c.args.scanned.now.sets.now c.add_in_pieces.new.tallies)
+    (λ bytes so_far begun. decided_still bytes c.args.scanned.now.plan.now c.args.scanned.now.sets.now c.loop-run.regions c.loop-run.at c.loop-run.tallies c.add_in_pieces.new.tallies c.loop-run.invariant.long (rw c.empty.ensures at c.add_in_pieces.ensures.added) c.in_default.ensures.next (so_far begun))
+    c.loop-run.invariant.told
 
-pub returns-in_err-read_wanted-clause-reads : goal.returns-in_err-read_wanted-clause-reads
-returns-in_err-read_wanted-clause-reads g c =
-    windows_more (g.I.Images.seen c.args.images.now) (g.I.Images.seen c.read_wanted.new.images) c.args.scanned.now.plan.now c.args.scanned.now.sets.now 0 (c.in-Some.run'.first + c.in-Some.run'.count) c.args.scanned.now.plan.now.end c.in-Some.ensures.next.within
-    (windows_run (g.I.Images.seen c.args.images.now) (g.I.Images.seen c.read_wanted.new.images) c.args.scanned.now.plan.now c.args.scanned.now.sets.now c.args.tallies.now (length c.args.scanned.now.sets.now) 0 c.in-Some.run' c.in-Some.ensures.next c.read_wanted.ensures.reads)
+pub returns-then-at-eq0-clause-settled : goal.returns-then-at-eq0-clause-settled
+returns-then-at-eq0-clause-settled g c =
+    keep_both c.args.tallies.now c.loop-run.tallies c.add_in_pieces.new.tallies (c.loop-run.invariant.long ∙ sym c.requires.long) c.loop-run.invariant.settled
+    (keep_added c.args.scanned.now.plan.now c.args.scanned.now.sets.now c.empty.result c.loop-run.regions c.loop-run.tallies c.add_in_pieces.new.tallies c.loop-run.invariant.long c.add_in_pieces.ensures.added)
 
-pub returns-clause-told : goal.returns-clause-told
-returns-clause-told g c =
-    let so_far : IfSome (told_all (g.I.Images.seen c.args.images.now).attached) (λ bytes. AllTallies (TalliesTo bytes c.args.scanned.now.plan.now 0) c.args.scanned.now.sets.now c.args.tallies.now → AllTallies (TalliesTo bytes c.args.scanned.now.plan.now (c.in-Some.run'.first + c.in-Some.run'.count)) c.args.scanned.now.sets.now c.add_in_pieces-2.new.tallies)
-    = if_told (told_all (g.I.Images.seen c.args.images.now).attached)
-    (λ bytes. HoldAsked bytes c.args.scanned.now.plan.now c.args.scanned.now.sets.now c.args.tallies.now c.in-Some.run' c.read_wanted.new.regions)
-    (λ bytes. AllTallies (TalliesTo bytes c.args.scanned.now.plan.now 0) c.args.scanned.now.sets.now c.args.tallies.now → AllTallies (TalliesTo bytes c.args.scanned.now.plan.now (c.in-Some.run'.first + c.in-Some.run'.count)) c.args.scanned.now.sets.now c.add_in_pieces-2.new.tallies)
-    (λ bytes hold so_far. to_after bytes c.args.scanned.now.plan.now c.args.scanned.now.sets.now c.in-Some.run' c.read_wanted.new.regions 0 c.args.tallies.now c.add_in_pieces-2.new.tallies c.requires.long c.in-Some.ensures.next c.add_in_pieces-2.ensures.added hold so_far)
-    c.in_ok-read_wanted.ensures.told in
-    swept_result c.sweep_on.result (g.I.Images.seen c.args.images.now).attached (g.I.Images.seen c.read_wanted.new.images).attached c.args.scanned.now.plan.now c.args.scanned.now.sets.now (c.in-Some.run'.first + c.in-Some.run'.count) c.args.tallies.now c.add_in_pieces-2.new.tallies c.sweep_on.new.tallies
-    c.read_wanted.ensures.reads.attached so_far c.sweep_on.ensures.told
+pub returns-then-at-eq0-clause-reads : goal.returns-then-at-eq0-clause-reads
+returns-then-at-eq0-clause-reads g c =
+    windows_more (g.I.Images.seen c.args.images.now) (g.I.Images.seen c.loop-run.images) c.args.scanned.now.plan.now c.args.scanned.now.sets.now 0 c.loop-run.at c.args.scanned.now.plan.now.end c.loop-run.invariant.within c.loop-run.invariant.reads
 
-pub returns-clause-settled : goal.returns-clause-settled
-returns-clause-settled g c =
-    keep_both c.args.tallies.now c.add_in_pieces-2.new.tallies c.sweep_on.new.tallies c.add_in_pieces-2.ensures.long
-    (keep_added c.args.scanned.now.plan.now c.args.scanned.now.sets.now c.in-Some.run' c.read_wanted.new.regions c.args.tallies.now c.add_in_pieces-2.new.tallies c.requires.long c.add_in_pieces-2.ensures.added) c.sweep_on.ensures.settled
+pub returns-else-at-eq0-clause-told : goal.returns-else-at-eq0-clause-told
+returns-else-at-eq0-clause-told g c =
+    if_told (told_all (g.I.Images.seen c.args.images.now).attached)
+    (λ bytes. AllTallies (TalliesTo bytes c.args.scanned.now.plan.now 0) c.args.scanned.now.sets.now c.args.tallies.now → AllTallies (TalliesTo bytes c.args.scanned.now.plan.now c.loop-run.at) c.args.scanned.now.sets.now c.loop-run.tallies)
+    (λ bytes. AllTallies (TalliesTo bytes c.args.scanned.now.plan.now 0) c.args.scanned.now.sets.now c.args.tallies.now → AllTallies (TalliesAll bytes c.args.scanned.now.plan.now) c.args.scanned.now.sets.now c.loop-run.tallies)
+    (λ bytes so_far begun. decided_after bytes c.args.scanned.now.plan.now c.args.scanned.now.sets.now c.loop-run.at c.loop-run.tallies c.in_default.ensures.next (so_far begun))
+    c.loop-run.invariant.told
 
-pub returns-clause-reads : goal.returns-clause-reads
-returns-clause-reads g c =
-    windows_join (g.I.Images.seen c.args.images.now) (g.I.Images.seen c.read_wanted.new.images) (g.I.Images.seen c.sweep_on.new.images) c.args.scanned.now.plan.now c.args.scanned.now.sets.now 0 (c.in-Some.run'.first + c.in-Some.run'.count) c.args.scanned.now.plan.now.end
-    (windows_run (g.I.Images.seen c.args.images.now) (g.I.Images.seen c.read_wanted.new.images) c.args.scanned.now.plan.now c.args.scanned.now.sets.now c.args.tallies.now (length c.args.scanned.now.sets.now) 0 c.in-Some.run' c.in-Some.ensures.next c.read_wanted.ensures.reads)
-    c.sweep_on.ensures.reads
+pub returns-else-at-eq0-clause-reads : goal.returns-else-at-eq0-clause-reads
+returns-else-at-eq0-clause-reads g c =
+    windows_more (g.I.Images.seen c.args.images.now) (g.I.Images.seen c.loop-run.images) c.args.scanned.now.plan.now c.args.scanned.now.sets.now 0 c.loop-run.at c.args.scanned.now.plan.now.end c.loop-run.invariant.within c.loop-run.invariant.reads

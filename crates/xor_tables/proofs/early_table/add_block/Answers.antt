@@ -1,6 +1,7 @@
 use Rattle.std.proofs.Common.{◌≡◌, ◌≢◌, ℕ, ◌+◌, ◌<◌, min, length, get_or, arith, refl, sym, subst, ◌∙◌}
 use Rattle.std.proofs.lemmas.List.{get_or-set_other, get_or_read_under, length-set}
-use Rattle.xor_tables.specs.Xors.{tested_with, AreFew, CountRows, RowTable}
+use Rattle.xor_tables.specs.Xors.{AreFew, CountRows, RowTable}
+use Rattle.search_plan.specs.Rows.{tested_with}
 use Rattle.slot_math.proofs.Lists.{each_set}
 use Rattle.xor_tables.proofs.early_table.add_block.Goals as goal
 

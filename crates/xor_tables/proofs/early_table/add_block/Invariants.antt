@@ -1,6 +1,7 @@
 use Rattle.std.proofs.Common.{◌≡◌, ℕ, ◌+◌, ◌<◌, ◌≤◌, min, List, length, get_or}
 use Rattle.xor_tables.specs.Early.{CountFirst}
-use Rattle.xor_tables.specs.Xors.{tested_with, AreFew, AreSumsOf, CountRows, RowTable}
+use Rattle.xor_tables.specs.Xors.{AreFew, AreSumsOf, CountRows, RowTable}
+use Rattle.search_plan.specs.Rows.{tested_with}
 use Rattle.xor_tables.proofs.early_table.add_block.Given as goal
 
 abbrev pub invariant-loop-place : goal.invariant-loop-place

@@ -11,12 +11,11 @@ pub read-requires-clause-near : goal.read-requires-clause-near
 read-requires-clause-near g c =
     let near = plan_near c.args.plan.now c.requires.plan in
     let within = c.requires.within in
-    let at = c.all_images-geo.ensures.offset in
     omega arith
 
 pub read-requires-clause-room : goal.read-requires-clause-room
 read-requires-clause-room g c =
-    let long : length c.all_images-geo.result.slots.items ≡ c.len.result = ap length c.all_images-geo.ensures.slots ∙ order_length c.len.result in
+    let long : length c.deref.result.now ≡ c.len.result = ap length c.deref.ensures.0 ∙ ap length c.all_images-slots.ensures ∙ order_length c.len.result in
     let many = c.requires.room.many in
     let wide = c.requires.room.long in
     record { many = omega arith; long = omega arith }
@@ -24,32 +23,30 @@ read-requires-clause-room g c =
 pub read-requires-clause-held : goal.read-requires-clause-held
 read-requires-clause-held g c = λ k d lt.
     let within = c.requires.within in
-    let at = c.all_images-geo.ensures.offset in
-    order_reaches c.args.plan.now (g.I.Images.seen c.args.images.now).attached c.all_images-geo.result.slots.items
-    (c.all_images-geo.result.head.offset + (0 + c.args.count)) k d c.requires.plan c.requires.images
-    (c.all_images-geo.ensures.slots ∙ ap in_order c.len.ensures.value) (omega arith) lt
+    order_reaches c.args.plan.now (g.I.Images.seen c.args.images.now).attached c.deref.result.now
+    (c.args.sector + (0 + c.args.count)) k d c.requires.plan c.requires.images
+    (c.deref.ensures.0 ∙ c.all_images-slots.ensures ∙ ap in_order c.len.ensures.value) (omega arith) lt
 
 pub returns-in_err-read-clause-reads : goal.returns-in_err-read-clause-reads
 returns-in_err-read-clause-reads g c =
-    reads_images (g.I.Images.seen c.args.images.now) (g.I.Images.seen c.read.new.images) c.all_images-geo.result.slots.items (length c.args.plan.now.lengths.items) c.args.count
-    (c.all_images-geo.ensures.slots ∙ ap in_order c.len.ensures.value) c.read.ensures.reads
+    reads_images (g.I.Images.seen c.args.images.now) (g.I.Images.seen c.read.new.images) c.deref.result.now (length c.args.plan.now.lengths.items) c.args.count
+    (c.deref.ensures.0 ∙ c.all_images-slots.ensures ∙ ap in_order c.len.ensures.value) c.read.ensures.reads
 
 pub returns-clause-reads : goal.returns-clause-reads
 returns-clause-reads g c =
-    reads_images (g.I.Images.seen c.args.images.now) (g.I.Images.seen c.read.new.images) c.all_images-geo.result.slots.items (length c.args.plan.now.lengths.items) c.args.count
-    (c.all_images-geo.ensures.slots ∙ ap in_order c.len.ensures.value) c.read.ensures.reads
+    reads_images (g.I.Images.seen c.args.images.now) (g.I.Images.seen c.read.new.images) c.deref.result.now (length c.args.plan.now.lengths.items) c.args.count
+    (c.deref.ensures.0 ∙ c.all_images-slots.ensures ∙ ap in_order c.len.ensures.value) c.read.ensures.reads
 
 pub returns-clause-told : goal.returns-clause-told
 returns-clause-told g c =
     let now : IfSome (told_all (g.I.Images.seen c.args.images.now).attached) (λ bytes.
-    HoldRead bytes c.all_images-geo.result c.read.new.self.stride 0 (512 * c.args.count) (length c.all_images-geo.result.slots.items) c.read.new.self.bytes) = search rules in
-    let at : c.all_images-geo.result.head.offset + 0 ≡ c.args.sector = let e = c.all_images-geo.ensures.offset in omega arith in
+    HoldRead bytes c.deref.result.now c.args.sector c.read.new.self.stride 0 (512 * c.args.count) (length c.deref.result.now) c.read.new.self.bytes) = search rules in
     let F : ℕ → Type 0 = λ n. (bytes : List (List ℕ)) → HoldRows bytes n c.args.sector c.args.count c.read.new.self → AreSumsOf bytes n c.args.sector c.args.count c.sum_images.result in
     let sums : F (length c.args.plan.now.lengths.items) = subst F c.len-2.ensures.value
     (λ bytes hold. sums_of_rows bytes c.len-2.result c.args.sector c.args.count c.read.new.self c.sum_images.result hold c.sum_images.ensures) in
     if_told (told_all (g.I.Images.seen c.args.images.now).attached)
-    (λ bytes. HoldRead bytes c.all_images-geo.result c.read.new.self.stride 0 (512 * c.args.count) (length c.all_images-geo.result.slots.items) c.read.new.self.bytes)
+    (λ bytes. HoldRead bytes c.deref.result.now c.args.sector c.read.new.self.stride 0 (512 * c.args.count) (length c.deref.result.now) c.read.new.self.bytes)
     (λ bytes. AreSumsOf bytes (length c.args.plan.now.lengths.items) c.args.sector c.args.count c.sum_images.result)
-    (λ bytes hold. sums bytes (subst (λ (s : ℕ). HoldRows bytes (length c.args.plan.now.lengths.items) s c.args.count c.read.new.self) at
-    (rows_held bytes c.all_images-geo.result (length c.args.plan.now.lengths.items) 0 c.args.count c.read.new.self (c.all_images-geo.ensures.slots ∙ ap in_order c.len.ensures.value) hold)))
+    (λ bytes hold. sums bytes
+    (rows_held bytes c.deref.result.now (length c.args.plan.now.lengths.items) c.args.sector c.args.count c.read.new.self (c.deref.ensures.0 ∙ c.all_images-slots.ensures ∙ ap in_order c.len.ensures.value) hold))
     now

@@ -2,7 +2,8 @@ use Rattle.std.proofs.Common.{◌≡◌, ◌⊎◌, ℕ, ◌<◌, ◌≤◌, len
 use Rattle.std.proofs.lemmas.Bool.{cases_eq}
 use Rattle.std.proofs.lemmas.List.{get_or_read_under}
 use Rattle.xor_tables.specs.Early.{IsSettled}
-use Rattle.xor_tables.specs.Xors.{tested_with, RowTable}
+use Rattle.xor_tables.specs.Xors.{RowTable}
+use Rattle.search_plan.specs.Rows.{tested_with}
 use Rattle.xor_tables.proofs.settling.tables_suffice.Goals as goal
 
 pub loop-place-preserved : goal.loop-place-preserved

@@ -1,6 +1,7 @@
 use Rattle.std.proofs.Common.{ℕ, ◌<◌, ◌≤◌, ◌⊎◌, get_or}
 use Rattle.xor_tables.specs.Early.{IsSettled}
-use Rattle.xor_tables.specs.Xors.{tested_with, RowTable}
+use Rattle.xor_tables.specs.Xors.{RowTable}
+use Rattle.search_plan.specs.Rows.{tested_with}
 use Rattle.xor_tables.proofs.settling.tables_suffice.Given as goal
 
 abbrev pub invariant-loop-place : goal.invariant-loop-place

@@ -5,12 +5,13 @@ use Rattle.outside.specs.Seen.{Image}
 use Rattle.address_map.proofs.Heads.{chunk_above}
 use Rattle.member_regions.proofs.IfTold.{if_any, if_both, if_told}
 use Rattle.search_plan.specs.Plans.{AgreeWith}
-use Rattle.xor_tables.specs.Xors.{tested_with, AreSumsOf, CountRows, IsXorTable}
+use Rattle.xor_tables.specs.Xors.{AreSumsOf, CountRows, IsXorTable}
+use Rattle.search_plan.specs.Rows.{tested_with}
 use Rattle.xor_tables.proofs.Ordered.{reads_more, reads_within}
 use Rattle.xor_tables.proofs.xor_table.tally_rows.Goals as goal
 
-pub count_tested-rows-requires : goal.count_tested-rows-requires
-count_tested-rows-requires g c = record { chunk = chunk_above c.args.chunk c.requires.chunk }
+pub tested_rows-rows-requires : goal.tested_rows-rows-requires
+tested_rows-rows-requires g c = record { chunk = chunk_above c.args.chunk c.requires.chunk }
 
 pub loop-first-init : goal.loop-first-init
 loop-first-init g c = record {
@@ -29,7 +30,7 @@ row_sums-requires-clause-images g c =
 
 pub returns-in_err-sums-clause-reads : goal.returns-in_err-sums-clause-reads
 returns-in_err-sums-clause-reads g c =
-    let within : c.loop-first.first + c.min-count.result ≤ tested_with c.args.plan.now c.args.chunk c.args.offset = let value = c.count_tested-rows.ensures.value in omega arith in
+    let within : c.loop-first.first + c.min-count.result ≤ tested_with c.args.plan.now c.args.chunk c.args.offset = let value = c.tested_rows-rows.ensures.value in omega arith in
     reads_within (g.I.Images.seen c.args.images.now) (g.I.Images.seen c.row_sums.new.images) (length c.args.plan.now.lengths.items) (c.loop-first.first + c.min-count.result)
     (tested_with c.args.plan.now c.args.chunk c.args.offset) (length c.args.plan.now.lengths.items) refl within
     (reads_more (g.I.Images.seen c.args.images.now) (g.I.Images.seen c.loop-first.images) (g.I.Images.seen c.row_sums.new.images)
@@ -61,7 +62,7 @@ loop-first-preserved g c =
 pub returns-clause-told : goal.returns-clause-told
 returns-clause-told g c =
     let all : c.loop-first.first ≡ tested_with c.args.plan.now c.args.chunk c.args.offset
-    = let within = c.loop-first.invariant.within in let end = c.loop-first-test.false in let value = c.count_tested-rows.ensures.value in omega arith in
+    = let within = c.loop-first.invariant.within in let end = c.loop-first-test.false in let value = c.tested_rows-rows.ensures.value in omega arith in
     if_told (told_all (g.I.Images.seen c.args.images.now).attached)
     (λ bytes. CountRows bytes (length c.args.plan.now.lengths.items) c.args.chunk c.args.offset c.loop-first.first c.loop-first.tally)
     (λ bytes. IsXorTable bytes c.args.plan.now c.args.chunk c.args.offset c.loop-first.tally)
@@ -70,6 +71,6 @@ returns-clause-told g c =
 
 pub returns-clause-reads : goal.returns-clause-reads
 returns-clause-reads g c =
-    let within : c.loop-first.first ≤ tested_with c.args.plan.now c.args.chunk c.args.offset = let few = c.loop-first.invariant.within in let value = c.count_tested-rows.ensures.value in omega arith in
+    let within : c.loop-first.first ≤ tested_with c.args.plan.now c.args.chunk c.args.offset = let few = c.loop-first.invariant.within in let value = c.tested_rows-rows.ensures.value in omega arith in
     reads_within (g.I.Images.seen c.args.images.now) (g.I.Images.seen c.loop-first.images) (length c.args.plan.now.lengths.items) c.loop-first.first
     (tested_with c.args.plan.now c.args.chunk c.args.offset) (length c.args.plan.now.lengths.items) refl within c.loop-first.invariant.reads

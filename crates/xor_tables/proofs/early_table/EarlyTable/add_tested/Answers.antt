@@ -1,11 +1,12 @@
 use Rattle.std.proofs.Common.{◌≤◌, ℕ, ◌+◌, ◌-◌, min, length, arith, sym, subst, ap, ◌∙◌}
 use Rattle.address_map.proofs.Heads.{chunk_above}
-use Rattle.xor_tables.specs.Xors.{tested_with, AreSumsOf, CountRows, RowTable}
+use Rattle.xor_tables.specs.Xors.{AreSumsOf, CountRows, RowTable}
+use Rattle.search_plan.specs.Rows.{tested_with}
 use Rattle.xor_tables.proofs.Settled.{counts_on}
 use Rattle.xor_tables.proofs.early_table.EarlyTable.add_tested.Goals as goal
 
-pub count_tested-tested-requires : goal.count_tested-tested-requires
-count_tested-tested-requires c = record { chunk = chunk_above c.args.chunk c.requires.chunk }
+pub tested_rows-tested-requires : goal.tested_rows-tested-requires
+tested_rows-tested-requires c = record { chunk = chunk_above c.args.chunk c.requires.chunk }
 
 pub returns-then-first-tested-clause-counts : goal.returns-then-first-tested-clause-counts
 returns-then-first-tested-clause-counts c = λ bytes told before.
@@ -15,6 +16,6 @@ returns-then-first-tested-clause-counts c = λ bytes told before.
     let grows : P (length c.args.plan.now.lengths.items) = subst P c.len.ensures.value
     (λ sums old. c.add_rows.ensures.counts bytes c.args.offset sums (subst (λ (t : RowTable). CountRows bytes c.len.result c.args.chunk c.args.offset c.args.first t) (sym c.self.view_is) old)) in
     counts_on bytes (length c.args.plan.now.lengths.items) c.args.chunk c.args.offset c.args.first c.args.count c.min-rows.result (tested_with c.args.plan.now c.args.chunk c.args.offset)
-    c.args.self.now c.add_rows.new.self (let below = c.if-first-tested.true in let value = c.count_tested-tested.ensures.value in omega arith)
-    (c.min-rows.ensures ∙ ap (λ (n : ℕ). min (n - c.args.first) c.args.count) c.count_tested-tested.ensures.value)
+    c.args.self.now c.add_rows.new.self (let below = c.if-first-tested.true in let value = c.tested_rows-tested.ensures.value in omega arith)
+    (c.min-rows.ensures ∙ ap (λ (n : ℕ). min (n - c.args.first) c.args.count) c.tested_rows-tested.ensures.value)
     (grows (λ j none lt. told j none (omega arith))) before

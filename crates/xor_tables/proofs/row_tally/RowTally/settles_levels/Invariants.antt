@@ -1,7 +1,7 @@
 use Rattle.std.proofs.Common.{◌≡◌, ℕ, ◌<◌, get_or}
 use Rattle.raid_params.specs.declared.types.Level.{Level}
 use Rattle.xor_tables.specs.Early.{IsSettledFor}
-use Rattle.xor_tables.specs.Xors.{tested_with}
+use Rattle.search_plan.specs.Rows.{tested_with}
 use Rattle.xor_tables.proofs.row_tally.RowTally.settles_levels.Given as goal
 
 abbrev pub invariant-loop-level : goal.invariant-loop-level

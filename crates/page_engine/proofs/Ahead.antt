@@ -17,7 +17,7 @@ use Rattle.set_product.specs.declared.heads.HeadSets.{HeadSets}
 use Rattle.set_product.proofs.HeadByHead.{all_counted, heads_make}
 use Rattle.set_product.proofs.Shaped.{valid_heads}
 use Rattle.set_product.proofs.Spaces.{space_images, space_members}
-use Rattle.page_engine.specs.Walk.{IsAmong, IsHeadOf}
+use Rattle.head_walk.specs.Walk.{IsAmong, IsHeadOf}
 use Rattle.page_engine.proofs.Among.{among_heads, each_among}
 
 -- the sets of the ranks from this one on are those of these heads
@@ -30,6 +30,7 @@ pub at_end : (plan : Plan) (at : ℕ) → Ahead plan at [] → total_of plan ≤
 unfolding Ahead
 at_end plan at ahead = ahead
 
+-- at the next head
 pub at_head : (plan : Plan) (at : ℕ) (sets : HeadSets) (all later : List HeadSets) → all ≡ sets ∷ later → Ahead plan at all →
     (sets.first ≤ at) × (at ≤ sets.first + sets.count) × IsHeadOf plan sets × Ahead plan (sets.first + sets.count) later
 unfolding Ahead

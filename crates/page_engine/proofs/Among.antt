@@ -7,16 +7,18 @@ use Rattle.raid_params.specs.Validity.{is_valid_head}
 use Rattle.raid_params.specs.declared.types.Bounds.{Bounds}
 use Rattle.search_terms.specs.Product.{heads}
 use Rattle.slot_math.proofs.Listed.{each_flat, each_kept, each_map, each_more}
-use Rattle.page_engine.specs.Walk.{IsAmong}
+use Rattle.head_walk.specs.Walk.{IsAmong}
 
 -- each element of a list is among its elements
 pub each_among : {X : Type 0} (xs : List X) → AllByRecursion (Contains xs) xs
 each_among xs = recursion_from_All (Contains xs) xs (λ k d lt. (k, lt, get_or_default xs k (get_or xs k d) d lt))
 
+-- what holds of everything holds of each element
 each_any : {A : Type 0} (P : A → Type 0) → ((x : A) → P x) → (xs : List A) → AllByRecursion P xs
 each_any P h [] = tt
 each_any P h (x ∷ xs) = (h x, each_any P h xs)
 
+-- the values of each head are among those of the search
 pub among_heads : (bounds : Bounds) → AllByRecursion (IsAmong bounds) (heads bounds)
 among_heads bounds =
     each_more (λ head. IsAmong bounds head × (is_valid_head head ≡ true)) (IsAmong bounds) (heads bounds) (λ head both. both.0)

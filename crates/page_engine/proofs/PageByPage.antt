@@ -1,26 +1,27 @@
 -- Pages made one after another.
-use Rattle.std.proofs.Common.{ℕ, zero, suc, ◌≡◌, ◌≢◌, ◌<◌, ◌≤◌, ◌+◌, ◌-◌, ◌*◌, ◌^◌, ◌⊎◌, inl, inr, List, [], ◌∷◌, ◌++◌, length, map, refl, sym, ap, ◌∙◌, subst, arith, Option, Some, None, IfSome, Result, IsErrOf, Bool, true, Ok}
+use Rattle.std.proofs.Common.{ℕ, zero, suc, ◌≡◌, ◌≢◌, ◌<◌, ◌≤◌, ◌+◌, ◌*◌, ◌^◌, ◌⊎◌, inl, inr, List, [], ◌∷◌, ◌++◌, length, map, refl, sym, ap, ◌∙◌, subst, arith, Option, Some, None, IfSome, Result, IsErrOf, Bool, true, Ok}
 use Rattle.std.proofs.Math.Nat.{add-mul, mul-le-mul_right}
 use Rattle.std.proofs.lemmas.Bool.{cases_lt}
 use Rattle.std.proofs.lemmas.List.{map-append}
 use Rattle.outside.proofs.Reading.{reads_up}
 use Rattle.outside.specs.Seen.{Seen}
 use Rattle.search_terms.specs.Page.{page_next, stop_of}
-use Rattle.row_scan.specs.declared.many_sets.TheConstants.{MOST_SETS}
 use Rattle.search_plan.specs.Sets.{passes_at, total_of}
 use Rattle.search_plan.specs.declared.plan.Plan.{Plan}
-use Rattle.page_engine.specs.Pages.{ArePageEnds, ArePagesFrom, IsPageEnd, IsPageFrom, IsPageOf, most_scanned, ReadsPages, scans, scans_to, table_reads}
-use Rattle.page_engine.specs.Walk.{Scans, Spends}
+use Rattle.page_engine.specs.Pages.{ArePageEnds, ArePagesFrom, IsPageEnd, IsPageFrom, IsPageOf, ReadsPages, scans, scans_to, table_reads}
+use Rattle.head_walk.specs.Counts.{most_scanned}
+use Rattle.head_walk.specs.Walk.{ReadsRange, Spends}
 use Rattle.page_engine.specs.declared.page_parts.ListPage.{ListPage}
 use Rattle.page_engine.specs.declared.page_parts.PageFault.{PageFault}
-use Rattle.page_engine.proofs.Counting.{within_scans}
-use Rattle.page_engine.proofs.Scanned.{spends_join, spends_none, spends_up}
+use Rattle.page_engine.proofs.PageReads.{within_scans}
+use Rattle.head_walk.proofs.Scanned.{spends_join, spends_none, spends_up}
 
 -- pages from one rank to another, each where the last one goes on, of which none goes on at the total
 unfoldable pub Going : Option (List (List ℕ)) → Plan → ℕ → ℕ → ℕ → ℕ → List ListPage → Type 0
 Going told plan size span from to [] = from ≡ to
 Going told plan size span from to (page ∷ pages) = IsPageFrom told plan from size span page × (page.next < total_of plan) × Going told plan size span page.next to pages
 
+-- no page yet
 pub none_made : (told : Option (List (List ℕ))) (plan : Plan) (size span from : ℕ) → Going told plan size span from from []
 unfolding Going
 none_made told plan size span from = refl
@@ -52,12 +53,14 @@ all_made told plan size span (suc count) from to (page ∷ pages) going many = (
 abbrev pub Begun : Plan → ℕ → ℕ → ℕ → Seen → Seen → Type 0
 Begun plan from made at old now = ((made ≡ 0) × (at ≡ from) × (now ≡ old)) ⊎ ((1 ≤ made) × (at ≤ total_of plan) × (total_of plan < 2 ^ 64))
 
+-- a page that does not go on at the total goes on before it
 pub below_total : (next total all span at : ℕ) → next ≢ total → total ≡ all → next ≤ stop_of all at span → next < all
 below_total next total all span at other same within = elim (cases_lt next all) [
   | inl below ↦ below
   | inr above ↦ absurd (other (let e : next ≡ total = omega arith in e))
 ]
 
+-- a page is no fault
 pub not_an_error : (page : ListPage) (fault : PageFault) → IsErrOf (let r : Result ListPage PageFault = Ok page in r) fault → ⊥
 not_an_error page fault e = cc
 
@@ -102,7 +105,7 @@ spends_first told plan from b s = spends_none b (scans_to told plan from (ends_o
 
 -- what the pages made spend, and one more, which was made or not
 pub spends_more : (told : Option (List (List ℕ))) (plan : Plan) (size span from mid end b c a : ℕ) (pages : List ListPage) (old now new : Seen) → Going told plan size span from mid pages →
-    Spends b c old now (scans_to told plan from (ends_of pages) * most_scanned plan) → Scans told plan mid end (MOST_SETS - 1) c a now new → Spends b a old new (scans_to told plan from (ends_of pages ++ end ∷ []) * most_scanned plan)
+    Spends b c old now (scans_to told plan from (ends_of pages) * most_scanned plan) → ReadsRange told plan mid end 4095 c a now new → Spends b a old new (scans_to told plan from (ends_of pages ++ end ∷ []) * most_scanned plan)
 spends_more told plan size span from mid end b c a pages old now new going first second =
     let few : second.count * most_scanned plan ≤ scans told plan mid end * most_scanned plan = mul-le-mul_right (most_scanned plan) (within_scans told plan mid end second.count second.few) in
     let all : scans_to told plan from (ends_of pages ++ end ∷ []) * most_scanned plan ≡ scans_to told plan from (ends_of pages) * most_scanned plan + scans told plan mid end * most_scanned plan
@@ -110,6 +113,7 @@ spends_more told plan size span from mid end b c a pages old now new going first
     spends_up b a (scans_to told plan from (ends_of pages) * most_scanned plan + second.count * most_scanned plan) (scans_to told plan from (ends_of pages ++ end ∷ []) * most_scanned plan) old new
     (spends_join b c a (scans_to told plan from (ends_of pages) * most_scanned plan) (second.count * most_scanned plan) old now new first second.spends) (omega arith)
 
+-- where pages end, with one more
 pub ends_with : (pages : List ListPage) (page : ListPage) → ends_of (pages ++ page ∷ []) ≡ ends_of pages ++ page.next ∷ []
 ends_with pages page = map-append (λ (one : ListPage). one.next) pages (page ∷ [])
 
@@ -126,14 +130,14 @@ reads_made told plan size span failed count from to b a pages old new most going
 
 -- those and one more
 pub reads_more : (told : Option (List (List ℕ))) (plan : Plan) (size span : ℕ) (failed : Bool) (count from mid b c a : ℕ) (pages : List ListPage) (page : ListPage) (old now new : Seen) → b ≤ table_reads plan → Going told plan size span from mid pages → length pages < count →
-    IsPageFrom told plan mid size span page → Spends b c old now (scans_to told plan from (ends_of pages) * most_scanned plan) → Scans told plan mid page.next (MOST_SETS - 1) c a now new → ReadsPages told plan size span failed count from old new
+    IsPageFrom told plan mid size span page → Spends b c old now (scans_to told plan from (ends_of pages) * most_scanned plan) → ReadsRange told plan mid page.next 4095 c a now new → ReadsPages told plan size span failed count from old new
 reads_more told plan size span failed count from mid b c a pages page old now new most going few is_page first second =
     reads_of told plan size span failed count from b a (ends_of pages ++ page.next ∷ []) old new most (ends_more told plan size span failed count from mid page.next pages going (made_end told plan size span failed mid page [] is_page) few)
     (spends_more told plan size span from mid page.next b c a pages old now new going first second)
 
 -- and one that could not be made
 pub reads_ended : (told : Option (List (List ℕ))) (plan : Plan) (size span : ℕ) (failed : Bool) (count from mid b c a : ℕ) (pages : List ListPage) (old now new : Seen) → b ≤ table_reads plan → Going told plan size span from mid pages → length pages < count → failed ≡ true →
-    Spends b c old now (scans_to told plan from (ends_of pages) * most_scanned plan) → Scans told plan mid (stop_of (total_of plan) mid span) (MOST_SETS - 1) c a now new → ReadsPages told plan size span failed count from old new
+    Spends b c old now (scans_to told plan from (ends_of pages) * most_scanned plan) → ReadsRange told plan mid (stop_of (total_of plan) mid span) 4095 c a now new → ReadsPages told plan size span failed count from old new
 reads_ended told plan size span failed count from mid b c a pages old now new most going few fails first second =
     reads_of told plan size span failed count from b a (ends_of pages ++ stop_of (total_of plan) mid span ∷ []) old new most
     (ends_more told plan size span failed count from mid (stop_of (total_of plan) mid span) pages going (inl (fails, refl, refl)) few)

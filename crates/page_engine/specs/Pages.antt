@@ -1,31 +1,18 @@
 -- Pages of the parameter sets that pass, and what is read for them.
-use Rattle.std.specs.Prelude.{ℕ, zero, suc, ◌≡◌, ◌+◌, ◌≤◌, ◌<◌, ◌^◌, ◌*◌, ◌-◌, ◌/◌, ◌⊎◌, min, Bool, true, false, not, ◌&&◌, ◌||◌, if◌then◌else◌, Result, Ok, Err, IfSome, List, [], ◌∷◌, length, map, sum_by, count_by, slice_get, All}
-use Rattle.std.specs.List.{list_any, range_with_len}
-use Rattle.std.specs.Option.{option_map_or}
+use Rattle.std.specs.Prelude.{ℕ, zero, suc, ◌≡◌, ◌+◌, ◌≤◌, ◌<◌, ◌^◌, ◌*◌, ◌/◌, ◌⊎◌, min, Bool, true, Result, Ok, Err, IfSome, List, [], ◌∷◌, map, sum_by, All}
 use Rattle.std.specs.declared.option.Option.{Option}
-use Rattle.std.specs.declared.option.Option.TheVariants.{None, Some}
 use Rattle.outside.specs.Causes.{Rose}
 use Rattle.outside.specs.Seen.{OnlyReads, Seen}
-use Rattle.raid_params.specs.declared.types.Geometry.{Geometry}
 use Rattle.search_terms.specs.Page.{page_next, stop_of, IsPage}
-use Rattle.search_terms.specs.Product.{heads}
-use Rattle.candidate_enum.specs.Survivors.{all_admitted}
-use Rattle.row_scan.specs.Scan.{is_unbreakable}
-use Rattle.row_scan.specs.Windows.{scan_reads}
-use Rattle.row_scan.specs.declared.many_sets.TheConstants.{MOST_SETS}
-use Rattle.prune_filters.specs.Hopeful.{is_hopeful}
-use Rattle.prune_filters.specs.Rows.{needs_table, rows_decide}
-use Rattle.prune_filters.specs.Xors.{most_tested}
-use Rattle.search_plan.specs.Sets.{passes_at, sets_of, total_of}
+use Rattle.search_plan.specs.Sets.{passes_at, total_of}
 use Rattle.search_plan.specs.declared.plan.Plan.{Plan}
-use Rattle.page_engine.specs.declared.page_parts.Line.{Line}
 use Rattle.page_engine.specs.declared.page_parts.ListPage.{ListPage}
 use Rattle.page_engine.specs.declared.page_parts.PageFault.{PageFault}
 use Rattle.page_engine.specs.declared.page_parts.PageFault.TheVariants.{Many, Cursor, ReadFault, Memory}
-
--- the line holds the set of its rank
-abbrev pub HoldsSet : Plan → Line → Type 0
-HoldsSet plan held = slice_get (sets_of plan) held.rank ≡ Some held.geo
+use Rattle.head_walk.specs.Counts.{hopeful_ranks, most_scanned, offset_reads, open_ranks}
+use Rattle.head_walk.specs.Walk.{HoldsSet}
+use Rattle.head_walk.specs.declared.parts.WalkFault.{WalkFault}
+use Rattle.head_walk.specs.declared.parts.WalkFault.TheVariants.{ReadFault as WalkReadFault, Memory as WalkMemory}
 
 -- the page from a rank on: its ranks, and where the next one begins, over the bytes of the images
 abbrev pub IsPageOf : List (List ℕ) → Plan → ℕ → ℕ → ℕ → ListPage → Type 0
@@ -48,6 +35,11 @@ ArePagesFrom told plan size span (suc count) from (page ∷ pages) =
     IsPageFrom told plan from size span page
     × (((page.next ≡ total_of plan) × (pages ≡ [])) ⊎ ((page.next < total_of plan) × ArePagesFrom told plan size span count page.next pages))
 
+-- why there is no page, where a walk over a head ended so
+abbrev pub page_fault : WalkFault → PageFault
+page_fault WalkReadFault = ReadFault
+page_fault WalkMemory = Memory
+
 -- why there is no page: there are too many sets, or the first rank is past the total, and nothing was touched; the
 -- images failed; or memory ran out, and no fault was counted
 abbrev pub EndsPage : Plan → ℕ → Seen → Seen → PageFault → Type 0
@@ -56,49 +48,10 @@ EndsPage plan from old new (Cursor fault) = (total_of plan < from) × (fault ≡
 EndsPage plan from old new ReadFault = Rose old.faults new.faults
 EndsPage plan from old new Memory = new.faults ≡ old.faults
 
--- why a test of a set has no answer: the images failed, or memory ran out, and no fault was counted
-abbrev pub EndsTest : Seen → Seen → PageFault → Type 0
-EndsTest old new Many = ⊥
-EndsTest old new (Cursor fault) = ⊥
-EndsTest old new ReadFault = Rose old.faults new.faults
-EndsTest old new Memory = new.faults ≡ old.faults
-
--- a set of the plan is hopeful: each prefix of its slots is, over the bytes of the images. Where some are not known, any is
-unfoldable pub is_hopeful_at : Option (List (List ℕ)) → Plan → ℕ → Bool
-is_hopeful_at None plan rank = true
-is_hopeful_at (Some bytes) plan rank = option_map_or (λ geo. all_admitted (is_hopeful bytes plan geo.head) geo.slots.items) (slice_get (sets_of plan) rank) false
-
--- the parity test of a set asks for none of its rows: nothing can break one, or the tables of rows decide
-abbrev pub is_decided : Plan → Geometry → Bool
-is_decided plan geo = is_unbreakable geo || rows_decide plan geo.head
-
--- a hopeful set of which rows have to be tested
-unfoldable pub is_open_at : Option (List (List ℕ)) → Plan → ℕ → Bool
-is_open_at told plan rank = is_hopeful_at told plan rank && not (option_map_or (is_decided plan) (slice_get (sets_of plan) rank) true)
-
--- how many sets of the ranks from one up to another are hopeful, and of how many rows have to be tested
-unfoldable pub hopeful_ranks : Option (List (List ℕ)) → Plan → ℕ → ℕ → ℕ
-hopeful_ranks told plan from to = count_by (is_hopeful_at told plan) (range_with_len from (to - from))
-
-unfoldable pub open_ranks : Option (List (List ℕ)) → Plan → ℕ → ℕ → ℕ
-open_ranks told plan from to = count_by (is_open_at told plan) (range_with_len from (to - from))
-
--- how many scans they take: one for each `MOST_SETS` hopeful sets, and for what is left of them, but no more than there
+-- how many scans they take: one for each 4,096 hopeful sets, and for what is left of them, but no more than there
 -- are sets of which rows have to be tested
 unfoldable pub scans : Option (List (List ℕ)) → Plan → ℕ → ℕ → ℕ
-scans told plan from to = min (open_ranks told plan from to) ((hopeful_ranks told plan from to + (MOST_SETS - 1)) / MOST_SETS)
-
--- the most sectors that a scan of sets of the plan reads
-unfoldable pub most_scanned : Plan → ℕ
-most_scanned plan = scan_reads (length plan.lengths.items) plan.end plan.limits.window plan.bounds.offsets.items
-
--- some head of the plan needs a table of rows
-unfoldable pub asks_tables : Plan → Bool
-asks_tables plan = list_any (needs_table plan) (heads plan.bounds)
-
--- for the tables of an offset: the tested rows of the chunk that has most, of each image, where some head needs a table
-unfoldable pub offset_reads : Plan → ℕ → ℕ
-offset_reads plan offset = if asks_tables plan then length plan.lengths.items * most_tested plan plan.bounds.chunks.items offset else 0
+scans told plan from to = min (open_ranks told plan from to) ((hopeful_ranks told plan from to + 4095) / 4096)
 
 -- for those of all offsets
 unfoldable pub table_reads : Plan → ℕ

@@ -1,36 +1,10 @@
 //! Pages and their parts.
+ghost use Rattle.std.specs.Prelude.{◌≡◌};
+ghost use Rattle.page_engine.specs.Pages.{page_fault};
+
+use head_walk::{Lines, WalkFault};
 use outside::ListOf;
-use raid_params::Geometry;
-use search_plan::Plan;
-use std::alloc::Global;
 use thiserror::Error;
-
-/// What a page is made of, and with.
-#[derive(Drop)]
-pub(crate) struct Paging<'a, R, G> {
-    /// That which starts threads.
-    pub rt: &'a R,
-    /// That which gives memory.
-    pub alloc: Global,
-    /// The plan.
-    pub plan: &'a Plan,
-    /// The most lines of a page.
-    pub size: u64,
-    /// What each piece of a scan passes.
-    pub gate: &'a G,
-}
-
-/// A parameter set that passes, with its rank.
-#[derive(Drop)]
-pub struct Line {
-    /// Its position among the parameter sets of the plan, counted from 0.
-    pub rank: u64,
-    /// The parameter set.
-    pub geo: Geometry,
-}
-
-/// The lines of a page.
-pub type Lines = ListOf<Line>;
 
 /// A page: its lines, the rank from which the next page goes on, and the number of all ranks.
 #[derive(Drop)]
@@ -70,4 +44,15 @@ pub enum PageFault {
     /// Memory ran out.
     #[error("out of memory")]
     Memory,
+}
+
+impl From<WalkFault> for PageFault {
+    ghost from_gives = { λ fault page. page ≡ page_fault fault };
+
+    fn from(fault: WalkFault) -> PageFault {
+        match fault {
+            WalkFault::ReadFault => PageFault::ReadFault,
+            WalkFault::Memory => PageFault::Memory,
+        }
+    }
 }

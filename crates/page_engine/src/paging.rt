@@ -4,18 +4,15 @@ ghost use Rattle.std.specs.Result.{is_err};
 ghost use Rattle.outside.specs.Attached.{told_all};
 ghost use Rattle.outside.specs.Seen.{OnlyReads};
 ghost use Rattle.search_terms.specs.Page.{stop_of};
-ghost use Rattle.row_scan.specs.declared.many_sets.TheConstants.{MOST_SETS};
 ghost use Rattle.search_plan.specs.Plans.{IsPlan, AgreeWith};
 ghost use Rattle.search_plan.specs.Sets.{total_of};
-ghost use Rattle.page_engine.specs.Pages.{ArePagesFrom, EndsPage, HoldsSet, IsPageOf, page_reads, ReadsPages, tested_to};
-ghost use Rattle.page_engine.specs.Walk.{IsKept, left_after, left_reads, Scans};
+ghost use Rattle.page_engine.specs.Pages.{ArePagesFrom, EndsPage, IsPageOf, page_reads, ReadsPages, tested_to};
+ghost use Rattle.head_walk.specs.Walk.{HoldsSet, IsKept, left_after, left_reads, ReadsRange};
 ghost use Rattle.page_engine.specs.declared.page_parts.PageFault.TheVariants.{Cursor, Many};
 
-use crate::gathering::Gathered;
-use crate::page_parts::{CursorFault, Lines, ListPage, PageFault, PageList, Paging};
-use crate::row_tables::KeptTables;
-use crate::waiting::Waiting;
-use crate::walking::fill;
+use crate::page_parts::{CursorFault, ListPage, PageFault, PageList};
+use crate::walking::gather_range;
+use head_walk::{Gathered, KeptTables, Lines, Paging, Waiting, finish};
 use outside::Images;
 use row_scan::Gate;
 use search_plan::Plan;
@@ -26,7 +23,7 @@ use std::thread::Threads;
 /// The page of a plan from a rank on: the first `size` of the sets that pass and whose ranks are
 /// below `from + span`, and the rank from which the next page goes on. Where some head of the plan needs a table of
 /// rows, at most the tested rows of the chunk that has most are read, once for each offset and of each image. The sets
-/// that are still hopeful are scanned, up to `MOST_SETS` at a time, in one pass over the images; where none of their
+/// that are still hopeful are scanned, up to 4,096 at a time, in one pass over the images; where none of their
 /// rows has to be tested, nothing is read for them. In a scan pieces of the sets may run side by side: each passes the gate.
 pub fn page<R: Threads + Sync, I: Images, G: Gate + Sync>(
     rt: &R,
@@ -83,7 +80,7 @@ fn next_page<R: Threads + Sync, I: Images, G: Gate + Sync>(
     ensures cursor { total_of paging.now.plan.now < 2 ^ 64 → total_of paging.now.plan.now < from → IsErrOf result (Cursor (record { from = from; total = total_of paging.now.plan.now })) }
     ensures quiet { IfOk result (λ made. (I.seen images.new).faults ≡ (I.seen images.old).faults) }
     ensures ends { IfErr result (EndsPage paging.now.plan.now from (I.seen images.old) (I.seen images.new)) }
-    ensures reads { Scans (told_all (I.seen images.old).attached) paging.now.plan.now from (tested_to (stop_of (total_of paging.now.plan.now) from span) result) (MOST_SETS - 1)
+    ensures reads { ReadsRange (told_all (I.seen images.old).attached) paging.now.plan.now from (tested_to (stop_of (total_of paging.now.plan.now) from span) result) 4095
         (left_reads paging.now.plan.now kept.old) (left_after paging.now.plan.now kept.new result) (I.seen images.old) (I.seen images.new) }
     ensures kept { All (IsKept (told_all (I.seen images.old).attached) paging.now.plan.now) kept.new }
     ensures forward { IfOk result (λ p. from ≤ p.next) }
@@ -99,7 +96,10 @@ fn next_page<R: Threads + Sync, I: Images, G: Gate + Sync>(
         tested: from,
         waiting: Waiting::none(paging.alloc),
     };
-    let next = fill(paging, images, kept, stop, &mut page)?;
+    let next = match gather_range(paging, images, kept, from, stop, &mut page)? {
+        Some(next) => next,
+        None => finish(paging, images, stop, &mut page)?,
+    };
     Ok(ListPage {
         lines: page.lines,
         next,

@@ -4,10 +4,10 @@ use Rattle.std.proofs.lemmas.List.Elements.{All-nil}
 use Rattle.search_terms.specs.Page.{stop_of}
 use Rattle.search_plan.specs.Sets.{total_of}
 use Rattle.page_engine.specs.Pages.{table_reads, tested_to}
-use Rattle.page_engine.specs.Walk.{left_after, left_reads, IsKept}
-use Rattle.page_engine.specs.declared.row_tables.OffsetTables.{OffsetTables}
-use Rattle.page_engine.proofs.Kept.{left_all}
-use Rattle.page_engine.proofs.Scanned.{page_scans}
+use Rattle.head_walk.specs.Walk.{left_after, left_reads, IsKept}
+use Rattle.head_walk.specs.declared.row_tables.OffsetTables.{OffsetTables}
+use Rattle.page_engine.proofs.PageReads.{left_all}
+use Rattle.page_engine.proofs.PageReads.{page_scans}
 use Rattle.page_engine.proofs.paging.page.Goals as goal
 
 pub next_page-requires-clause-kept : goal.next_page-requires-clause-kept

@@ -1,19 +1,19 @@
-use Rattle.std.proofs.Common.{rules, ◌≡◌, ◌<◌, ◌+◌, ◌-◌, ◌*◌, ◌^◌, false, ◌++◌, ◌∷◌, [], inl, inr, ℕ, List, All, length, length-append, refl, sym, ap, ◌∙◌, subst, arith}
+use Rattle.std.proofs.Common.{rules, ◌≡◌, ◌<◌, ◌+◌, ◌*◌, ◌^◌, false, ◌++◌, ◌∷◌, [], inl, inr, ℕ, List, All, length, length-append, refl, sym, ap, ◌∙◌, subst, arith}
 use Rattle.std.specs.Result.{is_err}
 use Rattle.std.proofs.lemmas.Bool.{cases_lt}
 use Rattle.std.proofs.lemmas.List.Elements.{All-nil}
 use Rattle.outside.specs.Attached.{told_all}
 use Rattle.outside.specs.Seen.{Image}
 use Rattle.search_terms.specs.Page.{stop_of}
-use Rattle.row_scan.specs.declared.many_sets.TheConstants.{MOST_SETS}
 use Rattle.search_plan.specs.Sets.{total_of}
-use Rattle.page_engine.specs.Pages.{ArePagesFrom, IsPageFrom, most_scanned, scans_to}
-use Rattle.page_engine.specs.Walk.{left_reads, IsKept, Spends}
-use Rattle.page_engine.specs.declared.row_tables.OffsetTables.{OffsetTables}
+use Rattle.page_engine.specs.Pages.{ArePagesFrom, IsPageFrom, scans_to}
+use Rattle.head_walk.specs.Counts.{most_scanned}
+use Rattle.head_walk.specs.Walk.{left_reads, IsKept, Spends}
+use Rattle.head_walk.specs.declared.row_tables.OffsetTables.{OffsetTables}
 use Rattle.page_engine.specs.declared.page_parts.ListPage.{ListPage}
 use Rattle.page_engine.specs.declared.page_parts.PageFault.TheVariants.{Many}
-use Rattle.page_engine.proofs.HeadByHead.{scans_told}
-use Rattle.page_engine.proofs.Kept.{left_all}
+use Rattle.head_walk.proofs.OneHead.{scans_told}
+use Rattle.page_engine.proofs.PageReads.{left_all}
 use Rattle.page_engine.proofs.PageByPage.{all_made, below_total, ends_of, ends_with, Going, none_made, not_an_error, one_more, reads_ended, reads_made, reads_more, spends_first, spends_more, the_last}
 use Rattle.page_engine.proofs.paging.pages.Goals as goal
 
@@ -36,7 +36,7 @@ pub returns-in_err-found-clause-reads : goal.returns-in_err-found-clause-reads
 returns-in_err-found-clause-reads g c =
     let far = c.loop.invariant in
     reads_ended (told_all (g.I.Images.seen c.args.images.now).attached) c.args.plan.now c.args.size c.args.span (is_err c.from_residual.result) c.args.count c.args.from c.loop.at (left_reads c.args.plan.now []) (left_reads c.args.plan.now c.loop.kept) 0 c.loop.made (g.I.Images.seen c.args.images.now) (g.I.Images.seen c.loop.images) (g.I.Images.seen c.next_page.new.images) (left_all c.args.plan.now) far.going (let made = far.made in omega arith) c.from_residual.ensures.0 far.reads
-    (scans_told (g.I.Images.seen c.args.images.now).attached (g.I.Images.seen c.loop.images).attached c.args.plan.now c.loop.at (stop_of (total_of c.args.plan.now) c.loop.at c.args.span) (MOST_SETS - 1) (left_reads c.args.plan.now c.loop.kept) 0 (g.I.Images.seen c.loop.images) (g.I.Images.seen c.next_page.new.images) far.reads.reads.attached c.in_err-found.ensures.reads)
+    (scans_told (g.I.Images.seen c.args.images.now).attached (g.I.Images.seen c.loop.images).attached c.args.plan.now c.loop.at (stop_of (total_of c.args.plan.now) c.loop.at c.args.span) 4095 (left_reads c.args.plan.now c.loop.kept) 0 (g.I.Images.seen c.loop.images) (g.I.Images.seen c.next_page.new.images) far.reads.reads.attached c.in_err-found.ensures.reads)
 
 pub returns-in_err-map_err-clause-reads : goal.returns-in_err-map_err-clause-reads
 returns-in_err-map_err-clause-reads g c =
@@ -44,7 +44,7 @@ returns-in_err-map_err-clause-reads g c =
     let Q : List Image → Type 0 = λ attached. IsPageFrom (told_all attached) c.args.plan.now c.loop.at c.args.size c.args.span c.in_ok-found.found in
     let is_page = subst Q far.reads.reads.attached (record { page = c.in_ok-found.ensures.page; sets = c.in_ok-found.ensures.sets; total = c.in_ok-found.ensures.total; forward = c.in_ok-found.ensures.forward; within = c.in_ok-found.ensures.within }) in
     reads_more (told_all (g.I.Images.seen c.args.images.now).attached) c.args.plan.now c.args.size c.args.span (is_err c.from_residual-in_err-map_err.result) c.args.count c.args.from c.loop.at (left_reads c.args.plan.now []) (left_reads c.args.plan.now c.loop.kept) (left_reads c.args.plan.now c.next_page.new.kept) c.loop.made c.in_ok-found.found (g.I.Images.seen c.args.images.now) (g.I.Images.seen c.loop.images) (g.I.Images.seen c.next_page.new.images) (left_all c.args.plan.now) far.going (let made = far.made in omega arith) is_page far.reads
-    (scans_told (g.I.Images.seen c.args.images.now).attached (g.I.Images.seen c.loop.images).attached c.args.plan.now c.loop.at c.in_ok-found.found.next (MOST_SETS - 1) (left_reads c.args.plan.now c.loop.kept) (left_reads c.args.plan.now c.next_page.new.kept) (g.I.Images.seen c.loop.images) (g.I.Images.seen c.next_page.new.images) far.reads.reads.attached c.in_ok-found.ensures.reads)
+    (scans_told (g.I.Images.seen c.args.images.now).attached (g.I.Images.seen c.loop.images).attached c.args.plan.now c.loop.at c.in_ok-found.found.next 4095 (left_reads c.args.plan.now c.loop.kept) (left_reads c.args.plan.now c.next_page.new.kept) (g.I.Images.seen c.loop.images) (g.I.Images.seen c.next_page.new.images) far.reads.reads.attached c.in_ok-found.ensures.reads)
 
 pub returns-then-next-total-clause-pages : goal.returns-then-next-total-clause-pages
 returns-then-next-total-clause-pages g c =
@@ -62,7 +62,7 @@ returns-then-next-total-clause-reads g c =
     let Q : List Image → Type 0 = λ attached. IsPageFrom (told_all attached) c.args.plan.now c.loop.at c.args.size c.args.span c.in_ok-found.found in
     let is_page = subst Q far.reads.reads.attached (record { page = c.in_ok-found.ensures.page; sets = c.in_ok-found.ensures.sets; total = c.in_ok-found.ensures.total; forward = c.in_ok-found.ensures.forward; within = c.in_ok-found.ensures.within }) in
     reads_more (told_all (g.I.Images.seen c.args.images.now).attached) c.args.plan.now c.args.size c.args.span false c.args.count c.args.from c.loop.at (left_reads c.args.plan.now []) (left_reads c.args.plan.now c.loop.kept) (left_reads c.args.plan.now c.next_page.new.kept) c.loop.made c.in_ok-found.found (g.I.Images.seen c.args.images.now) (g.I.Images.seen c.loop.images) (g.I.Images.seen c.next_page.new.images) (left_all c.args.plan.now) far.going (let made = far.made in omega arith) is_page far.reads
-    (scans_told (g.I.Images.seen c.args.images.now).attached (g.I.Images.seen c.loop.images).attached c.args.plan.now c.loop.at c.in_ok-found.found.next (MOST_SETS - 1) (left_reads c.args.plan.now c.loop.kept) (left_reads c.args.plan.now c.next_page.new.kept) (g.I.Images.seen c.loop.images) (g.I.Images.seen c.next_page.new.images) far.reads.reads.attached c.in_ok-found.ensures.reads)
+    (scans_told (g.I.Images.seen c.args.images.now).attached (g.I.Images.seen c.loop.images).attached c.args.plan.now c.loop.at c.in_ok-found.found.next 4095 (left_reads c.args.plan.now c.loop.kept) (left_reads c.args.plan.now c.next_page.new.kept) (g.I.Images.seen c.loop.images) (g.I.Images.seen c.next_page.new.images) far.reads.reads.attached c.in_ok-found.ensures.reads)
 
 pub loop-preserved : goal.loop-preserved
 loop-preserved g c =
@@ -88,7 +88,7 @@ loop-preserved g c =
       reads = (let P : List ℕ → Type 0 = λ ends. Spends (left_reads c.args.plan.now []) (left_reads c.args.plan.now c.next_page.new.kept) (g.I.Images.seen c.args.images.now) (g.I.Images.seen c.next_page.new.images) (scans_to (told_all (g.I.Images.seen c.args.images.now).attached) c.args.plan.now c.args.from ends * most_scanned c.args.plan.now) in
           subst P (sym (ap ends_of pushed ∙ ends_with c.loop.made c.in_ok-found.found))
           (spends_more (told_all (g.I.Images.seen c.args.images.now).attached) c.args.plan.now c.args.size c.args.span c.args.from c.loop.at c.in_ok-found.found.next (left_reads c.args.plan.now []) (left_reads c.args.plan.now c.loop.kept) (left_reads c.args.plan.now c.next_page.new.kept) c.loop.made (g.I.Images.seen c.args.images.now) (g.I.Images.seen c.loop.images) (g.I.Images.seen c.next_page.new.images) far.going far.reads
-          (scans_told (g.I.Images.seen c.args.images.now).attached (g.I.Images.seen c.loop.images).attached c.args.plan.now c.loop.at c.in_ok-found.found.next (MOST_SETS - 1) (left_reads c.args.plan.now c.loop.kept) (left_reads c.args.plan.now c.next_page.new.kept) (g.I.Images.seen c.loop.images) (g.I.Images.seen c.next_page.new.images) far.reads.reads.attached c.in_ok-found.ensures.reads)));
+          (scans_told (g.I.Images.seen c.args.images.now).attached (g.I.Images.seen c.loop.images).attached c.args.plan.now c.loop.at c.in_ok-found.found.next 4095 (left_reads c.args.plan.now c.loop.kept) (left_reads c.args.plan.now c.next_page.new.kept) (g.I.Images.seen c.loop.images) (g.I.Images.seen c.next_page.new.images) far.reads.reads.attached c.in_ok-found.ensures.reads)));
       kept = (let P : List Image → Type 0 = λ attached. All (IsKept (told_all attached) c.args.plan.now) c.next_page.new.kept in subst P far.reads.reads.attached c.next_page.ensures.kept);
     }
 

@@ -1,7 +1,8 @@
 use Rattle.std.proofs.Common.{◌≡◌, ◌≤◌, ◌*◌, [], All, length}
 use Rattle.outside.specs.Attached.{told_all}
-use Rattle.page_engine.specs.Pages.{most_scanned, scans_to}
-use Rattle.page_engine.specs.Walk.{left_reads, IsKept, Spends}
+use Rattle.head_walk.specs.Counts.{most_scanned}
+use Rattle.page_engine.specs.Pages.{scans_to}
+use Rattle.head_walk.specs.Walk.{left_reads, IsKept, Spends}
 use Rattle.page_engine.proofs.PageByPage.{Begun, ends_of, Going}
 use Rattle.page_engine.proofs.paging.pages.Given as goal
 

@@ -1,13 +1,13 @@
-use Rattle.std.proofs.Common.{rules, refl, ℕ, ◌-◌, List, All, nat_lt, filter, sym, ap, ◌∙◌, subst, arith}
+use Rattle.std.proofs.Common.{rules, refl, ℕ, List, All, nat_lt, filter, sym, ap, ◌∙◌, subst, arith}
 use Rattle.outside.specs.Attached.{told_all}
 use Rattle.outside.specs.Seen.{Image}
-use Rattle.row_scan.specs.declared.many_sets.TheConstants.{MOST_SETS}
 use Rattle.set_product.specs.Heads.{end_of}
 use Rattle.set_product.specs.declared.heads.HeadSets.{HeadSets}
-use Rattle.page_engine.specs.Walk.{left_reads, IsKept, IsPart, StandsAt}
+use Rattle.head_walk.specs.Walk.{CanPage, left_reads, IsKept, IsPart, StandsAt}
 use Rattle.page_engine.proofs.Ahead.{Ahead, ahead_from}
-use Rattle.page_engine.proofs.HeadByHead.{fills_on, gathers_all, gathers_full, next_head, reaches_end, reaches_first, reaches_on, reaches_stop, reads_all, reads_full, scans_ended, scans_full, scans_told, to_spare, to_stop}
-use Rattle.page_engine.proofs.Kept.{none_left}
+use Rattle.head_walk.proofs.OneHead.{fills_on, gathers_all, gathers_full, reads_all, reads_full, scans_ended, scans_full, scans_told, to_spare, to_stop}
+use Rattle.page_engine.proofs.HeadByHead.{next_head, reaches_end, reaches_first, reaches_on, reaches_stop}
+use Rattle.head_walk.proofs.Kept.{none_left}
 use Rattle.page_engine.proofs.walking.gather_range.Goals as goal
 
 pub loop-sets-init : goal.loop-sets-init
@@ -17,7 +17,7 @@ loop-sets-init g c = record {
   far =
       (let P : List HeadSets → Type 0 = λ heads. Ahead c.args.paging.now.plan.now c.args.from heads in
       reaches_first (told_all (g.I.Images.seen c.args.images.now).attached) c.args.paging.now.plan.now c.args.paging.now.size c.args.from c.args.stop (left_reads c.args.paging.now.plan.now c.args.kept.now) (g.I.Images.seen c.args.images.now) c.args.page.now c.skip_to.new.self c.requires.range c.requires.stands
-      (subst P (sym (c.skip_to.ensures ∙ ap (filter (λ sets. nat_lt c.args.from (end_of sets))) c.of-heads.ensures)) (ahead_from c.args.paging.now.plan.now c.args.from c.requires.plan)));
+      (subst P (sym (c.skip_to.ensures ∙ ap (filter (λ sets. nat_lt c.args.from (end_of sets))) c.of-heads.ensures)) (ahead_from c.args.paging.now.plan.now c.args.from c.requires.can.is_plan)));
   kept = c.requires.kept;
 }
 
@@ -35,7 +35,7 @@ overflow_add-sets g c =
     let next = next_head (told_all (g.I.Images.seen c.args.images.now).attached) c.args.paging.now.plan.now c.args.paging.now.size c.args.from c.args.stop c.loop-sets.at (left_reads c.args.paging.now.plan.now c.args.kept.now) (left_reads c.args.paging.now.plan.now c.loop-sets.kept) (g.I.Images.seen c.args.images.now) (g.I.Images.seen c.loop-sets.images) c.args.page.now c.loop-sets.page c.loop-sets.heads c.next.new.self c.in-Some.sets
     c.loop-sets.invariant.far c.in-Some.ensures.steps c.if-at-stop.false in
     let within = next.head.within in
-    let few = c.requires.few in
+    let few = c.requires.can.few in
     omega arith
 
 pub gather_head-requires-clause-head : goal.gather_head-requires-clause-head
@@ -69,7 +69,7 @@ returns-in_err-next-clause-reads g c =
     let ordered = next.part.ordered in
     rw (to_stop c.args.stop c.gather_head.new.page c.from_residual.result c.from_residual.ensures.0, to_spare c.from_residual.result c.from_residual.ensures.0, none_left c.args.paging.now.plan.now c.gather_head.new.kept c.from_residual.result c.from_residual.ensures.0)
     (scans_ended (told_all (g.I.Images.seen c.args.images.now).attached) c.args.paging.now.plan.now c.args.paging.now.size c.loop-sets.at c.min-end.result c.args.stop (left_reads c.args.paging.now.plan.now c.args.kept.now) (left_reads c.args.paging.now.plan.now c.loop-sets.kept) 0 (g.I.Images.seen c.args.images.now) (g.I.Images.seen c.loop-sets.images) (g.I.Images.seen c.gather_head.new.images) c.args.page.now c.loop-sets.page c.loop-sets.invariant.far.goes (omega arith) (omega arith) c.loop-sets.invariant.far.scans
-    (scans_told _ _ c.args.paging.now.plan.now c.loop-sets.page.tested c.min-end.result (MOST_SETS - 1) (left_reads c.args.paging.now.plan.now c.loop-sets.kept) 0 (g.I.Images.seen c.loop-sets.images) (g.I.Images.seen c.gather_head.new.images) c.loop-sets.invariant.far.scans.spends.reads.attached c.in_err-next.ensures.reads))
+    (scans_told _ _ c.args.paging.now.plan.now c.loop-sets.page.tested c.min-end.result 4095 (left_reads c.args.paging.now.plan.now c.loop-sets.kept) 0 (g.I.Images.seen c.loop-sets.images) (g.I.Images.seen c.gather_head.new.images) c.loop-sets.invariant.far.scans.spends.reads.attached c.in_err-next.ensures.reads))
 
 pub returns-in_err-next-clause-kept : goal.returns-in_err-next-clause-kept
 returns-in_err-next-clause-kept g c =
@@ -118,3 +118,8 @@ returns-clause-reads g c = c.loop-sets.invariant.far.scans
 
 pub returns-clause-kept : goal.returns-clause-kept
 returns-clause-kept g c = c.loop-sets.invariant.kept
+
+pub gather_head-requires-clause-can : goal.gather_head-requires-clause-can
+gather_head-requires-clause-can g c κs within =
+    let P : List Image → Type 0 = λ attached. CanPage c.args.paging.now.plan.now c.args.paging.now.size attached in
+    subst P (sym c.loop-sets.invariant.far.scans.spends.reads.attached) c.requires.can

@@ -1,6 +1,6 @@
 use Rattle.std.proofs.Common.{All, ◌≡◌}
 use Rattle.outside.specs.Attached.{told_all}
-use Rattle.page_engine.specs.Walk.{left_reads, IsKept}
+use Rattle.head_walk.specs.Walk.{left_reads, IsKept}
 use Rattle.page_engine.proofs.HeadByHead.{Reaches}
 use Rattle.page_engine.proofs.walking.gather_range.Given as goal
 

@@ -1,0 +1,14 @@
+pub mod Counting
+pub mod Known
+pub mod SetTests
+pub mod Leaves
+pub mod Ranges
+pub mod Waits
+pub mod Judging
+pub mod Scanned
+pub mod Passed
+pub mod Candidates
+pub mod OneHead
+pub mod Leafwise
+pub mod Admitted
+pub mod Kept

@@ -1,0 +1,6 @@
+pub mod Alike
+pub mod Coefficients
+pub mod SetLists
+pub mod Classes
+pub mod Laws
+pub mod Tables

@@ -1,0 +1,137 @@
+//! The coefficients of a set, made once.
+ghost use Rattle.std.specs.Prelude.{◌≡◌, ◌++◌, ◌+◌, ◌*◌, ◌%◌, ◌<◌, ◌≤◌, ◌↔◌, ℕ, IsTrue, IfOk, OnOk, None, drop, length, take, true};
+ghost use Rattle.raid_params.specs.Size.{rows as rows_of};
+ghost use Rattle.raid_params.specs.Validity.{first_fault, is_shaped, is_valid_head};
+ghost use Rattle.raid_params.specs.declared.types.Geometry.{Geometry as GeometryOf};
+ghost use Rattle.volume_classes.specs.Alike.{AreAlike};
+ghost use Rattle.volume_classes.specs.Coefficients.{AgreeInRow, AreUnits, HaveEqualSizes, own_rows as own_rows_of, period as period_of_head, row_coefficients};
+ghost use Rattle.volume_classes.specs.Tables.{HasRow, HasSet, IsTable, RowsAgree};
+
+use crate::alike::{have_equal_sizes, told_rows};
+use crate::coefficients::{period, put_coefficients};
+use crate::units::units_of;
+use address_map::{data_blocks, rows};
+use outside::{Memory, SECTOR};
+use raid_layouts::row_cells;
+use raid_params::{Geometry, Head};
+use std::alloc::Global;
+use value_text::Text;
+
+/// The coefficients of a set in the rows below its period and its number of rows.
+#[derive(Drop)]
+pub struct Table {
+    /// The set's parameters but for its slots.
+    pub head: Head,
+    /// The coefficients: row by row, item by item, image by image.
+    pub coefficients: Text,
+}
+
+/// The table of a set that breaks no rule over so many images, whose members end before the image sector `end`.
+pub(crate) fn table_of(alloc: Global, geo: &Geometry, images: u8, end: u64) -> Result<Table, Memory>
+    requires { first_fault geo.now images end ≡ None }
+    ensures { IfOk result (IsTable images end geo.now) }
+{
+    let mut coefficients = Text::new(alloc);
+    let units = units_of(&geo.slots);
+    for row in 0..own_rows(&geo.head, end) {
+        let slots = &units[..SECTOR * geo.slots.len()];
+        add_row(&mut coefficients, geo, slots, images, row)?;
+    }
+    Ok(Table {
+        head: geo.head,
+        coefficients,
+    })
+}
+
+/// How many rows a table has.
+fn own_rows(head: &Head, end: u64) -> u64
+    requires { IsTrue (is_valid_head head.now) }
+    ensures { result ≡ own_rows_of head.now end }
+{
+    rows(head, end).min(u64::from(period(head)))
+}
+
+/// Appends the coefficients of a row.
+fn add_row(
+    coefficients: &mut Text,
+    geo: &Geometry,
+    units: &[u8],
+    images: u8,
+    row: u64,
+) -> Result<(), Memory>
+    requires shape { is_shaped geo.now images ≡ true }
+    requires units { AreUnits geo.now.slots.items units.now }
+    ensures { OnOk result (coefficients.new ≡ coefficients.old ++ row_coefficients geo.now images row) }
+{
+    let cells = row_cells(geo, row);
+    for item in 0..data_blocks(&geo.head) {
+        let mut found = [0; SECTOR];
+        put_coefficients(geo, units, row, &cells, item, &mut found);
+        coefficients.extend_from_slice(&found[..images as usize])?;
+    }
+    Ok(())
+}
+
+/// Whether the sets of two tables give the same volume, whatever the images hold.
+pub(crate) fn are_alike(one: &Table, other: &Table, images: u8, end: u64) -> bool
+    requires one { HasSet images end one.now }
+    requires other { HasSet images end other.now }
+    ensures { (a b : GeometryOf) → IsTable images end a one.now → IsTable images end b other.now → IsTrue result ↔ AreAlike a b images end }
+{
+    if have_equal_sizes(&one.head, &other.head) {
+        rows_agree(one, other, images, end)
+    } else {
+        false
+    }
+}
+
+/// Whether two tables agree in the rows that tell.
+fn rows_agree(one: &Table, other: &Table, images: u8, end: u64) -> bool
+    requires one { HasSet images end one.now }
+    requires other { HasSet images end other.now }
+    requires sizes { HaveEqualSizes one.now.head other.now.head }
+    ensures { (a b : GeometryOf) → IsTable images end a one.now → IsTable images end b other.now → IsTrue result ↔ RowsAgree a b images end }
+{
+    for row in 0..told_rows(&one.head, &other.head, end) {
+        if !row_agrees(one, other, images, row) {
+            return false;
+        }
+    }
+    true
+}
+
+/// Whether two tables agree in a row.
+fn row_agrees(one: &Table, other: &Table, images: u8, row: u64) -> bool
+    requires one { HasRow images row one.now }
+    requires other { HasRow images row other.now }
+    ensures { (a b : GeometryOf) (end : ℕ) → IsTable images end a one.now → IsTable images end b other.now → HaveEqualSizes a.head b.head →
+        row < rows_of a.head end → row < rows_of b.head end → IsTrue result ↔ AgreeInRow a b images row }
+{
+    are_equal(row_of(one, images, row), row_of(other, images, row))
+}
+
+/// Whether two lists of bytes are equal.
+fn are_equal(left: &[u8], right: &[u8]) -> bool
+    ensures { IsTrue result ↔ (left.now ≡ right.now) }
+{
+    left == right
+}
+
+/// The coefficients of a row, which a table has by its number modulo the period.
+fn row_of(table: &Table, images: u8, row: u64) -> &[u8]
+    requires { HasRow images row table.now }
+    ensures { (geo : GeometryOf) (end : ℕ) → IsTable images end geo table.entry.now → row < rows_of geo.head end →
+        result.now ≡ row_coefficients geo images (row % period_of_head geo.head) }
+{
+    let width = usize::from(data_blocks(&table.head)) * usize::from(images);
+    let place = (row % u64::from(period(&table.head))) as usize;
+    row_at(table.coefficients.as_slice(), width, place)
+}
+
+/// A row of coefficients, where each row has so many bytes.
+fn row_at(coefficients: &[u8], width: usize, row: usize) -> &[u8]
+    requires { width * row + width ≤ length coefficients.now }
+    ensures { result.now ≡ take width (drop (width * row) coefficients.entry.now) }
+{
+    &coefficients[width * row..width * row + width]
+}

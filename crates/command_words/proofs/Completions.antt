@@ -16,12 +16,12 @@ use Rattle.command_words.specs.Commands.{BeginsLine, MayFollow, command_of, form
 use Rattle.command_words.specs.Steps.{lines_fit}
 use Rattle.command_words.specs.Operands.{AreFitting, AreOperands, IsOperand, IsValueOf, kind_of, operand_word, operands_of, same_name, value_of}
 use Rattle.command_words.specs.declared.command.Command.{Command}
-use Rattle.command_words.specs.declared.command.Command.TheVariants.{Survey as SurveyCommand, List as ListCommand, Check as CheckCommand, Map as MapCommand, Write as WriteCommand, Rebuild as RebuildCommand, Sample as SampleCommand}
+use Rattle.command_words.specs.declared.command.Command.TheVariants.{Survey as SurveyCommand, List as ListCommand, Check as CheckCommand, Map as MapCommand, Write as WriteCommand, Rebuild as RebuildCommand, Sample as SampleCommand, Classes as ClassesCommand}
 use Rattle.command_words.specs.declared.command.Verb.{Verb}
-use Rattle.command_words.specs.declared.command.Verb.TheVariants.{Survey, List as ListVerb, Check, Map, Write, Rebuild, Sample}
+use Rattle.command_words.specs.declared.command.Verb.TheVariants.{Survey, List as ListVerb, Check, Map, Write, Rebuild, Sample, Classes}
 use Rattle.command_words.specs.declared.operands.Operand.{Operand}
 use Rattle.command_words.specs.declared.table.Name.{Name}
-use Rattle.command_words.specs.declared.table.Name.TheVariants.{End as EndName, Form as FormName, From as FromName, Marks as MarksName, Size as SizeName, Span as SpanName, Pages as PagesName, Set as SetName, Sector as SectorName, Slot as SlotName, Number as NumberName, Rows as RowsName}
+use Rattle.command_words.specs.declared.table.Name.TheVariants.{End as EndName, Form as FormName, From as FromName, Marks as MarksName, Size as SizeName, Span as SpanName, Pages as PagesName, Set as SetName, Sector as SectorName, Slot as SlotName, Number as NumberName, Rows as RowsName, Images as ImagesName}
 use Rattle.command_words.specs.declared.table.ValueKind.TheVariants.{Number as NumberKind, Set as SetKind}
 use Rattle.command_words.specs.declared.values.Value.{Value}
 use Rattle.command_words.specs.declared.values.Value.TheVariants.{Number, Set}
@@ -62,6 +62,7 @@ helpful Map = set_operand ∷ number_operand SectorName 0 ∷ []
 helpful Write = set_operand ∷ []
 helpful Rebuild = set_operand ∷ number_operand SlotName 0 ∷ []
 helpful Sample = number_operand NumberName 0 ∷ set_operand ∷ number_operand RowsName 1 ∷ []
+helpful Classes = number_operand ImagesName 1 ∷ number_operand EndName 0 ∷ []
 
 is_set_operand : (verb : Verb) → Contains (operands_of verb) SetName → IsOperand verb set_operand
 is_set_operand verb taken = record { taken = taken; fitting = (some_set, refl, has_word) }
@@ -83,6 +84,9 @@ helpful_operands Sample =
     All-cons (IsOperand Sample) (number_operand NumberName 0) (set_operand ∷ number_operand RowsName 1 ∷ []) (record { taken = (0, (omega arith), refl); fitting = (0, refl, (omega arith), (omega arith)) })
     (All-cons (IsOperand Sample) set_operand (number_operand RowsName 1 ∷ []) (is_set_operand Sample (1, (omega arith), refl))
     (All-cons (IsOperand Sample) (number_operand RowsName 1) [] (record { taken = (2, (omega arith), refl); fitting = (1, refl, (omega arith), (omega arith)) }) (All-nil (IsOperand Sample))))
+helpful_operands Classes =
+    All-cons (IsOperand Classes) (number_operand ImagesName 1) (number_operand EndName 0 ∷ []) (record { taken = (0, (omega arith), refl); fitting = (1, refl, (omega arith), (omega arith)) })
+    (All-cons (IsOperand Classes) (number_operand EndName 0) [] (record { taken = (1, (omega arith), refl); fitting = (0, refl, (omega arith), (omega arith)) }) (All-nil (IsOperand Classes)))
 
 -- operands after these, as far as they were not given
 record HasMore (verb : Verb) (os helps : List Operand) : Type 0 where
@@ -172,8 +176,8 @@ short_listing (Some s) (Some p) fits_size fits_pages fit =
     let both : lines_fit (number_in (Some (Number is.0))) (number_in (Some (Number are.0))) ≡ true = subst (λ w. lines_fit (number_in (Some w)) (number_in (Some (Number are.0))) ≡ true) is.1 (subst (λ w. lines_fit (number_in (Some s)) (number_in (Some w)) ≡ true) are.1 fit) in
     rw (is.1, are.1) both
 
-two : (make : Geometry → ℕ → Command) (r : Option Geometry) (s : Option ℕ) (g : Geometry) (k : ℕ) → r ≡ Some g → s ≡ Some k → option_and_then (λ set. option_map (make set) s) r ≡ Some (make g k)
-two make r s g k first second = ap₂ (λ (x : Option Geometry) (y : Option ℕ). option_and_then (λ set. option_map (make set) y) x) first second
+two : {A : Type 0} (make : A → ℕ → Command) (r : Option A) (s : Option ℕ) (g : A) (k : ℕ) → r ≡ Some g → s ≡ Some k → option_and_then (λ set. option_map (make set) s) r ≡ Some (make g k)
+two {A} make r s g k first second = ap₂ (λ (x : Option A) (y : Option ℕ). option_and_then (λ set. option_map (make set) y) x) first second
 
 abbrev AreFound : Verb → List Operand → List Operand → Type 0
 AreFound verb os all = (name : Name) → value_of name all ≡ option_or (value_of name os) (value_of name (helpful verb))
@@ -215,15 +219,15 @@ says Sample os all fit found short n =
       ap (λ (r : Option ℕ). option_and_then (λ number. option_and_then (λ set. option_map (λ rows. SampleCommand number set rows (marks_or (value_of MarksName all))) (number_in (value_of RowsName all))) (set_in (value_of SetName all))) r) (ap number_in (found NumberName) ∙ number.1)
           ∙ two (λ set rows. SampleCommand number.0 set rows (marks_or (value_of MarksName all))) (set_in (value_of SetName all)) (number_in (value_of RowsName all)) set.0 rows.0 (ap set_in (found SetName) ∙ set.1) (ap number_in (found RowsName) ∙ rows.1),
     )
+says Classes os all fit found short n =
+    let images = number_there (value_of ImagesName os) 1 1 MOST (fits_at os fit ImagesName) in
+    let end = number_there (value_of EndName os) 0 0 (2 ^ 55 - 1) (fits_at os fit EndName) in (
+      ClassesCommand images.0 end.0,
+      two (λ images end. ClassesCommand images end) (number_in (value_of ImagesName all)) (number_in (value_of EndName all)) images.0 end.0 (ap number_in (found ImagesName) ∙ images.1) (ap number_in (found EndName) ∙ end.1),
+    )
 
 no_names : (verb : Verb) → MayFollow [] verb
-no_names Survey = tt
-no_names ListVerb = tt
-no_names Check = tt
-no_names Map = tt
-no_names Write = tt
-no_names Rebuild = tt
-no_names Sample = refl
+no_names verb none = refl
 
 -- so these operands begin a command line
 pub begins : (verb : Verb) (os : List Operand) → AreOperands verb os → lines_fit (number_in (value_of SizeName os)) (number_in (value_of PagesName os)) ≡ true → BeginsLine (verb_word verb ∷ map operand_word os)

@@ -20,15 +20,15 @@ use Rattle.mark_kinds.specs.Table.{group_place, some_asked}
 use Rattle.command_words.specs.Operands.{AreDrops, AreFitting, IsFitting, IsValueOf, kind_of, value_of}
 use Rattle.command_words.specs.declared.command.Command.{Command}
 use Rattle.command_words.specs.declared.command.Verb.{Verb}
-use Rattle.command_words.specs.declared.command.Verb.TheVariants.{Survey, List as ListVerb, Check, Map, Write, Rebuild, Sample}
+use Rattle.command_words.specs.declared.command.Verb.TheVariants.{Survey, List as ListVerb, Check, Map, Write, Rebuild, Sample, Classes}
 use Rattle.command_words.specs.declared.operands.Operand.{Operand}
 use Rattle.command_words.specs.declared.table.Name.{Name}
-use Rattle.command_words.specs.declared.table.Name.TheVariants.{Levels as LevelsName, Members as MembersName, Patterns as PatternsName, Syndromes as SyndromesName, Chunks as ChunksName, Offsets as OffsetsName, Origins as OriginsName, Missing as MissingName, Foreign as ForeignName, Badrows as BadrowsName, Misfits as MisfitsName, Least as LeastName, Window as WindowName, End as EndName, Kinds as KindsName, Dropped as DropName, Size as SizeName, Span as SpanName, Pages as PagesName, Set as SetName, Slot as SlotName, Rows as RowsName}
+use Rattle.command_words.specs.declared.table.Name.TheVariants.{Levels as LevelsName, Members as MembersName, Patterns as PatternsName, Syndromes as SyndromesName, Chunks as ChunksName, Offsets as OffsetsName, Origins as OriginsName, Missing as MissingName, Foreign as ForeignName, Badrows as BadrowsName, Misfits as MisfitsName, Least as LeastName, Window as WindowName, End as EndName, Kinds as KindsName, Dropped as DropName, Size as SizeName, Span as SpanName, Pages as PagesName, Set as SetName, Slot as SlotName, Rows as RowsName, Images as ImagesName}
 use Rattle.command_words.specs.declared.table.ValueKind.TheVariants.{Number as NumberKind, Levels as LevelsKind, Members as MembersKind, Patterns as PatternsKind, Syndromes as SyndromesKind, Chunks as ChunksKind, Sectors as SectorsKind, Landmarks as LandmarksKind, Drops as DropsKind, Set as SetKind}
 use Rattle.command_words.specs.declared.table.ValueKind.{ValueKind}
 use Rattle.command_words.specs.declared.values.Value.{Value}
 use Rattle.command_words.proofs.LookUps.{fitting_value, number_below, number_within, operands_fit}
-use Rattle.command_words.proofs.Said.{made_check, made_list, made_map, made_rebuild, made_sample, made_survey, made_write}
+use Rattle.command_words.proofs.Said.{made_check, made_list, made_map, made_classes, made_rebuild, made_sample, made_survey, made_write}
 
 -- numbers that rise, tested
 rises : List ℕ → Bool
@@ -237,6 +237,10 @@ within Rebuild os n command fit e = made_rebuild os n command IsWithin e (λ set
 within Sample os n command fit e = made_sample os n command IsWithin e (λ number set rows is had.
     let lies = number_is RowsName os 1 65536 rows refl fit had in
     (set_is os set fit is, lies.0, lies.1))
+within Classes os n command fit e = made_classes os n command IsWithin e (λ images end is had.
+    let few = number_is ImagesName os 1 MOST images refl fit is in
+    let near = number_is EndName os 0 (2 ^ 55 - 1) end refl fit had in
+    (few.0, few.1, (omega arith)))
 
 pub line_within : (words : List (List ℕ)) (command : Command) → IsCommandLine words command → IsWithin command
 line_within words command line = within line.verb line.operands (length line.operands + 2) command (operands_fit line.verb line.operands line.are.each) line.says

@@ -12,10 +12,10 @@ use Rattle.command_words.specs.Commands.{IsCommandLine, MayFollow, command_of, v
 use Rattle.command_words.specs.Operands.{AreOperands, IsOperand, name_text, operand_word, operands_of, same_name, value_of, value_text}
 use Rattle.command_words.specs.declared.command.Command.{Command}
 use Rattle.command_words.specs.declared.command.Verb.{Verb}
-use Rattle.command_words.specs.declared.command.Verb.TheVariants.{Survey, List as ListVerb, Check, Map, Write, Rebuild, Sample}
+use Rattle.command_words.specs.declared.command.Verb.TheVariants.{Survey, List as ListVerb, Check, Map, Write, Rebuild, Sample, Classes}
 use Rattle.command_words.specs.declared.operands.Operand.{Operand}
 use Rattle.command_words.specs.declared.table.Name.{Name}
-use Rattle.command_words.specs.declared.table.Name.TheVariants.{Levels as LevelsName, Members as MembersName, Patterns as PatternsName, Syndromes as SyndromesName, Chunks as ChunksName, Offsets as OffsetsName, Origins as OriginsName, Missing as MissingName, Foreign as ForeignName, Badrows as BadrowsName, Misfits as MisfitsName, Least as LeastName, Window as WindowName, End as EndName, Kinds as KindsName, Dropped as DropName, From as FromName, Size as SizeName, Span as SpanName, Pages as PagesName, Form as FormName, Set as SetName, Sector as SectorName, Slot as SlotName, Number as NumberName, Rows as RowsName, Marks as MarksName}
+use Rattle.command_words.specs.declared.table.Name.TheVariants.{Levels as LevelsName, Members as MembersName, Patterns as PatternsName, Syndromes as SyndromesName, Chunks as ChunksName, Offsets as OffsetsName, Origins as OriginsName, Missing as MissingName, Foreign as ForeignName, Badrows as BadrowsName, Misfits as MisfitsName, Least as LeastName, Window as WindowName, End as EndName, Kinds as KindsName, Dropped as DropName, From as FromName, Size as SizeName, Span as SpanName, Pages as PagesName, Form as FormName, Set as SetName, Sector as SectorName, Slot as SlotName, Number as NumberName, Rows as RowsName, Marks as MarksName, Images as ImagesName}
 use Rattle.command_words.proofs.LookUps.{names_in, none_named}
 use Rattle.command_words.proofs.NameTexts.{same_name_decides, same_name_equiv}
 use Rattle.command_words.proofs.Spelled.{one_operand}
@@ -48,6 +48,7 @@ no_dashes SlotName value = refl
 no_dashes NumberName value = refl
 no_dashes RowsName value = refl
 no_dashes MarksName value = refl
+no_dashes ImagesName value = refl
 
 -- an operand is no `--`
 pub not_dashes : (o : Operand) → bytes_eq (operand_word o) (codes "--") ≡ false
@@ -61,7 +62,7 @@ dashes_differ o e =
 
 -- the command that a word is
 verb_by : List ℕ → Option Verb
-verb_by text = find (λ verb. bytes_eq text (verb_word verb)) (Survey ∷ ListVerb ∷ Check ∷ Map ∷ Write ∷ Rebuild ∷ Sample ∷ [])
+verb_by text = find (λ verb. bytes_eq text (verb_word verb)) (Survey ∷ ListVerb ∷ Check ∷ Map ∷ Write ∷ Rebuild ∷ Sample ∷ Classes ∷ [])
 
 is_verb : (verb : Verb) → verb_by (verb_word verb) ≡ Some verb
 unfolding verb_by
@@ -72,6 +73,7 @@ is_verb Map = refl
 is_verb Write = refl
 is_verb Rebuild = refl
 is_verb Sample = refl
+is_verb Classes = refl
 
 pub one_verb : (a b : Verb) → verb_word a ≡ verb_word b → a ≡ b
 one_verb a b e = let same : Some a ≡ Some b = sym (is_verb a) ∙ ap verb_by e ∙ is_verb b in cc
@@ -153,6 +155,7 @@ few_names Map = omega arith
 few_names Write = omega arith
 few_names Rebuild = omega arith
 few_names Sample = omega arith
+few_names Classes = omega arith
 
 taken_name : (verb : Verb) (os : List Operand) → All (IsOperand verb) os → All (λ name. is_member same_name (operands_of verb) name ≡ true) (names_in os)
 taken_name verb os all =

@@ -9,7 +9,7 @@ use Rattle.std.proofs.lemmas.List.Elements.{All-nil, All-cons}
 use Rattle.std.proofs.lemmas.Slice.Eq.{bytes_eq-Decides}
 use Rattle.command_words.specs.Operands.{kind_of, name_text, same_name}
 use Rattle.command_words.specs.declared.table.Name.{Name}
-use Rattle.command_words.specs.declared.table.Name.TheVariants.{Levels as LevelsName, Members as MembersName, Patterns as PatternsName, Syndromes as SyndromesName, Chunks as ChunksName, Offsets as OffsetsName, Origins as OriginsName, Missing as MissingName, Foreign as ForeignName, Badrows as BadrowsName, Misfits as MisfitsName, Least as LeastName, Window as WindowName, End as EndName, Kinds as KindsName, Dropped as DropName, From as FromName, Size as SizeName, Span as SpanName, Pages as PagesName, Form as FormName, Set as SetName, Sector as SectorName, Slot as SlotName, Number as NumberName, Rows as RowsName, Marks as MarksName}
+use Rattle.command_words.specs.declared.table.Name.TheVariants.{Levels as LevelsName, Members as MembersName, Patterns as PatternsName, Syndromes as SyndromesName, Chunks as ChunksName, Offsets as OffsetsName, Origins as OriginsName, Missing as MissingName, Foreign as ForeignName, Badrows as BadrowsName, Misfits as MisfitsName, Least as LeastName, Window as WindowName, End as EndName, Kinds as KindsName, Dropped as DropName, From as FromName, Size as SizeName, Span as SpanName, Pages as PagesName, Form as FormName, Set as SetName, Sector as SectorName, Slot as SlotName, Number as NumberName, Rows as RowsName, Marks as MarksName, Images as ImagesName}
 use Rattle.command_words.specs.declared.table.ValueKind.{ValueKind}
 use Rattle.command_words.specs.declared.table.ValueKind.TheVariants.{Number as NumberKind}
 
@@ -51,10 +51,11 @@ plain_name SlotName = no_equals (name_text SlotName) refl
 plain_name NumberName = no_equals (name_text NumberName) refl
 plain_name RowsName = no_equals (name_text RowsName) refl
 plain_name MarksName = no_equals (name_text MarksName) refl
+plain_name ImagesName = no_equals (name_text ImagesName) refl
 
 -- all names
 all_names : List Name
-all_names = LevelsName ∷ MembersName ∷ PatternsName ∷ SyndromesName ∷ ChunksName ∷ OffsetsName ∷ OriginsName ∷ MissingName ∷ ForeignName ∷ BadrowsName ∷ MisfitsName ∷ LeastName ∷ WindowName ∷ EndName ∷ KindsName ∷ DropName ∷ FromName ∷ SizeName ∷ SpanName ∷ PagesName ∷ FormName ∷ SetName ∷ SectorName ∷ SlotName ∷ NumberName ∷ RowsName ∷ MarksName ∷ []
+all_names = LevelsName ∷ MembersName ∷ PatternsName ∷ SyndromesName ∷ ChunksName ∷ OffsetsName ∷ OriginsName ∷ MissingName ∷ ForeignName ∷ BadrowsName ∷ MisfitsName ∷ LeastName ∷ WindowName ∷ EndName ∷ KindsName ∷ DropName ∷ FromName ∷ SizeName ∷ SpanName ∷ PagesName ∷ FormName ∷ SetName ∷ SectorName ∷ SlotName ∷ NumberName ∷ RowsName ∷ MarksName ∷ ImagesName ∷ []
 
 -- the name that a text is
 named_by : List ℕ → Option Name
@@ -89,6 +90,7 @@ is_named SlotName = refl
 is_named NumberName = refl
 is_named RowsName = refl
 is_named MarksName = refl
+is_named ImagesName = refl
 
 -- names are spelled differently
 pub one_name : (m n : Name) → name_text m ≡ name_text n → m ≡ n
@@ -135,6 +137,7 @@ short_kind SlotName = lit< tt
 short_kind NumberName = lit< tt
 short_kind RowsName = lit< tt
 short_kind MarksName = tt
+short_kind ImagesName = lit< tt
 
 -- a text that was compared with a name, and differs
 pub is_other : (name text bytes : List ℕ) (r : Bool) → bytes ≡ name → r ≡ bytes_eq bytes text → r ≡ false → text ≢ name

@@ -8,13 +8,13 @@ use Rattle.std.proofs.lemmas.Bool.{false≢true}
 use Rattle.std.proofs.lemmas.List.{length-map}
 use Rattle.std.proofs.lemmas.List.Elements.{All-head, All-tail}
 use Rattle.std.proofs.lemmas.Map.Made.{is_member-Decides}
-use Rattle.command_words.specs.Commands.{BeginsLine, IsCommandLine, IsRefusedWord, MayFollow, command_of, form_or, number_in, number_or, verb_word}
+use Rattle.command_words.specs.Commands.{BeginsLine, IsCommandLine, IsRefusedWord, command_of, form_or, number_in, number_or, takes_names, verb_word}
 use Rattle.command_words.specs.Steps.{lines_fit}
 use Rattle.command_words.specs.Operands.{AreOperands, IsOperand, operand_word, operands_of, same_name, value_of}
 use Rattle.command_words.specs.declared.command.Command.{Command}
 use Rattle.command_words.specs.declared.command.Command.TheVariants.{List as ListCommand}
 use Rattle.command_words.specs.declared.command.Verb.{Verb}
-use Rattle.command_words.specs.declared.command.Verb.TheVariants.{Survey, List as ListVerb, Check, Map, Write, Rebuild, Sample}
+use Rattle.command_words.specs.declared.command.Verb.TheVariants.{Survey, List as ListVerb, Check, Map, Write, Rebuild, Sample, Classes}
 use Rattle.command_words.specs.declared.operands.Operand.{Operand}
 use Rattle.command_words.specs.declared.table.Name.{Name}
 use Rattle.command_words.specs.declared.table.Name.TheVariants.{Form as FormName, From as FromName, Size as SizeName, Span as SpanName, Pages as PagesName}
@@ -160,6 +160,7 @@ too_long Map os more n are long = absurd (false≢true (sym long ∙ unlisted Ma
 too_long Write os more n are long = absurd (false≢true (sym long ∙ unlisted Write refl os are))
 too_long Rebuild os more n are long = absurd (false≢true (sym long ∙ unlisted Rebuild refl os are))
 too_long Sample os more n are long = absurd (false≢true (sym long ∙ unlisted Sample refl os are))
+too_long Classes os more n are long = absurd (false≢true (sym long ∙ unlisted Classes refl os are))
 
 -- an operand with which a listing is too long
 pub long_listing : (verb : Verb) (os : List Operand) (word : List ℕ) (o : Operand) → AreOperands verb os → AreOperands verb (os ++ o ∷ []) → IsOperand verb o → word ≡ operand_word o →
@@ -181,9 +182,9 @@ early_dashes verb os are none rest command line = elim (meets verb os (codes "--
 ]
 
 -- a name after `--`, where none may follow
-pub name_too_many : (verb : Verb) (words : List (List ℕ)) (os : List Operand) (name : List ℕ) (names : List (List ℕ)) (command : Command) (n : ℕ) → verb ≡ Sample → words ≡ map operand_word os ++ codes "--" ∷ (name ∷ names) → AreOperands verb os →
+pub name_too_many : (verb : Verb) (words : List (List ℕ)) (os : List Operand) (name : List ℕ) (names : List (List ℕ)) (command : Command) (n : ℕ) → takes_names verb ≡ false → words ≡ map operand_word os ++ codes "--" ∷ (name ∷ names) → AreOperands verb os →
     command_of verb os (length os + 2) ≡ Some command → n ≡ length os + 3 → IsRefusedWord (verb_word verb ∷ words) n
-name_too_many verb words os name names command n sample at are says count =
+name_too_many verb words os name names command n nameless at are says count =
     let front = verb_word verb ∷ (map operand_word os ++ codes "--" ∷ []) in
     let whole : verb_word verb ∷ words ≡ front ++ name ∷ names = ap (λ (ws : List (List ℕ)). verb_word verb ∷ ws) (at ∙ sym (append_assoc (map operand_word os) (codes "--" ∷ []) (name ∷ names))) in
     let long : length front ≡ length os + 2 = let a = length-append (map operand_word os) (codes "--" ∷ []) in let b = length-map os operand_word in omega arith in
@@ -193,7 +194,7 @@ name_too_many verb words os name names command n sample at are says count =
       names = [];
       spelled = append-nil front;
       are = are;
-      follow = subst (λ v. MayFollow [] v) (sym sample) refl;
+      follow = λ none. refl;
       says = says;
     } in
     refused_at (verb_word verb ∷ words) front name names n whole (omega arith) ([], command, line)
@@ -201,7 +202,7 @@ name_too_many verb words os name names command n sample at are says count =
     let after = after_verb verb (map operand_word os ++ codes "--" ∷ (name ∷ more)) other
     (subst (λ ws. IsCommandLine (verb_word verb ∷ ws) other) (append_assoc (map operand_word os ++ codes "--" ∷ []) (name ∷ []) more ∙ append_assoc (map operand_word os) (codes "--" ∷ []) (name ∷ more)) is) in
     elim (meets verb os (codes "--") (name ∷ more) after.operands after.names are.each after.are.each after.spelled) [
-      | inl ends ↦ (let none : after.names ≡ [] = subst (λ v. MayFollow after.names v) sample after.follow in
+      | inl ends ↦ (let none : after.names ≡ [] = after.follow nameless in
           let contra : name ∷ more ≡ [] = ends.2 ∙ none in cc)
       | inr more ↦ dashes_differ more.0 (sym more.3)
     ])
@@ -212,10 +213,10 @@ no_dashes_come verb words os n at count are short =
     refused_end (verb_word verb ∷ words) n (omega arith) (subst (λ ws. BeginsLine (verb_word verb ∷ ws)) (sym at) (begins verb os are short))
     (λ command line. let after = after_verb verb words command line in no_end verb os after.operands after.names (sym at ∙ after.spelled))
 
-pub names_too_many : (verb : Verb) (words : List (List ℕ)) (os : List Operand) (names : List (List ℕ)) (command : Command) (n : ℕ) → verb ≡ Sample → words ≡ map operand_word os ++ codes "--" ∷ names → length os + 2 ≤ length words → AreOperands verb os →
+pub names_too_many : (verb : Verb) (words : List (List ℕ)) (os : List Operand) (names : List (List ℕ)) (command : Command) (n : ℕ) → takes_names verb ≡ false → words ≡ map operand_word os ++ codes "--" ∷ names → length os + 2 ≤ length words → AreOperands verb os →
     command_of verb os (length os + 2) ≡ Some command → n ≡ length os + 3 → IsRefusedWord (verb_word verb ∷ words) n
-names_too_many verb words os [] command n sample at more are says count =
+names_too_many verb words os [] command n nameless at more are says count =
     let long = ap length at ∙ length-append (map operand_word os) (codes "--" ∷ []) in
     let same = length-map os operand_word in
     absurd (omega arith)
-names_too_many verb words os (name ∷ names) command n sample at more are says count = name_too_many verb words os name names command n sample at are says count
+names_too_many verb words os (name ∷ names) command n nameless at more are says count = name_too_many verb words os name names command n nameless at are says count

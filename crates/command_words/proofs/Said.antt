@@ -5,13 +5,13 @@ use Rattle.std.specs.Prelude.{option_and_then, option_map}
 use Rattle.std.proofs.lemmas.List.{length-map}
 use Rattle.raid_params.specs.declared.types.Geometry.{Geometry}
 use Rattle.command_words.specs.declared.command.Command.{Command}
-use Rattle.command_words.specs.declared.command.Command.TheVariants.{Survey as SurveyCommand, List as ListCommand, Check as CheckCommand, Map as MapCommand, Write as WriteCommand, Rebuild as RebuildCommand, Sample as SampleCommand}
+use Rattle.command_words.specs.declared.command.Command.TheVariants.{Survey as SurveyCommand, List as ListCommand, Check as CheckCommand, Map as MapCommand, Write as WriteCommand, Rebuild as RebuildCommand, Sample as SampleCommand, Classes as ClassesCommand}
 use Rattle.command_words.specs.declared.command.Verb.{Verb}
-use Rattle.command_words.specs.declared.command.Verb.TheVariants.{Survey, List as ListVerb, Check, Map, Write, Rebuild, Sample}
+use Rattle.command_words.specs.declared.command.Verb.TheVariants.{Survey, List as ListVerb, Check, Map, Write, Rebuild, Sample, Classes}
 use Rattle.command_words.specs.declared.operands.Operand.{Operand}
-use Rattle.command_words.specs.Commands.{EndFrom, EndsInNames, IsCommandLine, MayFollow, command_of, form_or, marks_or, names_after, names_of, number_in, number_or, set_in, survey_of, verb_word}
+use Rattle.command_words.specs.Commands.{EndFrom, EndsInNames, IsCommandLine, command_of, form_or, marks_or, names_after, names_of, number_in, number_or, set_in, survey_of, takes_names, verb_word}
 use Rattle.command_words.specs.Operands.{operand_word, value_of}
-use Rattle.command_words.specs.declared.table.Name.TheVariants.{End as EndName, Form as FormName, From as FromName, Marks as MarksName, Number as NumberName, Pages as PagesName, Rows as RowsName, Sector as SectorName, Set as SetName, Size as SizeName, Slot as SlotName, Span as SpanName}
+use Rattle.command_words.specs.declared.table.Name.TheVariants.{End as EndName, Form as FormName, From as FromName, Marks as MarksName, Number as NumberName, Pages as PagesName, Rows as RowsName, Sector as SectorName, Set as SetName, Size as SizeName, Slot as SlotName, Span as SpanName, Images as ImagesName}
 use Rattle.command_words.proofs.LineStarts.{not_dashes}
 
 -- what a command that was made has, it has
@@ -65,9 +65,15 @@ made_sample os n command P e is =
     (λ number one f. chained Geometry (λ set. option_map (λ rows. SampleCommand number set rows (marks_or (value_of MarksName os))) (number_in (value_of RowsName os))) (set_in (value_of SetName os)) P command f
     (λ set has g. mapped ℕ (λ rows. SampleCommand number set rows (marks_or (value_of MarksName os))) (number_in (value_of RowsName os)) P command g (λ rows had. is number set rows has had)))
 
+pub made_classes : (os : List Operand) (n : ℕ) (command : Command) (P : Command → Type 0) → command_of Classes os n ≡ Some command →
+    ((images end : ℕ) → number_in (value_of ImagesName os) ≡ Some images → number_in (value_of EndName os) ≡ Some end → P (ClassesCommand images end)) → P command
+made_classes os n command P e is =
+    chained ℕ (λ images. option_map (λ end. ClassesCommand images end) (number_in (value_of EndName os))) (number_in (value_of ImagesName os)) P command e
+    (λ images has f. mapped ℕ (λ end. ClassesCommand images end) (number_in (value_of EndName os)) P command f (λ end had. is images end has had))
+
 -- the number of words up to the names
 abbrev Counts : Verb → ℕ → Command → Type 0
-Counts verb n command = MatchOption (names_of command) (verb ≡ Sample) (λ names. names ≡ n)
+Counts verb n command = MatchOption (names_of command) (takes_names verb ≡ false) (λ names. names ≡ n)
 
 count_said : (verb : Verb) (os : List Operand) (n : ℕ) (command : Command) → command_of verb os n ≡ Some command → Counts verb n command
 count_said Survey os n command e = made_survey os n command (Counts Survey n) e refl
@@ -77,6 +83,7 @@ count_said Map os n command e = made_map os n command (Counts Map n) e (λ set s
 count_said Write os n command e = made_write os n command (Counts Write n) e (λ set is. refl)
 count_said Rebuild os n command e = made_rebuild os n command (Counts Rebuild n) e (λ set slot is had. refl)
 count_said Sample os n command e = made_sample os n command (Counts Sample n) e (λ number set rows is had. refl)
+count_said Classes os n command e = made_classes os n command (Counts Classes n) e (λ images end is had. refl)
 
 -- the names are what follows the operands and `--`
 names_past : (operands : List Operand) (names : List (List ℕ)) → names_after (map operand_word operands ++ codes "--" ∷ names) ≡ names
@@ -99,8 +106,9 @@ verb_no_dashes Map = refl
 verb_no_dashes Write = refl
 verb_no_dashes Rebuild = refl
 verb_no_dashes Sample = refl
+verb_no_dashes Classes = refl
 
-ends : (r : Option ℕ) (words : List (List ℕ)) (verb : Verb) (n : ℕ) → MatchOption r (verb ≡ Sample) (λ names. names ≡ n) → (verb ≡ Sample → names_after words ≡ []) → EndFrom words n → MatchOption r (names_after words ≡ []) (EndFrom words)
+ends : (r : Option ℕ) (words : List (List ℕ)) (verb : Verb) (n : ℕ) → MatchOption r (takes_names verb ≡ false) (λ names. names ≡ n) → (takes_names verb ≡ false → names_after words ≡ []) → EndFrom words n → MatchOption r (names_after words ≡ []) (EndFrom words)
 ends None words verb n is none from = none is
 ends (Some names) words verb n is none from = subst (EndFrom words) (sym is) from
 
@@ -118,5 +126,5 @@ line_names words command line =
     let long : length words ≡ suc (length line.operands + suc (length line.names)) =
     ap length line.spelled ∙ ap suc (length-append (map operand_word line.operands) (codes "--" ∷ line.names) ∙ ap (λ (n : ℕ). n + suc (length line.names)) (length-map line.operands operand_word)) in
     ends (names_of command) words line.verb n (count_said line.verb line.operands n command line.says)
-    (λ sample. after ∙ subst (λ v. MayFollow line.names v) sample line.follow)
+    (λ none. after ∙ line.follow none)
     (omega arith, after ∙ sym dropped)

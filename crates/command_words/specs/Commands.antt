@@ -23,14 +23,14 @@ use Rattle.mark_kinds.specs.declared.looking.Kinds.{Kinds}
 use Rattle.mark_kinds.specs.Table.{every_kind, kinds_among, some_asked}
 use Rattle.command_words.specs.Operands.{AreDrops, AreOperands, operand_word, value_of}
 use Rattle.command_words.specs.declared.command.Command.{Command}
-use Rattle.command_words.specs.declared.command.Command.TheVariants.{Survey as SurveyCommand, List as ListCommand, Check as CheckCommand, Map as MapCommand, Write as WriteCommand, Rebuild as RebuildCommand, Sample as SampleCommand}
+use Rattle.command_words.specs.declared.command.Command.TheVariants.{Survey as SurveyCommand, List as ListCommand, Check as CheckCommand, Map as MapCommand, Write as WriteCommand, Rebuild as RebuildCommand, Sample as SampleCommand, Classes as ClassesCommand}
 use Rattle.command_words.specs.declared.command.Form.{Form}
 use Rattle.command_words.specs.declared.command.Form.TheVariants.{Text}
 use Rattle.command_words.specs.declared.command.SurveyWords.{SurveyWords}
 use Rattle.command_words.specs.declared.command.Verb.{Verb}
-use Rattle.command_words.specs.declared.command.Verb.TheVariants.{Survey, List as ListVerb, Check, Map, Write, Rebuild, Sample}
+use Rattle.command_words.specs.declared.command.Verb.TheVariants.{Survey, List as ListVerb, Check, Map, Write, Rebuild, Sample, Classes}
 use Rattle.command_words.specs.declared.operands.Operand.{Operand}
-use Rattle.command_words.specs.declared.table.Name.TheVariants.{Levels as LevelsName, Members as MembersName, Patterns as PatternsName, Syndromes as SyndromesName, Chunks as ChunksName, Offsets as OffsetsName, Origins as OriginsName, Missing as MissingName, Foreign as ForeignName, Badrows as BadrowsName, Misfits as MisfitsName, Least as LeastName, Window as WindowName, End as EndName, Kinds as KindsName, Dropped as DropName, From as FromName, Size as SizeName, Span as SpanName, Pages as PagesName, Form as FormName, Set as SetName, Sector as SectorName, Slot as SlotName, Number as NumberName, Rows as RowsName, Marks as MarksName}
+use Rattle.command_words.specs.declared.table.Name.TheVariants.{Levels as LevelsName, Members as MembersName, Patterns as PatternsName, Syndromes as SyndromesName, Chunks as ChunksName, Offsets as OffsetsName, Origins as OriginsName, Missing as MissingName, Foreign as ForeignName, Badrows as BadrowsName, Misfits as MisfitsName, Least as LeastName, Window as WindowName, End as EndName, Kinds as KindsName, Dropped as DropName, From as FromName, Size as SizeName, Span as SpanName, Pages as PagesName, Form as FormName, Set as SetName, Sector as SectorName, Slot as SlotName, Number as NumberName, Rows as RowsName, Marks as MarksName, Images as ImagesName}
 use Rattle.command_words.specs.declared.values.Value.{Value}
 use Rattle.command_words.specs.declared.values.Value.TheVariants.{Number, Levels, Members, Patterns, Syndromes, Chunks, Sectors, Landmarks, Drops, Form as FormValue, Marks, Set}
 
@@ -43,6 +43,7 @@ verb_word Map = codes "map"
 verb_word Write = codes "write"
 verb_word Rebuild = codes "rebuild"
 verb_word Sample = codes "sample"
+verb_word Classes = codes "classes"
 
 -- the values of operands that were given, and the defaults of those that were not
 abbrev pub number_in : Option Value → Option ℕ
@@ -149,11 +150,17 @@ command_of Rebuild operands names =
     option_and_then (λ set. option_map (λ slot. RebuildCommand set slot (number_in (value_of EndName operands)) names) (number_in (value_of SlotName operands))) (set_in (value_of SetName operands))
 command_of Sample operands names =
     option_and_then (λ number. option_and_then (λ set. option_map (λ rows. SampleCommand number set rows (marks_or (value_of MarksName operands))) (number_in (value_of RowsName operands))) (set_in (value_of SetName operands))) (number_in (value_of NumberName operands))
+command_of Classes operands names =
+    option_and_then (λ images. option_map (λ end. ClassesCommand images end) (number_in (value_of EndName operands))) (number_in (value_of ImagesName operands))
 
--- names may follow the `--` of each command but `sample`
+-- names may follow the `--` of each command but `sample` and `classes`
+abbrev pub takes_names : Verb → Bool
+takes_names Sample = false
+takes_names Classes = false
+takes_names _ = true
+
 abbrev pub MayFollow : List (List ℕ) → Verb → Type 0
-MayFollow names Sample = names ≡ []
-MayFollow names _ = Unit {0}
+MayFollow names verb = takes_names verb ≡ false → names ≡ []
 
 -- a command, operands, `--` and names
 abbrev pub line_of : Verb → List Operand → List (List ℕ) → List (List ℕ)
@@ -195,7 +202,7 @@ names_after (word ∷ words) = if bytes_eq word (codes "--") then words else nam
 abbrev pub EndFrom : List (List ℕ) → ℕ → Type 0
 EndFrom words names = (names ≤ length words) × (names_after words ≡ drop names words)
 
--- how many words a command has up to the names of its images. `sample` has no names
+-- how many words a command has up to the names of its images. `sample` and `classes` have no names
 abbrev pub names_of : Command → Option ℕ
 names_of (SurveyCommand asked) = Some asked.names
 names_of (ListCommand from size span pages form names) = Some names
@@ -204,6 +211,7 @@ names_of (MapCommand set sector end names) = Some names
 names_of (WriteCommand set end names) = Some names
 names_of (RebuildCommand set slot end names) = Some names
 names_of (SampleCommand number set rows xfs) = None
+names_of (ClassesCommand images end) = None
 
 -- the names of a command's images are the last words, from the one of this number on, or there are none
 abbrev pub EndsInNames : List (List ℕ) → Command → Type 0
@@ -229,3 +237,4 @@ IsWithin (MapCommand set sector end names) = HasWord set × IfSome end (λ n. n 
 IsWithin (WriteCommand set end names) = HasWord set × IfSome end (λ n. n < 2 ^ 55)
 IsWithin (RebuildCommand set slot end names) = HasWord set × (slot < MOST) × IfSome end (λ n. n < 2 ^ 55)
 IsWithin (SampleCommand number set rows xfs) = HasWord set × (1 ≤ rows) × (rows ≤ 65536)
+IsWithin (ClassesCommand images end) = (1 ≤ images) × (images ≤ MOST) × (end < 2 ^ 55)

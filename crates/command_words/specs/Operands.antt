@@ -21,11 +21,11 @@ use Rattle.mark_kinds.specs.declared.groups.TheConstants.{GROUP_COUNT}
 use Rattle.command_words.specs.declared.command.Form.{Form}
 use Rattle.command_words.specs.declared.command.Form.TheVariants.{Text, Json}
 use Rattle.command_words.specs.declared.command.Verb.{Verb}
-use Rattle.command_words.specs.declared.command.Verb.TheVariants.{Survey, List as ListVerb, Check, Map, Write, Rebuild, Sample}
+use Rattle.command_words.specs.declared.command.Verb.TheVariants.{Survey, List as ListVerb, Check, Map, Write, Rebuild, Sample, Classes}
 use Rattle.mark_kinds.specs.declared.groups.GroupKind.{GroupKind}
 use Rattle.command_words.specs.declared.operands.Operand.{Operand}
 use Rattle.command_words.specs.declared.table.Name.{Name}
-use Rattle.command_words.specs.declared.table.Name.TheVariants.{Levels as LevelsName, Members as MembersName, Patterns as PatternsName, Syndromes as SyndromesName, Chunks as ChunksName, Offsets as OffsetsName, Origins as OriginsName, Missing as MissingName, Foreign as ForeignName, Badrows as BadrowsName, Misfits as MisfitsName, Least as LeastName, Window as WindowName, End as EndName, Kinds as KindsName, Dropped as DropName, From as FromName, Size as SizeName, Span as SpanName, Pages as PagesName, Form as FormName, Set as SetName, Sector as SectorName, Slot as SlotName, Number as NumberName, Rows as RowsName, Marks as MarksName}
+use Rattle.command_words.specs.declared.table.Name.TheVariants.{Levels as LevelsName, Members as MembersName, Patterns as PatternsName, Syndromes as SyndromesName, Chunks as ChunksName, Offsets as OffsetsName, Origins as OriginsName, Missing as MissingName, Foreign as ForeignName, Badrows as BadrowsName, Misfits as MisfitsName, Least as LeastName, Window as WindowName, End as EndName, Kinds as KindsName, Dropped as DropName, From as FromName, Size as SizeName, Span as SpanName, Pages as PagesName, Form as FormName, Set as SetName, Sector as SectorName, Slot as SlotName, Number as NumberName, Rows as RowsName, Marks as MarksName, Images as ImagesName}
 use Rattle.command_words.specs.declared.table.ValueKind.{ValueKind}
 use Rattle.command_words.specs.declared.table.ValueKind.TheVariants.{Number as NumberKind, Levels as LevelsKind, Members as MembersKind, Patterns as PatternsKind, Syndromes as SyndromesKind, Chunks as ChunksKind, Sectors as SectorsKind, Landmarks as LandmarksKind, Drops as DropsKind, Form as FormKind, Marks as MarksKind, Set as SetKind}
 use Rattle.command_words.specs.declared.values.Value.{Value}
@@ -59,6 +59,7 @@ name_text SlotName = codes "slot"
 name_text NumberName = codes "number"
 name_text RowsName = codes "rows"
 name_text MarksName = codes "marks"
+name_text ImagesName = codes "images"
 
 -- what values an operand takes
 abbrev pub kind_of : Name → ValueKind
@@ -89,6 +90,7 @@ kind_of SlotName = NumberKind 0 (MOST - 1)
 kind_of NumberName = NumberKind 0 (2 ^ 64 - 1)
 kind_of RowsName = NumberKind 1 65536
 kind_of MarksName = MarksKind
+kind_of ImagesName = NumberKind 1 MOST
 
 -- the operands that a command takes
 abbrev pub operands_of : Verb → List Name
@@ -99,6 +101,7 @@ operands_of Map = SetName ∷ SectorName ∷ EndName ∷ []
 operands_of Write = SetName ∷ EndName ∷ []
 operands_of Rebuild = SetName ∷ SlotName ∷ EndName ∷ []
 operands_of Sample = NumberName ∷ SetName ∷ RowsName ∷ MarksName ∷ []
+operands_of Classes = ImagesName ∷ EndName ∷ []
 
 abbrev pub form_text : Form → List ℕ
 form_text Text = codes "text"

@@ -70,6 +70,10 @@ pub fn build(verb: Verb, operands: &[Operand], names: usize) -> Option<Command>
             rows: number(operands, Name::Rows)?,
             xfs: marks(operands),
         }),
+        Verb::Classes => Some(Command::Classes {
+            images: small_number(operands, Name::Images)?,
+            end: number(operands, Name::End)?,
+        }),
     }
 }
 

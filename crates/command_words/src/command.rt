@@ -21,6 +21,8 @@ pub enum Verb {
     Rebuild,
     /// `sample`: an array that is generated.
     Sample,
+    /// `classes`: which of the listed sets give the same volume.
+    Classes,
 }
 
 /// How a listing is written.
@@ -116,5 +118,12 @@ pub enum Command {
         rows: u64,
         /// Whether it gets the landmarks of an XFS file system.
         xfs: bool,
+    },
+    /// Which of the listed sets give the same volume. It reads no images.
+    Classes {
+        /// How many images the sets are of, from 1 to `MOST`.
+        images: u8,
+        /// The image sector after the last one that may belong to the array.
+        end: u64,
     },
 }

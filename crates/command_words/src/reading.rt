@@ -51,6 +51,7 @@ fn read_verb(word: &Word) -> Option<Verb>
         "write" => Some(Verb::Write),
         "rebuild" => Some(Verb::Rebuild),
         "sample" => Some(Verb::Sample),
+        "classes" => Some(Verb::Classes),
         _ => None,
     }
 }
@@ -91,7 +92,7 @@ fn read_names(verb: Verb, operands: &Operands, words: &[Word]) -> Result<Command
     let Some(command) = build(verb, operands, names) else {
         return Err(names as u64);
     };
-    if matches!(verb, Verb::Sample) && names <= words.len() {
+    if !verb.takes_names() && names <= words.len() {
         return Err(names as u64 + 1);
     }
     Ok(command)

@@ -1,6 +1,7 @@
 //! The operands: how they are named, what values they take, and which command takes which.
 ghost use Rattle.std.specs.Prelude.{◌≡◌};
 ghost use Rattle.command_words.specs.Operands.{kind_of, name_text, operands_of};
+ghost use Rattle.command_words.specs.Commands.{takes_names as verb_takes_names};
 
 use crate::command::Verb;
 use raid_params::{MOST, MOST_MISSING, SECTORS_END};
@@ -74,6 +75,8 @@ pub enum Name {
     Rows,
     /// Which landmarks a generated array gets.
     Marks,
+    /// How many images listed sets are of.
+    Images,
 }
 
 /// What values an operand takes. Lists rise strictly.
@@ -141,6 +144,8 @@ static REBUILD_OPERANDS: [Name; 3] = [Name::Set, Name::Slot, Name::End];
 
 static SAMPLE_OPERANDS: [Name; 4] = [Name::Number, Name::Set, Name::Rows, Name::Marks];
 
+static CLASSES_OPERANDS: [Name; 2] = [Name::Images, Name::End];
+
 impl Verb {
     /// The names of the operands that the command takes.
     pub fn operands(&self) -> &'static [Name]
@@ -154,7 +159,15 @@ impl Verb {
             Verb::Write => &WRITE_OPERANDS,
             Verb::Rebuild => &REBUILD_OPERANDS,
             Verb::Sample => &SAMPLE_OPERANDS,
+            Verb::Classes => &CLASSES_OPERANDS,
         }
+    }
+
+    /// Whether names of images may follow the `--` of the command.
+    pub fn takes_names(&self) -> bool
+        ensures { result ≡ verb_takes_names self.now }
+    {
+        !matches!(self, Verb::Sample | Verb::Classes)
     }
 }
 
@@ -191,6 +204,7 @@ impl Name {
             Name::Number => "number",
             Name::Rows => "rows",
             Name::Marks => "marks",
+            Name::Images => "images",
         }
     }
 
@@ -220,6 +234,7 @@ impl Name {
             Name::Slot => number(0, MOST as u64 - 1),
             Name::Rows => number(1, MOST_ROWS),
             Name::Marks => ValueKind::Marks,
+            Name::Images => number(1, MOST as u64),
         }
     }
 }

@@ -3,7 +3,7 @@ use Rattle.std.proofs.Common.{◌≡◌, ℕ, ◌≤◌, ◌^◌, min, Bool, if�
 use Rattle.std.proofs.lemmas.Bool.{le-leb}
 use Rattle.outside.specs.Attached.{told_all}
 use Rattle.outside.specs.Seen.{Image, OnlyReads, Seen, lengths_of}
-use Rattle.page_engine.proofs.SetTests.{all_reach, end_near}
+use Rattle.head_walk.proofs.SetTests.{all_reach, end_near}
 use Rattle.search_plan.specs.Sets.{total_of}
 use Rattle.search_plan.specs.Plans.{IsPlan}
 use Rattle.plan_text.specs.SetText.{HasWord}

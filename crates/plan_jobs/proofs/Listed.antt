@@ -17,7 +17,8 @@ use Rattle.run_ends.specs.declared.stop.Refusal.TheVariants.{Many, Cursor}
 use Rattle.run_ends.specs.declared.stop.Stop.TheVariants.{Refused, ImageFault, OutOfMemory}
 use Rattle.search_terms.specs.Page.{page_ranks}
 use Rattle.search_plan.specs.declared.plan.Plan.{Plan}
-use Rattle.page_engine.specs.Pages.{ArePagesFrom, EndsPage, HoldsSet, IsPageOf, ReadsPages}
+use Rattle.page_engine.specs.Pages.{ArePagesFrom, EndsPage, IsPageOf, ReadsPages}
+use Rattle.head_walk.specs.Walk.{HoldsSet}
 use Rattle.search_plan.specs.Sets.{passes_at, sets_of, total_of}
 use Rattle.plan_jobs.proofs.PagesRead.{ends_made, none_read}
 use Rattle.plan_jobs.specs.Faults.{stop_of_page}
@@ -25,7 +26,7 @@ use Rattle.plan_jobs.specs.Listing.{ListReads, cursor_refusal, found_text, line_
 use Rattle.plan_jobs.specs.Plans.{AnswersOver}
 use Rattle.plan_jobs.specs.declared.listing.Listing.{Listing}
 use Rattle.command_words.specs.declared.command.Form.{Form}
-use Rattle.page_engine.specs.declared.page_parts.Line.{Line}
+use Rattle.head_walk.specs.declared.parts.Line.{Line}
 use Rattle.page_engine.specs.declared.page_parts.ListPage.{ListPage}
 
 -- lines that hold their sets

@@ -12,9 +12,9 @@ use Rattle.search_plan.specs.declared.limits.TheConstants.{PLAN_BYTES}
 use Rattle.search_plan.specs.declared.plan.Plan.{Plan}
 use Rattle.plan_text.specs.declared.fault.PlanFault.TheVariants.{Line as PlanLineOf}
 use Rattle.run_ends.specs.Agreement.{plan_fault}
-use Rattle.plan_jobs.specs.Preparing.{EndsPreparing, IsPlanless, IsPrepared, IsTextless}
+use Rattle.plan_jobs.specs.Preparing.{EndsPreparing, IsPlanless, IsPrepared}
 use Rattle.plan_jobs.specs.Plans.{IsTextOf, NoPlan, PlanReading, Reads, plan_refusal, read_refusal}
-use Rattle.run_ends.specs.Stops.{first_of, many_refusal}
+use Rattle.run_ends.specs.Stops.{IsTextless, first_of, many_refusal}
 use Rattle.run_ends.specs.declared.agreement.Disagreement.{Disagreement}
 use Rattle.run_ends.specs.declared.stop.Refusal.{Refusal}
 use Rattle.run_ends.specs.declared.stop.Refusal.TheVariants.{PlanLine, PlanIsLong, Images}
@@ -49,7 +49,7 @@ too_long None names attached long = tt
 too_long (Some text) names attached long = λ read further is. long_refusal text read names attached further long
 
 -- the text is wanting
-pub text_ends : (left : Option (List ℕ)) (names : ℕ) (attached : List Image) (stop : Stop) → IsTextless left stop → EndsPreparing left names attached stop
+pub text_ends : (left : Option (List ℕ)) (names : ℕ) (attached : List Image) (stop : Stop) → IsTextless PLAN_BYTES PlanIsLong left stop → EndsPreparing left names attached stop
 text_ends left names attached (Refused refusal) ends =
     subst (λ (r : Refusal). EndsPreparing left names attached (Refused r)) (sym ends.0) (too_long left names attached ends.1)
 text_ends left names attached ImageFault ends = absurd ends

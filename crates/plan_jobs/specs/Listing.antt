@@ -7,7 +7,8 @@ use Rattle.std.specs.declared.option.Option.TheVariants.{None, Some}
 use Rattle.outside.specs.Attached.{told_all}
 use Rattle.raid_params.specs.declared.types.Geometry.{Geometry}
 use Rattle.search_terms.specs.Page.{page_next, page_ranks}
-use Rattle.page_engine.specs.Pages.{ArePageEnds, most_scanned, scans_to, table_reads}
+use Rattle.page_engine.specs.Pages.{ArePageEnds, scans_to, table_reads}
+use Rattle.head_walk.specs.Counts.{most_scanned}
 use Rattle.search_plan.specs.Sets.{passes_at, sets_of, total_of}
 use Rattle.search_plan.specs.declared.plan.Plan.{Plan}
 use Rattle.page_engine.specs.declared.page_parts.ListPage.{ListPage}

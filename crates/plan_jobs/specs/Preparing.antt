@@ -9,16 +9,9 @@ use Rattle.search_plan.specs.declared.plan.Plan.{Plan}
 use Rattle.plan_jobs.specs.Plans.{IsTextOf, PlanReading, Reads, plan_refusal}
 use Rattle.run_ends.specs.Stops.{first_of, many_refusal}
 use Rattle.run_ends.specs.declared.stop.Refusal.{Refusal}
-use Rattle.run_ends.specs.declared.stop.Refusal.TheVariants.{PlanIsLong, PlanLine}
+use Rattle.run_ends.specs.declared.stop.Refusal.TheVariants.{PlanLine}
 use Rattle.run_ends.specs.declared.stop.Stop.{Stop}
 use Rattle.run_ends.specs.declared.stop.Stop.TheVariants.{Refused, SourceFault, OutOfMemory}
-
--- why the text of a plan is wanting: it is too long, the source failed, or memory ran out
-abbrev pub IsTextless : Option (List ℕ) → Stop → Type 0
-IsTextless left (Refused refusal) = (refusal ≡ PlanIsLong) × IfSome left (λ text. 4194304 < length text)
-IsTextless left SourceFault = Unit {0}
-IsTextless left OutOfMemory = Unit {0}
-IsTextless left _ = ⊥
 
 -- why a text gives no plan: it is none from a line on, or memory ran out
 abbrev pub IsPlanless : List ℕ → Stop → Type 0

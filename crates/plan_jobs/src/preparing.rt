@@ -4,13 +4,13 @@ ghost use Rattle.std.specs.Io.KnownBytes.{IsAtEnd};
 ghost use Rattle.run_ends.specs.Agreement.{plan_fault as plan_fault_of};
 ghost use Rattle.run_ends.specs.Counts.{Raises};
 ghost use Rattle.run_ends.specs.Source.{TakesFew};
-ghost use Rattle.plan_jobs.specs.Preparing.{EndsPreparing, IsPlanless, IsPrepared, IsTextless};
+ghost use Rattle.plan_jobs.specs.Preparing.{EndsPreparing, IsPlanless, IsPrepared};
 ghost use Rattle.plan_text.specs.PlanText.{ReadsPlan};
 ghost use Rattle.search_plan.specs.Plans.{IsPlan};
 
 use outside::{Images, MOST_ATTACHED, Source};
 use plan_text::{Plan, PlanFault, read_plan};
-use run_ends::{Refusal, Stop, Unread, plan_fault, read_all};
+use run_ends::{Refusal, Stop, plan_fault, text_left};
 use search_plan::PLAN_BYTES;
 use std::alloc::Global;
 
@@ -31,28 +31,11 @@ pub(crate) fn prepare<S: Source, I: Images>(
     ensures end { OnOk result (IsAtEnd (S.left source.new)) }
     ensures faults { Raises Stop.SourceFault (S.faults source.old) (S.faults source.new) result }
 {
-    let text = text_left(alloc, source)?;
+    let text = text_left(alloc, source, PLAN_BYTES, Refusal::PlanIsLong)?;
     let plan = plan_in(alloc, &text)?;
     match plan_fault(images, names, &plan) {
         Some(fault) => Err(Stop::Refused(Refusal::Images(fault))),
         None => Ok(plan),
-    }
-}
-
-/// All that the source has left, as the text of a plan.
-fn text_left<S: Source>(alloc: Global, source: &mut S) -> Result<Vec<u8>, Stop>
-    ensures text { IfOk result (λ text. IfSome (S.left source.old) (λ left. text.items ≡ left)) }
-    ensures short { IfOk result (λ text. length text.items ≤ PLAN_BYTES) }
-    ensures ends { IfErr result (IsTextless (S.left source.old)) }
-    ensures takes { TakesFew PLAN_BYTES (S.left source.old) (S.left source.new) }
-    ensures end { OnOk result (IsAtEnd (S.left source.new)) }
-    ensures faults { Raises Stop.SourceFault (S.faults source.old) (S.faults source.new) result }
-{
-    match read_all(alloc, source, PLAN_BYTES) {
-        Ok(text) => Ok(text),
-        Err(Unread::TooLong) => Err(Stop::Refused(Refusal::PlanIsLong)),
-        Err(Unread::Fault) => Err(Stop::SourceFault),
-        Err(Unread::OutOfMemory) => Err(Stop::OutOfMemory),
     }
 }
 

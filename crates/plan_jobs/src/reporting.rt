@@ -8,13 +8,12 @@ ghost use Rattle.search_plan.specs.Plans.{IsPlan};
 ghost use Rattle.search_plan.specs.Sets.{total_of};
 ghost use Rattle.plan_jobs.specs.Reporting.{IsReported};
 
-use address_map::area;
 use landmark_rules::{Group, groups_hold, held_origin, tally};
 use outside::Memory;
 use plan_text::{Text, add_number, group_name};
 use raid_params::Geometry;
 use run_ends::{add_or_dash, add_share};
-use search_plan::Plan;
+use search_plan::{Plan, tested_rows};
 use set_product::product_rank;
 use std::alloc::Global;
 
@@ -33,7 +32,7 @@ pub(crate) fn report(
 {
     let mut text = Text::new(alloc);
     add_rank(&mut text, product_rank(plan, set))?;
-    let tested = area(&set.head, plan.end).min(plan.limits.window);
+    let tested = tested_rows(plan, set.head.chunk, set.head.offset);
     add_share(&mut text, b"unsound ", unsound, tested)?;
     add_groups(&mut text, set, plan, 0, plan.groups.as_slice())?;
     add_verdict(&mut text, holds(set, plan, unsound))?;

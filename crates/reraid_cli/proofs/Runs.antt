@@ -8,7 +8,7 @@ use Rattle.outside.specs.declared.TheConstants.{MOST_ATTACHED}
 use Rattle.std.proofs.lemmas.List.Elements.{All-cons, All-nil}
 use Rattle.command_words.specs.declared.command.Command.{Command}
 use Rattle.command_words.specs.Commands.{EndsInNames, Reads, names_after}
-use Rattle.command_words.specs.declared.command.Command.TheVariants.{Survey, Sample, List as ListCommand, Check, Map, Write, Rebuild}
+use Rattle.command_words.specs.declared.command.Command.TheVariants.{Survey, Sample, List as ListCommand, Check, Map, Write, Rebuild, Classes}
 use Rattle.command_words.proofs.OneReading.{one_reading as readings_agree}
 use Rattle.plan_jobs.proofs.PagesRead.{none_read}
 use Rattle.plan_jobs.proofs.Prepared.{if_plan}
@@ -58,10 +58,12 @@ none_read_by (Ok (Map set sector end names)) given cut n said = omega arith
 none_read_by (Ok (Write set end names)) given cut n said = omega arith
 none_read_by (Ok (Rebuild set slot end names)) given cut n said = omega arith
 none_read_by (Ok (Sample number set rows xfs)) given cut n said = omega arith
+none_read_by (Ok (Classes images end)) given cut n said = omega arith
 
 -- a command that leaves the images alone names none
 pub apart_names : (words : List (List ℕ)) (command : Command) → EndsInNames words command → (job_of (Ok command)).apart ≡ true → names_after words ≡ []
 apart_names words (Sample number set rows xfs) ends apart = ends
+apart_names words (Classes images end) ends apart = ends
 apart_names words (Survey asked) ends apart = absurd (cc)
 apart_names words (ListCommand from size span pages form names) ends apart = absurd (cc)
 apart_names words (Check set names) ends apart = absurd (cc)

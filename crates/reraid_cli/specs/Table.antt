@@ -2,7 +2,8 @@
 use Rattle.std.specs.Prelude.{ℕ, Result, Ok, Err}
 use Rattle.std.specs.declared.option.Option.TheVariants.{None, Some}
 use Rattle.command_words.specs.declared.command.Command.{Command}
-use Rattle.command_words.specs.declared.command.Command.TheVariants.{Survey, List, Check, Map, Write, Rebuild, Sample}
+use Rattle.command_words.specs.declared.command.Command.TheVariants.{Survey, List, Check, Map, Write, Rebuild, Sample, Classes}
+use Rattle.class_job.specs.Classing.{classes_job}
 use Rattle.plan_jobs.specs.Checking.{check_job}
 use Rattle.plan_jobs.specs.Listing.{list_job}
 use Rattle.run_ends.specs.Jobs.{Job, imageless}
@@ -22,3 +23,4 @@ job_of (Ok (Map set sector end names)) = map_job set end sector
 job_of (Ok (Write set end names)) = write_job set end
 job_of (Ok (Rebuild set slot end names)) = rebuild_job set end slot
 job_of (Ok (Sample number set rows xfs)) = sample_job number set rows xfs
+job_of (Ok (Classes images end)) = classes_job images end

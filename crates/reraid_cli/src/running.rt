@@ -8,6 +8,7 @@ ghost use Rattle.command_words.specs.declared.command.Command.{Command as Comman
 ghost use Rattle.reraid_cli.specs.Answers.{named_by};
 ghost use Rattle.reraid_cli.specs.Table.{job_of};
 
+use class_job::classes;
 use command_words::{Command, Word, read_words};
 use gates::Gate;
 use outside::{Images, MOST_ATTACHED, Sink, Source};
@@ -56,7 +57,7 @@ pub fn run<R: Threads + Sync, S: Source, I: Images, K: Sink, G: Gate + Sync>(
     }
 }
 
-/// The names of the command's images: the last words. `sample` has none.
+/// The names of the command's images: the last words. `sample` and `classes` have none.
 fn names_of<'a>(command: &Command, words: &'a [Word]) -> &'a [Word]
     requires { EndsInNames words.now command.now }
     ensures { result.now ≡ names_after words.now }
@@ -68,7 +69,7 @@ fn names_of<'a>(command: &Command, words: &'a [Word]) -> &'a [Word]
         | Command::Map { names, .. }
         | Command::Write { names, .. }
         | Command::Rebuild { names, .. } => &words[*names..],
-        Command::Sample { .. } => &[],
+        Command::Sample { .. } | Command::Classes { .. } => &[],
     }
 }
 
@@ -128,5 +129,6 @@ fn serve<R: Threads + Sync, S: Source, I: Images, K: Sink, G: Gate + Sync>(
             rows,
             xfs,
         } => sample(rt, alloc, number, &set, rows, xfs, out, gate),
+        Command::Classes { images, end } => classes(alloc, plan, images, end, out),
     }
 }

@@ -15,17 +15,17 @@ ghost use Rattle.reraid_cli.specs.Table.{job_of};
 use crate::running::run;
 use command_words::Word;
 use gates::Gate;
-use outside::{Images, MOST_ATTACHED, Sink, Source};
+use outside::{Images, Sink, Source};
 use std::alloc::Global;
 use std::thread::Threads;
 
 /// Does all that the program does, and answers the status that it ends with.
 ///
 /// Status 0: the answer is on `out`. 1: the words are refused at a word. 2: the plan is not understood from
-/// a line on. 3: more than 4,194,304 bytes were left in the source of the plan. 4: the images are not those that
-/// the plan or the command takes. 5: the plan has more sets than ranks. 6: the first rank asked for is past the
-/// total. 7: the set breaks a rule. 8: the sector asked for is past the end of the volume. 10, 11 and 12: the
-/// images, the plan or the output failed. 20: out of memory.
+/// a line on. 3: more than 4,194,304 bytes were left in the source of the plan, or of the list of sets. 4: the images are
+/// not those that the plan or the command takes. 5: the plan has more sets than ranks. 6: the first rank asked for is past
+/// the total. 7: the set breaks a rule. 8: the sector asked for is past the end of the volume. 10, 11 and 12: the images,
+/// the source or the output failed. 13: the list of sets is not understood from a line on. 20: out of memory.
 ///
 /// Where many sets are tested in one scan, pieces of them may run side by side: each passes the gate, of which no clause
 /// speaks.
@@ -63,11 +63,11 @@ pub fn reraid<R: Threads + Sync, S: Source, I: Images, K: Sink, N: Sink, G: Gate
     // output is answered in its place.
     ensures order { (reading : Reading words.now (S.left plan.old)) → (refused : Refusal) →
         refusal reading (I.seen images.new).attached ≡ Some refused →
-        length (I.seen images.new).attached ≡ min (length (names_after words.now)) MOST_ATTACHED →
+        length (I.seen images.new).attached ≡ min (length (names_after words.now)) 65536 →
         IsOrdered (I.seen images.old).sectors_read (I.seen images.new).sectors_read (K.gained out.old) (K.gained out.new) result }
 
-    // Words that are no command line are refused. They touch no image, and neither does `sample`, which works
-    // on images of its own.
+    // Words that are no command line are refused. They touch no image, and neither do `sample`, which works
+    // on images of its own, and `classes`, which works on sets alone.
     ensures words { (number : ℕ) → Reads words.now (Err number) → result ≡ 1 }
     ensures apart { (read : Result Command ℕ) → Reads words.now read → (job_of read).apart ≡ true → I.seen images.new ≡ I.seen images.old }
 
@@ -97,7 +97,7 @@ pub fn reraid<R: Threads + Sync, S: Source, I: Images, K: Sink, N: Sink, G: Gate
         Keeps (K.gained out.old) (K.gained out.new) }
 
     // Where an attachment failed nothing is taken from the source, nothing put, and no sector read.
-    ensures cut { length (I.seen images.new).attached < min (length (names_after words.now)) MOST_ATTACHED →
+    ensures cut { length (I.seen images.new).attached < min (length (names_after words.now)) 65536 →
         Keeps (K.gained out.old) (K.gained out.new) × ((I.seen images.new).sectors_read ≡ (I.seen images.old).sectors_read)
         × (S.left plan.new ≡ S.left plan.old) × (S.faults plan.new ≡ S.faults plan.old) × (K.faults out.new ≡ K.faults out.old) }
 
@@ -105,7 +105,7 @@ pub fn reraid<R: Threads + Sync, S: Source, I: Images, K: Sink, N: Sink, G: Gate
     // first 65,536 of more) unless an attachment failed. Nothing else is attached.
     ensures attached { AreImagesOf (I.seen images.old).world (names_after words.now) (I.seen images.new).attached }
     ensures all { (command : Command) → IsCommandLine words.now command → result ≢ 10 →
-        length (I.seen images.new).attached ≡ min (length (names_after words.now)) MOST_ATTACHED }
+        length (I.seen images.new).attached ≡ min (length (names_after words.now)) 65536 }
 
     // Images are only attached and read. A refusal reads none, and neither does a run out of memory whose
     // command puts as it reads. What a command reads is bounded; only where the images failed or memory ran out may

@@ -38,7 +38,7 @@ abbrev pub end_of : Option ℕ → List Image → ℕ
 end_of end attached = unwrap_or end (shortest (lengths_of attached))
 
 -- how the images of `names` names disagree with what a command over one set takes: there are none, or
--- more than 16, or the end that is asked for is past the shortest
+-- more than 24, or the end that is asked for is past the shortest
 abbrev pub limits_fault : Option ℕ → ℕ → List Image → Option Disagreement
 limits_fault end names attached =
     if nat_eq names 0 then Some (count_fault 0 1)

@@ -6,7 +6,6 @@ use Rattle.std.specs.Io.KnownBytes.{Appends, IsAtEnd, Keeps}
 use Rattle.outside.specs.Causes.{Rose}
 use Rattle.outside.specs.Seen.{Image, Seen}
 use Rattle.outside.specs.Streams.{AppendsFront, AppendsSectors, Stream}
-use Rattle.outside.specs.declared.TheConstants.{MOST_ATTACHED}
 use Rattle.run_ends.specs.Counts.{Raises}
 use Rattle.run_ends.specs.Source.{TakesFew}
 use Rattle.run_ends.specs.Stops.{EndsBy}
@@ -133,7 +132,7 @@ pub record Leaves {T : Type 0} (streams : Bool) (before after : Around) (old new
 -- a job is done: it ends by its refusal, its output or a fault, in its order, and reads, takes and leaves what it may
 pub record Does {T : Type 0} (job : Job) (given : Named) (before after : Around) (old new : Stream) (result : Result T Stop) : Type 0 where
   pub ends : (said : job.Said) → job.Says before.source.known said → Ends (job.refused said given) (job.printed said given) old.known new.known result
-  pub order : (said : job.Said) → job.Says before.source.known said → length given.attached ≡ min given.names MOST_ATTACHED →
+  pub order : (said : job.Said) → job.Says before.source.known said → length given.attached ≡ min given.names 65536 →
       Orders (job.refused said given) before.images.sectors_read after.images.sectors_read old.known new.known result
   pub reads : (said : job.Said) → job.Says before.source.known said → job.MayRead said given (is_cut result) before.images.sectors_read after.images.sectors_read
   pub takes : Takes job.most before.source after.source result

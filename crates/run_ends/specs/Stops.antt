@@ -1,5 +1,5 @@
 -- What a stop says: its status and its line.
-use Rattle.std.specs.Prelude.{ℕ, ◌≡◌, ◌^◌, nat_le, if◌then◌else◌, List, [], ◌∷◌, ◌++◌, codes, decimal}
+use Rattle.std.specs.Prelude.{ℕ, ◌≡◌, ◌<◌, ◌^◌, nat_le, if◌then◌else◌, List, [], ◌∷◌, ◌++◌, codes, decimal, length, IfSome}
 use Rattle.std.specs.declared.option.Option.{Option}
 use Rattle.std.specs.declared.option.Option.TheVariants.{None, Some}
 use Rattle.raid_params.specs.declared.types.GeoFault.{GeoFault}
@@ -10,7 +10,7 @@ use Rattle.search_plan.specs.declared.plan.Plan.{Plan}
 use Rattle.run_ends.specs.declared.agreement.Kind.{Kind}
 use Rattle.run_ends.specs.declared.agreement.Kind.TheVariants.{Count, Length, End}
 use Rattle.run_ends.specs.declared.stop.Refusal.{Refusal}
-use Rattle.run_ends.specs.declared.stop.Refusal.TheVariants.{Word, PlanLine, PlanIsLong, Images, Many, Cursor, Set, Slot, ArraySectors, VolumeSectors, Sector}
+use Rattle.run_ends.specs.declared.stop.Refusal.TheVariants.{Word, PlanLine, PlanIsLong, SetLine, SetsAreLong, Images, Many, Cursor, Set, Slot, ArraySectors, VolumeSectors, Sector}
 use Rattle.run_ends.specs.declared.stop.Stop.{Stop}
 use Rattle.run_ends.specs.declared.stop.Stop.TheVariants.{Refused, ImageFault, SourceFault, OutFault, OutOfMemory}
 
@@ -51,6 +51,8 @@ abbrev pub refusal_notice : Refusal → ℕ × List ℕ
 refusal_notice (Word number) = (1, codes "reraid: word " ++ decimal number ++ codes " is not understood\n")
 refusal_notice (PlanLine number) = (2, codes "reraid: plan line " ++ decimal number ++ codes " is not understood\n")
 refusal_notice PlanIsLong = (3, codes "reraid: plan is longer than 4194304 bytes\n")
+refusal_notice (SetLine number) = (13, codes "reraid: set line " ++ decimal number ++ codes " is not understood\n")
+refusal_notice SetsAreLong = (3, codes "reraid: set list is longer than 4194304 bytes\n")
 refusal_notice (Images fault) =
     (4, codes "reraid: images: " ++ kind_text fault.kind ++ codes " given " ++ decimal fault.given ++ codes " planned " ++ decimal fault.planned ++ codes "\n")
 refusal_notice Many = (5, codes "reraid: the product has more than 18446744073709551615 sets\n")
@@ -79,6 +81,13 @@ note_of stop = (notice_of stop).1
 abbrev pub EndsBy : Option Refusal → Stop → Type 0
 EndsBy refused (Refused refusal) = refused ≡ Some refusal
 EndsBy refused _ = Unit {0}
+
+-- why the text of a source is wanting: it is longer than `most` bytes, which is refused so; the source failed; or memory ran out
+abbrev pub IsTextless : ℕ → Refusal → Option (List ℕ) → Stop → Type 0
+IsTextless most long left (Refused refusal) = (refusal ≡ long) × IfSome left (λ text. most < length text)
+IsTextless most long left SourceFault = Unit {0}
+IsTextless most long left OutOfMemory = Unit {0}
+IsTextless most long left _ = ⊥
 
 -- a stop that comes before anything outside is touched: a refusal, or want of memory
 abbrev pub IsEarly : Stop → Type 0

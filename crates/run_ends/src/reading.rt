@@ -3,7 +3,9 @@ ghost use Rattle.std.specs.Prelude.{◌≡◌, ◌≤◌, ◌<◌, ◌^◌, leng
 ghost use Rattle.std.specs.Io.KnownBytes.{IsAtEnd};
 ghost use Rattle.run_ends.specs.Counts.{Raises};
 ghost use Rattle.run_ends.specs.Source.{IsUnread, TakesFew};
+ghost use Rattle.run_ends.specs.Stops.{IsTextless};
 
+use crate::stop::{Refusal, Stop};
 use outside::Source;
 use std::alloc::Global;
 
@@ -48,4 +50,27 @@ pub fn read_all<S: Source>(alloc: Global, source: &mut S, most: usize) -> Result
         }
     }
     unreachable!()
+}
+
+/// The text that a source has left, for a job: of more than `most` bytes `long` is the refusal.
+pub fn text_left<S: Source>(
+    alloc: Global,
+    source: &mut S,
+    most: usize,
+    long: Refusal,
+) -> Result<Vec<u8>, Stop>
+    requires { most < 2 ^ 32 }
+    ensures text { IfOk result (λ text. IfSome (S.left source.old) (λ left. text.items ≡ left)) }
+    ensures short { IfOk result (λ text. length text.items ≤ most) }
+    ensures ends { IfErr result (IsTextless most long (S.left source.old)) }
+    ensures takes { TakesFew most (S.left source.old) (S.left source.new) }
+    ensures end { OnOk result (IsAtEnd (S.left source.new)) }
+    ensures faults { Raises Stop.SourceFault (S.faults source.old) (S.faults source.new) result }
+{
+    match read_all(alloc, source, most) {
+        Ok(text) => Ok(text),
+        Err(Unread::TooLong) => Err(Stop::Refused(long)),
+        Err(Unread::Fault) => Err(Stop::SourceFault),
+        Err(Unread::OutOfMemory) => Err(Stop::OutOfMemory),
+    }
 }

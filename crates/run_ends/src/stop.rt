@@ -38,6 +38,10 @@ pub enum Refusal {
     PlanLine(u64),
     /// The source of the plan had more bytes left than a plan may have.
     PlanIsLong,
+    /// The line of the list of sets of this number, counted from 1: the first with which no list of sets goes on.
+    SetLine(u64),
+    /// The source of the list of sets had more bytes left than such a list may have.
+    SetsAreLong,
     /// The images disagree with the plan, or with what the command takes.
     Images(Disagreement),
     /// The product has more sets than ranks.
@@ -117,6 +121,11 @@ impl Refusal {
             Refusal::Word(number) => says(1, refused_line("reraid: word ", *number)),
             Refusal::PlanLine(number) => says(2, refused_line("reraid: plan line ", *number)),
             Refusal::PlanIsLong => says(3, text("reraid: plan is longer than 4194304 bytes\n")),
+            Refusal::SetLine(number) => says(13, refused_line("reraid: set line ", *number)),
+            Refusal::SetsAreLong => says(
+                3,
+                text("reraid: set list is longer than 4194304 bytes\n"),
+            ),
             Refusal::Images(fault) => says(4, images_line(fault)),
             Refusal::Many => says(
                 5,
@@ -149,7 +158,7 @@ fn text(line: &str) -> ArrayString<LINE>
     room
 }
 
-/// The line that says from where on words or a plan are not understood.
+/// The line that says from where on words, a plan or a list of sets are not understood.
 fn refused_line(what: &str, number: u64) -> ArrayString<LINE>
     requires { length what.now ≤ 18 }
     ensures { result.bytes ≡ what.now ++ decimal number ++ codes " is not understood\n" }

@@ -3,7 +3,6 @@ use Rattle.command_words.specs.Commands.{command_of}
 use Rattle.command_words.specs.declared.operands.Operand.{Operand}
 use Rattle.command_words.proofs.Refusals.{early_dashes, names_too_many, refused_after}
 use Rattle.command_words.proofs.reading.read_names.Goals as goal
-use Rattle.command_words.proofs.reading.read_names.Goals.{in-Sample, in_default-matches}
 
 pub returns-in_default : goal.returns-in_default
 returns-in_default c =
@@ -18,7 +17,4 @@ returns-then-names-words c =
     let says : command_of c.args.verb c.args.operands.now.items (length c.args.operands.now.items + 2) ≡ Some c.in-Some.command = sym built ∙ c.in-Some.is in
     let more = c.if-names-words.true in
     let count = c.len-names.ensures.value in
-    elim c.match-matches.branch [
-      | in-Sample w ↦ names_too_many c.args.verb c.args.words.now c.args.operands.now.items c.requires.names c.in-Some.command _ w.in-Sample.is c.requires.at (omega arith) c.requires.are says (omega arith)
-      | in_default-matches w ↦ (let f : true ≡ false = sym c.if-matches.true ∙ w.matches-is in cc)
-    ]
+    names_too_many c.args.verb c.args.words.now c.args.operands.now.items c.requires.names c.in-Some.command _ (cc) c.requires.at (omega arith) c.requires.are says (omega arith)

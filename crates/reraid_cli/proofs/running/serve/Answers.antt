@@ -27,3 +27,8 @@ pub returns-in-Sample-clause-does : goal.returns-in-Sample-clause-does
 returns-in-Sample-clause-does g c =
     let seen = g.I.Images.seen c.args.images.now in
     rw c.in-Sample.is (c.sample.ensures (named c.args.names seen.attached) seen (stream (g.S.Source.left c.args.plan.now) (g.S.Source.faults c.args.plan.now)))
+
+pub returns-in-Classes-clause-does : goal.returns-in-Classes-clause-does
+returns-in-Classes-clause-does g c =
+    let seen = g.I.Images.seen c.args.images.now in
+    rw c.in-Classes.is (c.classes.ensures seen (named c.args.names seen.attached))

@@ -1,0 +1,4 @@
+pub mod Lines
+pub mod OneReading
+pub mod OneNumbering
+pub mod Classed

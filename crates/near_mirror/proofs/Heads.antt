@@ -12,7 +12,7 @@ use Rattle.near_mirror.proofs.Chunks.{valid_chunk}
 pub some_members : (head : NearHead) → IsTrue (is_valid_near head) → 2 ≤ head.members
 some_members head h = grind (arith, nat_tests)
 
-pub few_members : (head : NearHead) → IsTrue (is_valid_near head) → head.members ≤ 16
+pub few_members : (head : NearHead) → IsTrue (is_valid_near head) → head.members ≤ 24
 few_members head h = grind (arith, nat_tests)
 
 -- whole chunks do not reach past what they are cut from
@@ -33,8 +33,8 @@ rows_short head end h =
 pub few_cells : (head : NearHead) (end : ℕ) → IsTrue (is_valid_near head) → end < 2 ^ 55 → near_rows head end * head.members < 2 ^ 60
 few_cells head end h near =
     let rows = rows_short head end h in
-    let most : near_rows head end * head.members ≤ 2 ^ 55 * 16 = mul-le (near_rows head end) head.members (2 ^ 55) 16 (omega arith) (few_members head h) in
-    let proper : near_rows head end * head.members ≤ (2 ^ 55 - 1) * 16 = mul-le (near_rows head end) head.members (2 ^ 55 - 1) 16 (omega arith) (few_members head h) in
+    let most : near_rows head end * head.members ≤ 2 ^ 55 * 24 = mul-le (near_rows head end) head.members (2 ^ 55) 24 (omega arith) (few_members head h) in
+    let proper : near_rows head end * head.members ≤ (2 ^ 55 - 1) * 24 = mul-le (near_rows head end) head.members (2 ^ 55 - 1) 24 (omega arith) (few_members head h) in
     omega arith
 
 -- so are the sectors of the volume
@@ -44,7 +44,7 @@ volume_fits head end h near =
     let times : near_chunks head end * head.chunk ≤ near_rows head end * head.members * head.chunk = mul-le (near_chunks head end) head.chunk (near_rows head end * head.members) head.chunk half (omega arith) in
     let turned : near_rows head end * head.members * head.chunk ≡ near_area head end * head.members = grind arith in
     let short = area_short head end in
-    let most : near_area head end * head.members ≤ (2 ^ 55 - 1) * 16 = mul-le (near_area head end) head.members (2 ^ 55 - 1) 16 (omega arith) (few_members head h) in
+    let most : near_area head end * head.members ≤ (2 ^ 55 - 1) * 24 = mul-le (near_area head end) head.members (2 ^ 55 - 1) 24 (omega arith) (few_members head h) in
     omega arith
 
 -- a copy of a volume sector lies in the whole rows

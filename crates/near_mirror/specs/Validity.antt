@@ -11,7 +11,7 @@ use Rattle.near_mirror.specs.declared.types.NearRule.{NearRule}
 use Rattle.near_mirror.specs.declared.types.NearRule.TheVariants.{Members, Chunk, Image, Repeat, Missing, NoRow}
 use Rattle.near_mirror.specs.declared.types.NearSet.{NearSet}
 
--- a mirror has so many members: from 2 to 16
+-- a mirror has so many members: from 2 to 24
 abbrev pub has_members : ℕ → Bool
 has_members members = nat_le 2 members && nat_le members MOST
 

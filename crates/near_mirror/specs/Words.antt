@@ -8,8 +8,8 @@ use Rattle.value_text.specs.Spelling.{slot_name, commas, colons, named, line}
 abbrev pub near_word : NearSet → List ℕ
 near_word set = colons (codes "near2" ∷ decimal set.head.chunk ∷ decimal set.head.offset ∷ commas (map slot_name set.slots.items) ∷ [])
 
--- the set is one that a near word stands for: as many members as slots, from 1 to 16, each slot an
--- image from 0 to 15 or none, and numbers of sectors in range. Whether it makes sense is another matter
+-- the set is one that a near word stands for: as many members as slots, from 1 to 24, each slot an
+-- image from 0 to 23 or none, and numbers of sectors in range. Whether it makes sense is another matter
 pub record HasNearWord (set : NearSet) : Type 0 where
   pub some : 1 ≤ length set.slots.items
   pub most : length set.slots.items ≤ MOST

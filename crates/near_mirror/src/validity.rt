@@ -1,13 +1,12 @@
 //! The first rule that a parameter set breaks.
-ghost use Rattle.std.specs.Prelude.{◌≡◌, ◌<◌, ◌≤◌, IfSome, MatchResult, OnOk, Some, None, length, nat_eq};
-ghost use Rattle.std.specs.List.{find, range_with_len};
-ghost use Rattle.raid_params.specs.Validity.{first_absent as first_absent_of, first_repeat as first_repeat_of, is_absent as is_absent_at, is_met_again as is_met_again_at};
+ghost use Rattle.std.specs.Prelude.{◌≡◌, ◌≤◌, MatchResult, OnOk, Some, None, length, nat_eq};
+ghost use Rattle.raid_params.specs.Validity.{first_absent as first_absent_of, first_repeat as first_repeat_of};
 ghost use Rattle.near_mirror.specs.Copies.{near_rows};
 ghost use Rattle.near_mirror.specs.Validity.{first_fault, has_members as has_members_of, shape_fault, slots_fault};
 ghost use Rattle.near_mirror.specs.Volume.{IsMirror};
 
 use crate::types::{NearRule, NearSet};
-use raid_params::{MOST, count_empty, is_chunk, stands_among};
+use raid_params::{MOST, count_empty, first_absent, first_repeat, is_chunk};
 
 /// The copies of each chunk, and so the fewest members.
 pub const COPIES: usize = 2;
@@ -78,63 +77,5 @@ fn broken_slots(slots: &[Option<u8>], images: u8) -> Option<NearRule>
                 Some(NearRule::Missing(empty))
             }
         }
-    }
-}
-
-/// The first image in a slot that is not below `images`.
-fn first_absent(slots: &[Option<u8>], images: u8) -> Option<u8>
-    ensures { result ≡ first_absent_of images slots.now }
-{
-    match absent_place(slots, images) {
-        Some(at) => slots[at],
-        None => None,
-    }
-}
-
-/// The first slot that holds an image that is not below `images`.
-fn absent_place(slots: &[Option<u8>], images: u8) -> Option<usize>
-    ensures place { result ≡ find (is_absent_at images slots.now) (range_with_len 0 (length slots.now)) }
-    ensures within { IfSome result (λ at. at < length slots.now) }
-{
-    (0..slots.len()).find(|at: &usize| is_absent(slots, *at, images))
-}
-
-/// Whether this slot holds an image that is not below `images`.
-fn is_absent(slots: &[Option<u8>], at: usize, images: u8) -> bool
-    requires { at < length slots.now }
-    ensures { result ≡ is_absent_at images slots.now at }
-{
-    match slots[at] {
-        Some(image) => images <= image,
-        None => false,
-    }
-}
-
-/// The first image that stands in a slot before it too.
-fn first_repeat(slots: &[Option<u8>]) -> Option<u8>
-    ensures { result ≡ first_repeat_of slots.now }
-{
-    match repeated_place(slots) {
-        Some(at) => slots[at],
-        None => None,
-    }
-}
-
-/// The first slot whose image stands in a slot before it too.
-fn repeated_place(slots: &[Option<u8>]) -> Option<usize>
-    ensures place { result ≡ find (is_met_again_at slots.now) (range_with_len 0 (length slots.now)) }
-    ensures within { IfSome result (λ at. at < length slots.now) }
-{
-    (0..slots.len()).find(|at: &usize| is_met_again(slots, *at))
-}
-
-/// Whether the image in this slot stands in a slot before it too.
-fn is_met_again(slots: &[Option<u8>], at: usize) -> bool
-    requires { at < length slots.now }
-    ensures { result ≡ is_met_again_at slots.now at }
-{
-    match slots[at] {
-        Some(image) => stands_among(image, &slots[..at]),
-        None => false,
     }
 }

@@ -44,7 +44,7 @@ padded_append greatest (base ∷ bases) [] more each = absurd (omega (arith, eac
 padded_append greatest (base ∷ bases) (image ∷ images) more each = ap (λ (rest : List Image). padded (greatest - base) image ∷ rest) (padded_append greatest bases images more (omega (arith, each)))
 
 -- the greatest of numbers below a limit is below it
-fold_below : (limit first : ℕ) (bases : List ℕ) → first < limit → All (λ base. base < limit) bases → fold max first bases < limit
+pub fold_below : (limit first : ℕ) (bases : List ℕ) → first < limit → All (λ base. base < limit) bases → fold max first bases < limit
 fold_below limit first [] small all = small
 fold_below limit first (base ∷ bases) small all =
     fold_below limit (max first base) bases

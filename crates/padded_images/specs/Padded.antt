@@ -1,13 +1,9 @@
 -- Images whose data begin at different sectors, moved so that all data begin at the greatest of these.
-use Rattle.std.specs.Prelude.{ℕ, ◌+◌, ◌-◌, ◌*◌, ◌^◌, ◌<◌, ◌≤◌, max, get_or, List, [], ◌∷◌, ◌++◌, length, replicate, All}
+use Rattle.std.specs.Prelude.{ℕ, ◌+◌, ◌-◌, ◌*◌, ◌^◌, ◌<◌, ◌≤◌, get_or, List, [], ◌∷◌, ◌++◌, length, replicate, All}
 use Rattle.std.specs.Borrow.{MutBor}
-use Rattle.std.specs.List.{fold}
 use Rattle.std.specs.Option.{option_map}
 use Rattle.outside.specs.Seen.{Image, Seen}
-
--- the greatest base, and 0 of none
-abbrev pub greatest_base : List ℕ → ℕ
-greatest_base bases = fold max 0 bases
+pub use Rattle.raid_params.specs.Bases.{greatest_base}
 
 -- the image with `sectors` sectors of zero before it
 abbrev pub padded : ℕ → Image → Image

@@ -111,7 +111,7 @@ impl<'a, I: Images> Images for Padded<'a, I> {
 }
 
 /// The greatest base, and 0 of none.
-fn greatest_of(bases: &[u64]) -> u64
+pub(crate) fn greatest_of(bases: &[u64]) -> u64
     ensures { result ≡ greatest_base bases.now }
 {
     let mut greatest = 0;

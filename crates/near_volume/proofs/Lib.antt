@@ -1,0 +1,4 @@
+pub mod Slots
+pub mod Mirrors
+pub mod Runs
+pub mod Parts

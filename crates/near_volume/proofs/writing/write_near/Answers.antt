@@ -1,0 +1,41 @@
+use Rattle.std.proofs.Common.{List, ℕ, subst}
+use Rattle.outside.specs.Attached.{told_all}
+use Rattle.outside.specs.Streams.{AppendsSectors, Puts}
+use Rattle.virtual_volume.proofs.Fronts.{puts_front, puts_written}
+use Rattle.member_regions.proofs.IfTold.{if_told}
+use Rattle.near_volume.specs.Sectors.{near_volume, sectors_of}
+use Rattle.near_volume.proofs.Mirrors.{mirrored_held}
+use Rattle.near_volume.proofs.Parts.{sectors_whole}
+use Rattle.near_volume.proofs.writing.write_near.Goals as goal
+
+pub write_sectors-requires-clause-held : goal.write_sectors-requires-clause-held
+write_sectors-requires-clause-held g c = mirrored_held c.args.set.now c.args.end (g.I.Images.seen c.args.images.now).attached c.requires.set
+
+pub returns-clause-written : goal.returns-clause-written
+returns-clause-written g c =
+    puts_written (told_all (g.I.Images.seen c.args.images.now).attached) (λ bytes. near_volume bytes c.args.set.now c.args.end) (g.K.Sink.gained c.args.sink.now) (g.K.Sink.gained c.write_sectors.new.sink) c.write_sectors.result
+    (if_told (told_all (g.I.Images.seen c.args.images.now).attached)
+    (λ bytes. Puts (g.K.Sink.gained c.args.sink.now) (g.K.Sink.gained c.write_sectors.new.sink) c.write_sectors.result (sectors_of bytes c.args.set.now 0 c.volume_sectors-sectors.result))
+    (λ bytes. Puts (g.K.Sink.gained c.args.sink.now) (g.K.Sink.gained c.write_sectors.new.sink) c.write_sectors.result (near_volume bytes c.args.set.now c.args.end))
+    (λ bytes p. subst (λ (l : List ℕ). Puts (g.K.Sink.gained c.args.sink.now) (g.K.Sink.gained c.write_sectors.new.sink) c.write_sectors.result l)
+    (sectors_whole bytes c.args.set.now c.args.end c.volume_sectors-sectors.result c.volume_sectors-sectors.ensures) p)
+    c.write_sectors.ensures.put)
+
+pub returns-clause-front : goal.returns-clause-front
+returns-clause-front g c =
+    puts_front (told_all (g.I.Images.seen c.args.images.now).attached) (λ bytes. near_volume bytes c.args.set.now c.args.end) (g.K.Sink.gained c.args.sink.now) (g.K.Sink.gained c.write_sectors.new.sink) c.write_sectors.result
+    (if_told (told_all (g.I.Images.seen c.args.images.now).attached)
+    (λ bytes. Puts (g.K.Sink.gained c.args.sink.now) (g.K.Sink.gained c.write_sectors.new.sink) c.write_sectors.result (sectors_of bytes c.args.set.now 0 c.volume_sectors-sectors.result))
+    (λ bytes. Puts (g.K.Sink.gained c.args.sink.now) (g.K.Sink.gained c.write_sectors.new.sink) c.write_sectors.result (near_volume bytes c.args.set.now c.args.end))
+    (λ bytes p. subst (λ (l : List ℕ). Puts (g.K.Sink.gained c.args.sink.now) (g.K.Sink.gained c.write_sectors.new.sink) c.write_sectors.result l)
+    (sectors_whole bytes c.args.set.now c.args.end c.volume_sectors-sectors.result c.volume_sectors-sectors.ensures) p)
+    c.write_sectors.ensures.put)
+
+pub returns-clause-whole : goal.returns-clause-whole
+returns-clause-whole g c = λ is.
+    if_told (told_all (g.I.Images.seen c.args.images.now).attached)
+    (λ bytes. AppendsSectors (g.K.Sink.gained c.args.sink.now) (g.K.Sink.gained c.write_sectors.new.sink) (sectors_of bytes c.args.set.now 0 c.volume_sectors-sectors.result))
+    (λ bytes. AppendsSectors (g.K.Sink.gained c.args.sink.now) (g.K.Sink.gained c.write_sectors.new.sink) (near_volume bytes c.args.set.now c.args.end))
+    (λ bytes p. subst (λ (l : List ℕ). AppendsSectors (g.K.Sink.gained c.args.sink.now) (g.K.Sink.gained c.write_sectors.new.sink) l)
+    (sectors_whole bytes c.args.set.now c.args.end c.volume_sectors-sectors.result c.volume_sectors-sectors.ensures) p)
+    (c.write_sectors.ensures.whole is)

@@ -1,0 +1,23 @@
+-- The bytes of the volume of a mirror.
+use Rattle.std.specs.Prelude.{ℕ, List, map}
+use Rattle.std.specs.List.{flat_map, range_with_len}
+use Rattle.near_mirror.specs.Copies.{copy_sector, near_sectors}
+use Rattle.near_mirror.specs.Volume.{copy_image, home_copy}
+use Rattle.near_mirror.specs.declared.types.NearSet.{NearSet}
+use Rattle.raid_terms.specs.Parity.{member_byte}
+
+-- a copy, 0 or 1, of volume sector v: the member sector of the image that its slot holds
+unfoldable pub copy_bytes : List (List ℕ) → NearSet → ℕ → ℕ → List ℕ
+copy_bytes images set v copy = map (λ x. member_byte images set.head.offset (copy_sector set.head copy v) x (copy_image set copy v)) (range_with_len 0 512)
+
+-- volume sector v: its first copy where that slot holds an image, and else its second
+abbrev pub near_sector : List (List ℕ) → NearSet → ℕ → List ℕ
+near_sector images set v = copy_bytes images set v (home_copy set v)
+
+-- n sectors of the volume from a sector on
+unfoldable pub sectors_of : List (List ℕ) → NearSet → ℕ → ℕ → List ℕ
+sectors_of images set first n = flat_map (near_sector images set) (range_with_len first n)
+
+-- the bytes of the volume: all its sectors, in order
+abbrev pub near_volume : List (List ℕ) → NearSet → ℕ → List ℕ
+near_volume images set end = flat_map (near_sector images set) (range_with_len 0 (near_sectors set.head end))

@@ -63,18 +63,18 @@ fn one_empty(rt: HostRuntime) {
     are_lists(&rt, &space, &lists);
 }
 
-// How many lists over sixteen images have from `low` to `high` empty places.
+// How many lists of as many images as there may be have from `low` to `high` empty places.
 fn total(low: u8, high: u8) -> u128 {
-    sixteen(low, high).total()
+    largest(low, high).total()
 }
 
-fn sixteen(low: u8, high: u8) -> Space
-    ensures images { result.images ≡ 16 }
-    ensures members { result.members ≡ 16 }
+fn largest(low: u8, high: u8) -> Space
+    ensures images { result.images ≡ 24 }
+    ensures members { result.members ≡ 24 }
 {
     Space {
-        images: 16,
-        members: 16,
+        images: 24,
+        members: 24,
         low,
         high,
     }
@@ -82,17 +82,20 @@ fn sixteen(low: u8, high: u8) -> Space
 
 // How many of those with two empty places at most begin so, and the rank of this beginning as a list.
 fn begun(front: &Slots) -> (u128, Option<u128>) {
-    let space = sixteen(0, 2);
+    let space = largest(0, 2);
     (space.completions(front), space.rank(front))
 }
 
-// 16! lists have all images, 256 * 15! leave one out, and 14400 * 14! two: together 77 * 16!.
+// 24! lists have all images, 24 * 24! leave one out, and 276 * 24! / 2 two: together 163 * 24!. With any number of empty places
+// they are, as Python has it, sum(math.comb(24, empty) * math.perm(24, 24 - empty) for empty in range(25)).
 #[test]
-fn sixteen_images(rt: HostRuntime) {
-    assert!(rt; total(0, 2) == 77 * 20_922_789_888_000);
+fn as_many_images_as_there_may_be(rt: HostRuntime) {
+    assert!(rt; total(0, 0) == 620_448_401_733_239_439_360_000);
+    assert!(rt; total(0, 2) == 163 * 620_448_401_733_239_439_360_000);
+    assert!(rt; total(0, 24) == 977_421_343_777_135_316_364_285_889);
     assert!(rt; total(3, 2) == 0);
     let mut front = Slots::new();
-    assert!(rt; begun(&front).0 == 77 * 20_922_789_888_000);
+    assert!(rt; begun(&front).0 == 163 * 620_448_401_733_239_439_360_000);
     front.push(Some(3));
     front.push(Some(3));
     assert!(rt; begun(&front) == (0, None));

@@ -62,7 +62,7 @@ fn walk_of<'a, R: Abort, F: Family>(rt: &R, family: &'a F, from: u64, stop: u64)
     ensures { result.allowance ≡ tests (question (F.space_of family.now) (F.admits family.now) from stop) (F.space_of family.now).members [] }
 {
     let space = family.space();
-    assert!(rt; space.images <= 16 && space.members <= 16);
+    assert!(rt; space.images <= 24 && space.members <= 24);
     assert!(rt; from <= stop && stop as u128 <= space.total());
     Survivors::start(family, from, stop)
 }
@@ -135,21 +135,21 @@ fn iterated(rt: HostRuntime) {
     assert!(rt; family.asked.get() == Some(ASKED.len()));
 }
 
-/// Sixteen images in sixteen places, of which one list passes.
+/// As many images as there may be in as many places, of which one list passes.
 #[derive(Drop)]
 struct OneList {
     wanted: Slots,
 }
 
 impl Family for OneList {
-    ghost space_of = { λ _. record { images = 16; members = 16; low = 0; high = 0 } };
+    ghost space_of = { λ _. record { images = 24; members = 24; low = 0; high = 0 } };
 
     ghost admits = { λ s p. starts_with ⟦<Option<u8> as PartialEq>⟧.eq s.wanted.items p };
 
     fn space(&self) -> Space {
         Space {
-            images: 16,
-            members: 16,
+            images: 24,
+            members: 24,
             low: 0,
             high: 0,
         }
@@ -160,31 +160,39 @@ impl Family for OneList {
     }
 }
 
-/// The list of rank 12,345,678,901,234, as these lines of Python give it:
+/// The list of rank 12,345,678,901,234,567,890, as these lines of Python give it:
 ///
 ///     from math import factorial
-///     rank, left, wanted = 12_345_678_901_234, list(range(16)), []
-///     for after in reversed(range(16)):
+///     rank, left, wanted = 12_345_678_901_234_567_890, list(range(24)), []
+///     for after in reversed(range(24)):
 ///         place, rank = divmod(rank, factorial(after))
 ///         wanted.append(left.pop(place))
-///     assert wanted == [9, 6, 10, 8, 13, 3, 1, 7, 0, 11, 14, 4, 5, 15, 2, 12]
-const WANTED: [Option<u8>; 16] = [
-    Some(9),
-    Some(6),
-    Some(10),
-    Some(8),
-    Some(13),
-    Some(3),
-    Some(1),
-    Some(7),
+///     assert wanted == [0, 1, 2, 8, 4, 14, 10, 11, 22, 19, 21, 17, 5, 15, 12, 20, 13, 6, 16, 18, 23, 3, 7, 9]
+const WANTED: [Option<u8>; 24] = [
     Some(0),
-    Some(11),
-    Some(14),
+    Some(1),
+    Some(2),
+    Some(8),
     Some(4),
+    Some(14),
+    Some(10),
+    Some(11),
+    Some(22),
+    Some(19),
+    Some(21),
+    Some(17),
     Some(5),
     Some(15),
-    Some(2),
     Some(12),
+    Some(20),
+    Some(13),
+    Some(6),
+    Some(16),
+    Some(18),
+    Some(23),
+    Some(3),
+    Some(7),
+    Some(9),
 ];
 
 #[test]
@@ -192,8 +200,8 @@ fn one_of_many(rt: HostRuntime) {
     let family = OneList {
         wanted: Slots::from(WANTED),
     };
-    assert!(rt; family.space().total() == 20_922_789_888_000);
-    let mut walk = walk_of(&rt, &family, 0, 20_922_789_888_000);
-    assert!(rt; is_leaf(&next_leaf(&mut walk), 12_345_678_901_234, &WANTED));
+    assert!(rt; family.space().total() == 620_448_401_733_239_439_360_000);
+    let mut walk = walk_of(&rt, &family, 0, u64::MAX);
+    assert!(rt; is_leaf(&next_leaf(&mut walk), 12_345_678_901_234_567_890, &WANTED));
     assert!(rt; next_leaf(&mut walk).is_none());
 }

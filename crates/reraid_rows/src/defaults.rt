@@ -2,7 +2,7 @@
 use crate::objects::{filled, images_of};
 use crate::placed::{Placed, put_all};
 use crate::plans::{FIVE_MEMBERS, NO_WHOLE_ROW};
-use crate::rows::{End, Row, SIXTEEN, ZERO, check, ends_so, run};
+use crate::rows::{End, Row, TWENTY_FOUR, ZERO, check, ends_so, run};
 use std::alloc::Global;
 use std::process::Abort;
 use std::test::Fail;
@@ -39,7 +39,7 @@ fn a_listing_without_operands(rt: HostRuntime) -> Result<(), Fail> {
 /// A listing to the total.
 const TO_THE_TOTAL: Row = Row {
     line: "list -- a b c d e f g h i j k l m n o p",
-    images: SIXTEEN,
+    images: TWENTY_FOUR,
     plan: NO_WHOLE_ROW,
     status: 0,
     out: "next 13316937307914240000 of 13316937307914240000\n",

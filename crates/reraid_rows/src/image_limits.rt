@@ -1,7 +1,7 @@
 //! Images and sets at both sides of their limits.
 use crate::objects::{Objects, images_of, ready, run_words, words_of};
 use crate::plans::PLAN;
-use crate::rows::{End, Row, SIXTEEN, STRIPES, ZERO, check, check_all, compare, ends_so};
+use crate::rows::{End, Row, STRIPES, TWENTY_FOUR, ZERO, check, check_all, compare, ends_so};
 use outside::Memory;
 use reraid_cli::Word;
 use std::alloc::Global;
@@ -149,32 +149,32 @@ static COUNTS: [(&str, &[&[u8]], &str); 9] = [
     ),
     (
         "list -- a b c d",
-        SIXTEEN,
+        TWENTY_FOUR,
         "reraid: images: count given 4 planned 3\n",
     ),
     (
-        "survey -- a b c d e f g h i j k l m n o p a",
-        SIXTEEN,
-        "reraid: images: count given 17 planned 16\n",
+        "survey -- a b c d e f g h i j k l m n o p q r s t u v w x a",
+        TWENTY_FOUR,
+        "reraid: images: count given 25 planned 24\n",
     ),
     (
-        "write set=0:plain:none:1:0:0,1 -- a b c d e f g h i j k l m n o p a",
-        SIXTEEN,
-        "reraid: images: count given 17 planned 16\n",
+        "write set=0:plain:none:1:0:0,1 -- a b c d e f g h i j k l m n o p q r s t u v w x a",
+        TWENTY_FOUR,
+        "reraid: images: count given 25 planned 24\n",
     ),
 ];
 
 /// As many images as there may be.
 const MOST_IMAGES: [Row; 1] = [Row {
-    line: "map set=0:plain:none:1:0:0,1,2,3,4,5,6,7,8,9,10,11,12,13,14,15 sector=15 -- a b c d e f g h i j k l m n o p",
-    images: SIXTEEN,
+    line: "map set=0:plain:none:1:0:0,1,2,3,4,5,6,7,8,9,10,11,12,13,14,15,16,17,18,19,20,21,22,23 sector=23 -- a b c d e f g h i j k l m n o p q r s t u v w x",
+    images: TWENTY_FOUR,
     plan: "",
     status: 0,
-    out: "row 0 item 15 slot 15 image 15 sector 0 p - q -\nname raid0\n",
+    out: "row 0 item 23 slot 23 image 23 sector 0 p - q -\nname raid0\n",
     notes: "",
 }];
 
-// From none to sixteen images; for a plan, exactly as many as it has.
+// From none to 24 images; for a plan, exactly as many as it has.
 #[test]
 fn images_are_too_many_or_too_few(rt: HostRuntime) -> Result<(), Fail> {
     for (line, images, notes) in &COUNTS {
@@ -257,9 +257,9 @@ static SETS: [(&str, u8, &str); 28] = [
         "reraid: set rule 5 value 3\n",
     ),
     (
-        "write set=5:ls:none:1:0:15,1,3 -- a b c",
+        "write set=5:ls:none:1:0:23,1,3 -- a b c",
         7,
-        "reraid: set rule 5 value 15\n",
+        "reraid: set rule 5 value 23\n",
     ),
     (
         "write set=5:ls:none:1:0:2,1,2 -- a b c",
@@ -312,9 +312,9 @@ static SETS: [(&str, u8, &str); 28] = [
         "reraid: set rule 9 value 3\n",
     ),
     (
-        "rebuild set=5:ls:none:1:0:-,0,1 slot=15 -- a b",
+        "rebuild set=5:ls:none:1:0:-,0,1 slot=23 -- a b",
         7,
-        "reraid: set rule 9 value 15\n",
+        "reraid: set rule 9 value 23\n",
     ),
     (
         "map set=5:ls:none:1:0:0,1,2 sector=2 -- a b c",
@@ -331,7 +331,7 @@ static SETS: [(&str, u8, &str); 28] = [
 #[test]
 fn sets_at_the_limits_of_their_rules(rt: HostRuntime) -> Result<(), Fail> {
     for (line, status, notes) in &SETS {
-        refused(&rt, rt.alloc(), line, SIXTEEN, *status, notes)?;
+        refused(&rt, rt.alloc(), line, TWENTY_FOUR, *status, notes)?;
     }
     Ok(())
 }
@@ -345,13 +345,13 @@ fn many_names(alloc: Global, count: u64) -> Result<Vec<Word>, Memory> {
     Ok(words)
 }
 
-/// Runs the words over sixteen images.
-fn run_over_sixteen<R: Threads + Sync>(
+/// Runs the words over as many images as there may be.
+fn run_over_all<R: Threads + Sync>(
     rt: &R,
     alloc: Global,
     words: &[Word],
 ) -> Result<(u8, Objects), Memory> {
-    let contents = images_of(alloc, SIXTEEN)?;
+    let contents = images_of(alloc, TWENTY_FOUR)?;
     let mut met = ready(alloc, words, &contents, b"")?;
     let status = run_words(rt, alloc, words, &mut met);
     Ok((status, met))
@@ -361,11 +361,11 @@ fn run_over_sixteen<R: Threads + Sync>(
 #[test]
 fn names_are_very_many(rt: HostRuntime) -> Result<(), Fail> {
     let words = many_names(rt.alloc(), 65_537)?;
-    let (status, met) = run_over_sixteen(&rt, rt.alloc(), &words)?;
+    let (status, met) = run_over_all(&rt, rt.alloc(), &words)?;
     let end = End {
         status: 4,
         out: b"",
-        notes: b"reraid: images: count given 65537 planned 16\n",
+        notes: b"reraid: images: count given 65537 planned 24\n",
     };
     compare(&rt, status, &met, &end, "survey -- a a ..");
     Ok(())

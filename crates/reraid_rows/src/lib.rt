@@ -1,14 +1,16 @@
 //! Tests that run the whole program over objects in memory.
 //!
 //! A run has its words as one line, images and a plan, and a status, an output and a note that were worked out by hand.
-//! `listings`, `checks`, `landmarks`, `samples`, `surveys` and `volumes` have answers, `refusals` and `refused_words` what is
-//! refused, and `defaults` operands that are not given. `failing` has each call of each object made to fail in turn, `cut` plans
+//! `listings`, `checks`, `classes`, `landmarks`, `samples`, `surveys`, `volumes` and `many_images` have answers, `refusals` and
+//! `refused_words` what is refused, and `defaults` operands that are not given. `failing` has each call of each object made to fail in turn, `cut` plans
 //! whose end is missing, and `plan_limits`, `sector_limits` and `image_limits` what stands at both sides of each limit. In
 //! `side_by_side` pieces of a scan wait for each other. That objects are ready for a run stands in `specs/Ready`.
 #![tactic(auto)]
 
 #[cfg(test)]
 mod checks;
+#[cfg(test)]
+mod classes;
 #[cfg(test)]
 mod cut;
 #[cfg(test)]
@@ -21,6 +23,8 @@ mod image_limits;
 mod landmarks;
 #[cfg(test)]
 mod listings;
+#[cfg(test)]
+mod many_images;
 #[cfg(test)]
 mod objects;
 #[cfg(test)]

@@ -12,12 +12,13 @@ use std::mem::replace;
 use std::thread::Threads;
 
 /// The names of images that hold something, in their order.
-static NAMES: [&str; 16] = [
-    "a", "b", "c", "d", "e", "f", "g", "h", "i", "j", "k", "l", "m", "n", "o", "p",
+static NAMES: [&str; 24] = [
+    "a", "b", "c", "d", "e", "f", "g", "h", "i", "j", "k", "l", "m", "n", "o", "p", "q", "r", "s",
+    "t", "u", "v", "w", "x",
 ];
 
 /// The bytes that the output has room for.
-const ROOM: usize = 32_768;
+const ROOM: usize = 65_536;
 
 /// The objects that a run works on.
 #[derive(Drop)]

@@ -1,7 +1,7 @@
 //! Refusals of plans, images and sets.
 use crate::objects::images_of;
 use crate::plans::{PLAN, TOO_MANY_SETS, TWO_LEVELS};
-use crate::rows::{End, Row, SIXTEEN, STRIPES, STRIPES_LOST, check, check_all, ends_so};
+use crate::rows::{End, Row, STRIPES, STRIPES_LOST, TWENTY_FOUR, check, check_all, ends_so};
 use outside::Memory;
 use std::alloc::Global;
 use std::process::Abort;
@@ -57,7 +57,7 @@ fn a_plan_may_be_too_long(rt: HostRuntime) -> Result<(), Fail> {
 /// A listing over too many sets.
 const TOO_LARGE: Row = Row {
     line: "list -- a b c d e f g h i j k l m n o p",
-    images: SIXTEEN,
+    images: TWENTY_FOUR,
     plan: TOO_MANY_SETS,
     status: 5,
     out: "",

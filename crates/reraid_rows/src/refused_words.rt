@@ -9,7 +9,7 @@ use std::thread::Threads;
 
 /// Lines with their refused words, counted from 1, or 0 where they are command lines. A refused word is the first with which no
 /// command line goes on, or the one after the last where all of them begin one.
-static LINES: [(&str, u64); 110] = [
+static LINES: [(&str, u64); 120] = [
     // no command, or another spelling of one
     ("", 1),
     (" list -- a", 1),
@@ -47,6 +47,13 @@ static LINES: [(&str, u64); 110] = [
     ("survey set=0:plain:none:1:0:0,1 -- a", 2),
     ("survey size=1 -- a", 2),
     ("map set=0:plain:none:1:0:0,1 from=0 -- a", 3),
+    // classes of listed sets
+    ("classes images=1 end=0 --", 0),
+    ("classes images=1 --", 3),
+    ("classes end=0 --", 3),
+    ("classes images=0 end=0 --", 2),
+    ("classes images=25 end=0 --", 2),
+    ("classes images=1 end=0 -- a", 5),
     // one operand twice
     ("list from=1 from=1 -- a", 3),
     ("list size=2 size=3 -- a", 3),
@@ -103,8 +110,8 @@ static LINES: [(&str, u64); 110] = [
         "map end=36028797018963968 sector=0 set=0:plain:none:1:0:0,1 -- a",
         2,
     ),
-    ("rebuild slot=15 set=5:ls:none:1:0:0,1,- -- a", 0),
-    ("rebuild slot=16 set=5:ls:none:1:0:0,1,- -- a", 2),
+    ("rebuild slot=23 set=5:ls:none:1:0:0,1,- -- a", 0),
+    ("rebuild slot=24 set=5:ls:none:1:0:0,1,- -- a", 2),
     ("rebuild slot=- set=5:ls:none:1:0:0,1,- -- a", 2),
     (
         "sample number=18446744073709551616 set=5:ls:none:8:0:0,1,2 rows=1 --",
@@ -136,11 +143,11 @@ static LINES: [(&str, u64); 110] = [
     // set words
     ("check set=0:plain:none:0:0:- -- a", 0),
     (
-        "check set=6:parity-first-6:by-slot:4294967295:36028797018963967:0,15,-,0,0,0,0,0,0,0,0,0,0,0,0,0 -- a",
+        "check set=6:parity-first-6:by-slot:4294967295:36028797018963967:0,23,-,0,0,0,0,0,0,0,0,0,0,0,0,0,0,0,0,0,0,0,0,0 -- a",
         0,
     ),
     (
-        "check set=6:parity-first-6:by-slot:4294967295:36028797018963967:0,15,-,0,0,0,0,0,0,0,0,0,0,0,0,0,0 -- a",
+        "check set=6:parity-first-6:by-slot:4294967295:36028797018963967:0,23,-,0,0,0,0,0,0,0,0,0,0,0,0,0,0,0,0,0,0,0,0,0,0 -- a",
         2,
     ),
     ("check set=1:plain:none:1:0:0,1 -- a", 2),
@@ -148,7 +155,7 @@ static LINES: [(&str, u64); 110] = [
     ("check set=0:plain:no:1:0:0,1 -- a", 2),
     ("check set=0:plain:none:4294967296:0:0,1 -- a", 2),
     ("check set=0:plain:none:1:36028797018963968:0,1 -- a", 2),
-    ("check set=0:plain:none:1:0:16,1 -- a", 2),
+    ("check set=0:plain:none:1:0:24,1 -- a", 2),
     ("check set=0:plain:none:1:0:0,,1 -- a", 2),
     ("check set=0:plain:none:1:0: -- a", 2),
     ("check set=0:plain:none:1:0 -- a", 2),
@@ -156,12 +163,16 @@ static LINES: [(&str, u64); 110] = [
     ("check set=00:plain:none:1:0:0,1 -- a", 2),
     // lists of a survey
     (
-        "survey kinds=gpt,ntfs,xfs levels=0,5,6 members=2,3,16 -- a",
+        "survey kinds=gpt,ntfs,xfs levels=0,5,6 members=2,3,24 -- a",
         0,
     ),
     ("survey kinds=ntfs,gpt -- a", 2),
     ("survey chunks=1,2,3 -- a", 2),
-    ("survey drop=0:1,0:2,1:0,15:36028797018963967 -- a", 0),
+    ("survey members=25 -- a", 2),
+    ("survey foreign=24 -- a", 0),
+    ("survey foreign=25 -- a", 2),
+    ("survey drop=0:1,0:2,1:0,23:36028797018963967 -- a", 0),
+    ("survey drop=24:0 -- a", 2),
     ("survey drop=0:2,0:1 -- a", 2),
     // after the mark every word is a name
     ("list -- -- size=1 ", 0),

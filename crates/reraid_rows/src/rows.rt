@@ -21,8 +21,8 @@ pub const TORN: &[&[u8]] = &[&[0x1D], &[0x80], &[0x81]];
 /// One sector of zeros.
 pub const ZERO: &[u8] = &[0];
 
-/// Sixteen images of one sector of zeros.
-pub const SIXTEEN: &[&[u8]] = &[ZERO; 16];
+/// As many images as there may be, of one sector of zeros.
+pub const TWENTY_FOUR: &[&[u8]] = &[ZERO; 24];
 
 /// One run: the line of its words, the sectors of its images, its plan, and what it must leave.
 #[derive(Clone, Copy)]

@@ -24,7 +24,7 @@ unfolding is_chunk
 bounds_are b offset levels members patterns syndromes chunks offsets missing foreign near = record {
   levels = one_rises (map level_place b.levels.items) 0 (ap (map level_place) levels);
   members = one_rises b.members.items 2 members;
-  few_members = one_each (λ n. (2 ≤ n) × (n ≤ 16)) b.members.items 2 members (omega arith, omega arith);
+  few_members = one_each (λ n. (2 ≤ n) × (n ≤ 24)) b.members.items 2 members (omega arith, omega arith);
   patterns = one_rises (map pattern_place b.patterns.items) 0 (ap (map pattern_place) patterns);
   syndromes = one_rises (map syndrome_place b.syndromes.items) 0 (ap (map syndrome_place) syndromes);
   chunks = one_rises b.chunks.items 8 chunks;

@@ -72,18 +72,19 @@ pub fn one_missing(alloc: Global) -> Plan
     }
 }
 
-// The largest plan: sixteen images, all that level 6 has, and two missing or foreign.
+// The largest plan: 24 images, all that level 6 has, and two missing or foreign.
 pub fn largest(alloc: Global) -> Plan
     ensures { IsPlan result }
 {
     Plan {
         lengths: filled(&[
-            64, 64, 64, 64, 64, 64, 64, 64, 64, 64, 64, 64, 64, 64, 64, 64,
+            64, 64, 64, 64, 64, 64, 64, 64, 64, 64, 64, 64, 64, 64, 64, 64, 64, 64, 64, 64, 64, 64,
+            64, 64,
         ]),
         end: 64,
         bounds: Bounds {
             levels: filled(&[Level::Raid6]),
-            members: filled(&[16]),
+            members: filled(&[24]),
             patterns: filled(&[
                 Pattern::La,
                 Pattern::Ra,

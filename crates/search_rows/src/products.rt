@@ -62,7 +62,7 @@ fn one_empty_slot(rt: HostRuntime) {
     assert!(rt; stands(&rt, &plan, 5, &[NO, Some(1), Some(0)]));
 }
 
-// 39,936 heads of 77 * 16! slot lists each are more than 2 to the power 64.
+// 39,936 heads of 163 * 24! slot lists each, of which 24! leave no slot empty, 24 * 24! one and 276 * 24! / 2 two, are more than 2 to the power 64.
 #[test]
 fn too_many_sets(rt: HostRuntime) {
     assert_eq!(rt; product_total(&largest(rt.alloc())), None);

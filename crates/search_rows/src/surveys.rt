@@ -165,7 +165,7 @@ fn plan_of<R: Abort + AllocGlobal>(
     ask: &Ask,
 ) -> Result<Plan, Fail>
     requires some { 1 ≤ count }
-    requires most { count ≤ 16 }
+    requires most { count ≤ 24 }
     requires limits { IsAsk ask.now }
 {
     assert!(rt; are_long(images, count, ask.end));

@@ -230,8 +230,8 @@ fn sets_are_written_as_they_were_read(rt: HostRuntime) -> Result<(), Fail> {
 static OTHER_WORDS: [&[u8]; 7] = [
     b"5:ls:none:0128:0:0,1,2",
     b"5:ls:none:4294967296:0:0,1,2",
-    b"5:ls:none:128:0:0,1,16",
-    b"5:ls:none:128:0:-,-,-,-,-,-,-,-,-,-,-,-,-,-,-,-,-",
+    b"5:ls:none:128:0:0,1,24",
+    b"5:ls:none:128:0:-,-,-,-,-,-,-,-,-,-,-,-,-,-,-,-,-,-,-,-,-,-,-,-,-",
     b"5:ls:none:128:0:",
     b"5:ls:none:128:0:0,1,2 ",
     b"5:left:none:128:0:0,1,2",

@@ -3,6 +3,9 @@ use Rattle.std.proofs.Common.{Option, Bool, not, ◌≡◌, ℕ, zero, suc, ◌�
 use Rattle.std.specs.Option.{is_some, option_map}
 use Rattle.std.proofs.lemmas.List.Elements.{All-cons, All-nil}
 use Rattle.outside.specs.Seen.{Image}
+use Rattle.near_mirror.specs.Validity.{first_fault as near_fault}
+use Rattle.near_mirror.specs.declared.types.NearSet.{NearSet}
+use Rattle.near_volume.specs.Mirrored.{IsMirrored}
 use Rattle.raid_params.specs.Validity.{first_fault}
 use Rattle.raid_params.specs.declared.types.Geometry.{Geometry}
 use Rattle.virtual_volume.specs.Served.{IsServed}
@@ -32,6 +35,15 @@ pub long_served : (geo : Geometry) (end n : ℕ) (attached : List Image) → fir
 long_served geo end n attached ruled offset near long = record {
   ruled = ap (λ (m : ℕ). first_fault geo m end) long.0 ∙ ruled;
   offset = offset;
+  near = near;
+  long = long.1;
+}
+
+-- and that of a mirror that breaks none
+pub long_mirrored : (set : NearSet) (end n : ℕ) (attached : List Image) → near_fault set n end ≡ None → end < 2 ^ 55 →
+    (length attached ≡ n) × All (λ image. end ≤ image.sectors) attached → IsMirrored set end attached
+long_mirrored set end n attached ruled near long = record {
+  ruled = ap (λ (m : ℕ). near_fault set m end) long.0 ∙ ruled;
   near = near;
   long = long.1;
 }

@@ -1,7 +1,7 @@
 //! Tests of the libraries of volumes and parity, over objects in memory.
 //!
 //! What each answers was worked out by hand: `single_rows` the parity of one row, `region_rows` that of rows in
-//! regions, `memory` that memory is enough, `volumes` and `members` what is written, `puts` in which pieces, and
+//! regions, `memory` that memory is enough, `volumes`, `members` and `mirrors` what is written, `puts` in which pieces, and
 //! `read_counts` how much is read for it. The tests stand here, since a library with tests is proved a second time
 //! with them. Sets, images and sinks stand in `objects`, rows in `cells`.
 //!
@@ -15,6 +15,8 @@ mod cells;
 mod members;
 #[cfg(test)]
 mod memory;
+#[cfg(test)]
+mod mirrors;
 #[cfg(test)]
 mod objects;
 #[cfg(test)]

@@ -1,8 +1,10 @@
 //! Sets, images and sinks in memory, as the tests have them.
 ghost use Rattle.std.specs.Prelude.{◌≡◌, ◌≤◌, length, All, IsSomeAnd, IsTrue, None, slice_get};
+ghost use Rattle.near_volume.specs.Mirrored.{IsMirrored};
 ghost use Rattle.virtual_volume.specs.Served.{IsServed};
 
 use image_source::{MemImages, MemSink};
+use near_mirror::NearSet;
 use outside::{Failed, Images, SECTOR, Sink};
 use raid_params::{Geometry, Head, Level, Pattern, Slots, Syndrome};
 use std::alloc::Global;
@@ -143,6 +145,16 @@ pub fn serve<R: Abort, I: Images>(rt: &R, images: &I, count: u8, geo: &Geometry,
 {
     assert!(rt; geo.head.offset < FAR && end < FAR);
     assert!(rt; geo.validate(count, end).is_ok());
+    assert!(rt; all_reach(images, count, end));
+}
+
+/// Looks whether the volume of a mirror can be written, over `count` images.
+#[tactic(auto, using(crate::proofs::TestSets::long_mirrored))]
+pub fn serve_mirror<R: Abort, I: Images>(rt: &R, images: &I, count: u8, set: &NearSet, end: u64)
+    ensures { IsMirrored set.now end (I.seen images.now).attached }
+{
+    assert!(rt; end < FAR);
+    assert!(rt; set.validate(count, end).is_ok());
     assert!(rt; all_reach(images, count, end));
 }
 

@@ -1,8 +1,8 @@
 #!/bin/bash
 # Refuses each request for memory in turn, over the proved program: a library that is loaded before the C library counts the
 # requests and refuses one of them. The runs are listings, of which one scans few sets and one scans pieces of 720 side by side, a
-# test of a set with Q, a survey of images with tables of their own, a volume, a member and a generated array. Each ends with its
-# own status and answer, or with status 20, its line, and nothing put; the images hold what they held.
+# test of a set with Q, a survey of images with tables of their own, a volume, a member, a generated array and classes of sets.
+# Each ends with its own status and answer, or with status 20, its line, and nothing put; the images hold what they held.
 #
 # Usage: hostile/fail_alloc.sh PROGRAM [FOLDER]
 # Needs bash, cc and python3.
@@ -64,6 +64,7 @@ runs = [
     (["rebuild", "set=5:ls:none:1:0:-,0,1", "slot=0", "--", "b", "c"], b""),
     (["map", "set=5:ls:none:1:0:0,1,2", "sector=2", "--", "a", "b", "c"], b""),
     (["sample", "number=7", "set=5:ls:none:8:0:0,1,2", "rows=2", "--"], b""),
+    (["classes", "images=3", "end=2", "--"], b"0 5:ls:none:1:0:0,1,2\n1 5:parity-last:none:1:0:0,1,2\n2 0:plain:none:1:0:0,1\nnext 3 of 3\n"),
 ]
 
 

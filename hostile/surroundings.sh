@@ -89,8 +89,11 @@ done
 END
 printf '%s\n' "0 5:ls:none:1:0:0,1,2" "1 5:ls:none:1:0:0,2,1" "2 5:ls:none:1:0:1,0,2" "3 5:ls:none:1:0:1,2,0" \
     "4 5:ls:none:1:0:2,0,1" "5 5:ls:none:1:0:2,1,0" "next 6 of 6" >listing
+printf '%s\n' "0 5:ls:none:1:0:0,1,2" "1 5:ls:none:1:0:0,2,1" "2 5:ls:none:1:0:1,0,2" "3 5:ls:none:1:0:1,2,0" \
+    "4 5:ls:none:1:0:2,0,1" "5 5:ls:none:1:0:2,1,0" "classes 6 of 6" >classed
 printf '%s\n' "row 1 item 0 slot 2 image 2 sector 1 p 1 q -" "name left-symmetric" >place
 : >empty
+echo "classes 0 of 0" >none
 head -c 1000 a >thousand
 head -c 511 a >short
 sha256sum a b c empty thousand short >sums
@@ -106,6 +109,7 @@ expect "a listing" 0 "" listing list -- a b c
 expect "a volume" 0 "" volume write set=$set -- a b c
 expect "a member" 0 "" member rebuild set=5:ls:none:1:0:-,0,1 slot=0 -- b c
 expect "a place" 0 "" place map set=$set sector=2 -- a b c
+through "classes" 0 "" classed '<listing >out 2>err' classes images=3 end=2 --
 
 echo "== standard descriptors that are closed"
 through "input, of a listing" 2 "$noplan" "" '<&- >out 2>err' list -- a b c
@@ -120,6 +124,8 @@ through "error, of a cursor past the total" 6 "" "" '<plan >out 2>&-' list from=
 through "input and output" 2 "$noplan" "" '<&- >&- 2>err' list -- a b c
 through "output and error" 12 "" "" '<plan >&- 2>&-' list -- a b c
 through "input and error" 0 "" volume '<&- >out 2>&-' write set=$set -- a b c
+through "input, of classes" 0 "" none '<&- >out 2>err' classes images=3 end=2 --
+through "output, of classes" 12 "$output" "" '<listing >&- 2>err' classes images=3 end=2 --
 through "all, of a listing" 2 "" "" '<&- >&- 2>&-' list -- a b c
 through "all, of a volume" 12 "" "" '<&- >&- 2>&-' write set=$set -- a b c
 through "all, of words that are none" 1 "" "" '<&- >&- 2>&-' nothing
@@ -129,12 +135,16 @@ through "a full disk, of a listing" 12 "$output" "" '<plan >/dev/full 2>err' lis
 through "a full disk, of a volume" 12 "$output" "" '<plan >/dev/full 2>err' write set=$set -- a b c
 through "a full disk, of a member" 12 "$output" "" '<plan >/dev/full 2>err' rebuild set=5:ls:none:1:0:-,0,1 slot=0 -- b c
 through "a full disk, of a survey" 12 "$output" "" '<plan >/dev/full 2>err' survey -- a b c
+through "a full disk, of classes" 12 "$output" "" '<listing >/dev/full 2>err' classes images=3 end=2 --
 through "a full disk for the line" 6 "" "" '<plan >out 2>/dev/full' list from=7 -- a b c
 through "output that is open for reading" 12 "$output" "" '<plan 1<empty 2>err' list -- a b c
 through "input that is open for writing" 11 "reraid: plan read fault" "" '0>>empty >out 2>err' list -- a b c
 through "input that is a folder" 11 "reraid: plan read fault" "" '<. >out 2>err' list -- a b c
 through "input without an end, of zeros" 3 "reraid: plan is longer than 4194304 bytes" "" '</dev/zero >out 2>err' list -- a b c
 through "input without an end, of lines" 3 "reraid: plan is longer than 4194304 bytes" "" '< <(yes) >out 2>err' list -- a b c
+through "input that is a folder, of classes" 11 "reraid: plan read fault" "" '<. >out 2>err' classes images=3 end=2 --
+through "input without an end, of classes" 3 "reraid: set list is longer than 4194304 bytes" "" '</dev/zero >out 2>err' classes images=3 end=2 --
+through "a plan for classes" 13 "reraid: set line 1 is not understood" "" '<plan >out 2>err' classes images=3 end=2 --
 through "input without an end, of a volume" 0 "" volume '</dev/zero >out 2>err' write set=$set -- a b c
 
 # a volume of 64 MiB, so that the pipe is full before its reader leaves
@@ -210,7 +220,7 @@ else
         status=$(sed -n "s/^$count \([0-9]*\) .*/\1/p" many)
         sed -n "s/^$count [0-9]* //p" many >err
         : >out
-        judge "$count names" 4 "reraid: images: count given $count planned 16" ""
+        judge "$count names" 4 "reraid: images: count given $count planned 24" ""
     done
 fi
 

@@ -7,10 +7,10 @@ import zlib
 
 from arrays import Product, cells
 from generated import array_images
-from texts import FAR, FIVE, KINDS, LEVELS, MARKS_OF, PATTERNS, RANKS, REDUNDANCY, SECTOR, SIX, SYNDROMES, Plan, Set, Stop, read_plan
+from texts import FAR, FIVE, KINDS, LEVELS, MARKS_OF, MOST, PATTERNS, RANKS, REDUNDANCY, SECTOR, SIX, SYNDROMES, Plan, Set, Stop, read_plan
 
-EDGES = [0, 1, 2, 3, 15, 16, 17, 63, 64, 65, 100, 4095, 4096, 4097, 32767, 32768, 65535, 65536, 65537, 999999, 1000000, 1000001,
-         2 ** 32 - 1, 2 ** 32, FAR - 1, FAR, FAR + 1, RANKS - 1, RANKS, 10 ** 25]
+EDGES = [0, 1, 2, 3, 15, 16, 17, 23, 24, 25, 63, 64, 65, 100, 4095, 4096, 4097, 32767, 32768, 65535, 65536, 65537, 999999, 1000000,
+         1000001, 2 ** 32 - 1, 2 ** 32, FAR - 1, FAR, FAR + 1, RANKS - 1, RANKS, 10 ** 25]
 NAMES = "abcdefghijklmnopqrstuvwxyz"
 
 
@@ -29,7 +29,7 @@ def some_set(rng, most=6):
     level = rng.choice([0, 5, 5, 6, 6])
     pattern = "plain" if level == 0 else rng.choice(FIVE if level == 5 else SIX)
     syndrome = rng.choice(SYNDROMES[1:]) if level == 6 else "none"
-    members = rng.randint({0: 2, 5: 3, 6: 4}[level], 16 if rng.random() < 0.03 else most)
+    members = rng.randint({0: 2, 5: 3, 6: 4}[level], MOST if rng.random() < 0.03 else most)
     lost = rng.choice([0] * 3 + list(range(REDUNDANCY[level] + 1)))
     slots = list(range(members - lost)) + [None] * lost
     rng.shuffle(slots)
@@ -64,7 +64,7 @@ def some_array(rng):
         if image:
             image[rng.randrange(len(image))] ^= 1 << rng.randrange(8)
     for _ in range(rng.choice([0] * 5 + [1, 2])):
-        if len(images) < 16:
+        if len(images) < MOST:
             images.append(bytearray(some_bytes(rng, max(len(image) for image in images))))
     order = list(range(len(images)))
     rng.shuffle(order)
@@ -126,7 +126,7 @@ def some_plan(rng, found, images, size, most=1500):
     absent = len(images) - (found.members - found.lost)
     given = {
         "levels": some_list(rng, found.level, LEVELS),
-        "members": some_list(rng, found.members, list(range(2, 17)), 2),
+        "members": some_list(rng, found.members, list(range(2, MOST + 1)), 2),
         "patterns": some_list(rng, found.pattern, PATTERNS),
         "syndromes": some_list(rng, found.syndrome, SYNDROMES),
         "chunks": some_list(rng, found.chunk, [2 ** power for power in range(rng.choice([4, 4, 16]))], 2),
@@ -204,7 +204,7 @@ def with_edge(rng, text):
         return text
     start, stop = rng.choice(spots)
     if rng.random() < 0.15:
-        return text[:start] + ",".join(str(n) for n in range(rng.choice([16, 17, 64, 65]))) + text[stop:]
+        return text[:start] + ",".join(str(n) for n in range(rng.choice([16, 17, MOST, MOST + 1, 64, 65]))) + text[stop:]
     return text[:start] + str(rng.choice(EDGES)) + text[stop:]
 
 
@@ -276,7 +276,7 @@ def finished(rng, case):
     elif way < 0.125:
         case.words = [word for word in case.words if word not in case.files]
     elif way < 0.13 and "--" in case.words:
-        case.words += ["a"] * rng.choice([1, 14, 17])
+        case.words += ["a"] * rng.choice([1, 14, MOST - 2, MOST + 1])
     return case
 
 
@@ -309,17 +309,19 @@ def list_case(rng):
 
 
 def large_product(rng):
-    """A product near the largest that has ranks, of which a few sets are asked for."""
-    images = [some_bytes(rng, 4 * SECTOR) for _ in range(16)]
-    given = {"levels": [6], "members": [16], "patterns": rng.sample(SIX, rng.randint(1, 13)), "syndromes": SYNDROMES[1:],
+    """A product near the largest that has ranks, or of few members among many images, of which a few sets are asked for."""
+    count = rng.choice([16, 16, 16, 17, 18, 19, 21, 22, MOST, MOST])
+    members = count if count < 19 or rng.random() < 0.2 else rng.randint(4, 8)
+    images = [some_bytes(rng, 4 * SECTOR) for _ in range(count)]
+    given = {"levels": [6], "members": [members], "patterns": rng.sample(SIX, rng.randint(1, 13)), "syndromes": SYNDROMES[1:],
              "chunks": [2 ** power for power in range(rng.randint(1, 16))], "offsets": list(range(rng.randint(1, 64))), "origins": [0],
-             "missing": rng.choice([0, 1, 2]), "foreign": rng.choice([0, 1, 2]), "badrows": rng.choice([0, 4]), "window": 4, "misfits": 0,
-             "least": 1}
+             "missing": rng.choice([0, 1, 2]), "foreign": min(MOST, count - members + rng.choice([0, 1, 2])), "badrows": rng.choice([0, 4]),
+             "window": 4, "misfits": 0, "least": 1}
     given["patterns"].sort(key=PATTERNS.index)
-    plan = Plan([4] * 16, 4, given, [])
+    plan = Plan([4] * count, 4, given, [])
     total = Product(plan).total
     first = rng.choice([0, 1, total - 5, total - 1, total, total + 1, rng.randint(0, total), RANKS - 1])
-    return Case(["list", f"from={min(max(0, first), RANKS - 1)}", f"span={rng.randint(1, 8)}", "size=5", "--", *NAMES[:16]],
+    return Case(["list", f"from={min(max(0, first), RANKS - 1)}", f"span={rng.randint(1, 8)}", "size=5", "--", *NAMES[:count]],
                 plan.text().encode(), files_of(images), True)
 
 
@@ -370,10 +372,10 @@ def changed_set(rng, found, images):
     elif way < 0.88:
         slots[rng.randrange(len(slots))] = None
     elif way < 0.94:
-        slots[rng.randrange(len(slots))] = rng.choice([0, 1, len(images) - 1, len(images), 15])
+        slots[rng.randrange(len(slots))] = rng.choice([0, 1, len(images) - 1, len(images), MOST - 1])
     elif way < 0.97 and len(slots) > 1:
         slots.pop()
-    elif len(slots) < 16:
+    elif len(slots) < MOST:
         slots.append(rng.choice([None, 0, len(images)]))
     made.slots = tuple(slots)
     return made
@@ -419,7 +421,7 @@ def rebuild_case(rng):
             slots[slot] = None
         made = Set(made.level, made.pattern, made.syndrome, made.chunk, made.offset, slots)
     empty = [slot for slot, image in enumerate(made.slots) if image is None]
-    slot = rng.choice(empty) if empty and rng.random() < 0.9 else rng.choice([0, 1, len(made.slots) - 1, min(15, len(made.slots)), 15])
+    slot = rng.choice(empty) if empty and rng.random() < 0.9 else rng.choice([0, 1, len(made.slots) - 1, min(MOST - 1, len(made.slots)), MOST - 1])
     operands = [f"set={made.word()}", f"slot={slot}", *an_end(rng, images)]
     files = files_of(images)
     return Case(["rebuild", *shuffled(rng, operands), "--", *files], b"", files)
@@ -463,8 +465,8 @@ def marked_sample(rng):
 
 
 def wide_sample(rng):
-    """Up to sixteen members; the set may be at the end of the page of all that pass."""
-    level, members = rng.choice([0, 5, 5, 6, 6]), rng.choice([5, 6, 7, 8, 11, 14, 15, 16, 16])
+    """Up to as many members as there may be; the set may be at the end of the page of all that pass."""
+    level, members = rng.choice([0, 5, 5, 6, 6]), rng.choice([5, 6, 7, 8, 11, 14, 16, 17, 18, 18, 19, 20, MOST])
     lost = rng.choice({0: [0], 5: [0, 0, 1], 6: [2]}[level])
     slots = list(range(members - lost)) + [None] * lost
     rng.shuffle(slots)
@@ -489,9 +491,9 @@ def long_sample(rng):
 def limit_sample(rng):
     """About the most rows, the largest chunk, the largest of the usual offsets, or the most sectors of all members together. What keeps to
     the last has a GiB, so nearly all go past it by a sector of each."""
-    found, way = sample_set(rng, rng.choice([4, 4, 4, 16]), [1], [0, 0, 1]), rng.random()
+    found, way = sample_set(rng, rng.choice([4, 4, 4, 16, MOST]), [1], [0, 0, 1]), rng.random()
     while found.members > 4 and not all_pass(found):
-        found = sample_set(rng, 16, [1], [0, 0, 1])
+        found = sample_set(rng, MOST, [1], [0, 0, 1])
     marks = [] if found.members > 4 else rng.choice([[], [], ["marks=xfs"]])
     if way < 0.2:
         return found, rng.choice([0, 65535, 65536, 65537, 65537]), marks
@@ -615,13 +617,13 @@ def landmark(rng, sector, length, variety):
 def survey_operands(rng, images):
     shortest = min(len(image) // SECTOR for image in images) if images else 0
     choices = {
-        "levels": lambda: rng.choice(["0", "5", "6", "0,5", "5,6"]), "members": lambda: rng.choice(["2", "3", "2,16", "4,5,6"]),
+        "levels": lambda: rng.choice(["0", "5", "6", "0,5", "5,6"]), "members": lambda: rng.choice(["2", "3", "2,16", f"17,{MOST}", "4,5,6"]),
         "patterns": lambda: rng.choice(["plain", "ls,rs", "parity-first-6"]), "syndromes": lambda: rng.choice(["none", "after-q,by-slot"]),
         "chunks": lambda: rng.choice(["1", "8,16", "32768", ",".join(str(2 ** power) for power in range(16))]),
         "offsets": lambda: ",".join(str(n) for n in sorted(rng.sample([0, 1, 2, 3, 10, shortest, shortest + 1, FAR - 1], 2) + [5])
                                     ) if rng.random() < 0.9 else ",".join(str(n) for n in range(64)),
         "origins": lambda: ",".join(str(n) for n in sorted(rng.sample(range(0, 120), rng.choice([1, 2, 63, 64])))),
-        "missing": lambda: str(rng.randint(0, 2)), "foreign": lambda: str(rng.choice([0, 1, 16])),
+        "missing": lambda: str(rng.randint(0, 2)), "foreign": lambda: str(rng.choice([0, 1, MOST])),
         "badrows": lambda: str(rng.choice([0, 3, FAR - 1])), "misfits": lambda: str(rng.choice([0, 1, FAR - 1])),
         "least": lambda: str(rng.choice([0, 1, FAR - 1])), "window": lambda: str(rng.choice([1, 100, FAR - 1])),
         "end": lambda: str(max(0, shortest + rng.choice([-3, -1, 0, 0, 1]))),
@@ -639,7 +641,7 @@ def survey_case(rng):
     if way < 0.06:
         return many_file_systems(rng)
     images = [bytearray(some_bytes(rng, rng.choice([0, 1, 2, 3, 40, 60, 64]) * SECTOR) if rng.random() < 0.3 else 64 * SECTOR)
-              for _ in range(rng.choice([1, 2, 3, 4, 4, 16]))]
+              for _ in range(rng.choice([1, 2, 3, 4, 4, 16, MOST]))]
     variety = rng.choice([1, 1, 1, 2, 40])
     for _ in range(rng.choice([0, 1, 5, 10]) if variety < 40 else 60):
         image = rng.choice(images)
@@ -712,8 +714,85 @@ def crowded_survey(rng):
     return Case(["survey", *rng.choice([[], ["drop=0:0,1:3"], ["offsets=1"], ["end=2049"]]), "--", *files], b"", files)
 
 
+# Lists of sets
+
+def twin(rng, found, images):
+    """A set that may give the same volume: another order of Q, pattern or order of the same images, or one lost image more or less."""
+    way, slots = rng.randrange(6), list(found.slots)
+    made = Set(found.level, found.pattern, found.syndrome, found.chunk, found.offset, slots)
+    if way == 0 and found.level == 6:
+        made.syndrome = rng.choice(SYNDROMES[1:])
+    elif way == 1 and found.level:
+        made.pattern = rng.choice(FIVE if found.level == 5 else SIX)
+    elif way == 2:
+        step = rng.randrange(found.members)
+        made.slots = tuple(slots[step:] + slots[:step])
+    elif way == 3:
+        one, other = rng.sample(range(found.members), 2)
+        slots[one], slots[other] = slots[other], slots[one]
+        made.slots = tuple(slots)
+    elif way == 4 and found.level and found.lost < REDUNDANCY[found.level]:
+        slots[rng.choice([slot for slot in range(found.members) if slots[slot] is not None])] = None
+        made.slots = tuple(slots)
+    else:
+        spare = [image for image in range(images) if image not in slots]
+        empty = [slot for slot in range(found.members) if slots[slot] is None]
+        if spare and empty:
+            slots[empty[0]] = spare[0]
+            made.slots = tuple(slots)
+    made.lost = made.slots.count(None)
+    return made
+
+
+def lower_twin(found, rng):
+    """The volume of a level with parity, as a set of level 0 or 5 whose parity stands apart, where there is one."""
+    made = cells(found.level, found.pattern, found.members, 0)
+    if found.level == 0 or None in found.slots or not found.pattern.startswith("parity-"):
+        return None
+    order = [made.index(item) for item in range(found.data)]
+    if found.level == 6 and rng.random() < 0.5 and found.data >= 2:
+        return Set(5, rng.choice(["parity-first", "parity-last"]), "none", found.chunk, found.offset,
+                   [found.slots[slot] for slot in (order + [made.index("P")])])
+    return Set(0, "plain", "none", found.chunk, found.offset, [found.slots[slot] for slot in order])
+
+
+def classes_case(rng):
+    """Lists of sets, many of which give the same volume, with lines of where pages went on; some torn, or at the limit."""
+    way = rng.random()
+    if way < 0.004:
+        word = "0:plain:none:1:0:0,1"
+        lines = [f"{rank} {word}" for rank in range(rng.choice([1023, 1024, 1025]))]
+        return Case(["classes", "images=2", f"end={rng.choice([0, 1, 1, 1])}", "--"], "".join(line + "\n" for line in lines).encode())
+    found = some_set(rng)
+    images = max([slot for slot in found.slots if slot is not None], default=0) + rng.choice([1, 1, 2, 3])
+    rows = rng.choice([1, 1, 2, 3, found.members, found.members + 1, found.members * (found.members - 1), 40])
+    end = min(found.offset + rows * found.chunk + rng.choice([0, 0, 0, 1]), 120)
+    sets = [found]
+    for _ in range(rng.choice([0, 1, 2, 3, 5, 8])):
+        made = lower_twin(sets[0], rng) if rng.random() < 0.2 else None
+        sets.append(made or twin(rng, rng.choice(sets), images))
+    if rng.random() < 0.2:
+        sets.append(some_set(rng, 4))
+    if rng.random() < 0.5:
+        rng.shuffle(sets)
+    lines = [f"{rng.choice([place, rng.randrange(RANKS), 0])} {one.word()}" for place, one in enumerate(sets)]
+    for _ in range(rng.choice([0, 1, 1, 2])):
+        lines.insert(rng.randint(0, len(lines)), f"next {rng.choice([0, 7, RANKS - 1])} of {rng.choice([0, 7, RANKS - 1])}")
+    text = "".join(line + "\n" for line in lines)
+    if rng.random() < 0.15 and text:
+        at = rng.randrange(len(text))
+        text = rng.choice([text[:at] + text[at + 1:], text[:at] + rng.choice("0-,:1\n xA") + text[at + 1:], text[:-1], text[:at], text + "\n"])
+    elif rng.random() < 0.05:
+        text = with_edge(rng, text)
+    data = text.encode()
+    if way > 0.997:
+        data += b"next 1 of 1\n" * ((4194304 - len(data)) // 12) + b"x" * rng.choice([0, 30])
+    return Case(["classes", *shuffled(rng, [f"images={images if rng.random() < 0.95 else rng.choice([1, 2, 16, 17, 0])}",
+                                            f"end={end if rng.random() < 0.95 else rng.choice(EDGES)}"]), "--"], data)
+
+
 MAKERS = {"survey": survey_case, "list": list_case, "check": check_case, "map": map_case, "write": write_case, "rebuild": rebuild_case,
-          "sample": sample_case, "scan": scan_case}
+          "sample": sample_case, "scan": scan_case, "classes": classes_case}
 
 
 def make(command, rng):

@@ -7,11 +7,13 @@ one.
 """
 
 import json
+import math
+import random
 
-from arrays import Product, Row, Sums, cells, held, layout_name, page, unsound_rows, volume_sector
+from arrays import Product, Row, Sums, cells, held, layout_name, page, turns, unsound_rows, volume_sector
 from generated import array_images, put_file_system, volume_of
 from landmarks import first_blocks, groups_of, sightings
-from texts import KINDS, LEVELS, LISTS, PATTERNS, RANKS, SECTOR, SYNDROMES, Plan, Stop, broken_rule, read_plan, read_words
+from texts import KINDS, LEVELS, LISTS, MOST, PATTERNS, RANKS, SECTOR, SYNDROMES, Plan, Set, Stop, broken_rule, read_plan, read_sets, read_words
 
 
 def given_images(kind, given, planned):
@@ -36,8 +38,8 @@ def usual_end(given, images):
     """The end that is asked for, where the images are neither too few nor too many nor too short."""
     if not images:
         given_images("count", 0, 1)
-    if len(images) > 16:
-        given_images("count", len(images), 16)
+    if len(images) > MOST:
+        given_images("count", len(images), MOST)
     shortest = min(len(image) // SECTOR for image in images)
     end = given.get("end", shortest)
     if end > shortest:
@@ -161,6 +163,26 @@ def sample(given):
             f"next {after} of {product.total}\n").encode()
 
 
+def classes(given, text):
+    """Sets are alike where their whole volumes over random images are equal: bytes that were weighed otherwise differ in some of the
+    512 columns of a sector, but once in 2 to the power 4096. Of long images a row of chunks stands for one sector of it, and rows that
+    repeat for those of all layouts."""
+    found, end = read_sets(text, given["images"], given["end"]), given["end"]
+    rng, numbers, out = random.Random(len(text)), {}, []
+    if end <= 120:
+        shown = found
+    else:
+        repeat = math.lcm(*[turns(one.pattern, one.members) for one in found])
+        shown = [Set(one.level, one.pattern, one.syndrome, 1, 0, one.slots) for one in found]
+        ends = [min(one.rows(end), repeat) for one in found]
+    images = [rng.randbytes((120 if end <= 120 else max(ends, default=0)) * SECTOR) for _ in range(given["images"])]
+    for place, one in enumerate(found):
+        made = write({"set": shown[place], "end": end if end <= 120 else ends[place]}, images)
+        number = numbers.setdefault((one.offset, one.chunk, one.data, made) if end > 120 else made, len(numbers))
+        out.append(f"{number} {one.word()}\n")
+    return "".join([*out, f"classes {len(numbers)} of {len(found)}\n"]).encode()
+
+
 def answer(words, text, files):
     """Status, standard output and standard error of a run."""
     try:
@@ -173,7 +195,8 @@ def answer(words, text, files):
         images += [b""] * (len(names) - len(images))
         jobs = {"survey": lambda: survey_plan(given, images).text().encode(), "list": lambda: list_sets(given, text, images),
                 "check": lambda: check(given, text, images), "map": lambda: map_sector(given, images),
-                "write": lambda: write(given, images), "rebuild": lambda: rebuild(given, images), "sample": lambda: sample(given)}
+                "write": lambda: write(given, images), "rebuild": lambda: rebuild(given, images), "sample": lambda: sample(given),
+                "classes": lambda: classes(given, text)}
         return 0, jobs[command](), b""
     except Stop as stop:
         return stop.status, b"", (stop.line + "\n").encode()

@@ -6,7 +6,9 @@ SECTOR = 512
 FAR = 2 ** 55
 RANKS = 2 ** 64
 PLAN_BYTES = 4194304
+MOST = 24
 MOST_LINES = 4000000
+MOST_SETS = 1024
 LEVELS = [0, 5, 6]
 PATTERNS = ("plain la ra ls rs parity-first parity-last n-restart n-continue la-6 ra-6 ls-6 rs-6 parity-first-6").split()
 SYNDROMES = ["none", "after-q", "by-data", "by-slot"]
@@ -66,14 +68,14 @@ def one(least, most):
 
 LISTS = {
     "levels": lambda text: rising(text, lambda part: int(part) if part in ("0", "5", "6") else None),
-    "members": numbers(2, 16),
+    "members": numbers(2, MOST),
     "patterns": named(PATTERNS),
     "syndromes": named(SYNDROMES),
     "chunks": numbers(1, 32768, 16, lambda n: n & (n - 1) == 0),
     "offsets": numbers(0, FAR - 1, 64),
     "origins": numbers(0, FAR - 1, 64),
     "missing": one(0, 2),
-    "foreign": one(0, 16),
+    "foreign": one(0, MOST),
     "badrows": one(0, FAR - 1),
     "window": one(1, FAR - 1),
     "misfits": one(0, FAR - 1),
@@ -110,8 +112,8 @@ def set_word(text):
     if len(parts) != 6 or parts[0] not in ("0", "5", "6") or parts[1] not in PATTERNS or parts[2] not in SYNDROMES:
         return None
     chunk, offset = number(parts[3], 0, 2 ** 32 - 1), number(parts[4], 0, FAR - 1)
-    slots = [-1 if part == "-" else number(part, 0, 15) for part in parts[5].split(",")]
-    if chunk is None or offset is None or None in slots or not 1 <= len(slots) <= 16:
+    slots = [-1 if part == "-" else number(part, 0, MOST - 1) for part in parts[5].split(",")]
+    if chunk is None or offset is None or None in slots or not 1 <= len(slots) <= MOST:
         return None
     return Set(int(parts[0]), parts[1], parts[2], chunk, offset, [None if slot == -1 else slot for slot in slots])
 
@@ -124,7 +126,7 @@ def broken_rule(found, images, end):
     absent = [slot for slot in there if slot >= images]
     again = [slot for place, slot in enumerate(there) if slot in there[:place]]
     chunks = [2 ** power for power in range(16)]
-    if not FEWEST[found.level] <= found.members <= 16:
+    if not FEWEST[found.level] <= found.members <= MOST:
         return 1, found.members
     if found.pattern not in patterns:
         return 2, PATTERNS.index(found.pattern)
@@ -150,7 +152,7 @@ def drops(text):
         parts = part.split(":")
         if len(parts) != 2:
             return None
-        pair = number(parts[0], 0, 15), number(parts[1], 0, FAR - 1)
+        pair = number(parts[0], 0, MOST - 1), number(parts[1], 0, FAR - 1)
         return None if None in pair else pair
     return rising(text, element, 64)
 
@@ -166,11 +168,12 @@ OPERANDS = {
     "check": {"set": set_word},
     "map": {"set": set_word, "sector": one(0, RANKS - 1), "end": one(0, FAR - 1)},
     "write": {"set": set_word, "end": one(0, FAR - 1)},
-    "rebuild": {"set": set_word, "slot": one(0, 15), "end": one(0, FAR - 1)},
+    "rebuild": {"set": set_word, "slot": one(0, MOST - 1), "end": one(0, FAR - 1)},
     "sample": {"number": one(0, RANKS - 1), "set": set_word, "rows": one(1, 65536), "marks": either("none", "xfs")},
+    "classes": {"images": one(1, MOST), "end": one(0, FAR - 1)},
 }
 REQUIRED = {"survey": [], "list": [], "check": ["set"], "map": ["set", "sector"], "write": ["set"], "rebuild": ["set", "slot"],
-            "sample": ["number", "set", "rows"]}
+            "sample": ["number", "set", "rows"], "classes": ["images", "end"]}
 
 
 def read_words(words):
@@ -185,7 +188,7 @@ def read_words(words):
             too_long = command == "list" and given.get("size", 100) * given.get("pages", 1) > MOST_LINES
             if too_long or any(name not in given for name in REQUIRED[command]):
                 refuse(place)
-            if command == "sample" and len(words) > place:
+            if command in ("sample", "classes") and len(words) > place:
                 refuse(place + 1)
             return command, given, words[place:]
         name, mark, text = word.partition("=")
@@ -195,6 +198,28 @@ def read_words(words):
         if given[name] is None or given.get("size", 1) * given.get("pages", 1) > MOST_LINES:
             refuse(place)
     refuse(len(words) + 1)
+
+
+# Lists of sets
+
+def read_sets(data, images, end):
+    """The sets of a list, as a listing prints them, or the end with the refused line."""
+    if len(data) > PLAN_BYTES:
+        raise Stop(3, "reraid: set list is longer than 4194304 bytes")
+    found, lines = [], data.decode("latin-1").split("\n")
+    for place, line in enumerate(lines, 1):
+        last = place == len(lines)
+        if last and not line:
+            return found
+        parts = line.split(" ")
+        ranks = one(0, RANKS - 1)
+        if not last and len(parts) == 4 and parts[0] == "next" and parts[2] == "of" and None not in (ranks(parts[1]), ranks(parts[3])):
+            continue
+        made = set_word(parts[1]) if not last and len(parts) == 2 and ranks(parts[0]) is not None else None
+        if made is None or broken_rule(made, images, end) or len(found) == MOST_SETS:
+            raise Stop(13, f"reraid: set line {place} is not understood")
+        found.append(made)
+    raise AssertionError
 
 
 # The plan
@@ -255,7 +280,7 @@ def read_plan(data):
 
     if line() != "reraid-plan 1":
         refuse()
-    lengths = [value("length", one(0, FAR - 1)) for _ in range(value("images", one(1, 16)))]
+    lengths = [value("length", one(0, FAR - 1)) for _ in range(value("images", one(1, MOST)))]
     end = value("end", one(0, min(lengths)))
     order = "levels members patterns syndromes chunks offsets origins missing foreign badrows window misfits least".split()
     given = {name: value(name, LISTS[name]) for name in order}

@@ -1,13 +1,13 @@
 -- The table of the kinds of landmarks.
-use Rattle.std.specs.Prelude.{ℕ, Bool, true, ◌==◌, List, [], ◌∷◌, codes}
+use Rattle.std.specs.Prelude.{ℕ, Bool, true, false, ◌==◌, List, [], ◌∷◌, codes}
 use Rattle.std.specs.List.{list_any}
 use Rattle.mark_kinds.specs.declared.groups.Begin.{Begin}
 use Rattle.mark_kinds.specs.declared.groups.Begin.TheVariants.{WithVolume, AtOrigins}
 use Rattle.mark_kinds.specs.declared.groups.GroupKind.{GroupKind}
-use Rattle.mark_kinds.specs.declared.groups.GroupKind.TheVariants.{Gpt as GptGroup, Ntfs, Xfs}
+use Rattle.mark_kinds.specs.declared.groups.GroupKind.TheVariants.{Gpt as GptGroup, Ntfs, Xfs, Btrfs as BtrfsGroup, Lvm as LvmGroup, Ext as ExtGroup}
 use Rattle.mark_kinds.specs.declared.looking.Kinds.{Kinds}
 use Rattle.mark_kinds.specs.declared.sectors.Kind.{Kind}
-use Rattle.mark_kinds.specs.declared.sectors.Kind.TheVariants.{Gpt, Boot, FileRecord, Super, Agf, Agi}
+use Rattle.mark_kinds.specs.declared.sectors.Kind.TheVariants.{Gpt, Boot, FileRecord, Super, Agf, Agi, Btrfs, Lvm, Ext}
 
 -- what holds of all groups of a kind: its place among the kinds of groups, which is the order in which groups stand
 -- in plans, its name, where such groups begin on the volume, and how many of them a plan may have
@@ -22,6 +22,9 @@ abbrev pub group_row : GroupKind → GroupFacts
 group_row GptGroup = record { place = 0; name = codes "gpt"; begin = WithVolume; most = 1 }
 group_row Ntfs = record { place = 1; name = codes "ntfs"; begin = AtOrigins; most = 32 }
 group_row Xfs = record { place = 2; name = codes "xfs"; begin = AtOrigins; most = 32 }
+group_row BtrfsGroup = record { place = 3; name = codes "btrfs"; begin = AtOrigins; most = 32 }
+group_row LvmGroup = record { place = 4; name = codes "lvm"; begin = AtOrigins; most = 32 }
+group_row ExtGroup = record { place = 5; name = codes "ext"; begin = AtOrigins; most = 32 }
 
 -- what holds of all landmark sectors of a kind: its place among these kinds, its name, and the kind of groups to
 -- which they belong
@@ -37,6 +40,9 @@ kind_row FileRecord = record { place = 2; name = codes "record"; group = Ntfs }
 kind_row Super = record { place = 3; name = codes "super"; group = Xfs }
 kind_row Agf = record { place = 4; name = codes "agf"; group = Xfs }
 kind_row Agi = record { place = 5; name = codes "agi"; group = Xfs }
+kind_row Btrfs = record { place = 6; name = codes "btrfs"; group = BtrfsGroup }
+kind_row Lvm = record { place = 7; name = codes "lvm"; group = LvmGroup }
+kind_row Ext = record { place = 8; name = codes "ext"; group = ExtGroup }
 
 -- columns of the table
 abbrev pub group_place : GroupKind → ℕ
@@ -53,7 +59,7 @@ group_of kind = (kind_row kind).group
 
 -- all kinds of groups, in their order
 abbrev pub all_groups : List GroupKind
-all_groups = GptGroup ∷ Ntfs ∷ Xfs ∷ []
+all_groups = GptGroup ∷ Ntfs ∷ Xfs ∷ BtrfsGroup ∷ LvmGroup ∷ ExtGroup ∷ []
 
 abbrev pub is_same_group : GroupKind → GroupKind → Bool
 is_same_group kind other = group_place kind == group_place other
@@ -62,18 +68,28 @@ is_same_group kind other = group_place kind == group_place other
 abbrev pub has_group : GroupKind → List GroupKind → Bool
 has_group kind kinds = list_any (is_same_group kind) kinds
 
--- which kinds are looked for: all of them, or those among others
-abbrev pub every_kind : Kinds
-every_kind = record { gpt = true; ntfs = true; xfs = true }
+-- which kinds are looked for: all but ext where none is named, or those among others
+abbrev pub usual_kinds : Kinds
+usual_kinds = record { gpt = true; ntfs = true; xfs = true; btrfs = true; lvm = true; ext = false }
 
 abbrev pub kinds_among : List GroupKind → Kinds
-kinds_among kinds = record { gpt = has_group GptGroup kinds; ntfs = has_group Ntfs kinds; xfs = has_group Xfs kinds }
+kinds_among kinds = record {
+  gpt = has_group GptGroup kinds;
+  ntfs = has_group Ntfs kinds;
+  xfs = has_group Xfs kinds;
+  btrfs = has_group BtrfsGroup kinds;
+  lvm = has_group LvmGroup kinds;
+  ext = has_group ExtGroup kinds;
+}
 
 -- a kind is looked for
 abbrev pub is_group_asked : Kinds → GroupKind → Bool
 is_group_asked kinds GptGroup = kinds.gpt
 is_group_asked kinds Ntfs = kinds.ntfs
 is_group_asked kinds Xfs = kinds.xfs
+is_group_asked kinds BtrfsGroup = kinds.btrfs
+is_group_asked kinds LvmGroup = kinds.lvm
+is_group_asked kinds ExtGroup = kinds.ext
 
 -- some kind is looked for
 abbrev pub some_asked : Kinds → Bool

@@ -1,6 +1,7 @@
 //! The kinds of groups: what the marks of a group belong to.
 ghost use Rattle.std.specs.Prelude.{◌≡◌, ◌==◌};
 ghost use Rattle.mark_kinds.specs.Table.{group_row, group_place, is_same_group, most_groups};
+ghost use Rattle.mark_kinds.specs.declared.groups.Begin.TheVariants.{AtOrigins};
 
 /// What the marks of a group belong to.
 #[derive(Clone, Copy, Default)]
@@ -12,13 +13,26 @@ pub enum GroupKind {
     Ntfs,
     /// An XFS file system.
     Xfs,
+    /// A btrfs file system.
+    Btrfs,
+    /// A physical volume of LVM2.
+    Lvm,
+    /// An ext2, ext3 or ext4 file system.
+    Ext,
 }
 
 /// How many kinds of groups there are.
-pub const GROUP_COUNT: usize = 3;
+pub const GROUP_COUNT: usize = 6;
 
 /// All kinds of groups, in the order in which they stand in plans and lists.
-pub const GROUPS: [GroupKind; GROUP_COUNT] = [GroupKind::Gpt, GroupKind::Ntfs, GroupKind::Xfs];
+pub const GROUPS: [GroupKind; GROUP_COUNT] = [
+    GroupKind::Gpt,
+    GroupKind::Ntfs,
+    GroupKind::Xfs,
+    GroupKind::Btrfs,
+    GroupKind::Lvm,
+    GroupKind::Ext,
+];
 
 /// The most groups of one kind of file system in a plan.
 pub const MOST_GROUPS: usize = 32;
@@ -45,6 +59,21 @@ pub struct GroupRow {
     pub most: usize,
 }
 
+/// The row of a kind whose groups float: a file system, or what file systems lie in.
+fn file_system(place: usize, name: &'static str) -> GroupRow
+    ensures place { result.place ≡ place }
+    ensures name { result.name.now ≡ name.entry.now }
+    ensures begin { result.begin ≡ AtOrigins }
+    ensures most { result.most ≡ 32 }
+{
+    GroupRow {
+        place,
+        name,
+        begin: Begin::AtOrigins,
+        most: MOST_GROUPS,
+    }
+}
+
 impl GroupKind {
     /// The row of the kind in the table.
     pub fn row(self) -> GroupRow
@@ -60,18 +89,11 @@ impl GroupKind {
                 begin: Begin::WithVolume,
                 most: 1,
             },
-            GroupKind::Ntfs => GroupRow {
-                place: 1,
-                name: "ntfs",
-                begin: Begin::AtOrigins,
-                most: MOST_GROUPS,
-            },
-            GroupKind::Xfs => GroupRow {
-                place: 2,
-                name: "xfs",
-                begin: Begin::AtOrigins,
-                most: MOST_GROUPS,
-            },
+            GroupKind::Ntfs => file_system(1, "ntfs"),
+            GroupKind::Xfs => file_system(2, "xfs"),
+            GroupKind::Btrfs => file_system(3, "btrfs"),
+            GroupKind::Lvm => file_system(4, "lvm"),
+            GroupKind::Ext => file_system(5, "ext"),
         }
     }
 

@@ -1,6 +1,6 @@
 //! What a survey looks for, and what it passes over.
 ghost use Rattle.std.specs.Prelude.{◌≡◌};
-ghost use Rattle.mark_kinds.specs.Table.{has_group, every_kind, is_group_asked, kinds_among};
+ghost use Rattle.mark_kinds.specs.Table.{has_group, is_group_asked, kinds_among, usual_kinds};
 
 use crate::groups::GroupKind;
 
@@ -13,6 +13,12 @@ pub struct Kinds {
     pub ntfs: bool,
     /// XFS file systems.
     pub xfs: bool,
+    /// btrfs file systems.
+    pub btrfs: bool,
+    /// Physical volumes of LVM2.
+    pub lvm: bool,
+    /// ext2, ext3 and ext4 file systems.
+    pub ext: bool,
 }
 
 /// The most sectors that a survey may be asked to pass over.
@@ -28,14 +34,17 @@ pub struct DropAt {
 }
 
 impl Kinds {
-    /// All kinds.
-    pub fn every() -> Kinds
-        ensures { result ≡ every_kind }
+    /// The kinds that are looked for where none is named: all but ext.
+    pub fn usual() -> Kinds
+        ensures { result ≡ usual_kinds }
     {
         Kinds {
             gpt: true,
             ntfs: true,
             xfs: true,
+            btrfs: true,
+            lvm: true,
+            ext: false,
         }
     }
 
@@ -47,6 +56,9 @@ impl Kinds {
             gpt: has_group(kinds, GroupKind::Gpt),
             ntfs: has_group(kinds, GroupKind::Ntfs),
             xfs: has_group(kinds, GroupKind::Xfs),
+            btrfs: has_group(kinds, GroupKind::Btrfs),
+            lvm: has_group(kinds, GroupKind::Lvm),
+            ext: has_group(kinds, GroupKind::Ext),
         }
     }
 
@@ -58,6 +70,9 @@ impl Kinds {
             GroupKind::Gpt => self.gpt,
             GroupKind::Ntfs => self.ntfs,
             GroupKind::Xfs => self.xfs,
+            GroupKind::Btrfs => self.btrfs,
+            GroupKind::Lvm => self.lvm,
+            GroupKind::Ext => self.ext,
         }
     }
 }

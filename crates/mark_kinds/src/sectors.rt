@@ -19,10 +19,16 @@ pub enum Kind {
     Agf,
     /// A header of the inodes of an XFS allocation group.
     Agi,
+    /// A superblock of btrfs.
+    Btrfs,
+    /// A label of a physical volume of LVM2.
+    Lvm,
+    /// A superblock of ext2, ext3 or ext4 in a later block group.
+    Ext,
 }
 
 /// How many kinds of landmark sectors there are.
-pub const KIND_COUNT: usize = 6;
+pub const KIND_COUNT: usize = 9;
 
 /// All kinds of landmark sectors, in their order.
 pub const KINDS: [Kind; KIND_COUNT] = [
@@ -32,6 +38,9 @@ pub const KINDS: [Kind; KIND_COUNT] = [
     Kind::Super,
     Kind::Agf,
     Kind::Agi,
+    Kind::Btrfs,
+    Kind::Lvm,
+    Kind::Ext,
 ];
 
 /// What holds of all landmark sectors of a kind: a row of the table.
@@ -59,6 +68,9 @@ impl Kind {
             Kind::Super => row_of(3, "super", GroupKind::Xfs),
             Kind::Agf => row_of(4, "agf", GroupKind::Xfs),
             Kind::Agi => row_of(5, "agi", GroupKind::Xfs),
+            Kind::Btrfs => row_of(6, "btrfs", GroupKind::Btrfs),
+            Kind::Lvm => row_of(7, "lvm", GroupKind::Lvm),
+            Kind::Ext => row_of(8, "ext", GroupKind::Ext),
         }
     }
 

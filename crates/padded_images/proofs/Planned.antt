@@ -99,4 +99,5 @@ is_plan bases plan padded same is near short =
       limits = is.limits;
       tests = is.tests;
       groups = are_groups bases lengths plan.groups is.groups;
+      each = λ own. cc;
     })

@@ -1,5 +1,5 @@
 -- The plan of padded images: what a plan says of images, said of them once they are padded.
-use Rattle.std.specs.Prelude.{ℕ, ◌+◌, ◌-◌, nat_le, if◌then◌else◌, List, [], ◌∷◌, map}
+use Rattle.std.specs.Prelude.{ℕ, false, ◌+◌, ◌-◌, nat_le, if◌then◌else◌, List, [], ◌∷◌, map}
 use Rattle.landmark_rules.specs.Groups.{mark_place}
 use Rattle.landmark_rules.specs.declared.marks.Group.{Group}
 use Rattle.landmark_rules.specs.declared.marks.Mark.{Mark}
@@ -34,9 +34,11 @@ padded_marks bases marks = in_order (map (padded_mark bases) marks)
 abbrev pub padded_group : List ℕ → Group → Group
 padded_group bases group = record group { marks = padded_marks bases group.marks }
 
--- the plan: each length grows by the padding of its image, and each mark moves with its image. All else is as it was
+-- the plan: each length grows by the padding of its image, each mark moves with its image, and all images share an offset
+-- then. All else is as it was
 abbrev pub padded_plan : List ℕ → Plan → Plan
 padded_plan bases plan = record plan {
   lengths = record { items = lengths_to (greatest_base bases) bases plan.lengths.items };
   groups = map (padded_group bases) plan.groups;
+  each = false;
 }

@@ -37,6 +37,7 @@ pub fn pad_plan(alloc: Global, plan: &Plan, bases: &[u64]) -> Result<Plan, Memor
         limits: plan.limits,
         tests: copy_tests(&plan.tests),
         groups,
+        each: false,
     })
 }
 

@@ -20,7 +20,7 @@ use row_parity::row_holds;
 use search_plan::{Plan, tested_rows};
 
 /// The bytes of a row of as many members as there may be.
-const ROW: usize = MOST * SECTOR;
+pub const ROW: usize = MOST * SECTOR;
 
 /// How many rows of a set a search by this plan tests.
 pub fn rows_of(plan: &Plan, geo: &Geometry) -> u64
@@ -50,7 +50,8 @@ pub fn asks(plan: &Plan, geo: &Geometry, tally: Tally, run: Run) -> bool
         && rows_before(plan, geo, run.first) < rows_before(plan, geo, run.first + run.count)
 }
 
-/// A tally after the rows of its set in a run. The regions hold the run's sectors, one region an image.
+/// A tally after the rows of its set in a run. The regions hold the run's sectors, one region an image. `room` is room for
+/// a row.
 pub fn tally_after(
     plan: &Plan,
     geo: &Geometry,
@@ -58,14 +59,17 @@ pub fn tally_after(
     regions: &Regions,
     sums: &ImageSums,
     run: Run,
+    room: &mut [u8],
 ) -> Tally
     requires set { IsTestable geo.now }
     requires offset { geo.now.head.offset < 2 ^ 55 }
     requires images { All (λ slot. IfSome slot (λ image. image < regions.now.members)) geo.now.slots.items }
     requires sums { AreImageSums regions.now sums.now }
     requires run { run.first + run.count < 2 ^ 55 }
-    requires room { 512 * run.count ≤ regions.now.stride }
-    ensures { AddsRun plan.now geo.now run regions.now tally result }
+    requires held { 512 * run.count ≤ regions.now.stride }
+    requires room { length room.old ≡ ROW }
+    ensures adds { AddsRun plan.now geo.now run regions.now tally result }
+    ensures room { length room.new ≡ ROW }
 {
     let Tally::Left(left) = tally else {
         return tally;
@@ -75,10 +79,11 @@ pub fn tally_after(
     }
     let from = rows_before(plan, geo, run.first);
     let to = rows_before(plan, geo, run.first + run.count);
-    rows_left_after(geo, regions, sums, run, from, to, left)
+    rows_left_after(geo, regions, sums, run, from, to, left, room)
 }
 
-/// The tally after the rows from one up to another, where `left` may be unsound. It stops at the first row too many.
+/// The tally after the rows from one up to another, where `left` may be unsound. It stops at the first row too many. `room`
+/// is room for a row.
 #[tactic(auto, using(member_regions::proofs::Sets::testable_head, member_regions::proofs::Sets::testable_slots, member_regions::proofs::Sets::testable_chunk))]
 fn rows_left_after(
     geo: &Geometry,
@@ -88,25 +93,27 @@ fn rows_left_after(
     from: u64,
     to: u64,
     left: u64,
+    room: &mut [u8],
 ) -> Tally
     requires set { IsTestable geo.now }
     requires offset { geo.now.head.offset < 2 ^ 55 }
     requires images { All (λ slot. IfSome slot (λ image. image < regions.now.members)) geo.now.slots.items }
     requires sums { AreImageSums regions.now sums.now }
     requires run { run.first + run.count < 2 ^ 55 }
-    requires room { 512 * run.count ≤ regions.now.stride }
+    requires held { 512 * run.count ≤ regions.now.stride }
     requires from { run.first ≤ geo.now.head.offset + from }
     requires to { geo.now.head.offset + to ≤ run.first + run.count }
     requires rows { from ≤ to }
-    ensures { (images : List (List ℕ)) → HoldsSet images run regions.now geo.now → IsLeftAfter images geo.now from to left result }
+    requires room { length room.old ≡ ROW }
+    ensures left { (images : List (List ℕ)) → HoldsSet images run regions.now geo.now → IsLeftAfter images geo.now from to left result }
+    ensures room { length room.new ≡ ROW }
 {
-    let mut room = [0; ROW];
     let mut row = chunk_row(geo, from / geo.head.chunk, sums.images);
     let mut rest = left;
     for t in from..to {
         turn_row(geo, &mut row, t / geo.head.chunk, sums.images);
         let place = geo.head.offset + t - run.first;
-        if !is_sound_at(geo, &row, regions, sums, place as usize, &mut room) {
+        if !is_sound_at(geo, &row, regions, sums, place as usize, room) {
             if rest == 0 {
                 return Tally::Fails;
             }

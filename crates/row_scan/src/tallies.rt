@@ -6,7 +6,7 @@ ghost use Rattle.member_regions.specs.declared.regions.TheConstants.{BLOCK};
 ghost use Rattle.row_scan.specs.ImageRows.{AddAll, IsTallied};
 ghost use Rattle.row_scan.specs.ImageSums.{AreImageSums};
 
-use crate::image_rows::tally_after;
+use crate::image_rows::{ROW, tally_after};
 use crate::image_sums::ImageSums;
 use crate::runs::Run;
 use crate::scan_parts::{Scanned, Threading};
@@ -123,6 +123,7 @@ pub fn add_to_piece(
     ensures added { AddAll scanned.now.plan.now scanned.now.sets.now start run regions.now piece.old piece.new }
     ensures long { length piece.new ≡ length piece.old }
 {
+    let mut room = [0; ROW];
     for i in 0..piece.len() {
         piece[i] = tally_after(
             scanned.plan,
@@ -131,6 +132,7 @@ pub fn add_to_piece(
             regions,
             sums,
             run,
+            &mut room,
         );
     }
 }

@@ -1,5 +1,5 @@
 -- Which plans there are: their numbers are within the limits of the tool, and their lists rise.
-use Rattle.std.specs.Prelude.{ℕ, ◌≡◌, ◌≤◌, ◌<◌, ◌^◌, IsTrue, List, length, map, All}
+use Rattle.std.specs.Prelude.{ℕ, true, ◌≡◌, ◌≤◌, ◌<◌, ◌^◌, IsTrue, List, length, map, All}
 use Rattle.std.specs.List.Sorted.{IsStrictlyIncreasing}
 use Rattle.outside.specs.Seen.{Image, lengths_of}
 use Rattle.raid_params.specs.declared.limits.TheConstants.{MOST}
@@ -48,6 +48,12 @@ pub record AreTests (tests : MarkTests) : Type 0 where
   pub misfits : tests.misfits < 2 ^ 55
   pub least : tests.least < 2 ^ 55
 
+-- images with offsets of their own can be moved by them: lengths and offsets are below 2^54, and no image is foreign
+pub record AreMovable (lengths : List ℕ) (bounds : Bounds) : Type 0 where
+  pub own : bounds.foreign ≡ 0
+  pub short : All (λ n. n < 2 ^ 54) lengths
+  pub near : All (λ n. n < 2 ^ 54) bounds.offsets.items
+
 -- a plan, part by part; its end is past no image
 pub record IsPlan (plan : Plan) : Type 0 where
   pub lengths : AreLengths plan.lengths.items
@@ -56,6 +62,7 @@ pub record IsPlan (plan : Plan) : Type 0 where
   pub limits : AreLimits plan.limits
   pub tests : AreTests plan.tests
   pub groups : AreGroups plan.lengths.items plan.groups
+  pub each : plan.each ≡ true → AreMovable plan.lengths.items plan.bounds
 
 -- the attached images have the planned lengths, and there are no others
 abbrev pub AgreeWith : Plan → List Image → Type 0

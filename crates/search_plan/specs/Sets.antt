@@ -12,11 +12,11 @@ use Rattle.landmark_rules.specs.Groups.{groups_hold}
 use Rattle.raid_params.specs.Places.{level_place, pattern_place, syndrome_place}
 use Rattle.search_plan.specs.declared.plan.Plan.{Plan}
 
--- the parameter sets of a plan, in their order: a set's rank is its position here
+-- the parameter sets of a plan whose images share an offset, in their order: a set's rank is its position here
 unfoldable pub sets_of : Plan → List Geometry
 sets_of plan = product (length plan.lengths.items) plan.bounds
 
--- how many parameter sets a plan has
+-- how many there are
 unfoldable pub total_of : Plan → ℕ
 total_of plan = length (sets_of plan)
 

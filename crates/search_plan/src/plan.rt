@@ -27,4 +27,6 @@ pub struct Plan {
     pub tests: MarkTests,
     /// The landmarks.
     pub groups: Groups,
+    /// Whether each image has an offset of its own out of those to try. Otherwise all images of a set share one.
+    pub each: bool,
 }

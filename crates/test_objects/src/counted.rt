@@ -28,15 +28,10 @@ impl Counted {
     }
 
     /// How many sectors were asked for of each of the first four images, also by readings that failed.
-    pub fn reads(&self) -> [u64; COUNTED] {
+    pub fn reads(&self) -> [u64; COUNTED]
+        ensures { result ≡ self.now.reads }
+    {
         self.reads
-    }
-
-    /// How many sectors were asked for of the first four images together.
-    pub fn all_reads(&self) -> u64 {
-        self.reads
-            .iter()
-            .fold(0, |all: u64, one| all.saturating_add(*one))
     }
 }
 

@@ -5,8 +5,8 @@ use Rattle.row_scan.proofs.WholeRows.{row_itself}
 use Rattle.row_scan.proofs.image_rows.rows_left_after.Goals as goal
 use Rattle.row_scan.proofs.image_rows.rows_left_after.Goals.{then-not-is_sound_at+else-rest-eq0, else-not-is_sound_at}
 
-pub returns-then-rest-eq0 : goal.returns-then-rest-eq0
-returns-then-rest-eq0 c = λ images hold.
+pub returns-then-rest-eq0-clause-left : goal.returns-then-rest-eq0-clause-left
+returns-then-rest-eq0-clause-left c = λ images hold.
     let sound : c.is_sound_at.result ≡ is_sound_row images c.args.geo.now c.loop-t.t =
     c.is_sound_at.ensures.sound images c.args.run c.loop-t.t hold (omega arith) (omega arith) c.turn_row.ensures.place in
     let more = next_unsound images c.args.geo.now c.loop-t.t c.is_sound_at.result sound c.if-not-is_sound_at.true in

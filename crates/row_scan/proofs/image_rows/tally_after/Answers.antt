@@ -5,13 +5,13 @@ use Rattle.row_scan.specs.declared.tally.Tally.TheVariants.{Left}
 use Rattle.row_scan.proofs.Adding.{adds_by, adds_none}
 use Rattle.row_scan.proofs.image_rows.tally_after.Goals as goal
 
-pub returns-then-not-asks : goal.returns-then-not-asks
-returns-then-not-asks c =
+pub returns-then-not-asks-clause-adds : goal.returns-then-not-asks-clause-adds
+returns-then-not-asks-clause-adds c =
     adds_none c.args.plan.now c.args.geo.now c.args.run c.args.regions.now c.args.tally (Left c.in-Left.left) (sym c.in-Left.is)
     (ap (λ (t : Tally). asks c.args.plan.now c.args.geo.now t c.args.run) c.in-Left.is ∙ sym c.asks.ensures ∙ c.if-not-asks.true)
 
-pub returns : goal.returns
-returns c =
+pub returns-clause-adds : goal.returns-clause-adds
+returns-clause-adds c =
     adds_by c.args.plan.now c.args.geo.now c.args.run c.args.regions.now c.args.tally c.in-Left.left c.rows_left_after.result c.in-Left.is
     (ap (λ (t : Tally). asks c.args.plan.now c.args.geo.now t c.args.run) c.in-Left.is ∙ sym c.asks.ensures ∙ c.if-not-asks.false)
-    (λ images hold. let after = c.rows_left_after.ensures images hold in rw (c.rows_before-from.ensures, c.rows_before-to.ensures) at after)
+    (λ images hold. let after = c.rows_left_after.ensures.left images hold in rw (c.rows_before-from.ensures, c.rows_before-to.ensures) at after)

@@ -17,7 +17,8 @@ loop-i-preserved c = record {
       (λ d' e'. adds_here c.args.scanned.now.plan.now c.args.scanned.now.sets.now (c.args.start + c.loop-i.i) c.loop-i.i c.args.run c.args.regions.now c.index-scanned-start.result c.loop-i.piece _ c.tally_after.result d' e'
       (omega arith) (omega arith) c.index-scanned-start.is refl
       (subst (λ (geo : Geometry). AddsRun c.args.scanned.now.plan.now geo c.args.run c.args.regions.now (get_or c.loop-i.piece c.loop-i.i (Left 0)) c.tally_after.result) (sym c.index-scanned-start.is)
-      c.tally_after.ensures))
+      c.tally_after.ensures.adds))
       i d below e;
   rest = λ i d above. search rules;
+  room = c.tally_after.ensures.room;
 }

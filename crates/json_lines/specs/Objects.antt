@@ -1,12 +1,12 @@
 -- The objects of a listing's lines.
-use Rattle.std.specs.Prelude.{ℕ, List, Option, Some, None, codes, map}
+use Rattle.std.specs.Prelude.{ℕ, List, [], ◌∷◌, Option, Some, None, codes, map}
 use Rattle.serde_json.specs.Data.{Data, Items, array, member, no_members, null, number, object, string, unsigned}
 use Rattle.serde_json.specs.View.{items_of}
 use Rattle.serde_json.specs.Written.{compact_text}
-use Rattle.raid_params.specs.declared.types.Geometry.{Geometry}
 use Rattle.raid_params.specs.declared.types.Head.{Head}
 use Rattle.raid_params.specs.declared.types.Level.{Level}
 use Rattle.raid_params.specs.declared.types.Level.TheVariants.{Raid0, Raid5, Raid6}
+use Rattle.raid_params.specs.declared.wide.Wide.{Wide}
 use Rattle.raid_layouts.specs.Names.{name_of}
 use Rattle.value_text.specs.Spelling.{line, pattern_name, syndrome_name}
 
@@ -24,16 +24,24 @@ slot_data None = null
 abbrev pub slots_data : List (Option ℕ) → Items
 slots_data slots = items_of (map slot_data slots)
 
+-- the offset that is common to all images, or the base of each
+abbrev pub base_data : ℕ → Data
+base_data base = number (unsigned base)
+
+abbrev pub offset_data : ℕ → List ℕ → Data
+offset_data offset [] = base_data offset
+offset_data offset (base ∷ bases) = array (items_of (map base_data (base ∷ bases)))
+
 -- the name of a layout, or null where it has none
 abbrev pub name_data : Option (List ℕ) → Data
 name_data (Some name) = string name
 name_data None = null
 
 -- the object of a parameter set and its rank, its keys in the order of their bytes
-abbrev pub set_data : ℕ → Head → List (Option ℕ) → Data
-set_data rank head slots = object (
+abbrev pub set_data : ℕ → Head → List ℕ → List (Option ℕ) → Data
+set_data rank head bases slots = object (
     member (codes "chunk") (number (unsigned head.chunk)) (member (codes "level") (number (unsigned (level_number head.level)))
-    (member (codes "name") (name_data (name_of head.level head.pattern head.syndrome)) (member (codes "offset") (number (unsigned head.offset))
+    (member (codes "name") (name_data (name_of head.level head.pattern head.syndrome)) (member (codes "offset") (offset_data head.offset bases)
     (member (codes "pattern") (string (pattern_name head.pattern)) (member (codes "rank") (number (unsigned rank))
     (member (codes "slots") (array (slots_data slots)) (member (codes "syndrome") (string (syndrome_name head.syndrome)) no_members))))))))
 
@@ -42,8 +50,8 @@ abbrev pub next_data : ℕ → ℕ → Data
 next_data next total = object (member (codes "next") (number (unsigned next)) (member (codes "total") (number (unsigned total)) no_members))
 
 -- the line of a parameter set
-unfoldable pub set_object : ℕ → Geometry → List ℕ
-set_object rank geo = line (compact_text (set_data rank geo.head geo.slots.items))
+unfoldable pub set_object : ℕ → Wide → List ℕ
+set_object rank set = line (compact_text (set_data rank set.geo.head set.bases.items set.geo.slots.items))
 
 -- the line of where the next page begins
 unfoldable pub next_object : ℕ → ℕ → List ℕ

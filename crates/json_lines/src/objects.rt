@@ -1,27 +1,28 @@
 //! Lines of JSON.
-ghost use Rattle.std.specs.Prelude.{◌≡◌, IfOk, string_bytes};
-ghost use Rattle.json_lines.specs.Objects.{level_number as level_number_of, name_data, next_data, next_object, set_data, set_object, slot_data, slots_data};
+ghost use Rattle.std.specs.Prelude.{◌≡◌, IfOk, map, string_bytes};
+ghost use Rattle.json_lines.specs.Objects.{base_data, level_number as level_number_of, name_data, next_data, next_object, offset_data, set_data, set_object, slot_data, slots_data};
 ghost use Rattle.value_text.specs.Spelling.{line as line_of};
 ghost use Rattle.raid_layouts.specs.Names.{name_of};
 ghost use Rattle.serde_json.specs.Data.{array};
-ghost use Rattle.serde_json.specs.View.{view};
+ghost use Rattle.serde_json.specs.View.{items_of, view};
 ghost use Rattle.serde_json.specs.Written.{compact_text};
 
 use outside::Memory;
 use raid_layouts::md_name;
-use raid_params::{Geometry, Head, Level};
+use raid_params::{Head, Level, Wide};
 use serde_json::{Value, json};
 use std::alloc::{AllocError, Global};
 use value_text::{Text, pattern_name, syndrome_name};
 
 /// The line of a parameter set with its rank, and its line feed: an object with the keys chunk, level, name,
-/// offset, pattern, rank, slots and syndrome. `name` is mdadm's or DDF's name of the layout, or null; an empty
-/// slot is null.
+/// offset, pattern, rank, slots and syndrome. `name` is mdadm's or DDF's name of the layout, or null; `offset` is the list
+/// of bases where there are any; an empty slot is null.
 #[tactic(auto, unfolding(crate::specs::Objects::set_object))]
-pub fn json_line(alloc: Global, rank: u64, geo: &Geometry) -> Result<Text, Memory>
-    ensures { IfOk result (λ text. text ≡ set_object rank geo.now) }
+pub fn json_line(alloc: Global, rank: u64, set: &Wide) -> Result<Text, Memory>
+    ensures { IfOk result (λ text. text ≡ set_object rank set.now) }
 {
-    let text = set_text(alloc, rank, &geo.head, &geo.slots).map_err(|_| Memory)?;
+    let geo = &set.geo;
+    let text = set_text(alloc, rank, &geo.head, &set.bases, &geo.slots).map_err(|_| Memory)?;
     ended(alloc, &text)
 }
 
@@ -64,11 +65,12 @@ fn set_text(
     alloc: Global,
     rank: u64,
     head: &Head,
+    bases: &[u64],
     slots: &[Option<u8>],
 ) -> Result<String, AllocError>
-    ensures { IfOk result (λ text. string_bytes text ≡ compact_text (set_data rank head.now slots.now)) }
+    ensures { IfOk result (λ text. string_bytes text ≡ compact_text (set_data rank head.now bases.now slots.now)) }
 {
-    let value = set_value(alloc, rank, head, slots)?;
+    let value = set_value(alloc, rank, head, bases, slots)?;
     value.to_string(alloc)
 }
 
@@ -77,13 +79,14 @@ fn set_value(
     alloc: Global,
     rank: u64,
     head: &Head,
+    bases: &[u64],
     slots: &[Option<u8>],
 ) -> Result<Value, AllocError>
-    ensures { IfOk result (λ value. view value ≡ set_data rank head.now slots.now) }
+    ensures { IfOk result (λ value. view value ≡ set_data rank head.now bases.now slots.now) }
 {
     json!(in alloc; {
         "chunk": head.chunk, "level": level_number(head.level), "name": name_value(alloc, head)?,
-        "offset": head.offset, "pattern": pattern_name(head.pattern), "rank": rank,
+        "offset": offset_value(alloc, head.offset, bases)?, "pattern": pattern_name(head.pattern), "rank": rank,
         "slots": slots_value(alloc, slots)?, "syndrome": syndrome_name(head.syndrome)
     })
 }
@@ -99,6 +102,28 @@ fn name_value(alloc: Global, head: &Head) -> Result<Value, AllocError>
         }
         None => Ok(Value::Null),
     }
+}
+
+/// The bases, or the offset where there are none.
+fn offset_value(alloc: Global, offset: u64, bases: &[u64]) -> Result<Value, AllocError>
+    ensures { IfOk result (λ value. view value ≡ offset_data offset bases.now) }
+{
+    if bases.is_empty() {
+        Ok(Value::from(offset))
+    } else {
+        bases_value(alloc, bases)
+    }
+}
+
+/// The list of the bases.
+fn bases_value(alloc: Global, bases: &[u64]) -> Result<Value, AllocError>
+    ensures { IfOk result (λ value. view value ≡ array (items_of (map base_data bases.now))) }
+{
+    let mut values = Vec::new(alloc);
+    for base in bases {
+        values.push(Value::from(*base))?;
+    }
+    Ok(Value::Array(values))
 }
 
 /// The slots: numbers of images, and null where they are empty.

@@ -2,7 +2,7 @@
 use Rattle.std.proofs.Common.{◌≢◌, ◌<◌, ◌^◌, ℕ, List, ◌∷◌, ◌++◌, codes, decimal, refl, arith}
 use Rattle.std.proofs.lemmas.List.Elements.{All-cons, All-append}
 use Rattle.mark_kinds.specs.declared.groups.GroupKind.{GroupKind}
-use Rattle.mark_kinds.specs.declared.groups.GroupKind.TheVariants.{Gpt as GptGroup, Ntfs, Xfs}
+use Rattle.mark_kinds.specs.declared.groups.GroupKind.TheVariants.{Gpt as GptGroup, Ntfs, Xfs, Btrfs, Lvm, Ext}
 use Rattle.landmark_rules.specs.declared.marks.Mark.{Mark}
 use Rattle.landmark_rules.specs.declared.marks.Rule.{Rule}
 use Rattle.landmark_rules.specs.declared.marks.Rule.TheVariants.{At, Either, Every}
@@ -49,6 +49,9 @@ a_group_line : (kind : GroupKind) → IsLine (named (codes "group") (group_name 
 a_group_line GptGroup = a_line (codes "group gpt") refl
 a_group_line Ntfs = a_line (codes "group ntfs") refl
 a_group_line Xfs = a_line (codes "group xfs") refl
+a_group_line Btrfs = a_line (codes "group btrfs") refl
+a_group_line Lvm = a_line (codes "group lvm") refl
+a_group_line Ext = a_line (codes "group ext") refl
 
 pub an_entry_line : (entry : Entry) → IsEntry entry → IsLine (entry_line entry)
 an_entry_line Done is = a_line (codes "done") refl

@@ -1,5 +1,5 @@
 -- The text of a plan tried on a small one, whose spelling was written out by hand.
-use Rattle.std.proofs.Common.{◌≡◌, [], ◌∷◌, codes, refl}
+use Rattle.std.proofs.Common.{◌≡◌, false, [], ◌∷◌, codes, refl}
 use Rattle.std.specs.Fmt.{digits}
 use Rattle.raid_params.specs.declared.types.Level.TheVariants.{Raid5}
 use Rattle.raid_params.specs.declared.types.Pattern.TheVariants.{Ls}
@@ -31,6 +31,7 @@ plan = record {
     kind = Xfs;
     marks = record { kind = Super; image = 0; sector = 0; rule = Every 64 4 0 } ∷ record { kind = Agf; image = 2; sector = 1; rule = At 65 } ∷ [];
   } ∷ [];
+  each = false;
 }
 
 text_of_plan : plan_text plan ≡ codes "reraid-plan 1\nimages 3\nlength 2\nlength 2\nlength 2\nend 2\nlevels 5\nmembers 3\npatterns ls\nsyndromes none\nchunks 1\noffsets 0\norigins 0\nmissing 0\nforeign 0\nbadrows 0\nwindow 2\nmisfits 0\nleast 1\ngroup xfs\nmark super 0 0 every:64:4:0\nmark agf 2 1 at:65\ndone\n"

@@ -13,7 +13,6 @@ use Rattle.std.proofs.Math.Seq.{get_or-append_seam}
 use Rattle.raid_params.specs.declared.limits.TheConstants.{MOST}
 use Rattle.landmark_rules.specs.declared.marks.Group.{Group}
 use Rattle.mark_kinds.specs.declared.groups.GroupKind.{GroupKind}
-use Rattle.mark_kinds.specs.declared.sectors.Kind.{Kind}
 use Rattle.landmark_rules.specs.declared.marks.Mark.{Mark}
 use Rattle.mark_kinds.proofs.Places.{same_group, group_below, kind_below}
 use Rattle.landmark_rules.specs.Groups.{AreGroups, IsMark, group_place, kind_place, mark_place, marks_in, most_groups}

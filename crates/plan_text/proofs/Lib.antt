@@ -1,5 +1,6 @@
 pub mod Refusals
 pub mod OneLine
+pub mod Versions
 pub mod Counts
 pub mod SectionLines
 pub mod SearchLines

@@ -1,5 +1,5 @@
 -- The end of a plan's text, and that a plan has one text.
-use Rattle.std.proofs.Common.{◌≡◌, ◌≢◌, ◌<◌, ◌≤◌, ◌+◌, ◌^◌, ℕ, List, [], ◌∷◌, ◌++◌, All, drop, take, get_or, length, map, codes, decimal, refl, sym, ap, subst, ◌∙◌, arith, append_assoc, append-nil, length-append}
+use Rattle.std.proofs.Common.{◌≡◌, ◌≢◌, ◌<◌, ◌≤◌, ◌+◌, ◌^◌, ℕ, Bool, List, [], ◌∷◌, ◌++◌, All, drop, take, get_or, length, map, codes, decimal, refl, sym, ap, subst, ◌∙◌, arith, append_assoc, append-nil, length-append}
 use Rattle.std.proofs.lemmas.List.{append_cancel_left}
 use Rattle.std.proofs.lemmas.Fmt.{decimal_injective}
 use Rattle.raid_params.specs.declared.types.Bounds.{Bounds}
@@ -21,7 +21,7 @@ use Rattle.value_text.specs.Spelling.{IsFieldName, level_name, pattern_name, syn
 use Rattle.value_text.proofs.Fits.{members_are_bytes, chunks_are_short, offsets_are_short}
 use Rattle.plan_text.proofs.GroupSteps.{are_spelled}
 use Rattle.value_text.proofs.Lists.{some_value}
-use Rattle.plan_text.proofs.PlanLines.{one_end, same_groups, same_images}
+use Rattle.plan_text.proofs.PlanLines.{one_end, rest_of, same_groups, same_images, version_of}
 use Rattle.plan_text.proofs.RefusedLines.{IsOther, end_is_short, following, plain_lines, refused_line, text_of}
 use Rattle.plan_text.proofs.Refusals.{Went}
 use Rattle.value_text.proofs.Spellings.{same_list}
@@ -32,7 +32,7 @@ no_more p q l ls is_p is_q e =
     let images_p = image_lines p.lengths.items in
     let search_p = search_lines p.end p.bounds p.limits p.tests in
     let search_q = search_lines q.end q.bounds q.limits q.tests in
-    let both = same_images q.lengths.items p.lengths.items (search_q ++ groups_lines q.groups) ((search_p ++ groups_lines p.groups) ++ l ∷ ls) is_q.lengths is_p.lengths (e ∙ append_assoc images_p (search_p ++ groups_lines p.groups) (l ∷ ls)) in
+    let both = same_images q.lengths.items p.lengths.items (search_q ++ groups_lines q.groups) ((search_p ++ groups_lines p.groups) ++ l ∷ ls) is_q.lengths is_p.lengths (rest_of q.each p.each _ ((images_p ++ (search_p ++ groups_lines p.groups)) ++ l ∷ ls) e ∙ append_assoc images_p (search_p ++ groups_lines p.groups) (l ∷ ls)) in
     let rest : groups_lines q.groups ≡ groups_lines p.groups ++ l ∷ ls = ap (λ (xs : List (List ℕ)). drop 14 xs) both.1 in
     one_end q.groups p.groups l ls (are_spelled q.lengths.items q.groups is_q.lengths is_q.groups) (are_spelled p.lengths.items p.groups is_p.lengths is_p.groups) rest
 
@@ -83,12 +83,12 @@ eq_tests : (s t : MarkTests) → s.origins.items ≡ t.origins.items → s.misfi
 unfolding tests_with
 eq_tests s t a b c = let same : tests_with s.origins.items s.misfits s.least ≡ tests_with t.origins.items t.misfits t.least = cc in same
 
-plan_with : List ℕ → ℕ → Bounds → Limits → MarkTests → List Group → Plan
-plan_with lengths end bounds limits tests groups = record { lengths = record { items = lengths }; end = end; bounds = bounds; limits = limits; tests = tests; groups = groups }
+plan_with : List ℕ → ℕ → Bounds → Limits → MarkTests → List Group → Bool → Plan
+plan_with lengths end bounds limits tests groups each = record { lengths = record { items = lengths }; end = end; bounds = bounds; limits = limits; tests = tests; groups = groups; each = each }
 
-eq_plan : (p q : Plan) → p.lengths.items ≡ q.lengths.items → p.end ≡ q.end → p.bounds ≡ q.bounds → p.limits ≡ q.limits → p.tests ≡ q.tests → p.groups ≡ q.groups → p ≡ q
+eq_plan : (p q : Plan) → p.lengths.items ≡ q.lengths.items → p.end ≡ q.end → p.bounds ≡ q.bounds → p.limits ≡ q.limits → p.tests ≡ q.tests → p.groups ≡ q.groups → p.each ≡ q.each → p ≡ q
 unfolding plan_with
-eq_plan p q a b c d e f = let same : plan_with p.lengths.items p.end p.bounds p.limits p.tests p.groups ≡ plan_with q.lengths.items q.end q.bounds q.limits q.tests q.groups = cc in same
+eq_plan p q a b c d e f g = let same : plan_with p.lengths.items p.end p.bounds p.limits p.tests p.groups p.each ≡ plan_with q.lengths.items q.end q.bounds q.limits q.tests q.groups q.each = cc in same
 
 number : (word : List ℕ) (m n : ℕ) → m < 2 ^ 55 → n < 2 ^ 55 → word ++ decimal m ≡ word ++ decimal n → m ≡ n
 number word m n p q e = decimal_injective m n (omega arith) (omega arith) (append_cancel_left word (decimal m) (decimal n) e)
@@ -121,7 +121,7 @@ one_spelling p q is_p is_q e =
     let lines : plan_lines q ≡ plan_lines p = after.1 ∙ ap (λ (ls : List (List ℕ)). plan_lines p ++ ls) none ∙ append-nil (plan_lines p) in
     let search_p = search_lines p.end p.bounds p.limits p.tests in
     let search_q = search_lines q.end q.bounds q.limits q.tests in
-    let both = same_images p.lengths.items q.lengths.items (search_p ++ groups_lines p.groups) (search_q ++ groups_lines q.groups) is_p.lengths is_q.lengths (sym lines) in
+    let both = same_images p.lengths.items q.lengths.items (search_p ++ groups_lines p.groups) (search_q ++ groups_lines q.groups) is_p.lengths is_q.lengths (rest_of p.each q.each _ _ (sym lines)) in
     let search : search_p ≡ search_q = ap (λ (ls : List (List ℕ)). take 14 ls) both.1 in
     let groups : groups_lines p.groups ≡ groups_lines q.groups = ap (λ (ls : List (List ℕ)). drop 14 ls) both.1 in
     let a = is_p.tests in
@@ -132,6 +132,7 @@ one_spelling p q is_p is_q e =
     (listed decimal (λ n. n < 2 ^ 64) number_law (codes "origins ") p.tests.origins.items q.tests.origins.items a.origins.some b.origins.some (offsets_are_short p.tests.origins.items a.near_origins) (offsets_are_short q.tests.origins.items b.near_origins) (ap (line_at 7) search))
     (number (codes "misfits ") p.tests.misfits q.tests.misfits a.misfits b.misfits (ap (line_at 12) search)) (number (codes "least ") p.tests.least q.tests.least a.least b.least (ap (line_at 13) search)))
     (same_groups p.groups q.groups (are_spelled p.lengths.items p.groups is_p.lengths is_p.groups) (are_spelled q.lengths.items q.groups is_q.lengths is_q.groups) groups)
+    (version_of p.each q.each _ _ (sym lines))
   where
     nothing : (others : List (List ℕ)) → [] ≡ followed others [] → others ≡ []
     nothing [] e = refl

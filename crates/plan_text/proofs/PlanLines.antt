@@ -1,5 +1,5 @@
 -- The lines of plans: those before the groups are of one plan alone, and none has a line feed.
-use Rattle.std.proofs.Common.{◌≡◌, ◌<◌, ◌≤◌, ◌^◌, ℕ, List, [], ◌∷◌, ◌++◌, All, drop, get_or, length, map, codes, decimal, refl, sym, ap, subst, ◌∙◌, arith, append_assoc, append-nil, inl, inr, min}
+use Rattle.std.proofs.Common.{◌≡◌, ◌<◌, ◌≤◌, ◌^◌, ℕ, Bool, List, [], ◌∷◌, ◌++◌, All, drop, get_or, length, map, codes, decimal, refl, sym, ap, subst, ◌∙◌, arith, append_assoc, append-nil, inl, inr, min}
 use Rattle.std.specs.List.{flat_map}
 use Rattle.std.proofs.lemmas.List.{append_cancel_left}
 use Rattle.std.proofs.lemmas.List.Elements.{All-head, All-tail, All-nil, All-cons}
@@ -9,13 +9,14 @@ use Rattle.search_plan.specs.declared.plan.Plan.{Plan}
 use Rattle.search_plan.specs.Plans.{AreLengths, IsPlan}
 use Rattle.plan_text.specs.declared.parts.Search.{Search}
 use Rattle.value_text.specs.NameLaws.{number_law}
-use Rattle.plan_text.specs.Parts.{IsSearch, lines_of_search}
-use Rattle.plan_text.specs.PlanText.{group_lines, groups_lines, image_lines, plan_lines}
+use Rattle.plan_text.specs.Parts.{AreImages, IsSearch, lines_of_search, sectors_end}
+use Rattle.plan_text.specs.PlanText.{group_lines, groups_lines, image_lines, plan_lines, version_line}
 use Rattle.plan_text.proofs.GroupSteps.{are_spelled}
 use Rattle.plan_text.proofs.Grouping.{AreSpelled, goes}
-use Rattle.plan_text.proofs.ImageLines.{Lengths, images_line, length_line, same_count}
-use Rattle.plan_text.proofs.Refusals.{StandsIn}
+use Rattle.plan_text.proofs.ImageLines.{Lengths, are_images as images_of, images_line, length_line, same_count}
+use Rattle.plan_text.proofs.Refusals.{StandsIn, one_line}
 use Rattle.plan_text.proofs.SearchLines.{search_of_none, is_search_of_none}
+use Rattle.plan_text.proofs.Versions.{movable, near_offsets, own_images, same_version, short_lengths, some_sectors}
 
 abbrev Same : ℕ → ℕ → Type 0
 Same m n = m ≡ n
@@ -40,18 +41,19 @@ same_lengths (l ∷ ls) (m ∷ ms) x y p q many e =
 
 pub same_images : (ls ms : List ℕ) (x y : List (List ℕ)) → AreLengths ls → AreLengths ms → image_lines ls ++ x ≡ image_lines ms ++ y → (ls ≡ ms) × (x ≡ y)
 same_images ls ms x y p q e =
-    let count : images_line (length ls) ≡ images_line (length ms) = ap (λ (xs : List (List ℕ)). get_or xs 1 []) e in
-    same_lengths ls ms x y p.short q.short (same_count (length ls) (length ms) p.most q.most count) (ap (λ (xs : List (List ℕ)). drop 2 xs) e)
+    let count : images_line (length ls) ≡ images_line (length ms) = ap (λ (xs : List (List ℕ)). get_or xs 0 []) e in
+    same_lengths ls ms x y p.short q.short (same_count (length ls) (length ms) p.most q.most count) (ap (λ (xs : List (List ℕ)). drop 1 xs) e)
 
 -- a plan of parts, and the parts of a plan
-abbrev pub plan_of : Lengths → Search → List Group → Plan
-plan_of lengths search groups = record {
+abbrev pub plan_of : Bool → Lengths → Search → List Group → Plan
+plan_of each lengths search groups = record {
   lengths = lengths;
   end = search.end;
   bounds = search.bounds;
   limits = search.limits;
   tests = search.tests;
   groups = groups;
+  each = each;
 }
 
 abbrev pub search_of : Plan → Search
@@ -61,23 +63,29 @@ search_of plan = record { end = plan.end; bounds = plan.bounds; limits = plan.li
 abbrev pub IsShortest : List ℕ → ℕ → Type 0
 IsShortest lengths shortest = (n : ℕ) → (n ≤ shortest → All (λ m. n ≤ m) lengths) × (All (λ m. n ≤ m) lengths → n ≤ shortest)
 
-pub is_plan : (lengths : Lengths) (shortest : ℕ) (search : Search) (groups : List Group) → AreLengths lengths.items → IsShortest lengths.items shortest → IsSearch shortest search → AreGroups lengths.items groups → IsPlan (plan_of lengths search groups)
-is_plan lengths shortest search groups p least q r = record {
-  lengths = p;
+pub is_plan : (each : Bool) (lengths : Lengths) (shortest : ℕ) (search : Search) (groups : List Group) → AreImages each lengths.items → IsShortest lengths.items shortest → IsSearch shortest each search → AreGroups lengths.items groups → IsPlan (plan_of each lengths search groups)
+is_plan each lengths shortest search groups p least q r = record {
+  lengths = p.0;
   ends = (least search.end).0 q.ends;
   bounds = q.bounds;
   limits = q.limits;
   tests = q.tests;
   groups = r;
+  each = movable each lengths.items search.bounds p.1 q.foreign q.near;
 }
 
-pub is_search : (shortest : ℕ) (plan : Plan) → IsShortest plan.lengths.items shortest → IsPlan plan → IsSearch shortest (search_of plan)
+pub is_search : (shortest : ℕ) (plan : Plan) → IsShortest plan.lengths.items shortest → IsPlan plan → IsSearch shortest plan.each (search_of plan)
 is_search shortest plan least is = record {
   ends = (least plan.end).1 is.ends;
   bounds = is.bounds;
   limits = is.limits;
   tests = is.tests;
+  foreign = own_images plan.each plan.lengths.items plan.bounds is.bounds is.each;
+  near = near_offsets plan.each plan.lengths.items plan.bounds is.bounds is.each;
 }
+
+pub are_images : (plan : Plan) → IsPlan plan → AreImages plan.each plan.lengths.items
+are_images plan is = (is.lengths, short_lengths plan.each plan.lengths.items plan.bounds is.lengths is.each)
 
 pub no_groups : (lengths : List ℕ) → AreGroups lengths []
 no_groups lengths = record {
@@ -122,36 +130,64 @@ same_groups x y p q e =
       ]
     ]
 
+-- texts that begin with the lines of versions
+pub version_of : (a b : Bool) (x y : List (List ℕ)) → version_line a ∷ x ≡ version_line b ∷ y → a ≡ b
+version_of a b x y e = same_version a b (ap (λ (ls : List (List ℕ)). get_or ls 0 []) e)
+
+pub rest_of : (a b : Bool) (x y : List (List ℕ)) → version_line a ∷ x ≡ version_line b ∷ y → x ≡ y
+rest_of a b x y e = ap (λ (ls : List (List ℕ)). drop 1 ls) e
+
+one_image : (each : Bool) → AreImages each (0 ∷ [])
+one_image each = images_of each (0 ∷ []) 1 refl (omega arith) (omega arith) (All-cons (λ n. n < sectors_end each) 0 [] (some_sectors each) (All-nil (λ n. n < sectors_end each)))
+
 -- the parts of a plan's text, each refused in the plan
-pub stands_images : StandsIn {X = Lengths} (λ xs. AreLengths xs.items) (λ xs. image_lines xs.items) IsPlan plan_lines []
-stands_images = record {
-  made = λ x p. let least = least_of x.items p.some in (plan_of x search_of_none [], lines_of_search search_of_none ++ groups_lines [], is_plan x least.0 search_of_none [] p least.1 (is_search_of_none least.0) (no_groups x.items), refl);
-  shape = λ w tail is e. (w.lengths, _, is.lengths, sym e);
-  apart = λ x y m more p q e. let same = (same_images x.items y.items [] (m ∷ more) p q (append-nil (image_lines x.items) ∙ e)).1 in let many = ap length same in absurd (omega arith);
+pub stands_images : (each : Bool) → StandsIn {X = Lengths} (λ xs. AreImages each xs.items) (λ xs. image_lines xs.items) IsPlan plan_lines (version_line each ∷ [])
+stands_images each = record {
+  made = λ x p.
+      let least = least_of x.items p.0.some in (
+        plan_of each x search_of_none [],
+        lines_of_search search_of_none ++ groups_lines [],
+        is_plan each x least.0 search_of_none [] p least.1 (is_search_of_none least.0 each) (no_groups x.items),
+        refl,
+      );
+  shape = λ w tail is e.
+      let version = version_of w.each each _ tail e in
+      (w.lengths, _, subst (λ (b : Bool). AreImages b w.lengths.items) version (are_images w is), sym (rest_of w.each each _ tail e));
+  apart = λ x y m more p q e. let same = (same_images x.items y.items [] (m ∷ more) p.0 q.0 (append-nil (image_lines x.items) ∙ e)).1 in let many = ap length same in absurd (omega arith);
 }
 
-pub stands_search : (lengths : Lengths) (shortest : ℕ) → AreLengths lengths.items → IsShortest lengths.items shortest → StandsIn (IsSearch shortest) lines_of_search IsPlan plan_lines (image_lines lengths.items)
-stands_search lengths shortest p least = record {
-  made = λ x q. (plan_of lengths x [], groups_lines [], is_plan lengths shortest x [] p least q (no_groups lengths.items), refl);
+pub stands_version : StandsIn (λ (each : Bool). Unit {0}) (λ each. version_line each ∷ []) IsPlan plan_lines []
+stands_version = record {
+  made = λ each p. let made = (stands_images each).made (record { items = 0 ∷ [] }) (one_image each) in (made.0, image_lines (0 ∷ []) ++ made.1, made.2, made.3);
+  shape = λ w tail is e. (w.each, _, tt, sym e);
+  apart = λ x y m more p q e. one_line version_line x y m more e;
+}
+
+pub stands_search : (each : Bool) (lengths : Lengths) (shortest : ℕ) → AreImages each lengths.items → IsShortest lengths.items shortest → StandsIn (IsSearch shortest each) lines_of_search IsPlan plan_lines (version_line each ∷ image_lines lengths.items)
+stands_search each lengths shortest p least = record {
+  made = λ x q. (plan_of each lengths x [], groups_lines [], is_plan each lengths shortest x [] p least q (no_groups lengths.items), refl);
   shape = λ w tail is e.
-      let both = same_images w.lengths.items lengths.items (lines_of_search (search_of w) ++ groups_lines w.groups) tail is.lengths p e in
+      let version = version_of w.each each _ (image_lines lengths.items ++ tail) e in
+      let both = same_images w.lengths.items lengths.items (lines_of_search (search_of w) ++ groups_lines w.groups) tail is.lengths p.0 (rest_of w.each each _ (image_lines lengths.items ++ tail) e) in
       let least_w : IsShortest w.lengths.items shortest = subst (λ (ls : List ℕ). IsShortest ls shortest) (sym both.0) least in
-      (search_of w, groups_lines w.groups, is_search shortest w least_w is, sym both.1);
+      (search_of w, groups_lines w.groups, subst (λ (b : Bool). IsSearch shortest b (search_of w)) version (is_search shortest w least_w is), sym both.1);
   apart = λ x y m more p q e. let same = ap length e in absurd (omega arith);
 }
 
-pub stands_groups : (lengths : Lengths) (shortest : ℕ) (search : Search) → AreLengths lengths.items → IsShortest lengths.items shortest → IsSearch shortest search →
-    StandsIn (AreGroups lengths.items) groups_lines IsPlan plan_lines (image_lines lengths.items ++ lines_of_search search)
-stands_groups lengths shortest search p least q = record {
+pub stands_groups : (each : Bool) (lengths : Lengths) (shortest : ℕ) (search : Search) → AreImages each lengths.items → IsShortest lengths.items shortest → IsSearch shortest each search →
+    StandsIn (AreGroups lengths.items) groups_lines IsPlan plan_lines (version_line each ∷ (image_lines lengths.items ++ lines_of_search search))
+stands_groups each lengths shortest search p least q = record {
   made = λ x r. (
-    plan_of lengths search x,
+    plan_of each lengths search x,
     [],
-    is_plan lengths shortest search x p least q r,
-    sym (append_assoc (image_lines lengths.items) (lines_of_search search) (groups_lines x)) ∙ ap (λ (ls : List (List ℕ)). (image_lines lengths.items ++ lines_of_search search) ++ ls) (sym (append-nil (groups_lines x))),
+    is_plan each lengths shortest search x p least q r,
+    ap (λ (ls : List (List ℕ)). version_line each ∷ ls)
+        (sym (append_assoc (image_lines lengths.items) (lines_of_search search) (groups_lines x)) ∙ ap (λ (ls : List (List ℕ)). (image_lines lengths.items ++ lines_of_search search) ++ ls) (sym (append-nil (groups_lines x)))),
   );
   shape = λ w tail is e.
-      let both = same_images w.lengths.items lengths.items (lines_of_search (search_of w) ++ groups_lines w.groups) (lines_of_search search ++ tail) is.lengths p (e ∙ append_assoc (image_lines lengths.items) (lines_of_search search) tail) in
+      let after = rest_of w.each each _ ((image_lines lengths.items ++ lines_of_search search) ++ tail) e in
+      let both = same_images w.lengths.items lengths.items (lines_of_search (search_of w) ++ groups_lines w.groups) (lines_of_search search ++ tail) is.lengths p.0 (after ∙ append_assoc (image_lines lengths.items) (lines_of_search search) tail) in
       let rest : groups_lines w.groups ≡ tail = ap (λ (ls : List (List ℕ)). drop 14 ls) both.1 in
       (w.groups, [], subst (λ (ls : List ℕ). AreGroups ls w.groups) both.0 is.groups, sym rest ∙ sym (append-nil (groups_lines w.groups)));
-  apart = λ x y m more r s e. one_end x y m more (are_spelled lengths.items x p r) (are_spelled lengths.items y p s) e;
+  apart = λ x y m more r s e. one_end x y m more (are_spelled lengths.items x p.0 r) (are_spelled lengths.items y p.0 s) e;
 }

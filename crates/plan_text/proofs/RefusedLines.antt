@@ -1,5 +1,5 @@
 -- The refused line of a text.
-use Rattle.std.proofs.Common.{◌≡◌, ◌≢◌, ◌<◌, ◌+◌, ◌^◌, ℕ, List, [], ◌∷◌, ◌++◌, All, take, drop, length, map, codes, decimal, refl, sym, ap, subst, ◌∙◌, arith, append_assoc, append-nil, length-append, length-take, inl, inr}
+use Rattle.std.proofs.Common.{◌≡◌, ◌≢◌, ◌<◌, ◌+◌, ◌^◌, ℕ, Bool, true, false, List, [], ◌∷◌, ◌++◌, All, take, drop, length, map, codes, decimal, refl, sym, ap, subst, ◌∙◌, arith, append_assoc, append-nil, length-append, length-take, inl, inr}
 use Rattle.std.specs.List.{flat_map}
 use Rattle.std.proofs.lemmas.Bool.{cases_lt}
 use Rattle.std.proofs.lemmas.List.{take-append-drop}
@@ -13,7 +13,7 @@ use Rattle.plan_text.specs.declared.fault.PlanFault.{PlanFault}
 use Rattle.plan_text.specs.declared.fault.PlanFault.TheVariants.{Line, Memory}
 use Rattle.plan_text.specs.Drafts.{IsSpelledMark}
 use Rattle.value_text.specs.NameLaws.{level_law, pattern_law, syndrome_law, byte_law, number_law}
-use Rattle.plan_text.specs.PlanText.{Begins, IsFault, IsLine, IsRefusedLine, group_lines, groups_lines, image_lines, mark_line, plan_lines, plan_text, search_lines}
+use Rattle.plan_text.specs.PlanText.{Begins, IsFault, IsLine, IsRefusedLine, group_lines, groups_lines, image_lines, mark_line, plan_lines, plan_text, search_lines, version_line}
 use Rattle.plan_text.specs.Reading.{Cursor, IsOff, IsRefusal, followed}
 use Rattle.value_text.specs.Spelling.{level_name, pattern_name, syndrome_name, line}
 use Rattle.plan_text.specs.declared.entry.Entry.TheVariants.{Done, Group as GroupEntry, Mark as MarkEntry}
@@ -71,7 +71,11 @@ lengths_plain [] short = tt
 lengths_plain (l ∷ ls) short = (number_line (codes "length ") (a_line (codes "length ") refl) l (let small = All-head (λ n. n < 2 ^ 55) l ls short in omega arith), lengths_plain ls (All-tail (λ n. n < 2 ^ 55) l ls short))
 
 image_plain : (ls : List ℕ) → AreLengths ls → All IsLine (image_lines ls)
-image_plain ls are = all_plain (image_lines ls) (a_line (codes "reraid-plan 1") refl, (number_line (codes "images ") (a_line (codes "images ") refl) (length ls) (let most = are.most in omega arith), lengths_plain ls are.short))
+image_plain ls are = all_plain (image_lines ls) (number_line (codes "images ") (a_line (codes "images ") refl) (length ls) (let most = are.most in omega arith), lengths_plain ls are.short)
+
+version_plain : (each : Bool) → IsLine (version_line each)
+version_plain false = number_line (codes "reraid-plan ") (a_line (codes "reraid-plan ") refl) 1 (omega arith)
+version_plain true = number_line (codes "reraid-plan ") (a_line (codes "reraid-plan ") refl) 2 (omega arith)
 
 pub end_is_short : (plan : Plan) → IsPlan plan → plan.end < 2 ^ 55
 end_is_short plan is =
@@ -140,9 +144,10 @@ groups_plain (g ∷ gs) p =
 
 pub plain_lines : (plan : Plan) → IsPlan plan → All IsLine (plan_lines plan)
 plain_lines plan is =
-    All-append IsLine (image_lines plan.lengths.items) (search_lines plan.end plan.bounds plan.limits plan.tests ++ groups_lines plan.groups) (image_plain plan.lengths.items is.lengths)
+    All-cons IsLine (version_line plan.each) (image_lines plan.lengths.items ++ (search_lines plan.end plan.bounds plan.limits plan.tests ++ groups_lines plan.groups)) (version_plain plan.each)
+    (All-append IsLine (image_lines plan.lengths.items) (search_lines plan.end plan.bounds plan.limits plan.tests ++ groups_lines plan.groups) (image_plain plan.lengths.items is.lengths)
     (All-append IsLine (search_lines plan.end plan.bounds plan.limits plan.tests) (groups_lines plan.groups) (search_plain plan is)
-    (All-append IsLine (flat_map group_lines plan.groups) (codes "done" ∷ []) (groups_plain plan.groups (are_spelled plan.lengths.items plan.groups is.lengths is.groups)) (All-cons IsLine (codes "done") [] (an_entry_line Done tt) (All-nil IsLine))))
+    (All-append IsLine (flat_map group_lines plan.groups) (codes "done" ∷ []) (groups_plain plan.groups (are_spelled plan.lengths.items plan.groups is.lengths is.groups)) (All-cons IsLine (codes "done") [] (an_entry_line Done tt) (All-nil IsLine)))))
 
 -- lines that are to come, of which there may be none where the text goes on
 abbrev pub IsOther : List ℕ → List (List ℕ) → Type 0

@@ -1,5 +1,5 @@
 -- The lists of a plan, line by line.
-use Rattle.std.proofs.Common.{◌≡◌, ◌≢◌, ◌≤◌, ◌<◌, ◌^◌, ℕ, IsTrue, List, [], ◌∷◌, All, drop, length, map, codes, decimal, refl, sym, ap, arith, lit≤, lit<, Option, None, Some, MatchOption}
+use Rattle.std.proofs.Common.{◌≡◌, ◌≢◌, ◌≤◌, ◌<◌, ◌^◌, ℕ, Bool, IsTrue, List, [], ◌∷◌, All, drop, length, map, codes, decimal, refl, sym, ap, arith, lit≤, lit<, Option, None, Some, MatchOption}
 use Rattle.std.proofs.lemmas.List.Elements.{All-nil, All-cons}
 use Rattle.arrayvec.specs.declared.array_vec.ArrayVec.{ArrayVec}
 use Rattle.landmark_rules.specs.declared.limits.TheConstants.{MOST_ORIGINS}
@@ -14,11 +14,12 @@ use Rattle.search_plan.specs.Places.{level_place, pattern_place, syndrome_place}
 use Rattle.search_plan.specs.Plans.{AreRising}
 use Rattle.plan_text.specs.declared.parts.Arrays.{Arrays}
 use Rattle.plan_text.specs.declared.parts.Sizes.{Sizes}
-use Rattle.plan_text.specs.Parts.{AreArrays, AreSizes, lines_of_arrays, lines_of_sizes}
-use Rattle.value_text.specs.Bounded.{AreMembers, AreChunks, AreSectors}
+use Rattle.plan_text.specs.Parts.{AreArrays, AreBelow, AreSizes, lines_of_arrays, lines_of_sizes, sectors_end}
+use Rattle.value_text.specs.Bounded.{AreMembers, AreChunks}
 use Rattle.value_text.specs.Spelling.{level_name, pattern_name, syndrome_name, commas, named}
 use Rattle.value_text.proofs.Fits.{levels_fit, patterns_fit, syndromes_fit}
 use Rattle.plan_text.proofs.Refusals.{StandsIn, one_line}
+use Rattle.plan_text.proofs.Versions.{some_sectors}
 
 pub one_rises : (n : ℕ) → AreRising (n ∷ [])
 one_rises n = record { some = lit≤ tt; rising = λ k lt. absurd (omega arith) }
@@ -111,41 +112,47 @@ stands_syndromes l n o pl pn po = record {
 abbrev sizes_with : Chunks → Sectors → Sectors → Sizes
 sizes_with c o r = record { chunks = c; offsets = o; origins = r }
 
-pub are_sizes : (c : Chunks) (o r : Sectors) → AreChunks c.items → AreSectors MOST_OFFSETS o.items → AreSectors MOST_ORIGINS r.items → AreSizes (sizes_with c o r)
-are_sizes c o r p q s = record { chunks = p; offsets = q; origins = s }
+pub are_sizes : (each : Bool) (c : Chunks) (o r : Sectors) → AreChunks c.items → AreBelow (sectors_end each) MOST_OFFSETS o.items → AreBelow (2 ^ 55) MOST_ORIGINS r.items → AreSizes each (sizes_with c o r)
+are_sizes each c o r p q s = record { chunks = p; offsets = q; origins = s }
 
 sectors : Sectors
 sectors = record { items = 0 ∷ [] }
 
-pub are_sectors : (most : ℕ) → 1 ≤ most → AreSectors most (0 ∷ [])
-are_sectors most some = (one_rises 0, some, of_one (λ n. n < 2 ^ 55) 0 (lit< tt))
+pub are_below : (end most : ℕ) → 1 ≤ end → 1 ≤ most → AreBelow end most (0 ∷ [])
+are_below end most high some = ((one_rises 0, some, of_one (λ n. n < 2 ^ 55) 0 (lit< tt)), of_one (λ n. n < end) 0 (omega arith))
+
+some_offsets : (each : Bool) → AreBelow (sectors_end each) MOST_OFFSETS (0 ∷ [])
+some_offsets each = are_below (sectors_end each) MOST_OFFSETS (some_sectors each) (lit≤ tt)
+
+some_origins : AreBelow (2 ^ 55) MOST_ORIGINS (0 ∷ [])
+some_origins = are_below (2 ^ 55) MOST_ORIGINS (omega arith) (lit≤ tt)
 
 pub are_chunks : AreChunks (1 ∷ [])
 unfolding is_chunk
 are_chunks = (one_rises 1, of_one (λ n. IsTrue (is_chunk n)) 1 refl)
 
-pub stands_chunks : StandsIn {X = Chunks} (λ xs. AreChunks xs.items) (λ xs. named (codes "chunks") (commas (map decimal xs.items)) ∷ []) AreSizes lines_of_sizes []
+pub stands_chunks : (each : Bool) → StandsIn {X = Chunks} (λ xs. AreChunks xs.items) (λ xs. named (codes "chunks") (commas (map decimal xs.items)) ∷ []) (AreSizes each) lines_of_sizes []
 unfolding sectors
-stands_chunks = record {
-  made = λ x p. (sizes_with x sectors sectors, _, are_sizes x sectors sectors p (are_sectors MOST_OFFSETS (lit≤ tt)) (are_sectors MOST_OFFSETS (lit≤ tt)), refl);
+stands_chunks each = record {
+  made = λ x p. (sizes_with x sectors sectors, _, are_sizes each x sectors sectors p (some_offsets each) some_origins, refl);
   shape = λ w tail is e. (w.chunks, _, is.chunks, sym e);
   apart = λ x y m more p q e. one_line (λ (xs : Chunks). named (codes "chunks") (commas (map decimal xs.items))) x y m more e;
 }
 
-pub stands_offsets : (c : Chunks) → AreChunks c.items →
-    StandsIn {X = Sectors} (λ xs. AreSectors MOST_OFFSETS xs.items) (λ xs. named (codes "offsets") (commas (map decimal xs.items)) ∷ []) AreSizes lines_of_sizes (named (codes "chunks") (commas (map decimal c.items)) ∷ [])
+pub stands_offsets : (each : Bool) (c : Chunks) → AreChunks c.items →
+    StandsIn {X = Sectors} (λ xs. AreBelow (sectors_end each) MOST_OFFSETS xs.items) (λ xs. named (codes "offsets") (commas (map decimal xs.items)) ∷ []) (AreSizes each) lines_of_sizes (named (codes "chunks") (commas (map decimal c.items)) ∷ [])
 unfolding sectors
-stands_offsets c pc = record {
-  made = λ x p. (sizes_with c x sectors, _, are_sizes c x sectors pc p (are_sectors MOST_OFFSETS (lit≤ tt)), refl);
+stands_offsets each c pc = record {
+  made = λ x p. (sizes_with c x sectors, _, are_sizes each c x sectors pc p some_origins, refl);
   shape = λ w tail is e. (w.offsets, _, is.offsets, ap (λ (ls : List (List ℕ)). drop 1 ls) (sym e));
   apart = λ x y m more p q e. one_line (λ (xs : Sectors). named (codes "offsets") (commas (map decimal xs.items))) x y m more e;
 }
 
-pub stands_origins : (c : Chunks) (o : Sectors) → AreChunks c.items → AreSectors MOST_OFFSETS o.items →
-    StandsIn {X = Sectors} (λ xs. AreSectors MOST_OFFSETS xs.items) (λ xs. named (codes "origins") (commas (map decimal xs.items)) ∷ []) AreSizes lines_of_sizes
+pub stands_origins : (each : Bool) (c : Chunks) (o : Sectors) → AreChunks c.items → AreBelow (sectors_end each) MOST_OFFSETS o.items →
+    StandsIn {X = Sectors} (λ xs. AreBelow (2 ^ 55) MOST_ORIGINS xs.items) (λ xs. named (codes "origins") (commas (map decimal xs.items)) ∷ []) (AreSizes each) lines_of_sizes
     (named (codes "chunks") (commas (map decimal c.items)) ∷ named (codes "offsets") (commas (map decimal o.items)) ∷ [])
-stands_origins c o pc po = record {
-  made = λ x p. (sizes_with c o x, _, are_sizes c o x pc po p, refl);
+stands_origins each c o pc po = record {
+  made = λ x p. (sizes_with c o x, _, are_sizes each c o x pc po p, refl);
   shape = λ w tail is e. (w.origins, _, is.origins, ap (λ (ls : List (List ℕ)). drop 2 ls) (sym e));
   apart = λ x y m more p q e. one_line (λ (xs : Sectors). named (codes "origins") (commas (map decimal xs.items))) x y m more e;
 }

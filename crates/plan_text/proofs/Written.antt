@@ -11,8 +11,8 @@ more_lines : (text mid old : List ℕ) (xs ys : List (List ℕ)) → mid ≡ old
 more_lines text mid old xs ys a b =
     b ∙ ap (λ (ds : List ℕ). ds ++ flat_map line ys) a ∙ append_assoc old (flat_map line xs) (flat_map line ys) ∙ ap (λ (ds : List ℕ). old ++ ds) (sym (flat_map-append line xs ys))
 
-pub two_and_more : (t0 t1 t2 t3 : List ℕ) (a b : List ℕ) (ls : List (List ℕ)) → t1 ≡ t0 ++ line a → t2 ≡ t1 ++ line b → t3 ≡ t2 ++ flat_map line ls → t3 ≡ t0 ++ flat_map line (a ∷ b ∷ ls)
-two_and_more t0 t1 t2 t3 a b ls p q r = more_lines t3 t2 t0 (a ∷ b ∷ []) ls (more_lines t2 t1 t0 (a ∷ []) (b ∷ []) (one_line t1 t0 a p) (one_line t2 t1 b q)) r
+pub one_and_more : (t0 t1 t2 : List ℕ) (a : List ℕ) (ls : List (List ℕ)) → t1 ≡ t0 ++ line a → t2 ≡ t1 ++ flat_map line ls → t2 ≡ t0 ++ flat_map line (a ∷ ls)
+one_and_more t0 t1 t2 a ls p q = more_lines t2 t1 t0 (a ∷ []) ls (one_line t1 t0 a p) q
 
 pub one_and_three : (t0 t1 t2 t3 t4 : List ℕ) (a : List ℕ) (xs ys zs : List (List ℕ)) → t1 ≡ t0 ++ line a → t2 ≡ t1 ++ flat_map line xs → t3 ≡ t2 ++ flat_map line ys → t4 ≡ t3 ++ flat_map line zs → t4 ≡ t0 ++ flat_map line (a ∷ (xs ++ (ys ++ zs)))
 one_and_three t0 t1 t2 t3 t4 a xs ys zs p q r s =

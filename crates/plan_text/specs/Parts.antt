@@ -1,9 +1,8 @@
 -- Parts of a plan that stand on lines one after the other.
-use Rattle.std.specs.Prelude.{ℕ, ◌≤◌, ◌<◌, ◌^◌, IsTrue, List, [], ◌∷◌, length, map, All, codes, decimal}
+use Rattle.std.specs.Prelude.{ℕ, Bool, true, false, ◌≤◌, ◌<◌, ◌^◌, List, [], ◌∷◌, map, All, codes, decimal}
 use Rattle.raid_params.specs.declared.limits.TheConstants.{MOST}
-use Rattle.raid_params.specs.Validity.{is_chunk}
 use Rattle.search_plan.specs.Places.{level_place, pattern_place, syndrome_place}
-use Rattle.search_plan.specs.Plans.{AreRising, AreBounds, AreLimits, AreTests}
+use Rattle.search_plan.specs.Plans.{AreRising, AreBounds, AreLengths, AreLimits, AreTests}
 pub use Rattle.value_text.specs.Bounded.{AreChunks, AreMembers, AreSectors}
 use Rattle.plan_text.specs.declared.parts.Counts.{Counts}
 use Rattle.plan_text.specs.declared.parts.Arrays.{Arrays}
@@ -26,10 +25,26 @@ lines_of_arrays arrays =
     ∷ named (codes "syndromes") (commas (map syndrome_name arrays.syndromes.items))
     ∷ []
 
-pub record AreSizes (sizes : Sizes) : Type 0 where
+-- the end of lengths and offsets, and the most foreign images: images with offsets of their own are moved by them
+abbrev pub sectors_end : Bool → ℕ
+sectors_end false = 2 ^ 55
+sectors_end true = 2 ^ 54
+
+abbrev pub most_foreign : Bool → ℕ
+most_foreign false = MOST
+most_foreign true = 0
+
+abbrev pub AreImages : Bool → List ℕ → Type 0
+AreImages each lengths = AreLengths lengths × All (λ n. n < sectors_end each) lengths
+
+-- places that rise, each below `end`
+abbrev pub AreBelow : ℕ → ℕ → List ℕ → Type 0
+AreBelow end most ns = AreSectors most ns × All (λ n. n < end) ns
+
+pub record AreSizes (each : Bool) (sizes : Sizes) : Type 0 where
   pub chunks : AreChunks sizes.chunks.items
-  pub offsets : AreSectors 64 sizes.offsets.items
-  pub origins : AreSectors 64 sizes.origins.items
+  pub offsets : AreBelow (sectors_end each) 64 sizes.offsets.items
+  pub origins : AreBelow (2 ^ 55) 64 sizes.origins.items
 
 abbrev pub lines_of_sizes : Sizes → List (List ℕ)
 lines_of_sizes sizes =
@@ -38,9 +53,9 @@ lines_of_sizes sizes =
     ∷ named (codes "origins") (commas (map decimal sizes.origins.items))
     ∷ []
 
-pub record AreCounts (counts : Counts) : Type 0 where
+pub record AreCounts (each : Bool) (counts : Counts) : Type 0 where
   pub missing : counts.missing ≤ 2
-  pub foreign : counts.foreign ≤ MOST
+  pub foreign : counts.foreign ≤ most_foreign each
   pub badrows : counts.badrows < 2 ^ 55
   pub some_window : 1 ≤ counts.window
   pub window : counts.window < 2 ^ 55
@@ -58,11 +73,13 @@ lines_of_counts counts =
     ∷ []
 
 -- a search in images, of which the shortest has this many sectors
-pub record IsSearch (shortest : ℕ) (search : Search) : Type 0 where
+pub record IsSearch (shortest : ℕ) (each : Bool) (search : Search) : Type 0 where
   pub ends : search.end ≤ shortest
   pub bounds : AreBounds search.bounds
   pub limits : AreLimits search.limits
   pub tests : AreTests search.tests
+  pub foreign : search.bounds.foreign ≤ most_foreign each
+  pub near : All (λ n. n < sectors_end each) search.bounds.offsets.items
 
 abbrev pub lines_of_search : Search → List (List ℕ)
 lines_of_search search = search_lines search.end search.bounds search.limits search.tests

@@ -1,5 +1,5 @@
 -- The one text of a plan, and the line at which a text that is no plan's is refused.
-use Rattle.std.specs.Prelude.{ℕ, ◌≡◌, ◌≢◌, ◌+◌, List, [], ◌∷◌, ◌++◌, length, map, All, codes, decimal, Result, IfOk, IfErr}
+use Rattle.std.specs.Prelude.{ℕ, Bool, true, false, ◌≡◌, ◌≢◌, ◌+◌, List, [], ◌∷◌, ◌++◌, length, map, All, codes, decimal, Result, IfOk, IfErr}
 use Rattle.std.specs.List.{flat_map}
 use Rattle.raid_params.specs.declared.types.Bounds.{Bounds}
 use Rattle.landmark_rules.specs.declared.marks.Group.{Group}
@@ -14,11 +14,18 @@ use Rattle.plan_text.specs.declared.fault.PlanFault.{PlanFault}
 use Rattle.plan_text.specs.declared.fault.PlanFault.TheVariants.{Line, Memory}
 use Rattle.value_text.specs.Spelling.{level_name, pattern_name, syndrome_name, group_name, kind_name, commas, colons, spaces, named, line}
 
+-- the version of the text: 2 where each image has an offset of its own, and 1 where all share one
+abbrev pub version_number : Bool → ℕ
+version_number false = 1
+version_number true = 2
+
+abbrev pub version_line : Bool → List ℕ
+version_line each = named (codes "reraid-plan") (decimal (version_number each))
+
 -- the number of images, and the length of each
 abbrev pub image_lines : List ℕ → List (List ℕ)
 image_lines lengths =
-    codes "reraid-plan 1"
-    ∷ named (codes "images") (decimal (length lengths))
+    named (codes "images") (decimal (length lengths))
     ∷ map (λ n. named (codes "length") (decimal n)) lengths
 
 -- the arrays to try
@@ -77,7 +84,7 @@ groups_lines groups = flat_map group_lines groups ++ codes "done" ∷ []
 
 -- the lines of a plan
 abbrev pub plan_lines : Plan → List (List ℕ)
-plan_lines plan = image_lines plan.lengths.items ++ (search_lines plan.end plan.bounds plan.limits plan.tests ++ groups_lines plan.groups)
+plan_lines plan = version_line plan.each ∷ (image_lines plan.lengths.items ++ (search_lines plan.end plan.bounds plan.limits plan.tests ++ groups_lines plan.groups))
 
 -- the text of a plan: its lines, each ended by a line feed
 abbrev pub plan_text : Plan → List ℕ

@@ -2,7 +2,8 @@
 //!
 //! A plan has one text, and a text is read as a plan exactly where it is that plan's text to its
 //! last byte: a list of lines, each ended by a line feed, with decimal numbers without sign or
-//! leading zero. Any other text is refused at one of its lines.
+//! leading zero. Any other text is refused at one of its lines. Version 2 of the text is that of plans in which each image
+//! has an offset of its own: their lengths and offsets are below 2^54, and no image is foreign.
 //!
 //! [`read_plan`] goes through the text once, a line at a time, and [`write_plan`] is its other direction. What the
 //! lines are made of, numbers, names, lists and the words of parameter sets, is `value_text`'s matter, and the lines of
@@ -24,6 +25,7 @@ mod parts;
 mod plan;
 mod reader;
 mod sections;
+mod version;
 mod writer;
 
 // The tests stand in `text_rows`.
@@ -34,8 +36,9 @@ pub use laws::{one_refused_line, one_spelling};
 pub use plan::read_plan;
 pub use search_plan::{Limits, Placed, Plan};
 pub use value_text::{
-    Field, LEVELS, Listed, PATTERNS, SYNDROMES, Spelled, Text, add_number, after, cut, group_name,
-    pattern_name, read_chunks, read_members, read_number, read_sectors, read_set, rising, set_line,
-    set_words_have_one_spelling, syndrome_name, write_set,
+    Field, LEVELS, Listed, PATTERNS, SYNDROMES, Spelled, Text, add_number, after, common_set_line,
+    cut, group_name, pattern_name, read_chunks, read_common_set, read_members, read_number,
+    read_sectors, read_set, rising, set_line, set_words_have_one_spelling, syndrome_name,
+    write_set,
 };
 pub use writer::write_plan;

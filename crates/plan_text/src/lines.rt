@@ -1,7 +1,8 @@
 //! The value that a line spells after its name.
-ghost use Rattle.std.specs.Prelude.{◌≡◌, ◌≢◌, ◌≤◌, ◌++◌, ℕ, List, All, decimal, length, map, MatchOption};
+ghost use Rattle.std.specs.Prelude.{◌≡◌, ◌≢◌, ◌≤◌, ◌<◌, ◌++◌, ◌↔◌, ℕ, List, All, IsTrue, decimal, length, map, MatchOption};
 ghost use Rattle.search_plan.specs.Plans.{AreRising};
-ghost use Rattle.value_text.specs.Bounded.{AreChunks, AreMembers, AreSectors};
+ghost use Rattle.value_text.specs.Bounded.{AreChunks, AreMembers};
+ghost use Rattle.plan_text.specs.Parts.{AreBelow};
 ghost use Rattle.value_text.specs.Spelling.{commas};
 
 use arrayvec::ArrayVec;
@@ -49,11 +50,36 @@ pub fn chunks_after(line: &[u8], word: &[u8]) -> Option<ArrayVec<u64, MOST_CHUNK
     read_chunks(after(line, word)?)
 }
 
-/// The places that a line spells after the word.
-pub fn sectors_after<const CAP: usize>(line: &[u8], word: &[u8]) -> Option<ArrayVec<u64, CAP>>
+/// The places that a line spells after the word, each below `end`.
+pub fn sectors_after<const CAP: usize>(
+    line: &[u8],
+    word: &[u8],
+    end: u64,
+) -> Option<ArrayVec<u64, CAP>>
     ensures { MatchOption result
-        ((ns : List ℕ) → AreSectors CAP ns → line.now ≢ word.now ++ commas (map decimal ns))
-        (λ ns. AreSectors CAP ns.items × (line.now ≡ word.now ++ commas (map decimal ns.items))) }
+        ((ns : List ℕ) → AreBelow end CAP ns → line.now ≢ word.now ++ commas (map decimal ns))
+        (λ ns. AreBelow end CAP ns.items × (line.now ≡ word.now ++ commas (map decimal ns.items))) }
 {
-    read_sectors(after(line, word)?)
+    below(after(line, word)?, end)
+}
+
+/// The places that a text spells, each below `end`.
+fn below<const CAP: usize>(text: &[u8], end: u64) -> Option<ArrayVec<u64, CAP>>
+    ensures { MatchOption result
+        ((ns : List ℕ) → AreBelow end CAP ns → text.now ≢ commas (map decimal ns))
+        (λ ns. AreBelow end CAP ns.items × (text.now ≡ commas (map decimal ns.items))) }
+{
+    let sectors = read_sectors(text)?;
+    if are_below(&sectors, end) {
+        Some(sectors)
+    } else {
+        None
+    }
+}
+
+/// Whether each number is below `end`.
+fn are_below(sectors: &[u64], end: u64) -> bool
+    ensures { IsTrue result ↔ All (λ n. n < end) sectors.now }
+{
+    sectors.iter().all(|sector| *sector < end)
 }

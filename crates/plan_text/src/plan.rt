@@ -16,8 +16,9 @@ pub fn read_plan(alloc: Global, text: &[u8]) -> Result<Plan, PlanFault>
     ensures { ReadsPlan text.now result }
 {
     let mut reader = PlanReader::new(text);
-    let lengths = reader.images()?;
-    let search = reader.search(shortest(&lengths))?;
+    let each = reader.version()?;
+    let lengths = reader.images(each)?;
+    let search = reader.search(shortest(&lengths), each)?;
     let groups = reader.groups(alloc, &lengths)?;
     reader.end()?;
     Ok(Plan {
@@ -27,6 +28,7 @@ pub fn read_plan(alloc: Global, text: &[u8]) -> Result<Plan, PlanFault>
         limits: search.limits,
         tests: search.tests,
         groups,
+        each,
     })
 }
 

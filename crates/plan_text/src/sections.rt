@@ -1,9 +1,9 @@
 //! The lines of a plan before its groups, one after the other.
 ghost use Rattle.std.specs.Prelude.{◌≡◌, ◌≤◌, ◌++◌, ◌∷◌, [], All, IsTrue, codes, decimal, length, map};
-ghost use Rattle.search_plan.specs.Plans.{AreRising, AreLengths};
-ghost use Rattle.plan_text.specs.Parts.{AreArrays, AreSizes, AreCounts, IsSearch, lines_of_arrays, lines_of_sizes, lines_of_counts, lines_of_search};
-ghost use Rattle.value_text.specs.Bounded.{AreMembers, AreChunks, AreSectors};
-ghost use Rattle.plan_text.specs.PlanText.{image_lines};
+ghost use Rattle.search_plan.specs.Plans.{AreRising};
+ghost use Rattle.plan_text.specs.Parts.{AreArrays, AreBelow, AreCounts, AreImages, AreSizes, IsSearch, lines_of_arrays, lines_of_sizes, lines_of_counts, lines_of_search};
+ghost use Rattle.value_text.specs.Bounded.{AreMembers, AreChunks};
+ghost use Rattle.plan_text.specs.PlanText.{image_lines, version_line};
 ghost use Rattle.plan_text.specs.Reading.{Reads, is_line};
 ghost use Rattle.value_text.specs.Spelling.{commas, named};
 
@@ -11,6 +11,7 @@ use crate::fault::PlanFault;
 use crate::lines::{chunks_after, list_after, members_after, number_after, sectors_after};
 use crate::parts::{Arrays, Counts, Search, Sizes};
 use crate::reader::PlanReader;
+use crate::version::{most_foreign, sectors_end};
 use arrayvec::ArrayVec;
 use landmark_rules::MarkTests;
 use raid_params::{Bounds, MOST, MOST_CHUNKS, MOST_LESS_ONE, MOST_MISSING, SECTORS_END};
@@ -18,27 +19,34 @@ use search_plan::Limits;
 use value_text::{Field, Listed};
 
 impl<'a> PlanReader<'a> {
-    /// The number of images, from 1 to `MOST`, and their lengths in sectors.
-    pub fn images(&mut self) -> Result<ArrayVec<u64, MOST>, PlanFault>
-        ensures { Reads (λ lengths. AreLengths lengths.items) (λ lengths. image_lines lengths.items) self.old self.new result }
+    /// Whether each image has an offset of its own, as the version of the text says.
+    pub fn version(&mut self) -> Result<bool, PlanFault>
+        ensures { Reads (λ _. Unit {0}) (λ each. version_line each ∷ []) self.old self.new result }
     {
-        self.fixed(b"reraid-plan 1")?;
+        let version = self.number(b"reraid-plan ", 1, 2)?;
+        Ok(version == 2)
+    }
+
+    /// The number of images, from 1 to `MOST`, and their lengths in sectors.
+    pub fn images(&mut self, each: bool) -> Result<ArrayVec<u64, MOST>, PlanFault>
+        ensures { Reads (λ lengths. AreImages each lengths.items) (λ lengths. image_lines lengths.items) self.old self.new result }
+    {
         let count = self.number(b"images ", 1, MOST as u64)?;
         let mut lengths = ArrayVec::new();
         for _ in 0..count {
-            lengths.push(self.number(b"length ", 0, SECTORS_END - 1)?);
+            lengths.push(self.number(b"length ", 0, sectors_end(each) - 1)?);
         }
         Ok(lengths)
     }
 
     /// What is searched, and how it is tested: `end` is at most the shortest length.
-    pub fn search(&mut self, shortest: u64) -> Result<Search, PlanFault>
-        ensures { Reads (IsSearch shortest) lines_of_search self.old self.new result }
+    pub fn search(&mut self, shortest: u64, each: bool) -> Result<Search, PlanFault>
+        ensures { Reads (IsSearch shortest each) lines_of_search self.old self.new result }
     {
         let end = self.number(b"end ", 0, shortest)?;
         let arrays = self.arrays()?;
-        let sizes = self.sizes()?;
-        let counts = self.counts()?;
+        let sizes = self.sizes(each)?;
+        let counts = self.counts(each)?;
         let bounds = Bounds {
             levels: arrays.levels,
             members: arrays.members,
@@ -83,12 +91,12 @@ impl<'a> PlanReader<'a> {
     }
 
     /// The chunk sizes, the offsets and the origins.
-    fn sizes(&mut self) -> Result<Sizes, PlanFault>
-        ensures { Reads AreSizes lines_of_sizes self.old self.new result }
+    fn sizes(&mut self, each: bool) -> Result<Sizes, PlanFault>
+        ensures { Reads (AreSizes each) lines_of_sizes self.old self.new result }
     {
         let chunks = self.chunks()?;
-        let offsets = self.sectors(b"offsets ")?;
-        let origins = self.sectors(b"origins ")?;
+        let offsets = self.sectors(b"offsets ", sectors_end(each))?;
+        let origins = self.sectors(b"origins ", SECTORS_END)?;
         Ok(Sizes {
             chunks,
             offsets,
@@ -97,11 +105,11 @@ impl<'a> PlanReader<'a> {
     }
 
     /// The numbers between the origins and the groups.
-    fn counts(&mut self) -> Result<Counts, PlanFault>
-        ensures { Reads AreCounts lines_of_counts self.old self.new result }
+    fn counts(&mut self, each: bool) -> Result<Counts, PlanFault>
+        ensures { Reads (AreCounts each) lines_of_counts self.old self.new result }
     {
         let missing = self.number(b"missing ", 0, MOST_MISSING as u64)? as u8;
-        let foreign = self.number(b"foreign ", 0, MOST as u64)? as u8;
+        let foreign = self.number(b"foreign ", 0, most_foreign(each))? as u8;
         let badrows = self.number(b"badrows ", 0, SECTORS_END - 1)?;
         let window = self.number(b"window ", 1, SECTORS_END - 1)?;
         let misfits = self.number(b"misfits ", 0, SECTORS_END - 1)?;
@@ -132,14 +140,19 @@ impl<'a> PlanReader<'a> {
         chunks_after(line, b"chunks ").ok_or(self.refusal())
     }
 
-    /// The list after the word, of places in sectors.
-    fn sectors<const CAP: usize>(&mut self, word: &[u8]) -> Result<ArrayVec<u64, CAP>, PlanFault>
+    /// The list after the word, of places in sectors, each below `end`.
+    fn sectors<const CAP: usize>(
+        &mut self,
+        word: &[u8],
+        end: u64,
+    ) -> Result<ArrayVec<u64, CAP>, PlanFault>
         requires word { IsTrue (is_line word.now) }
         requires room { 1 ≤ CAP }
-        ensures { Reads (λ ns. AreSectors CAP ns.items) (λ ns. (word.now ++ commas (map decimal ns.items)) ∷ []) self.old self.new result }
+        requires some { 1 ≤ end }
+        ensures { Reads (λ ns. AreBelow end CAP ns.items) (λ ns. (word.now ++ commas (map decimal ns.items)) ∷ []) self.old self.new result }
     {
         let line = self.next_line()?;
-        sectors_after(line, word).ok_or(self.refusal())
+        sectors_after(line, word, end).ok_or(self.refusal())
     }
 
     /// The list after the word, of values in strictly rising order.
@@ -166,18 +179,5 @@ impl<'a> PlanReader<'a> {
     {
         let line = self.next_line()?;
         number_after(line, word, least, most).ok_or(self.refusal())
-    }
-
-    /// The line that is the word.
-    fn fixed(&mut self, word: &[u8]) -> Result<(), PlanFault>
-        requires { IsTrue (is_line word.now) }
-        ensures { Reads (λ _. Unit {0}) (λ _. word.now ∷ []) self.old self.new result }
-    {
-        let line = self.next_line()?;
-        if line == word {
-            Ok(())
-        } else {
-            Err(self.refusal())
-        }
     }
 }

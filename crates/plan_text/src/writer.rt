@@ -4,6 +4,7 @@ ghost use Rattle.std.specs.List.{flat_map};
 ghost use Rattle.plan_text.specs.PlanText.{plan_text, image_lines, search_lines, arrays_lines, sizes_lines, counts_lines, groups_lines, mark_line, mark_text, rule_text};
 ghost use Rattle.value_text.specs.Spelling.{commas, group_name as group_spelling, line as line_of, named};
 
+use crate::version::version_number;
 use landmark_rules::{Group, GroupKind, Mark, MarkTests, Rule};
 use outside::Memory;
 use raid_params::Bounds;
@@ -16,6 +17,7 @@ pub fn write_plan(alloc: Global, plan: &Plan) -> Result<Text, Memory>
     ensures { IfOk result (λ text. text ≡ plan_text plan.now) }
 {
     let mut text = Text::new(alloc);
+    add_number_line(&mut text, b"reraid-plan ", version_number(plan.each))?;
     add_images(&mut text, &plan.lengths)?;
     add_search(&mut text, plan)?;
     add_groups(&mut text, plan.groups.as_slice())?;
@@ -26,7 +28,6 @@ pub fn write_plan(alloc: Global, plan: &Plan) -> Result<Text, Memory>
 fn add_images(text: &mut Text, lengths: &[u64]) -> Result<(), Memory>
     ensures { OnOk result (text.new ≡ text.old ++ flat_map line_of (image_lines lengths.now)) }
 {
-    text.extend_from_slice(b"reraid-plan 1\n")?;
     add_number_line(text, b"images ", lengths.len() as u64)?;
     for length in lengths {
         add_number_line(text, b"length ", *length)?;

@@ -3,6 +3,7 @@ pub mod Commas
 pub mod Spellings
 pub mod SetWords
 pub mod Lists
+pub mod Offsets
 pub mod Fits
 pub mod Examples
 pub mod Drops

@@ -1,13 +1,13 @@
 -- Lists that rise, each on one line.
 use Rattle.std.proofs.Common.{◌≡◌, ◌≢◌, ◌<◌, ◌≤◌, ◌+◌, ◌^◌, ◌↔◌, ℕ, Bool, true, false, IsTrue, nat_lt, List, [], ◌∷◌, ◌++◌, All, length, map, get_or, decimal, refl, sym, ap, ◌∙◌, arith, Option, None, Some, MatchOption}
-use Rattle.std.specs.List.{IsAllAdjacentAnswer}
+use Rattle.std.specs.List.{IsAllAdjacentAnswer, join_with_byte}
 use Rattle.std.specs.List.Sorted.{IsStrictlyIncreasing}
 use Rattle.std.proofs.lemmas.Bool.{false≢true}
 use Rattle.std.proofs.lemmas.Bool.Decides.{nat_tests}
 use Rattle.std.proofs.lemmas.List.{append_cancel_left, get_or-map, length-map}
 use Rattle.std.proofs.lemmas.List.Elements.{All-head, All-tail, All-nil, All-cons, All-append}
 use Rattle.raid_params.specs.Places.{AreRising}
-use Rattle.value_text.specs.Spelling.{IsFieldName, commas}
+use Rattle.value_text.specs.Spelling.{IsFieldName, commas, is_separator}
 use Rattle.value_text.specs.NameLaws.{number_law, without_separator}
 use Rattle.value_text.proofs.Spellings.{IsWithout}
 
@@ -17,14 +17,18 @@ decimal_line n small = without_separator 10 (decimal n) refl (number_law.has_no_
 abbrev IsNoFeed : ℕ → Type 0
 IsNoFeed byte = byte ≢ 10
 
+-- a list has none of another separator
+pub joined_without : {A : Type 0} (separator other : ℕ) → separator ≢ other → IsTrue (is_separator other) → (name : A → List ℕ) (IsSpelled : A → Type 0) → IsFieldName name IsSpelled → (xs : List A) → All IsSpelled xs →
+    IsWithout other (join_with_byte separator (map name xs))
+joined_without separator other apart is name IsSpelled s [] all = All-nil (λ byte. byte ≢ other)
+joined_without separator other apart is name IsSpelled s (x ∷ []) all = without_separator other (name x) is (s.has_no_separator x (All-head IsSpelled x [] all))
+joined_without separator other apart is name IsSpelled s (x ∷ y ∷ xs) all =
+    All-append (λ byte. byte ≢ other) (name x) (separator ∷ join_with_byte separator (map name (y ∷ xs))) (without_separator other (name x) is (s.has_no_separator x (All-head IsSpelled x (y ∷ xs) all)))
+    (All-cons (λ byte. byte ≢ other) separator (join_with_byte separator (map name (y ∷ xs))) apart (joined_without separator other apart is name IsSpelled s (y ∷ xs) (All-tail IsSpelled x (y ∷ xs) all)))
+
 -- a list stands on one line
 pub list_line : {A : Type 0} (name : A → List ℕ) (IsSpelled : A → Type 0) → IsFieldName name IsSpelled → (xs : List A) → All IsSpelled xs → IsWithout 10 (commas (map name xs))
-list_line name IsSpelled s [] all = All-nil IsNoFeed
-list_line name IsSpelled s (x ∷ []) all = without_separator 10 (name x) refl (s.has_no_separator x (All-head IsSpelled x [] all))
-list_line name IsSpelled s (x ∷ y ∷ xs) all =
-    let comma : 44 ≢ 10 = λ e. absurd (omega (arith, e)) in
-    All-append IsNoFeed (name x) (44 ∷ commas (map name (y ∷ xs))) (without_separator 10 (name x) refl (s.has_no_separator x (All-head IsSpelled x (y ∷ xs) all)))
-    (All-cons IsNoFeed 44 (commas (map name (y ∷ xs))) comma (list_line name IsSpelled s (y ∷ xs) (All-tail IsSpelled x (y ∷ xs) all)))
+list_line name IsSpelled s xs all = joined_without 44 10 (λ e. absurd (omega (arith, e))) refl name IsSpelled s xs all
 
 -- and so does a number or a list after a word
 pub number_line : (word : List ℕ) → IsWithout 10 word → (n : ℕ) → n < 2 ^ 64 → IsWithout 10 (word ++ decimal n)

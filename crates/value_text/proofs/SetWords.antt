@@ -1,35 +1,42 @@
 -- The parts of a set word that were read are those of the set.
-use Rattle.std.proofs.Common.{◌≡◌, ◌<◌, ◌^◌, ℕ, List, ◌∷◌, ◌++◌, length, map, decimal, refl, sym, ap, ◌∙◌, arith, Option, IfSome}
+use Rattle.std.proofs.Common.{◌≡◌, ◌<◌, ◌^◌, ℕ, true, IsTrue, List, ◌∷◌, ◌++◌, length, map, decimal, refl, sym, ap, subst, ◌∙◌, arith, Option, IfSome}
 use Rattle.raid_params.specs.declared.limits.TheConstants.{MOST}
+use Rattle.std.proofs.Math.Bool.{Bool-set}
+use Rattle.raid_params.specs.Bases.{is_offset_of}
 use Rattle.raid_params.specs.declared.types.Geometry.{Geometry}
 use Rattle.raid_params.specs.declared.types.Level.{Level}
 use Rattle.raid_params.specs.declared.types.Pattern.{Pattern}
 use Rattle.raid_params.specs.declared.types.Syndrome.{Syndrome}
+use Rattle.raid_params.specs.declared.wide.Wide.{Wide}
 use Rattle.value_text.specs.Spelling.{level_name, pattern_name, syndrome_name, slot_name, commas}
 use Rattle.value_text.specs.NameLaws.{in_lists, level_law, pattern_law, syndrome_law, number_law, slot_law}
-use Rattle.value_text.specs.SetText.{HasWord, set_word}
-use Rattle.value_text.proofs.Spellings.{next_value, same_list}
+use Rattle.value_text.specs.SetText.{HasWord, common, offset_name, set_word, word_with}
+use Rattle.value_text.proofs.Spellings.{first_separator, next_value, same_list}
+use Rattle.value_text.proofs.Offsets.{has_no_colon, same_offset}
 
 -- a set word from its chunk on
-abbrev pub sizes_text : Geometry → List ℕ
-sizes_text geo = decimal geo.head.chunk ++ 58 ∷ (decimal geo.head.offset ++ 58 ∷ commas (map slot_name geo.slots.items))
+abbrev pub sizes_text : Geometry → List ℕ → List ℕ
+sizes_text geo bases = decimal geo.head.chunk ++ 58 ∷ (offset_name geo.head.offset bases ++ 58 ∷ commas (map slot_name geo.slots.items))
 
-pub same_layout : (geo : Geometry) (text : List ℕ) (level : Level) (pattern : Pattern) (syndrome : Syndrome) (one two three : List ℕ) →
-    Unit {0} × (text ≡ level_name level ++ 58 ∷ one) → Unit {0} × (one ≡ pattern_name pattern ++ 58 ∷ two) → Unit {0} × (two ≡ syndrome_name syndrome ++ 58 ∷ three) → text ≡ set_word geo →
-    (level ≡ geo.head.level) × (pattern ≡ geo.head.pattern) × (syndrome ≡ geo.head.syndrome) × (three ≡ sizes_text geo)
-same_layout geo text level pattern syndrome one two three p q r e =
+pub same_layout : (geo : Geometry) (bases text : List ℕ) (level : Level) (pattern : Pattern) (syndrome : Syndrome) (one two three : List ℕ) →
+    Unit {0} × (text ≡ level_name level ++ 58 ∷ one) → Unit {0} × (one ≡ pattern_name pattern ++ 58 ∷ two) → Unit {0} × (two ≡ syndrome_name syndrome ++ 58 ∷ three) → text ≡ word_with geo bases →
+    (level ≡ geo.head.level) × (pattern ≡ geo.head.pattern) × (syndrome ≡ geo.head.syndrome) × (three ≡ sizes_text geo bases)
+same_layout geo bases text level pattern syndrome one two three p q r e =
     let a = next_value level_name (λ x. Unit {0}) level_law 58 text level geo.head.level one _ refl p tt e in
     let b = next_value pattern_name (λ x. Unit {0}) pattern_law 58 one pattern geo.head.pattern two _ refl q tt a.1 in
-    let c = next_value syndrome_name (λ x. Unit {0}) syndrome_law 58 two syndrome geo.head.syndrome three (sizes_text geo) refl r tt b.1 in
+    let c = next_value syndrome_name (λ x. Unit {0}) syndrome_law 58 two syndrome geo.head.syndrome three (sizes_text geo bases) refl r tt b.1 in
     (a.0, b.0, c.0, c.1)
 
-pub same_chunk : (geo : Geometry) → HasWord geo → (text : List ℕ) (chunk : ℕ) (rest : List ℕ) → (chunk < 2 ^ 64) × (text ≡ decimal chunk ++ 58 ∷ rest) → text ≡ sizes_text geo →
-    (chunk ≡ geo.head.chunk) × (rest ≡ decimal geo.head.offset ++ 58 ∷ commas (map slot_name geo.slots.items))
-same_chunk geo has text chunk rest p e = next_value decimal (λ n. n < 2 ^ 64) number_law 58 text chunk geo.head.chunk rest _ refl p (omega (arith, has.chunk)) e
+pub same_chunk : (geo : Geometry) (bases : List ℕ) → geo.head.chunk < 2 ^ 32 → (text : List ℕ) (chunk : ℕ) (rest : List ℕ) → (chunk < 2 ^ 64) × (text ≡ decimal chunk ++ 58 ∷ rest) → text ≡ sizes_text geo bases →
+    (chunk ≡ geo.head.chunk) × (rest ≡ offset_name geo.head.offset bases ++ 58 ∷ commas (map slot_name geo.slots.items))
+same_chunk geo bases small text chunk rest p e = next_value decimal (λ n. n < 2 ^ 64) number_law 58 text chunk geo.head.chunk rest _ refl p (omega arith) e
 
-pub same_offset : (geo : Geometry) → HasWord geo → (text : List ℕ) (offset : ℕ) (rest : List ℕ) → (offset < 2 ^ 64) × (text ≡ decimal offset ++ 58 ∷ rest) → text ≡ decimal geo.head.offset ++ 58 ∷ commas (map slot_name geo.slots.items) →
-    (offset ≡ geo.head.offset) × (rest ≡ commas (map slot_name geo.slots.items))
-same_offset geo has text offset rest p e = next_value decimal (λ n. n < 2 ^ 64) number_law 58 text offset geo.head.offset rest _ refl p (omega (arith, has.offset)) e
+-- the parts of a word up to its chunk, and what follows
+pub same_sizes : (geo : Geometry) (bases : List ℕ) → geo.head.chunk < 2 ^ 32 → (text : List ℕ) (level : Level) (pattern : Pattern) (syndrome : Syndrome) (chunk : ℕ) (one two three four : List ℕ) →
+    Unit {0} × (text ≡ level_name level ++ 58 ∷ one) → Unit {0} × (one ≡ pattern_name pattern ++ 58 ∷ two) → Unit {0} × (two ≡ syndrome_name syndrome ++ 58 ∷ three) → (chunk < 2 ^ 64) × (three ≡ decimal chunk ++ 58 ∷ four) → text ≡ word_with geo bases →
+    (chunk ≡ geo.head.chunk) × (four ≡ offset_name geo.head.offset bases ++ 58 ∷ commas (map slot_name geo.slots.items))
+same_sizes geo bases small text level pattern syndrome chunk one two three four p q r s e =
+    same_chunk geo bases small three chunk four s (same_layout geo bases text level pattern syndrome one two three p q r e).3
 
 set_with : Level → ℕ → Pattern → Syndrome → ℕ → ℕ → List (Option ℕ) → Geometry
 set_with level members pattern syndrome chunk offset slots = record {
@@ -43,12 +50,31 @@ same_set g h a b c d e f i =
     let same : set_with g.head.level g.head.members g.head.pattern g.head.syndrome g.head.chunk g.head.offset g.slots.items ≡ set_with h.head.level h.head.members h.head.pattern h.head.syndrome h.head.chunk h.head.offset h.slots.items = cc in
     same
 
+wide_with : (geo : Geometry) (bases : List ℕ) → IsTrue (is_offset_of bases geo.head.offset) → Wide
+wide_with geo bases is = record { geo = geo; bases = record { items = bases }; is_greatest = is }
+
+-- a set is told by its geometry and its bases
+same_wide : (g h : Geometry) (ms bs : List ℕ) (p : IsTrue (is_offset_of ms g.head.offset)) (q : IsTrue (is_offset_of bs h.head.offset)) → g ≡ h → ms ≡ bs → wide_with g ms p ≡ wide_with h bs q
+same_wide g h ms bs p q e f =
+    let alone : (r : IsTrue (is_offset_of ms g.head.offset)) → wide_with g ms p ≡ wide_with g ms r = λ r. ap (λ (is : IsTrue (is_offset_of ms g.head.offset)). wide_with g ms is) (Bool-set (is_offset_of ms g.head.offset) true p r) in
+    let others : (r : IsTrue (is_offset_of bs g.head.offset)) → wide_with g ms p ≡ wide_with g bs r =
+    subst (λ (ks : List ℕ). (r : IsTrue (is_offset_of ks g.head.offset)) → wide_with g ms p ≡ wide_with g ks r) f alone in
+    subst (λ (k : Geometry). (r : IsTrue (is_offset_of bs k.head.offset)) → wide_with g ms p ≡ wide_with k bs r) e others q
+
 -- a set has one word
-pub one_spelling : (g h : Geometry) → HasWord g → HasWord h → set_word g ≡ set_word h → g ≡ h
+pub one_spelling : (g h : Wide) → HasWord g → HasWord h → set_word g ≡ set_word h → g ≡ h
+unfolding wide_with
 one_spelling g h has_g has_h e =
-    let layout = same_layout h (set_word g) g.head.level g.head.pattern g.head.syndrome _ _ (sizes_text g) (tt, refl) (tt, refl) (tt, refl) e in
-    let chunk = same_chunk h has_h (sizes_text g) g.head.chunk _ (omega (arith, has_g.chunk), refl) layout.3 in
-    let offset = same_offset h has_h _ g.head.offset _ (omega (arith, has_g.offset), refl) chunk.1 in
-    let slots = same_list slot_name (λ slot. IfSome slot (λ image. image < MOST)) (in_lists slot_name (λ slot. IfSome slot (λ image. image < MOST)) slot_law) g.slots.items h.slots.items has_g.some has_h.some has_g.images has_h.images offset.1 in
+    let layout = same_layout h.geo h.bases.items (set_word g) g.geo.head.level g.geo.head.pattern g.geo.head.syndrome _ _ (sizes_text g.geo g.bases.items) (tt, refl) (tt, refl) (tt, refl) e in
+    let chunk = same_chunk h.geo h.bases.items has_h.chunk (sizes_text g.geo g.bases.items) g.geo.head.chunk _ (omega (arith, has_g.chunk), refl) layout.3 in
+    let texts = first_separator 58 (offset_name g.geo.head.offset g.bases.items) (offset_name h.geo.head.offset h.bases.items) (commas (map slot_name g.geo.slots.items)) (commas (map slot_name h.geo.slots.items))
+    (has_no_colon g.geo.head.offset g.bases.items has_g.offset) (has_no_colon h.geo.head.offset h.bases.items has_h.offset) chunk.1 in
+    let offset = same_offset g.geo.head.offset h.geo.head.offset g.bases.items h.bases.items has_g.offset has_h.offset g.is_greatest h.is_greatest texts.0 in
+    let slots = same_list slot_name (λ slot. IfSome slot (λ image. image < MOST)) (in_lists slot_name (λ slot. IfSome slot (λ image. image < MOST)) slot_law) g.geo.slots.items h.geo.slots.items has_g.some has_h.some has_g.images has_h.images texts.1 in
     let members = has_g.members ∙ ap length slots ∙ sym has_h.members in
-    same_set g h layout.0 members layout.1 layout.2 chunk.0 offset.0 slots
+    let geo = same_set g.geo h.geo layout.0 members layout.1 layout.2 chunk.0 offset.0 slots in
+    let same : wide_with g.geo g.bases.items g.is_greatest ≡ wide_with h.geo h.bases.items h.is_greatest = same_wide g.geo h.geo g.bases.items h.bases.items g.is_greatest h.is_greatest geo offset.1 in
+    same
+
+pub one_common : (g h : Geometry) → HasWord (common g) → HasWord (common h) → set_word (common g) ≡ set_word (common h) → g ≡ h
+one_common g h has_g has_h e = ap (λ (set : Wide). set.geo) (one_spelling (common g) (common h) has_g has_h e)

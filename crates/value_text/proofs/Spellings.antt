@@ -1,10 +1,10 @@
 -- What it says of values that a text spells them up to a separator, or with commas between them.
-use Rattle.std.proofs.Common.{◌≡◌, ◌≢◌, ◌≤◌, ◌+◌, ℕ, List, [], ◌∷◌, ◌++◌, All, IsTrue, length, map, refl, sym, ap, subst, ◌∙◌, arith, length-append, suc, get_or, drop, drop-cons, Option, None, Some, MatchOption, Result, Ok, Err, OnOk, OnErr, IsOk, ◌↔◌}
+use Rattle.std.proofs.Common.{◌≡◌, ◌≢◌, ◌≤◌, ◌+◌, ℕ, List, [], ◌∷◌, ◌++◌, All, IsTrue, length, map, refl, sym, ap, subst, ◌∙◌, arith, length-append, Option, None, Some, MatchOption, Result, Ok, Err, OnOk, OnErr, IsOk, ◌↔◌}
+use Rattle.std.specs.List.{join_with_byte}
 use Rattle.std.specs.Result.{result_ok}
-use Rattle.std.proofs.lemmas.List.{drop_all}
 use Rattle.std.proofs.lemmas.List.Elements.{All-head, All-tail, All-push}
 use Rattle.value_text.specs.NameLaws.{without_separator}
-use Rattle.value_text.specs.Spelling.{IsFieldName, IsSpelling, commas, is_separator}
+use Rattle.value_text.specs.Spelling.{IsFieldName, IsListName, IsSpelling, commas, is_separator}
 
 pub none_then : {A : Type 0} (P : Type 0) (Q : A → Type 0) (r : Option A) → r ≡ None → P → MatchOption r P Q
 none_then P Q r none holds = rw none holds
@@ -57,55 +57,55 @@ same_value name IsSpelled s separator x y rest more is spelled_x spelled_y e =
     let both = word_is name IsSpelled s separator (name x) rest more y is (without_separator separator (name x) is (s.has_no_separator x spelled_x)) spelled_y e in
     (s.one_value x y spelled_x spelled_y both.0, both.1)
 
--- a word up to a comma is the value's
-word_in_list : {A : Type 0} (name : A → List ℕ) (IsSpelled : A → Type 0) → IsSpelling name IsSpelled → (word rest more : List ℕ) (x : A) → IsWithout 44 word → IsSpelled x →
-    word ++ 44 ∷ rest ≡ name x ++ 44 ∷ more → (word ≡ name x) × (rest ≡ more)
-word_in_list name IsSpelled s word rest more x without spelled e = first_separator 44 word (name x) rest more without (s.has_no_comma x spelled) e
+-- a word up to a separator in a list is the value's
+word_in_list : {A : Type 0} (separator : ℕ) (name : A → List ℕ) (IsSpelled : A → Type 0) → IsListName separator name IsSpelled → (word rest more : List ℕ) (x : A) → IsWithout separator word → IsSpelled x →
+    word ++ separator ∷ rest ≡ name x ++ separator ∷ more → (word ≡ name x) × (rest ≡ more)
+word_in_list separator name IsSpelled s word rest more x without spelled e = first_separator separator word (name x) rest more without (s.has_none x spelled) e
 
--- values up to a comma are the same where the texts are
-same_in_list : {A : Type 0} (name : A → List ℕ) (IsSpelled : A → Type 0) → IsSpelling name IsSpelled → (x y : A) (rest more : List ℕ) → IsSpelled x → IsSpelled y →
-    name x ++ 44 ∷ rest ≡ name y ++ 44 ∷ more → (x ≡ y) × (rest ≡ more)
-same_in_list name IsSpelled s x y rest more spelled_x spelled_y e =
-    let both = word_in_list name IsSpelled s (name x) rest more y (s.has_no_comma x spelled_x) spelled_y e in
+-- values up to a separator in a list are the same where the texts are
+same_in_list : {A : Type 0} (separator : ℕ) (name : A → List ℕ) (IsSpelled : A → Type 0) → IsListName separator name IsSpelled → (x y : A) (rest more : List ℕ) → IsSpelled x → IsSpelled y →
+    name x ++ separator ∷ rest ≡ name y ++ separator ∷ more → (x ≡ y) × (rest ≡ more)
+same_in_list separator name IsSpelled s x y rest more spelled_x spelled_y e =
+    let both = word_in_list separator name IsSpelled s (name x) rest more y (s.has_none x spelled_x) spelled_y e in
     (s.one_value x y spelled_x spelled_y both.0, both.1)
 
--- values with a comma after each, and what follows
-unfoldable pub before : {A : Type 0} → (A → List ℕ) → List A → List ℕ → List ℕ
-before name [] rest = rest
-before name (x ∷ xs) rest = name x ++ 44 ∷ before name xs rest
+-- values with a separator after each, and what follows
+unfoldable pub before : {A : Type 0} → ℕ → (A → List ℕ) → List A → List ℕ → List ℕ
+before separator name [] rest = rest
+before separator name (x ∷ xs) rest = name x ++ separator ∷ before separator name xs rest
 
-pub before_none : {A : Type 0} (name : A → List ℕ) (rest : List ℕ) → before name [] rest ≡ rest
+pub before_none : {A : Type 0} (separator : ℕ) (name : A → List ℕ) (rest : List ℕ) → before separator name [] rest ≡ rest
 unfolding before
-before_none name rest = refl
+before_none separator name rest = refl
 
 -- one more value
-pub before_more : {A : Type 0} (name : A → List ℕ) (xs : List A) (x : A) (rest : List ℕ) → before name xs (name x ++ 44 ∷ rest) ≡ before name (xs ++ x ∷ []) rest
+pub before_more : {A : Type 0} (separator : ℕ) (name : A → List ℕ) (xs : List A) (x : A) (rest : List ℕ) → before separator name xs (name x ++ separator ∷ rest) ≡ before separator name (xs ++ x ∷ []) rest
 unfolding before
-before_more name [] x rest = refl
-before_more name (y ∷ xs) x rest = ap (λ (more : List ℕ). name y ++ 44 ∷ more) (before_more name xs x rest)
+before_more separator name [] x rest = refl
+before_more separator name (y ∷ xs) x rest = ap (λ (more : List ℕ). name y ++ separator ∷ more) (before_more separator name xs x rest)
 
 -- the last value
-pub before_last : {A : Type 0} (name : A → List ℕ) (xs : List A) (x : A) → before name xs (name x) ≡ commas (map name (xs ++ x ∷ []))
+pub before_last : {A : Type 0} (separator : ℕ) (name : A → List ℕ) (xs : List A) (x : A) → before separator name xs (name x) ≡ join_with_byte separator (map name (xs ++ x ∷ []))
 unfolding before
-before_last name [] x = refl
-before_last name (y ∷ []) x = refl
-before_last name (y ∷ z ∷ xs) x = ap (λ (more : List ℕ). name y ++ 44 ∷ more) (before_last name (z ∷ xs) x)
+before_last separator name [] x = refl
+before_last separator name (y ∷ []) x = refl
+before_last separator name (y ∷ z ∷ xs) x = ap (λ (more : List ℕ). name y ++ separator ∷ more) (before_last separator name (z ∷ xs) x)
 
 -- what values are left after the first ones of a list
-abbrev AreLeft : {A : Type 0} → (A → List ℕ) → (A → Type 0) → List A → List A → List ℕ → List A → Type 0
-AreLeft name IsSpelled firsts xs rest ys = (xs ≡ firsts ++ ys) × (1 ≤ length ys) × All IsSpelled ys × (rest ≡ commas (map name ys))
+abbrev AreLeft : {A : Type 0} → ℕ → (A → List ℕ) → (A → Type 0) → List A → List A → List ℕ → List A → Type 0
+AreLeft separator name IsSpelled firsts xs rest ys = (xs ≡ firsts ++ ys) × (1 ≤ length ys) × All IsSpelled ys × (rest ≡ join_with_byte separator (map name ys))
 
-left_after : {A : Type 0} (name : A → List ℕ) (IsSpelled : A → Type 0) → IsSpelling name IsSpelled → (firsts xs : List A) (rest : List ℕ) → All IsSpelled firsts → All IsSpelled xs → 1 ≤ length xs →
-    before name firsts rest ≡ commas (map name xs) → (ys : List A) × AreLeft name IsSpelled firsts xs rest ys
+left_after : {A : Type 0} (separator : ℕ) (name : A → List ℕ) (IsSpelled : A → Type 0) → IsListName separator name IsSpelled → (firsts xs : List A) (rest : List ℕ) → All IsSpelled firsts → All IsSpelled xs → 1 ≤ length xs →
+    before separator name firsts rest ≡ join_with_byte separator (map name xs) → (ys : List A) × AreLeft separator name IsSpelled firsts xs rest ys
 unfolding before
-left_after name IsSpelled s [] xs rest p q some e = (xs, (refl, some, q, e))
-left_after name IsSpelled s (i ∷ firsts) [] rest p q some e = absurd (omega arith)
-left_after name IsSpelled s (i ∷ firsts) (x ∷ []) rest p q some e =
-    let plain = s.has_no_comma x (All-head IsSpelled x [] q) in
-    absurd (has_separator 44 (name i) (before name firsts rest) (subst (IsWithout 44) (sym e) plain))
-left_after name IsSpelled s (i ∷ firsts) (x ∷ y ∷ xs) rest p q some e =
-    let both = same_in_list name IsSpelled s i x (before name firsts rest) (commas (map name (y ∷ xs))) (All-head IsSpelled i firsts p) (All-head IsSpelled x (y ∷ xs) q) e in
-    let more = left_after name IsSpelled s firsts (y ∷ xs) rest (All-tail IsSpelled i firsts p) (All-tail IsSpelled x (y ∷ xs) q) (omega arith) both.1 in
+left_after separator name IsSpelled s [] xs rest p q some e = (xs, (refl, some, q, e))
+left_after separator name IsSpelled s (i ∷ firsts) [] rest p q some e = absurd (omega arith)
+left_after separator name IsSpelled s (i ∷ firsts) (x ∷ []) rest p q some e =
+    let plain = s.has_none x (All-head IsSpelled x [] q) in
+    absurd (has_separator separator (name i) (before separator name firsts rest) (subst (IsWithout separator) (sym e) plain))
+left_after separator name IsSpelled s (i ∷ firsts) (x ∷ y ∷ xs) rest p q some e =
+    let both = same_in_list separator name IsSpelled s i x (before separator name firsts rest) (join_with_byte separator (map name (y ∷ xs))) (All-head IsSpelled i firsts p) (All-head IsSpelled x (y ∷ xs) q) e in
+    let more = left_after separator name IsSpelled s firsts (y ∷ xs) rest (All-tail IsSpelled i firsts p) (All-tail IsSpelled x (y ∷ xs) q) (omega arith) both.1 in
     let head : i ≡ x = both.0 in
     let tail : y ∷ xs ≡ firsts ++ more.0 = more.1.0 in
     (more.0, (cc, more.1.1, more.1.2, more.1.3))
@@ -114,71 +114,74 @@ left_after name IsSpelled s (i ∷ firsts) (x ∷ y ∷ xs) rest p q some e =
 abbrev pub IsWord : {A : Type 0} → (A → List ℕ) → (A → Type 0) → List A → List A → List ℕ → Type 0
 IsWord {A = A} name IsSpelled firsts xs word = (x : A) × IsSpelled x × (word ≡ name x) × (length firsts + 1 ≤ length xs)
 
-word_with_more : {A : Type 0} (name : A → List ℕ) (IsSpelled : A → Type 0) → IsSpelling name IsSpelled → (firsts xs ys : List A) (word more : List ℕ) → AreLeft name IsSpelled firsts xs (word ++ 44 ∷ more) ys → IsWithout 44 word →
+word_with_more : {A : Type 0} (separator : ℕ) (name : A → List ℕ) (IsSpelled : A → Type 0) → IsListName separator name IsSpelled → (firsts xs ys : List A) (word more : List ℕ) → AreLeft separator name IsSpelled firsts xs (word ++ separator ∷ more) ys → IsWithout separator word →
     IsWord name IsSpelled firsts xs word
-word_with_more name IsSpelled s firsts xs [] word more left without = let some = left.1 in absurd (omega arith)
-word_with_more name IsSpelled s firsts xs (y ∷ []) word more left without =
-    let plain = s.has_no_comma y (All-head IsSpelled y [] left.2) in
-    absurd (has_separator 44 word more (subst (IsWithout 44) (sym left.3) plain))
-word_with_more name IsSpelled s firsts xs (y ∷ z ∷ ys) word more left without =
+word_with_more separator name IsSpelled s firsts xs [] word more left without = let some = left.1 in absurd (omega arith)
+word_with_more separator name IsSpelled s firsts xs (y ∷ []) word more left without =
+    let plain = s.has_none y (All-head IsSpelled y [] left.2) in
+    absurd (has_separator separator word more (subst (IsWithout separator) (sym left.3) plain))
+word_with_more separator name IsSpelled s firsts xs (y ∷ z ∷ ys) word more left without =
     let spelled = All-head IsSpelled y (z ∷ ys) left.2 in
     let lengths = ap length left.0 ∙ length-append firsts (y ∷ z ∷ ys) in
-    (y, spelled, (word_in_list name IsSpelled s word more (commas (map name (z ∷ ys))) y without spelled left.3).0, omega arith)
+    (y, spelled, (word_in_list separator name IsSpelled s word more (join_with_byte separator (map name (z ∷ ys))) y without spelled left.3).0, omega arith)
 
-last_word : {A : Type 0} (name : A → List ℕ) (IsSpelled : A → Type 0) (firsts xs ys : List A) (word : List ℕ) → AreLeft name IsSpelled firsts xs word ys → IsWithout 44 word →
+last_word : {A : Type 0} (separator : ℕ) (name : A → List ℕ) (IsSpelled : A → Type 0) (firsts xs ys : List A) (word : List ℕ) → AreLeft separator name IsSpelled firsts xs word ys → IsWithout separator word →
     IsWord name IsSpelled firsts xs word
-last_word name IsSpelled firsts xs [] word left without = let some = left.1 in absurd (omega arith)
-last_word name IsSpelled firsts xs (y ∷ []) word left without =
+last_word separator name IsSpelled firsts xs [] word left without = let some = left.1 in absurd (omega arith)
+last_word separator name IsSpelled firsts xs (y ∷ []) word left without =
     let lengths = ap length left.0 ∙ length-append firsts (y ∷ []) in
     (y, All-head IsSpelled y [] left.2, left.3, omega arith)
-last_word name IsSpelled firsts xs (y ∷ z ∷ ys) word left without = absurd (has_separator 44 (name y) (commas (map name (z ∷ ys))) (subst (IsWithout 44) left.3 without))
+last_word separator name IsSpelled firsts xs (y ∷ z ∷ ys) word left without = absurd (has_separator separator (name y) (join_with_byte separator (map name (z ∷ ys))) (subst (IsWithout separator) left.3 without))
 
 -- the word after the first ones of a list, and the last one
-pub next_is_word : {A : Type 0} (name : A → List ℕ) (IsSpelled : A → Type 0) → IsSpelling name IsSpelled → (firsts xs : List A) (text rest word more : List ℕ) → All IsSpelled firsts × (text ≡ before name firsts rest) → IsWithout 44 word × (rest ≡ word ++ 44 ∷ more) →
-    1 ≤ length xs → All IsSpelled xs → text ≡ commas (map name xs) → IsWord name IsSpelled firsts xs word
-next_is_word name IsSpelled s firsts xs text rest word more first next some all e =
-    let left = left_after name IsSpelled s firsts xs (word ++ 44 ∷ more) first.0 all some (ap (λ (ds : List ℕ). before name firsts ds) (sym next.1) ∙ sym first.1 ∙ e) in
-    word_with_more name IsSpelled s firsts xs left.0 word more left.1 next.0
+pub next_is_word : {A : Type 0} (separator : ℕ) (name : A → List ℕ) (IsSpelled : A → Type 0) → IsListName separator name IsSpelled → (firsts xs : List A) (text rest word more : List ℕ) → All IsSpelled firsts × (text ≡ before separator name firsts rest) → IsWithout separator word × (rest ≡ word ++ separator ∷ more) →
+    1 ≤ length xs → All IsSpelled xs → text ≡ join_with_byte separator (map name xs) → IsWord name IsSpelled firsts xs word
+next_is_word separator name IsSpelled s firsts xs text rest word more first next some all e =
+    let left = left_after separator name IsSpelled s firsts xs (word ++ separator ∷ more) first.0 all some (ap (λ (ds : List ℕ). before separator name firsts ds) (sym next.1) ∙ sym first.1 ∙ e) in
+    word_with_more separator name IsSpelled s firsts xs left.0 word more left.1 next.0
 
-pub last_is_word : {A : Type 0} (name : A → List ℕ) (IsSpelled : A → Type 0) → IsSpelling name IsSpelled → (firsts xs : List A) (text word : List ℕ) → All IsSpelled firsts × (text ≡ before name firsts word) → IsWithout 44 word →
-    1 ≤ length xs → All IsSpelled xs → text ≡ commas (map name xs) → IsWord name IsSpelled firsts xs word
-last_is_word name IsSpelled s firsts xs text word first without some all e =
-    let left = left_after name IsSpelled s firsts xs word first.0 all some (sym first.1 ∙ e) in
-    last_word name IsSpelled firsts xs left.0 word left.1 without
+pub last_is_word : {A : Type 0} (separator : ℕ) (name : A → List ℕ) (IsSpelled : A → Type 0) → IsListName separator name IsSpelled → (firsts xs : List A) (text word : List ℕ) → All IsSpelled firsts × (text ≡ before separator name firsts word) → IsWithout separator word →
+    1 ≤ length xs → All IsSpelled xs → text ≡ join_with_byte separator (map name xs) → IsWord name IsSpelled firsts xs word
+last_is_word separator name IsSpelled s firsts xs text word first without some all e =
+    let left = left_after separator name IsSpelled s firsts xs word first.0 all some (sym first.1 ∙ e) in
+    last_word separator name IsSpelled firsts xs left.0 word left.1 without
 
 -- what is read so far, with one more value
-pub one_more : {A : Type 0} (name : A → List ℕ) (IsSpelled : A → Type 0) (firsts : List A) (x : A) (text rest word more : List ℕ) → All IsSpelled firsts × (text ≡ before name firsts rest) → rest ≡ word ++ 44 ∷ more → IsSpelled x × (word ≡ name x) →
-    All IsSpelled (firsts ++ x ∷ []) × (text ≡ before name (firsts ++ x ∷ []) more)
-one_more name IsSpelled firsts x text rest word more first next is = (
+pub one_more : {A : Type 0} (separator : ℕ) (name : A → List ℕ) (IsSpelled : A → Type 0) (firsts : List A) (x : A) (text rest word more : List ℕ) → All IsSpelled firsts × (text ≡ before separator name firsts rest) → rest ≡ word ++ separator ∷ more → IsSpelled x × (word ≡ name x) →
+    All IsSpelled (firsts ++ x ∷ []) × (text ≡ before separator name (firsts ++ x ∷ []) more)
+one_more separator name IsSpelled firsts x text rest word more first next is = (
   All-push IsSpelled firsts x first.0 is.0,
-  first.1 ∙ ap (λ (ds : List ℕ). before name firsts ds) (next ∙ ap (λ (ds : List ℕ). ds ++ 44 ∷ more) is.1) ∙ before_more name firsts x more,
+  first.1 ∙ ap (λ (ds : List ℕ). before separator name firsts ds) (next ∙ ap (λ (ds : List ℕ). ds ++ separator ∷ more) is.1) ∙ before_more separator name firsts x more,
 )
 
-pub whole_list : {A : Type 0} (name : A → List ℕ) (IsSpelled : A → Type 0) (firsts : List A) (x : A) (text word : List ℕ) → All IsSpelled firsts × (text ≡ before name firsts word) → IsSpelled x × (word ≡ name x) →
-    All IsSpelled (firsts ++ x ∷ []) × (text ≡ commas (map name (firsts ++ x ∷ [])))
-whole_list name IsSpelled firsts x text word first is = (
+pub whole_list : {A : Type 0} (separator : ℕ) (name : A → List ℕ) (IsSpelled : A → Type 0) (firsts : List A) (x : A) (text word : List ℕ) → All IsSpelled firsts × (text ≡ before separator name firsts word) → IsSpelled x × (word ≡ name x) →
+    All IsSpelled (firsts ++ x ∷ []) × (text ≡ join_with_byte separator (map name (firsts ++ x ∷ [])))
+whole_list separator name IsSpelled firsts x text word first is = (
   All-push IsSpelled firsts x first.0 is.0,
-  first.1 ∙ ap (λ (ds : List ℕ). before name firsts ds) is.1 ∙ before_last name firsts x,
+  first.1 ∙ ap (λ (ds : List ℕ). before separator name firsts ds) is.1 ∙ before_last separator name firsts x,
 )
 
 -- a list has one spelling
-pub same_list : {A : Type 0} (name : A → List ℕ) (IsSpelled : A → Type 0) → IsSpelling name IsSpelled → (xs ys : List A) → 1 ≤ length xs → 1 ≤ length ys → All IsSpelled xs → All IsSpelled ys → commas (map name xs) ≡ commas (map name ys) → xs ≡ ys
-same_list name IsSpelled s [] ys some more p q e = absurd (omega arith)
-same_list name IsSpelled s (x ∷ []) [] some more p q e = absurd (omega arith)
-same_list name IsSpelled s (x ∷ []) (y ∷ []) some more p q e =
+pub same_joined : {A : Type 0} (separator : ℕ) (name : A → List ℕ) (IsSpelled : A → Type 0) → IsListName separator name IsSpelled → (xs ys : List A) → 1 ≤ length xs → 1 ≤ length ys → All IsSpelled xs → All IsSpelled ys → join_with_byte separator (map name xs) ≡ join_with_byte separator (map name ys) → xs ≡ ys
+same_joined separator name IsSpelled s [] ys some more p q e = absurd (omega arith)
+same_joined separator name IsSpelled s (x ∷ []) [] some more p q e = absurd (omega arith)
+same_joined separator name IsSpelled s (x ∷ []) (y ∷ []) some more p q e =
     let head = s.one_value x y (All-head IsSpelled x [] p) (All-head IsSpelled y [] q) e in cc
-same_list name IsSpelled s (x ∷ []) (y ∷ z ∷ ys) some more p q e =
-    let plain = s.has_no_comma x (All-head IsSpelled x [] p) in
-    absurd (has_separator 44 (name y) (commas (map name (z ∷ ys))) (subst (IsWithout 44) e plain))
-same_list name IsSpelled s (x ∷ w ∷ xs) [] some more p q e = absurd (omega arith)
-same_list name IsSpelled s (x ∷ w ∷ xs) (y ∷ []) some more p q e =
-    let plain = s.has_no_comma y (All-head IsSpelled y [] q) in
-    absurd (has_separator 44 (name x) (commas (map name (w ∷ xs))) (subst (IsWithout 44) (sym e) plain))
-same_list name IsSpelled s (x ∷ w ∷ xs) (y ∷ z ∷ ys) some more p q e =
-    let both = same_in_list name IsSpelled s x y (commas (map name (w ∷ xs))) (commas (map name (z ∷ ys))) (All-head IsSpelled x (w ∷ xs) p) (All-head IsSpelled y (z ∷ ys) q) e in
-    let tail = same_list name IsSpelled s (w ∷ xs) (z ∷ ys) (omega arith) (omega arith) (All-tail IsSpelled x (w ∷ xs) p) (All-tail IsSpelled y (z ∷ ys) q) both.1 in
+same_joined separator name IsSpelled s (x ∷ []) (y ∷ z ∷ ys) some more p q e =
+    let plain = s.has_none x (All-head IsSpelled x [] p) in
+    absurd (has_separator separator (name y) (join_with_byte separator (map name (z ∷ ys))) (subst (IsWithout separator) e plain))
+same_joined separator name IsSpelled s (x ∷ w ∷ xs) [] some more p q e = absurd (omega arith)
+same_joined separator name IsSpelled s (x ∷ w ∷ xs) (y ∷ []) some more p q e =
+    let plain = s.has_none y (All-head IsSpelled y [] q) in
+    absurd (has_separator separator (name x) (join_with_byte separator (map name (w ∷ xs))) (subst (IsWithout separator) (sym e) plain))
+same_joined separator name IsSpelled s (x ∷ w ∷ xs) (y ∷ z ∷ ys) some more p q e =
+    let both = same_in_list separator name IsSpelled s x y (join_with_byte separator (map name (w ∷ xs))) (join_with_byte separator (map name (z ∷ ys))) (All-head IsSpelled x (w ∷ xs) p) (All-head IsSpelled y (z ∷ ys) q) e in
+    let tail = same_joined separator name IsSpelled s (w ∷ xs) (z ∷ ys) (omega arith) (omega arith) (All-tail IsSpelled x (w ∷ xs) p) (All-tail IsSpelled y (z ∷ ys) q) both.1 in
     let head : x ≡ y = both.0 in
     cc
+
+pub same_list : {A : Type 0} (name : A → List ℕ) (IsSpelled : A → Type 0) → IsSpelling name IsSpelled → (xs ys : List A) → 1 ≤ length xs → 1 ≤ length ys → All IsSpelled xs → All IsSpelled ys → commas (map name xs) ≡ commas (map name ys) → xs ≡ ys
+same_list name IsSpelled s xs ys some more p q e = same_joined 44 name IsSpelled s xs ys some more p q e
 
 -- a value that was read up to a separator is the one that stands there
 pub next_value : {A : Type 0} (name : A → List ℕ) (IsSpelled : A → Type 0) → IsFieldName name IsSpelled → (separator : ℕ) (text : List ℕ) (x y : A) (rest more : List ℕ) → IsTrue (is_separator separator) → IsSpelled x × (text ≡ name x ++ separator ∷ rest) → IsSpelled y →

@@ -47,4 +47,4 @@ drop_has_no_comma x p =
     (All-cons IsOther 58 (decimal x.sector) (λ e. absurd (omega (arith, e))) (without_separator 44 (decimal x.sector) refl (number_law.has_no_separator x.sector (omega arith))))
 
 pub drop_law : IsSpelling drop_name IsDrop
-drop_law = record { one_value = one_drop; has_no_comma = drop_has_no_comma }
+drop_law = record { one_value = one_drop; has_none = drop_has_no_comma }

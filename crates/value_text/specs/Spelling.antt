@@ -57,6 +57,10 @@ slot_name (Some image) = decimal image
 abbrev pub commas : List (List ℕ) → List ℕ
 commas pieces = join_with_byte 44 pieces
 
+-- pieces with a plus sign between them
+abbrev pub pluses : List (List ℕ) → List ℕ
+pluses pieces = join_with_byte 43 pieces
+
 -- pieces with a colon between them
 abbrev pub colons : List (List ℕ) → List ℕ
 colons pieces = join_with_byte 58 pieces
@@ -73,18 +77,22 @@ named name value = name ++ 32 ∷ value
 abbrev pub line : List ℕ → List ℕ
 line text = text ++ 10 ∷ []
 
--- a separator that ends a value: a comma, a colon, a space or a line feed
+-- a separator that ends a value: a comma, a plus sign, a colon, a space or a line feed
 abbrev pub is_separator : ℕ → Bool
-is_separator byte = byte == 44 || byte == 58 || byte == 32 || byte == 10
+is_separator byte = byte == 44 || byte == 43 || byte == 58 || byte == 32 || byte == 10
 
 -- a byte of a value
 abbrev pub is_plain : ℕ → Bool
 is_plain byte = not (is_separator byte)
 
--- names of values that may stand in lists: each value has one of its own, and no name has a comma
-pub record IsSpelling {A : Type 0} (name : A → List ℕ) (IsSpelled : A → Type 0) : Type 0 where
+-- names of values that may stand in lists with such a separator: each value has one of its own, and no name has the separator
+pub record IsListName {A : Type 0} (separator : ℕ) (name : A → List ℕ) (IsSpelled : A → Type 0) : Type 0 where
   pub one_value : (x y : A) → IsSpelled x → IsSpelled y → name x ≡ name y → x ≡ y
-  pub has_no_comma : (x : A) → IsSpelled x → All (λ byte. byte ≢ 44) (name x)
+  pub has_none : (x : A) → IsSpelled x → All (λ byte. byte ≢ separator) (name x)
+
+-- names of values that may stand in lists: each value has one of its own, and no name has a comma
+abbrev pub IsSpelling : {A : Type 0} → (A → List ℕ) → (A → Type 0) → Type 0
+IsSpelling name IsSpelled = IsListName 44 name IsSpelled
 
 -- names of values that may stand before any separator: each value has one of its own, and no name has a separator
 pub record IsFieldName {A : Type 0} (name : A → List ℕ) (IsSpelled : A → Type 0) : Type 0 where

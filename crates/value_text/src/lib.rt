@@ -3,7 +3,8 @@
 //! Each value has one text, and a text is read as a value exactly where it is that value's text to its last byte.
 //! [`Spelled`] is what a text spells, [`Field`] what may stand before any separator, and [`Listed`] what stands in lists in
 //! rising order. [`list`] and [`rising`] read lists, [`read_members`], [`read_chunks`] and [`read_sectors`] those of
-//! bounded numbers, [`add_list`] writes them; [`read_set`], [`write_set`] and [`set_line`] do the same for sets.
+//! bounded numbers, [`add_list`] writes them; [`read_set`], [`write_set`] and [`set_line`] do the same for sets,
+//! [`read_common_set`] and [`common_set_line`] for those with an offset that is common to all images.
 //!
 //! Plans and the words of the command line are made of these texts. How values are spelled stands in
 //! `specs/Spelling`, the word of a set in `specs/SetText`, and that a set has one word in `specs/Laws`.
@@ -16,6 +17,7 @@ mod laws;
 mod listed;
 mod names;
 mod number;
+mod offset;
 mod set;
 mod set_word;
 mod spelled;
@@ -29,7 +31,7 @@ pub use group_names::group_name;
 pub use laws::set_words_have_one_spelling;
 pub use names::{LEVELS, PATTERNS, SYNDROMES, pattern_name, syndrome_name};
 pub use number::{after, read_number};
-pub use set::{set_line, write_set};
-pub use set_word::read_set;
+pub use set::{common_set_line, set_line, write_set};
+pub use set_word::{read_common_set, read_set};
 pub use spelled::{Field, Listed, Spelled, add_list, list, rising, value_until};
 pub use text::{Text, add_number};

@@ -1,9 +1,9 @@
 //! Values with a spelling of their own, and lists of them.
 ghost use Rattle.std.specs.Prelude.{◌≡◌, ◌≢◌, ◌≤◌, ◌∷◌, ◌++◌, ◌↔◌, ℕ, List, All, length, map, nat_lt, MatchOption, OnOk, IsTrue};
-ghost use Rattle.std.specs.List.{flat_map};
+ghost use Rattle.std.specs.List.{flat_map, join_with_byte};
 ghost use Rattle.std.specs.List.Sorted.{IsStrictlyIncreasing};
 ghost use Rattle.raid_params.specs.Places.{AreRising};
-ghost use Rattle.value_text.specs.Spelling.{IsFieldName, IsSpelling, commas, is_separator};
+ghost use Rattle.value_text.specs.Spelling.{IsFieldName, IsListName, IsSpelling, commas, is_separator};
 
 use crate::front::cut;
 use crate::text::Text;
@@ -59,9 +59,22 @@ pub fn list<T: Spelled + Default, const CAP: usize>(text: &[u8]) -> Option<Array
         ((xs : List T) → 1 ≤ length xs → length xs ≤ CAP → All T.IsSpelled xs → text.now ≢ commas (map T.name xs))
         (λ xs. (1 ≤ length xs.items) × (length xs.items ≤ CAP) × All T.IsSpelled xs.items × (text.now ≡ commas (map T.name xs.items))) }
 {
+    joined(text, b',')
+}
+
+/// The values that a text spells with such a separator between them: at least one, and at most `CAP`.
+pub(crate) fn joined<T: Spelled + Default, const CAP: usize>(
+    text: &[u8],
+    separator: u8,
+) -> Option<ArrayVec<T, CAP>>
+    requires { IsListName separator T.name T.IsSpelled }
+    ensures { MatchOption result
+        ((xs : List T) → 1 ≤ length xs → length xs ≤ CAP → All T.IsSpelled xs → text.now ≢ join_with_byte separator (map T.name xs))
+        (λ xs. (1 ≤ length xs.items) × (length xs.items ≤ CAP) × All T.IsSpelled xs.items × (text.now ≡ join_with_byte separator (map T.name xs.items))) }
+{
     let mut values = ArrayVec::new();
     let mut rest = text;
-    while let Some((word, more)) = cut(rest, b',') {
+    while let Some((word, more)) = cut(rest, separator) {
         values.try_push(T::read(word)?).ok()?;
         rest = more;
     }
@@ -88,25 +101,36 @@ fn rises<T: Listed>(values: &[T]) -> bool
 }
 
 /// Appends the spellings of values, with a comma between them.
-#[tactic(auto, using(crate::proofs::Commas::with_commas))]
 pub fn add_list<T: Field>(text: &mut Text, values: &[T]) -> Result<(), Memory>
     ensures { OnOk result (text.new ≡ text.old ++ commas (map T.name values.now)) }
+{
+    add_joined(text, values, b',')
+}
+
+/// Appends the spellings of values, with such a separator between them.
+#[tactic(auto, using(crate::proofs::Commas::with_separators))]
+pub(crate) fn add_joined<T: Field>(
+    text: &mut Text,
+    values: &[T],
+    separator: u8,
+) -> Result<(), Memory>
+    ensures { OnOk result (text.new ≡ text.old ++ join_with_byte separator (map T.name values.now)) }
 {
     match values {
         [] => Ok(()),
         [first, rest @ ..] => {
             first.add_to(text)?;
-            add_more(text, rest)
+            add_more(text, rest, separator)
         }
     }
 }
 
-/// Appends the spellings of values, with a comma before each.
-fn add_more<T: Field>(text: &mut Text, values: &[T]) -> Result<(), Memory>
-    ensures { OnOk result (text.new ≡ text.old ++ flat_map (λ value. 44 ∷ T.name value) values.now) }
+/// Appends the spellings of values, with a separator before each.
+fn add_more<T: Field>(text: &mut Text, values: &[T], separator: u8) -> Result<(), Memory>
+    ensures { OnOk result (text.new ≡ text.old ++ flat_map (λ value. separator ∷ T.name value) values.now) }
 {
     for value in values {
-        text.push(b',')?;
+        text.push(separator)?;
         value.add_to(text)?;
     }
     Ok(())

@@ -6,7 +6,7 @@ use Rattle.std.proofs.lemmas.List.{take_all}
 use Rattle.std.proofs.lemmas.List.Elements.{All-cons, All-head, All-nil, All-tail}
 use Rattle.raid_params.specs.Validity.{first_fault}
 use Rattle.raid_params.specs.declared.types.Geometry.{Geometry}
-use Rattle.value_text.specs.SetText.{set_line}
+use Rattle.value_text.specs.SetText.{common, set_line}
 use Rattle.volume_classes.specs.Classes.{AreClasses, Classes, IsClassed, class_lines, class_text}
 use Rattle.volume_classes.specs.declared.fault.ClassFault.{ClassFault}
 use Rattle.volume_classes.specs.declared.fault.ClassFault.TheVariants.{Line, Memory}
@@ -14,15 +14,15 @@ use Rattle.volume_classes.specs.SetLists.{AreRead, Entry, IsEntry, NextAt, Reads
 
 -- one line more
 lines_suc : (numbers : List ℕ) (sets : List Geometry) (n : ℕ) (g : Geometry) → n < length numbers → n < length sets →
-    class_lines (take (suc n) numbers) (take (suc n) sets) ≡ class_lines (take n numbers) (take n sets) ++ set_line (get_or numbers n 0) (get_or sets n g)
+    class_lines (take (suc n) numbers) (take (suc n) sets) ≡ class_lines (take n numbers) (take n sets) ++ set_line (get_or numbers n 0) (common (get_or sets n g))
 lines_suc [] sets n g a b = absurd (omega arith)
 lines_suc (x ∷ xs) [] n g a b = absurd (omega arith)
-lines_suc (x ∷ xs) (y ∷ ys) zero g a b = append-nil (set_line x y)
+lines_suc (x ∷ xs) (y ∷ ys) zero g a b = append-nil (set_line x (common y))
 lines_suc (x ∷ xs) (y ∷ ys) (suc n) g a b =
-    ap (λ (bytes : List ℕ). set_line x y ++ bytes) (lines_suc xs ys n g (omega arith) (omega arith))
-    ∙ sym (append_assoc (set_line x y) (class_lines (take n xs) (take n ys)) (set_line (get_or xs n 0) (get_or ys n g)))
+    ap (λ (bytes : List ℕ). set_line x (common y) ++ bytes) (lines_suc xs ys n g (omega arith) (omega arith))
+    ∙ sym (append_assoc (set_line x (common y)) (class_lines (take n xs) (take n ys)) (set_line (get_or xs n 0) (common (get_or ys n g))))
 
-pub lines_more : (text line : List ℕ) (numbers : List ℕ) (sets : List Geometry) (n : ℕ) (g : Geometry) → n < length numbers → n < length sets → line ≡ set_line (get_or numbers n 0) (get_or sets n g) →
+pub lines_more : (text line : List ℕ) (numbers : List ℕ) (sets : List Geometry) (n : ℕ) (g : Geometry) → n < length numbers → n < length sets → line ≡ set_line (get_or numbers n 0) (common (get_or sets n g)) →
     (text ++ class_lines (take n numbers) (take n sets)) ++ line ≡ text ++ class_lines (take (n + 1) numbers) (take (n + 1) sets)
 lines_more text line numbers sets n g a b is =
     let next : n + 1 ≡ suc n = omega arith in

@@ -9,11 +9,11 @@ use Rattle.raid_params.specs.declared.limits.TheConstants.{MOST}
 use Rattle.raid_params.specs.Validity.{first_fault}
 use Rattle.raid_params.specs.declared.types.Geometry.{Geometry}
 use Rattle.value_text.specs.NameLaws.{level_law, number_law, pattern_law, slot_law, syndrome_law, without_separator}
-use Rattle.value_text.specs.SetText.{HasWord, set_word}
+use Rattle.value_text.specs.SetText.{HasWord, common, set_word}
 use Rattle.value_text.specs.Spelling.{commas, level_name, named, pattern_name, slot_name, syndrome_name}
 use Rattle.value_text.proofs.Lists.{decimal_line, list_line}
 use Rattle.value_text.proofs.Numbers.{only_digits}
-use Rattle.value_text.proofs.SetWords.{one_spelling}
+use Rattle.value_text.proofs.SetWords.{one_common}
 use Rattle.value_text.proofs.Spellings.{IsWithout, first_separator, same_value}
 use Rattle.volume_classes.specs.SetLists.{Entry, IsEntry, IsShare, NextAt, SetAt, entry_line, list_text, set_of, sets_in}
 
@@ -36,7 +36,7 @@ no_rank rank rest more fits e =
 
 -- the name of an entry's line, without its line feed
 abbrev pub entry_name : Entry → List ℕ
-entry_name (SetAt rank geo) = named (decimal rank) (set_word geo)
+entry_name (SetAt rank geo) = named (decimal rank) (set_word (common geo))
 entry_name (NextAt next total) = codes "next " ++ (decimal next ++ (codes " of " ++ decimal total))
 
 pub line_is : (entry : Entry) → entry_line entry ≡ entry_name entry ++ 10 ∷ []
@@ -52,10 +52,10 @@ same_line text entry e = ap (λ (bytes : List ℕ). bytes ++ 10 ∷ []) e ∙ sy
 -- each entry has one line
 one_name : (images end : ℕ) (one other : Entry) → IsEntry images end one → IsEntry images end other → entry_name one ≡ entry_name other → one ≡ other
 one_name images end (SetAt rank geo) (SetAt other_rank other) is other_is e =
-    let both = same_number rank other_rank (set_word geo) (set_word other) is.0 other_is.0 e in
-    ap₂ (λ (r : ℕ) (g : Geometry). SetAt r g) both.0 (one_spelling geo other is.1 other_is.1 both.1)
-one_name images end (SetAt rank geo) (NextAt next total) is other_is e = absurd (no_rank rank (decimal next ++ (codes " of " ++ decimal total)) (set_word geo) is.0 (sym e))
-one_name images end (NextAt next total) (SetAt rank geo) is other_is e = absurd (no_rank rank (decimal next ++ (codes " of " ++ decimal total)) (set_word geo) other_is.0 e)
+    let both = same_number rank other_rank (set_word (common geo)) (set_word (common other)) is.0 other_is.0 e in
+    ap₂ (λ (r : ℕ) (g : Geometry). SetAt r g) both.0 (one_common geo other is.1 other_is.1 both.1)
+one_name images end (SetAt rank geo) (NextAt next total) is other_is e = absurd (no_rank rank (decimal next ++ (codes " of " ++ decimal total)) (set_word (common geo)) is.0 (sym e))
+one_name images end (NextAt next total) (SetAt rank geo) is other_is e = absurd (no_rank rank (decimal next ++ (codes " of " ++ decimal total)) (set_word (common geo)) other_is.0 e)
 one_name images end (NextAt next total) (NextAt other_next other_total) is other_is e =
     let share = append_cancel_left (codes "next ") (decimal next ++ (codes " of " ++ decimal total)) (decimal other_next ++ (codes " of " ++ decimal other_total)) e in
     let both = same_number next other_next (codes "of " ++ decimal total) (codes "of " ++ decimal other_total) is.0 other_is.0 share in
@@ -71,7 +71,7 @@ colon a b a_is b_is = All-append IsNoFeed a (58 ∷ b) a_is (All-cons IsNoFeed 5
 space : (a b : List ℕ) → IsWithout 10 a → IsWithout 10 b → IsWithout 10 (a ++ 32 ∷ b)
 space a b a_is b_is = All-append IsNoFeed a (32 ∷ b) a_is (All-cons IsNoFeed 32 b (λ e. absurd (omega (arith, e))) b_is)
 
-word_is_line : (geo : Geometry) → HasWord geo → IsWithout 10 (set_word geo)
+word_is_line : (geo : Geometry) → HasWord (common geo) → IsWithout 10 (set_word (common geo))
 word_is_line geo has =
     let chunk = has.chunk in
     let offset = has.offset in
@@ -90,7 +90,7 @@ of_word : IsWithout 10 (codes "of")
 of_word = without_separator 10 (codes "of") refl refl
 
 pub name_is_line : (images end : ℕ) (entry : Entry) → IsEntry images end entry → IsWithout 10 (entry_name entry)
-name_is_line images end (SetAt rank geo) is = space (decimal rank) (set_word geo) (decimal_line rank (omega (arith, is.0))) (word_is_line geo is.1)
+name_is_line images end (SetAt rank geo) is = space (decimal rank) (set_word (common geo)) (decimal_line rank (omega (arith, is.0))) (word_is_line geo is.1)
 name_is_line images end (NextAt next total) is =
     space (codes "next") (decimal next ++ 32 ∷ (codes "of" ++ 32 ∷ decimal total)) next_word
     (space (decimal next) (codes "of" ++ 32 ∷ decimal total) (decimal_line next (omega (arith, is.0))) (space (codes "of") (decimal total) of_word (decimal_line total (omega (arith, is.1)))))
@@ -115,12 +115,12 @@ share_entry images end text share begins is = (
 )
 
 pub no_share : (images end : ℕ) (text share : List ℕ) (entry : Entry) → text ≡ codes "next " ++ share → (IsShare share → ⊥) → IsEntry images end entry → text ++ 10 ∷ [] ≡ entry_line entry → ⊥
-no_share images end text share (SetAt rank geo) begins off is e = no_rank rank share (set_word geo) is.0 (sym begins ∙ same_name text (SetAt rank geo) e)
+no_share images end text share (SetAt rank geo) begins off is e = no_rank rank share (set_word (common geo)) is.0 (sym begins ∙ same_name text (SetAt rank geo) e)
 no_share images end text share (NextAt next total) begins off is e =
     let same = append_cancel_left (codes "next ") share (decimal next ++ (codes " of " ++ decimal total)) (sym begins ∙ same_name text (NextAt next total) e) in
     off (record { next = next; fits = is.0; rest = codes "of " ++ decimal total; is = same; whole = record { total = total; fits = is.1; is = refl } })
 
 pub no_entry : (images end : ℕ) (text : List ℕ) (entry : Entry) → ((rest : List ℕ) → text ≢ codes "next " ++ rest) →
-    ((rank : ℕ) (geo : Geometry) → rank < 2 ^ 64 → HasWord geo → first_fault geo images end ≡ None → text ≢ named (decimal rank) (set_word geo)) → IsEntry images end entry → text ++ 10 ∷ [] ≡ entry_line entry → ⊥
+    ((rank : ℕ) (geo : Geometry) → rank < 2 ^ 64 → HasWord (common geo) → first_fault geo images end ≡ None → text ≢ named (decimal rank) (set_word (common geo))) → IsEntry images end entry → text ++ 10 ∷ [] ≡ entry_line entry → ⊥
 no_entry images end text (SetAt rank geo) no_next no_set is e = no_set rank geo is.0 is.1 is.2 (same_name text (SetAt rank geo) e)
 no_entry images end text (NextAt next total) no_next no_set is e = no_next (decimal next ++ (codes " of " ++ decimal total)) (same_name text (NextAt next total) e)

@@ -2,7 +2,7 @@
 use Rattle.std.specs.Prelude.{ℕ, ◌≡◌, ◌<◌, ◌↔◌, List, [], ◌∷◌, ◌++◌, length, codes, slice_get, slice_index, Result, Ok, Err}
 use Rattle.std.specs.declared.option.Option.TheVariants.{Some}
 use Rattle.raid_params.specs.declared.types.Geometry.{Geometry}
-use Rattle.value_text.specs.SetText.{set_line}
+use Rattle.value_text.specs.SetText.{common, set_line}
 use Rattle.volume_classes.specs.Alike.{AreAlike}
 use Rattle.volume_classes.specs.SetLists.{AreEntries, Entry, IsRefusedLine, list_text, sets_in, share_line}
 use Rattle.volume_classes.specs.declared.fault.ClassFault.{ClassFault}
@@ -25,7 +25,7 @@ pub record AreClasses (images end : ℕ) (sets : List Geometry) (numbers : List 
 
 -- a line for each set, with the number of its class
 abbrev pub class_lines : List ℕ → List Geometry → List ℕ
-class_lines (number ∷ numbers) (set ∷ sets) = set_line number set ++ class_lines numbers sets
+class_lines (number ∷ numbers) (set ∷ sets) = set_line number (common set) ++ class_lines numbers sets
 class_lines _ _ = []
 
 -- the sets with their classes, and how many classes and sets there are

@@ -9,7 +9,7 @@ use Rattle.volume_classes.specs.declared.fault.ClassFault.{ClassFault}
 use Rattle.volume_classes.specs.declared.fault.ClassFault.TheVariants.{Line, Memory}
 use Rattle.volume_classes.specs.declared.reading.Told.{Told}
 use Rattle.volume_classes.specs.declared.reading.Told.TheVariants.{Set, Next}
-use Rattle.value_text.specs.SetText.{HasWord, set_line}
+use Rattle.value_text.specs.SetText.{HasWord, common, set_line}
 use Rattle.value_text.specs.Spelling.{line}
 
 -- what a line of a set list tells: a set with its rank, or how far of all ranks a listing went
@@ -23,7 +23,7 @@ share_line name part whole = line (name ++ (decimal part ++ (codes " of " ++ dec
 
 -- RANK SETWORD, or next A of B
 abbrev pub entry_line : Entry → List ℕ
-entry_line (SetAt rank geo) = set_line rank geo
+entry_line (SetAt rank geo) = set_line rank (common geo)
 entry_line (NextAt next total) = share_line (codes "next ") next total
 
 abbrev pub set_of : Entry → Option Geometry
@@ -36,7 +36,7 @@ sets_in entries = filter_map set_of entries
 
 -- numbers are below 2 ^ 64, and a set breaks no rule over so many images, whose members end before the image sector `end`
 abbrev pub IsEntry : ℕ → ℕ → Entry → Type 0
-IsEntry images end (SetAt rank geo) = (rank < 2 ^ 64) × HasWord geo × (first_fault geo images end ≡ None)
+IsEntry images end (SetAt rank geo) = (rank < 2 ^ 64) × HasWord (common geo) × (first_fault geo images end ≡ None)
 IsEntry images end (NextAt next total) = (next < 2 ^ 64) × (total < 2 ^ 64)
 
 -- what a set list may tell: at most 1,024 sets

@@ -2,7 +2,7 @@
 ghost use Rattle.std.specs.Prelude.{◌≡◌, ◌≢◌, ◌∷◌, ◌++◌, ◌<◌, ◌≤◌, ◌^◌, ◌↔◌, [], ℕ, IsTrue, MatchOption, None, decimal, length};
 ghost use Rattle.raid_params.specs.Validity.{first_fault};
 ghost use Rattle.raid_params.specs.declared.types.Geometry.{Geometry as GeometryOf};
-ghost use Rattle.value_text.specs.SetText.{HasWord, set_word};
+ghost use Rattle.value_text.specs.SetText.{HasWord, common, set_word};
 ghost use Rattle.value_text.specs.Spelling.{named};
 ghost use Rattle.volume_classes.specs.SetLists.{Adds, AddsSet, Entry, IsEntry, IsShare, IsWhole, ReadsSets, entry_line, set_of, told_set};
 
@@ -10,7 +10,7 @@ use crate::fault::ClassFault;
 use outside::ListOf;
 use raid_params::Geometry;
 use std::alloc::Global;
-use value_text::{after, cut, read_number, read_set, value_until};
+use value_text::{after, cut, read_common_set, read_number, value_until};
 
 /// The most sets of a list.
 const MOST_LISTED: usize = 1024;
@@ -18,7 +18,7 @@ const MOST_LISTED: usize = 1024;
 /// What a line of a set list tells.
 #[derive(Drop)]
 pub enum Told {
-    /// A set.
+    /// A set, whose offset is common to all images.
     Set(Geometry),
     /// How far of all ranks a listing went.
     Next,
@@ -111,14 +111,14 @@ fn is_whole(text: &[u8]) -> bool
     }
 }
 
-/// The set of a line `RANK SETWORD`, which breaks no rule.
+/// The set of a line `RANK SETWORD`, which breaks no rule and has an offset that is common to all images.
 fn read_ranked(line: &[u8], images: u8, end: u64) -> Option<Geometry>
     ensures { MatchOption result
-        ((rank : ℕ) (geo : GeometryOf) → rank < 2 ^ 64 → HasWord geo → first_fault geo images end ≡ None → line.now ≢ named (decimal rank) (set_word geo))
-        (λ geo. (rank : ℕ) × (rank < 2 ^ 64) × HasWord geo × (first_fault geo images end ≡ None) × (line.now ≡ named (decimal rank) (set_word geo))) }
+        ((rank : ℕ) (geo : GeometryOf) → rank < 2 ^ 64 → HasWord (common geo) → first_fault geo images end ≡ None → line.now ≢ named (decimal rank) (set_word (common geo)))
+        (λ geo. (rank : ℕ) × (rank < 2 ^ 64) × HasWord (common geo) × (first_fault geo images end ≡ None) × (line.now ≡ named (decimal rank) (set_word (common geo)))) }
 {
     let (_, word) = value_until::<u64>(line, b' ')?;
-    let set = read_set(word)?;
+    let set = read_common_set(word)?;
     match set.validate(images, end) {
         Ok(()) => Some(set),
         Err(_) => None,

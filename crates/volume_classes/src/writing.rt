@@ -7,7 +7,7 @@ use crate::numbering::Classed;
 use outside::Memory;
 use raid_params::Geometry;
 use std::alloc::Global;
-use value_text::{Text, add_number, set_line};
+use value_text::{Text, add_number, common_set_line};
 
 /// The line `K SETWORD` of each set, and the last line `classes C of S`.
 pub(crate) fn write_classes(
@@ -35,7 +35,7 @@ fn add_sets(
     ensures { OnOk result (text.new ≡ text.old ++ class_lines numbers.now sets.now) }
 {
     for (place, set) in sets.iter().enumerate() {
-        let line = set_line(alloc, numbers[place], set)?;
+        let line = common_set_line(alloc, numbers[place], set)?;
         text.extend_from_slice(line.as_slice())?;
     }
     Ok(())

@@ -2,18 +2,27 @@ use Rattle.std.proofs.lemmas.Result.{err_from_is_err_and}
 use Rattle.search_plan.specs.Plans.{IsPlan}
 use Rattle.plan_text.specs.PlanText.{plan_lines}
 use Rattle.plan_text.proofs.PlanEnds.{end_refused, whole_text}
-use Rattle.plan_text.proofs.PlanLines.{IsShortest, is_plan, plan_of, stands_images, stands_search, stands_groups}
+use Rattle.plan_text.proofs.PlanLines.{IsShortest, is_plan, plan_of, stands_images, stands_search, stands_groups, stands_version}
 use Rattle.plan_text.proofs.RefusedLines.{fault_of}
 use Rattle.plan_text.proofs.Refusals.{went, went_on, nowhere, refused}
 use Rattle.plan_text.proofs.plan.read_plan.Goals as goal
 
-pub returns-in_err-lengths : goal.returns-in_err-lengths
-returns-in_err-lengths c =
+pub returns-in_err-each : goal.returns-in_err-each
+returns-in_err-each c =
     let p = err_from_is_err_and c.from_residual.result c.from_residual.ensures.1 in
     let from = c.new-reader.result in
     rw (p.1, p.2) record {
       plan = tt;
-      fault = fault_of c.args.text.now from c.in_err-lengths.field-0.0 c.new-reader.ensures.rest c.new-reader.ensures.taken (refused _ _ IsPlan plan_lines _ from from c.in_err-lengths.field-0.0 stands_images (nowhere _) c.in_err-lengths.ensures);
+      fault = fault_of c.args.text.now from c.in_err-each.field-0.0 c.new-reader.ensures.rest c.new-reader.ensures.taken (refused _ _ IsPlan plan_lines _ from from c.in_err-each.field-0.0 stands_version (nowhere _) c.in_err-each.ensures);
+    }
+
+pub returns-in_err-lengths : goal.returns-in_err-lengths
+returns-in_err-lengths c =
+    let p = err_from_is_err_and c.from_residual-in_err-lengths.result c.from_residual-in_err-lengths.ensures.1 in
+    let from = c.new-reader.result in
+    rw (p.1, p.2) record {
+      plan = tt;
+      fault = fault_of c.args.text.now from c.in_err-lengths.field-0.0 c.new-reader.ensures.rest c.new-reader.ensures.taken (refused _ _ IsPlan plan_lines _ from c.version.new.self c.in_err-lengths.field-0.0 (stands_images c.in_ok-each.each) (went c.in_ok-each.ensures) c.in_err-lengths.ensures);
     }
 
 pub returns-in_err-search : goal.returns-in_err-search
@@ -25,7 +34,7 @@ returns-in_err-search c =
     rw (p.1, p.2) record {
       plan = tt;
       fault = fault_of c.args.text.now from c.in_err-search.field-0.0 c.new-reader.ensures.rest c.new-reader.ensures.taken
-          (refused _ _ IsPlan plan_lines _ from c.images.new.self c.in_err-search.field-0.0 (stands_search lengths c.shortest.result c.in_ok-lengths.ensures.is_value least) (went c.in_ok-lengths.ensures) c.in_err-search.ensures);
+          (refused _ _ IsPlan plan_lines _ from c.images.new.self c.in_err-search.field-0.0 (stands_search c.in_ok-each.each lengths c.shortest.result c.in_ok-lengths.ensures.is_value least) (went_on (went c.in_ok-each.ensures) (went c.in_ok-lengths.ensures)) c.in_err-search.ensures);
     }
 
 pub returns-in_err-groups : goal.returns-in_err-groups
@@ -38,8 +47,8 @@ returns-in_err-groups c =
     rw (p.1, p.2) record {
       plan = tt;
       fault = fault_of c.args.text.now from c.in_err-groups.field-0.0 c.new-reader.ensures.rest c.new-reader.ensures.taken
-          (refused _ _ IsPlan plan_lines _ from c.search.new.self c.in_err-groups.field-0.0 (stands_groups lengths c.shortest.result c.in_ok-search.search c.in_ok-lengths.ensures.is_value least c.in_ok-search.ensures.is_value)
-          (went_on (went c.in_ok-lengths.ensures) (went c.in_ok-search.ensures)) refusal);
+          (refused _ _ IsPlan plan_lines _ from c.search.new.self c.in_err-groups.field-0.0 (stands_groups c.in_ok-each.each lengths c.shortest.result c.in_ok-search.search c.in_ok-lengths.ensures.is_value least c.in_ok-search.ensures.is_value)
+          (went_on (went c.in_ok-each.ensures) (went_on (went c.in_ok-lengths.ensures) (went c.in_ok-search.ensures))) refusal);
     }
 
 pub returns-in_err-end : goal.returns-in_err-end
@@ -51,9 +60,9 @@ returns-in_err-end c =
     let groups = rw c.deref-2.ensures.0 at c.in_ok-groups.ensures in
     rw (p.1, p.2) record {
       plan = tt;
-      fault = end_refused c.args.text.now from c.groups.new.self c.in_err-end.field-0.0 (plan_of lengths c.in_ok-search.search c.in_ok-groups.groups)
-          (is_plan lengths c.shortest.result c.in_ok-search.search c.in_ok-groups.groups c.in_ok-lengths.ensures.is_value least c.in_ok-search.ensures.is_value groups.is_value) c.new-reader.ensures.rest c.new-reader.ensures.taken
-          (went_on (went c.in_ok-lengths.ensures) (went_on (went c.in_ok-search.ensures) (went c.in_ok-groups.ensures))) c.in_err-end.ensures;
+      fault = end_refused c.args.text.now from c.groups.new.self c.in_err-end.field-0.0 (plan_of c.in_ok-each.each lengths c.in_ok-search.search c.in_ok-groups.groups)
+          (is_plan c.in_ok-each.each lengths c.shortest.result c.in_ok-search.search c.in_ok-groups.groups c.in_ok-lengths.ensures.is_value least c.in_ok-search.ensures.is_value groups.is_value) c.new-reader.ensures.rest c.new-reader.ensures.taken
+          (went_on (went c.in_ok-each.ensures) (went_on (went c.in_ok-lengths.ensures) (went_on (went c.in_ok-search.ensures) (went c.in_ok-groups.ensures)))) c.in_err-end.ensures;
     }
 
 pub returns : goal.returns
@@ -63,8 +72,8 @@ returns c =
     let groups = rw c.deref-2.ensures.0 at c.in_ok-groups.ensures in
     record {
       plan = (
-        is_plan lengths c.shortest.result c.in_ok-search.search c.in_ok-groups.groups c.in_ok-lengths.ensures.is_value least c.in_ok-search.ensures.is_value groups.is_value,
-        whole_text c.args.text.now c.new-reader.result c.groups.new.self (plan_of lengths c.in_ok-search.search c.in_ok-groups.groups) c.new-reader.ensures.rest (went_on (went c.in_ok-lengths.ensures) (went_on (went c.in_ok-search.ensures) (went c.in_ok-groups.ensures))) c.in_ok-end.ensures,
+        is_plan c.in_ok-each.each lengths c.shortest.result c.in_ok-search.search c.in_ok-groups.groups c.in_ok-lengths.ensures.is_value least c.in_ok-search.ensures.is_value groups.is_value,
+        whole_text c.args.text.now c.new-reader.result c.groups.new.self (plan_of c.in_ok-each.each lengths c.in_ok-search.search c.in_ok-groups.groups) c.new-reader.ensures.rest (went_on (went c.in_ok-each.ensures) (went_on (went c.in_ok-lengths.ensures) (went_on (went c.in_ok-search.ensures) (went c.in_ok-groups.ensures)))) c.in_ok-end.ensures,
       );
       fault = tt;
     }

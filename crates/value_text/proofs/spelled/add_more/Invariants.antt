@@ -3,4 +3,4 @@ use Rattle.std.specs.List.{flat_map}
 use Rattle.value_text.proofs.spelled.add_more.Given as goal
 
 abbrev pub invariant-loop-value : goal.invariant-loop-value
-invariant-loop-value g l = l.text ≡ l.initial.text ++ flat_map (λ value. 44 ∷ g.T.Spelled.name value) (take l.value-index l.values)
+invariant-loop-value g l = l.text ≡ l.initial.text ++ flat_map (λ value. l.separator ∷ g.T.Spelled.name value) (take l.value-index l.values)

@@ -1,0 +1,30 @@
+//! The versions of the text of plans.
+ghost use Rattle.std.specs.Prelude.{◌≡◌};
+ghost use Rattle.plan_text.specs.Parts.{most_foreign as most_foreign_of, sectors_end as sectors_end_of};
+ghost use Rattle.plan_text.specs.PlanText.{version_number as version_number_of};
+
+use raid_params::{MOST, SECTORS_END};
+
+/// The end of the lengths and offsets of images that can be moved: 2^54.
+const MOVABLE_END: u64 = 1 << 54;
+
+/// The version of the text of a plan: 2 where each image has an offset of its own, and 1 where all share one.
+pub fn version_number(each: bool) -> u64
+    ensures { result ≡ version_number_of each }
+{
+    if each { 2 } else { 1 }
+}
+
+/// The end of lengths and offsets. Images with offsets of their own are moved by them, so theirs are below 2^54.
+pub fn sectors_end(each: bool) -> u64
+    ensures { result ≡ sectors_end_of each }
+{
+    if each { MOVABLE_END } else { SECTORS_END }
+}
+
+/// The most foreign images. None is foreign where each image has an offset of its own.
+pub fn most_foreign(each: bool) -> u64
+    ensures { result ≡ most_foreign_of each }
+{
+    if each { 0 } else { MOST as u64 }
+}

@@ -1,9 +1,9 @@
 //! The header of a partition table.
 
-ghost use Rattle.std.specs.Prelude.{◌≡◌, ◌≤◌, ◌<◌, IfSome, ◌^◌};
+ghost use Rattle.std.specs.Prelude.{◌≡◌, ◌*◌, ◌==◌, ◌≤◌, ◌<◌, IfSome, ◌^◌};
 ghost use Rattle.sector_fields.specs.Fields.{u32_le};
 ghost use Rattle.gpt_marks.specs.Crc.{checksum_of};
-ghost use Rattle.gpt_marks.specs.Header.{covered_bytes, gpt_header, gpt_header_of, is_gpt_header, is_own_table, with_zero_checksum};
+ghost use Rattle.gpt_marks.specs.Header.{covered_bytes, gpt_header, gpt_header_of, is_gpt_header, is_own_table, with_zero_checksum, IsUnit};
 
 use crate::crc::crc32;
 use sector_fields::{DISTANCE_LIMIT, SECTOR, has_bytes, u32_le, u64_le, uuid_at};
@@ -12,7 +12,7 @@ use uuid::Uuid;
 /// The bytes that a header has at least: those of its fields. It has no more than its block.
 const SMALLEST_HEADER: u32 = 92;
 
-/// What a header says. A block has 512 bytes.
+/// What a header says. Its numbers are those of blocks, of 512 or 4,096 bytes each.
 #[derive(Clone, Copy, PartialEq, Eq)]
 pub struct GptHeader {
     /// The block that the header lies in.
@@ -92,15 +92,29 @@ fn fields_of(sector: &[u8; SECTOR]) -> GptHeader
     }
 }
 
-/// Whether a header found in `sector` of an image is the table of that image itself: it lies in the
-/// block that it names, and it and its other header are block 1 and the image's last.
-#[tactic(auto, unfolding(crate::specs::Header::is_own_table))]
-pub fn own_table(header: &GptHeader, sector: u64, image_sectors: u64) -> bool
-    requires { sector < image_sectors }
-    ensures { result ≡ is_own_table header.now sector image_sectors }
+/// Whether a header found in `sector` of an image is the table of that image itself, on a disk whose blocks
+/// have `unit` sectors each, 1 or 8: the image is whole blocks, the header lies in the block that it names,
+/// and it and its other header are block 1 and the image's last.
+#[tactic(auto, unfolding(crate::specs::Header::is_own_table), using(crate::proofs::Units::some_sectors, crate::proofs::Units::some_blocks))]
+pub fn own_table(header: &GptHeader, sector: u64, image_sectors: u64, unit: u64) -> bool
+    requires sector { sector < image_sectors }
+    requires unit { IsUnit unit }
+    ensures { result ≡ is_own_table header.now sector image_sectors unit }
 {
-    let last = image_sectors - 1;
-    header.my_lba == sector
+    if image_sectors % unit != 0 {
+        return false;
+    }
+    let last = image_sectors / unit - 1;
+    lies_in(header, sector, unit)
         && ((header.my_lba == 1 && header.alternate == last)
             || (header.my_lba == last && header.alternate == 1))
+}
+
+/// Whether the block that a header names begins at a sector, where blocks have `unit` sectors.
+#[tactic(auto, using(crate::proofs::Units::not_begun, crate::proofs::Units::begins))]
+fn lies_in(header: &GptHeader, sector: u64, unit: u64) -> bool
+    requires { IsUnit unit }
+    ensures { result ≡ (unit * header.now.my_lba == sector) }
+{
+    sector % unit == 0 && header.my_lba == sector / unit
 }

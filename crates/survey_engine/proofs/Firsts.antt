@@ -1,5 +1,5 @@
 -- Hints, one after the other.
-use Rattle.std.proofs.Common.{◌≡◌, ℕ, zero, suc, ◌+◌, ◌-◌, ◌*◌, ◌^◌, ◌==◌, ◌<◌, ◌≤◌, List, [], ◌∷◌, ◌++◌, length, take, get_or, slice_index, slice_get, slice_range, Bool, true, false, cond, refl, sym, ap, subst, IsSomeAnd, ◌∙◌, arith, All, IfSome, Option, Some, None}
+use Rattle.std.proofs.Common.{◌≡◌, ℕ, zero, suc, ◌+◌, ◌-◌, ◌*◌, ◌^◌, ◌==◌, ◌<◌, ◌≤◌, List, [], ◌∷◌, ◌++◌, length, map, take, get_or, slice_index, slice_get, slice_range, Bool, true, false, cond, refl, sym, ap, subst, IsSomeAnd, ◌∙◌, arith, All, IfSome, Option, Some, None}
 use Rattle.std.specs.List.{filter_map, flat_map, cons_option}
 use Rattle.std.proofs.lemmas.List.{append-nil, length-map, take_all, take_more}
 use Rattle.std.proofs.lemmas.List.Concat.{flat_map-append}
@@ -13,17 +13,17 @@ use Rattle.std.specs.Prelude.{count_by}
 use Rattle.std.proofs.lemmas.List.Sums.{sum_by-le-sum_by, sum_by_more, sum_by-take-le}
 use Rattle.image_blocks.proofs.Reading.{told_bytes}
 use Rattle.gpt_marks.specs.Entry.{first_lbas}
-use Rattle.gpt_marks.specs.declared.header.GptHeader.{GptHeader}
 use Rattle.landmark_rules.specs.declared.limits.TheConstants.{MOST_MARKS, MOST_ORIGINS}
 use Rattle.survey_engine.specs.Kept.{with_number}
-use Rattle.survey_engine.specs.Origins.{has_entries, is_followed, entries_follow, hints_at, hints_by, origins_of, with_numbers}
+use Rattle.survey_engine.specs.Origins.{first_sector, has_entries, is_followed, entries_follow, hints_at, hints_by, origins_of, with_numbers}
 use Rattle.survey_engine.specs.Sightings.{is_same_kind, sector_of}
 use Rattle.survey_engine.specs.Surveys.{entries_read, found_in, survey_reads}
 use Rattle.survey_engine.specs.declared.ask.Ask.{Ask}
 use Rattle.survey_engine.specs.Landmarks.{kind_of}
 use Rattle.landmark_rules.specs.Groups.{kind_place}
+use Rattle.survey_engine.specs.declared.landmark.GptTable.{GptTable}
 use Rattle.survey_engine.specs.declared.landmark.Landmark.{Landmark}
-use Rattle.survey_engine.specs.declared.landmark.Landmark.TheVariants.{Gpt, Boot, FileRecord, Super, Agf, Agi}
+use Rattle.survey_engine.specs.declared.landmark.Landmark.TheVariants.{Gpt, Boot, FileRecord, Super, Agf, Agi, Btrfs, Lvm, Ext}
 use Rattle.survey_engine.specs.declared.sighting.Sighting.{Sighting}
 use Rattle.survey_engine.proofs.Numbers.{with_more, with_none}
 
@@ -62,32 +62,35 @@ near_at firsts i n all below some =
 
 -- ---- of a sighting
 
-not_gpt : (l : Landmark) (sector long : ℕ) (bytes : List ℕ) → ((h : GptHeader) → l ≡ Gpt h → ⊥) → hints_by l sector long bytes ≡ []
+not_gpt : (l : Landmark) (sector long : ℕ) (bytes : List ℕ) → ((h : GptTable) → l ≡ Gpt h → ⊥) → hints_by l sector long bytes ≡ []
 not_gpt (Gpt h) sector long bytes never = absurd (never h refl)
 not_gpt (Boot b) sector long bytes never = refl
 not_gpt (FileRecord r) sector long bytes never = refl
 not_gpt (Super x) sector long bytes never = refl
 not_gpt (Agf g) sector long bytes never = refl
 not_gpt (Agi g) sector long bytes never = refl
+not_gpt (Btrfs b) sector long bytes never = refl
+not_gpt (Lvm n) sector long bytes never = refl
+not_gpt (Ext x) sector long bytes never = refl
 
 -- none but a header has hints
-pub no_header : (lengths : List ℕ) (images : List (List ℕ)) (s : Sighting) → ((h : GptHeader) → s.landmark ≡ Gpt h → ⊥) → hints_at lengths images s ≡ []
+pub no_header : (lengths : List ℕ) (images : List (List ℕ)) (s : Sighting) → ((h : GptTable) → s.landmark ≡ Gpt h → ⊥) → hints_at lengths images s ≡ []
 unfolding hints_at
 no_header lengths images s never = not_gpt s.landmark s.sector (slice_index lengths s.image) (get_or images s.image []) never
 
 -- nor one without entries after it
-pub no_entries : (lengths : List ℕ) (images : List (List ℕ)) (s : Sighting) (h : GptHeader) → s.landmark ≡ Gpt h → has_entries h s.sector (slice_index lengths s.image) ≡ false → hints_at lengths images s ≡ []
+pub no_entries : (lengths : List ℕ) (images : List (List ℕ)) (s : Sighting) (h : GptTable) → s.landmark ≡ Gpt h → has_entries h s.sector (slice_index lengths s.image) ≡ false → hints_at lengths images s ≡ []
 unfolding hints_at
 no_entries lengths images s h is without =
     ap (λ (l : Landmark). hints_by l s.sector (slice_index lengths s.image) (get_or images s.image [])) is
-    ∙ ap (λ (b : Bool). cond b (filter_map (λ first. first) (first_lbas (sector_of (get_or images s.image []) (s.sector + 1)) h.alternate)) []) without
+    ∙ ap (λ (b : Bool). cond b (filter_map (λ first. first) (map (first_sector h.unit) (first_lbas (sector_of (get_or images s.image []) (s.sector + h.unit)) h.header.alternate))) []) without
 
-with_entries : (lengths : List ℕ) (images : List (List ℕ)) (s : Sighting) (h : GptHeader) → s.landmark ≡ Gpt h → has_entries h s.sector (slice_index lengths s.image) ≡ true →
-    hints_at lengths images s ≡ filter_map (λ first. first) (first_lbas (sector_of (get_or images s.image []) (s.sector + 1)) h.alternate)
+with_entries : (lengths : List ℕ) (images : List (List ℕ)) (s : Sighting) (h : GptTable) → s.landmark ≡ Gpt h → has_entries h s.sector (slice_index lengths s.image) ≡ true →
+    hints_at lengths images s ≡ filter_map (λ first. first) (map (first_sector h.unit) (first_lbas (sector_of (get_or images s.image []) (s.sector + h.unit)) h.header.alternate))
 unfolding hints_at
 with_entries lengths images s h is entries =
     ap (λ (l : Landmark). hints_by l s.sector (slice_index lengths s.image) (get_or images s.image [])) is
-    ∙ ap (λ (b : Bool). cond b (filter_map (λ first. first) (first_lbas (sector_of (get_or images s.image []) (s.sector + 1)) h.alternate)) []) entries
+    ∙ ap (λ (b : Bool). cond b (filter_map (λ first. first) (map (first_sector h.unit) (first_lbas (sector_of (get_or images s.image []) (s.sector + h.unit)) h.header.alternate))) []) entries
 
 -- where a sighting has no hints
 pub told_none : (told : Option (List (List ℕ))) (lengths old : List ℕ) (s : Sighting) → length old ≤ MOST_ORIGINS → ((images : List (List ℕ)) → hints_at lengths images s ≡ []) →
@@ -95,26 +98,26 @@ pub told_none : (told : Option (List (List ℕ))) (lengths old : List ℕ) (s : 
 told_none None lengths old s few none = tt
 told_none (Some images) lengths old s few none = sym (ap (with_numbers old) (none images) ∙ with_none old few)
 
-read_of : (attached : List Image) (told : Option (List (List ℕ))) (lengths old new to : List ℕ) (firsts : List (Option ℕ)) (s : Sighting) (h : GptHeader) → told_all attached ≡ told → s.image < length attached →
-    AreTold attached s.image (s.sector + 1) to → length to ≡ 512 → firsts ≡ first_lbas to h.alternate → new ≡ with_numbers old (filter_map (λ first. first) firsts) →
+read_of : (attached : List Image) (told : Option (List (List ℕ))) (lengths old new to : List ℕ) (firsts : List (Option ℕ)) (s : Sighting) (h : GptTable) → told_all attached ≡ told → s.image < length attached →
+    AreTold attached s.image (s.sector + h.unit) to → length to ≡ 512 → firsts ≡ map (first_sector h.unit) (first_lbas to h.header.alternate) → new ≡ with_numbers old (filter_map (λ first. first) firsts) →
     s.landmark ≡ Gpt h → has_entries h s.sector (slice_index lengths s.image) ≡ true → IfSome told (λ images. new ≡ with_numbers old (hints_at lengths images s))
 read_of attached None lengths old new to firsts s h e below are long read added is entries = tt
 read_of attached (Some images) lengths old new to firsts s h e below are long read added is entries =
-    let bytes : to ≡ sector_of (get_or images s.image []) (s.sector + 1) = told_bytes attached images s.image (s.sector + 1) to e below are ∙ ap (λ (n : ℕ). slice_range (get_or images s.image []) (512 * (s.sector + 1)) (512 * (s.sector + 1) + n)) long in
-    added ∙ ap (λ (l : List (Option ℕ)). with_numbers old (filter_map (λ first. first) l)) (read ∙ ap (λ (b : List ℕ). first_lbas b h.alternate) bytes)
+    let bytes : to ≡ sector_of (get_or images s.image []) (s.sector + h.unit) = told_bytes attached images s.image (s.sector + h.unit) to e below are ∙ ap (λ (n : ℕ). slice_range (get_or images s.image []) (512 * (s.sector + h.unit)) (512 * (s.sector + h.unit) + n)) long in
+    added ∙ ap (λ (l : List (Option ℕ)). with_numbers old (filter_map (λ first. first) l)) (read ∙ ap (λ (b : List ℕ). map (first_sector h.unit) (first_lbas b h.header.alternate)) bytes)
     ∙ sym (ap (with_numbers old) (with_entries lengths images s h is entries))
 
 -- where the sector of entries was read
-pub told_read : (attached : List Image) (lengths old new to : List ℕ) (firsts : List (Option ℕ)) (s : Sighting) (h : GptHeader) → s.image < length attached →
-    AreTold attached s.image (s.sector + 1) to → length to ≡ 512 → firsts ≡ first_lbas to h.alternate → new ≡ with_numbers old (filter_map (λ first. first) firsts) →
+pub told_read : (attached : List Image) (lengths old new to : List ℕ) (firsts : List (Option ℕ)) (s : Sighting) (h : GptTable) → s.image < length attached →
+    AreTold attached s.image (s.sector + h.unit) to → length to ≡ 512 → firsts ≡ map (first_sector h.unit) (first_lbas to h.header.alternate) → new ≡ with_numbers old (filter_map (λ first. first) firsts) →
     s.landmark ≡ Gpt h → has_entries h s.sector (slice_index lengths s.image) ≡ true → IfSome (told_all attached) (λ images. new ≡ with_numbers old (hints_at lengths images s))
 told_read attached lengths old new to firsts s h below are long read added is entries = read_of attached (told_all attached) lengths old new to firsts s h refl below are long read added is entries
 
 -- that sector lies in the image
-entries_inside : (h : GptHeader) (sector long : ℕ) → has_entries h sector long ≡ true → sector + 1 < long
+entries_inside : (h : GptTable) (sector long : ℕ) → has_entries h sector long ≡ true → sector + h.unit < long
 entries_inside h sector long entries = grind (arith, nat_tests)
 
-reaches : (attached : List Image) (i sector : ℕ) → i < length attached → sector + 1 < get_or (lengths_of attached) i 0 → IsSomeAnd (slice_get attached i) (λ a. sector + 1 + 1 ≤ a.sectors)
+reaches : (attached : List Image) (i sector : ℕ) → i < length attached → sector < get_or (lengths_of attached) i 0 → IsSomeAnd (slice_get attached i) (λ a. sector + 1 ≤ a.sectors)
 reaches [] i sector below more = absurd (omega arith)
 reaches (a ∷ attached) zero sector below more = omega arith
 reaches (a ∷ attached) (suc i) sector below more = reaches attached i sector (omega arith) more
@@ -127,12 +130,12 @@ inside_of (n ∷ lengths) (suc i) sector in_it = let rest = inside_of lengths i 
 pub image_there : (attached : List Image) (lengths : List ℕ) (i sector : ℕ) → lengths ≡ lengths_of attached → IsSomeAnd (slice_get lengths i) (λ n. sector < n) → i < length attached
 image_there attached lengths i sector are in_it = omega (arith, inside_of lengths i sector in_it, ap length are ∙ length-map attached (λ image. image.sectors))
 
-pub next_within : (attached : List Image) (lengths : List ℕ) (h : GptHeader) (i sector : ℕ) → lengths ≡ lengths_of attached → IsSomeAnd (slice_get lengths i) (λ n. sector < n) → has_entries h sector (slice_index lengths i) ≡ true →
-    AreWithin attached i (sector + 1) 512
+pub next_within : (attached : List Image) (lengths : List ℕ) (h : GptTable) (i sector : ℕ) → lengths ≡ lengths_of attached → IsSomeAnd (slice_get lengths i) (λ n. sector < n) → has_entries h sector (slice_index lengths i) ≡ true →
+    AreWithin attached i (sector + h.unit) 512
 next_within attached lengths h i sector are in_it entries = record {
   whole = refl;
   some = omega arith;
-  inside = reaches attached i sector (image_there attached lengths i sector are in_it) (subst (λ (l : List ℕ). sector + 1 < get_or l i 0) are (entries_inside h sector (slice_index lengths i) entries));
+  inside = reaches attached i (sector + h.unit) (image_there attached lengths i sector are in_it) (subst (λ (l : List ℕ). sector + h.unit < get_or l i 0) are (entries_inside h sector (slice_index lengths i) entries));
 }
 
 -- ---- of the sightings so far
@@ -188,7 +191,7 @@ pub reads_some : (a b : Seen) (lengths : List ℕ) (found : List Sighting) (n : 
 reads_some a b lengths found n ab = reads_up a b ab (omega (arith, sum_by-take-le (λ (t : Sighting). cond (is_followed lengths t) 1 0) found n))
 
 -- the sector after a header that entries follow is read
-pub one_read : (a b : Seen) (lengths : List ℕ) (s : Sighting) (h : GptHeader) → s.landmark ≡ Gpt h → has_entries h s.sector (slice_index lengths s.image) ≡ true → OnlyReads a b 1 → OnlyReads a b (cond (is_followed lengths s) 1 0)
+pub one_read : (a b : Seen) (lengths : List ℕ) (s : Sighting) (h : GptTable) → s.landmark ≡ Gpt h → has_entries h s.sector (slice_index lengths s.image) ≡ true → OnlyReads a b 1 → OnlyReads a b (cond (is_followed lengths s) 1 0)
 unfolding is_followed
 one_read a b lengths s h is entries ab =
     let follow : entries_follow s.landmark s.sector (slice_index lengths s.image) ≡ true = ap (λ (l : Landmark). entries_follow l s.sector (slice_index lengths s.image)) is ∙ entries in
@@ -207,6 +210,9 @@ followed_few (FileRecord r) sector long = omega arith
 followed_few (Super x) sector long = omega arith
 followed_few (Agf g) sector long = omega arith
 followed_few (Agi g) sector long = omega arith
+followed_few (Btrfs b) sector long = omega arith
+followed_few (Lvm n) sector long = omega arith
+followed_few (Ext x) sector long = omega arith
 
 followed_are_few : (lengths : List ℕ) (found : List Sighting) → count_by (is_followed lengths) found ≤ count_by (is_same_kind GptKind) found
 unfolding is_followed

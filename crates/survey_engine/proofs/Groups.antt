@@ -13,6 +13,7 @@ use Rattle.landmark_rules.specs.declared.marks.Rule.{Rule}
 use Rattle.survey_engine.specs.Kept.{kept, kept_with}
 use Rattle.survey_engine.specs.Landmarks.{kind_of, IsSound}
 use Rattle.survey_engine.specs.Owners.{group_for, groups_in, is_new, mark_in, owner_among, owners_of, rule_in, IsSoundOwner}
+use Rattle.survey_engine.specs.Sightings.{sighted_at}
 use Rattle.survey_engine.specs.declared.owner.Owner.{Owner}
 use Rattle.survey_engine.specs.declared.sighting.Sighting.{Sighting}
 
@@ -68,18 +69,18 @@ ruled : (s : Sighting) → Option Rule → Option Mark
 ruled s None = None
 ruled s (Some rule) = Some (record { kind = kind_of s.landmark; image = s.image; sector = s.sector; rule = rule })
 
-mark_is : (owner : Owner) (alone : Bool) (s : Sighting) (rule : Option Rule) → rule_in owner alone s.landmark ≡ rule → mark_in owner alone s ≡ ruled s rule
+mark_is : (owner : Owner) (alone : Bool) (s : Sighting) (rule : Option Rule) → rule_in owner alone (sighted_at s) s.landmark ≡ rule → mark_in owner alone s ≡ ruled s rule
 unfolding ruled
 mark_is owner alone s None is = rw is refl
 mark_is owner alone s (Some rule) is = rw is refl
 
-pub marks_some : (owner : Owner) (alone : Bool) (found : List Sighting) (i : ℕ) (s : Sighting) (rule : Rule) → i < length found → s ≡ get_or found i s → rule_in owner alone s.landmark ≡ Some rule →
+pub marks_some : (owner : Owner) (alone : Bool) (found : List Sighting) (i : ℕ) (s : Sighting) (rule : Rule) → i < length found → s ≡ get_or found i s → rule_in owner alone (sighted_at s) s.landmark ≡ Some rule →
     marks_to owner alone found (i + 1) ≡ marks_to owner alone found i ++ (record { kind = kind_of s.landmark; image = s.image; sector = s.sector; rule = rule }) ∷ []
 unfolding marks_to ruled
 marks_some owner alone found i s rule below is at =
     maps_more (mark_in owner alone) found i s (Some (record { kind = kind_of s.landmark; image = s.image; sector = s.sector; rule = rule })) below is (mark_is owner alone s (Some rule) at)
 
-pub marks_same : (owner : Owner) (alone : Bool) (found : List Sighting) (i : ℕ) (s : Sighting) → i < length found → s ≡ get_or found i s → rule_in owner alone s.landmark ≡ None →
+pub marks_same : (owner : Owner) (alone : Bool) (found : List Sighting) (i : ℕ) (s : Sighting) → i < length found → s ≡ get_or found i s → rule_in owner alone (sighted_at s) s.landmark ≡ None →
     marks_to owner alone found (i + 1) ≡ marks_to owner alone found i
 unfolding marks_to ruled
 marks_same owner alone found i s below is at =

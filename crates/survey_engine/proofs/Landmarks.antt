@@ -1,22 +1,28 @@
--- Byte 3 says which kind of landmark a sector may be.
+-- Byte 3 says which kind of landmark a sector may be by its front.
 use Rattle.std.proofs.Common.{◌≡◌, ◌≢◌, ℕ, List, Bool, true, false, cond, Some, None, refl, sym, ◌∙◌, arith, slice_index}
 use Rattle.std.specs.Option.{option_map}
-use Rattle.gpt_marks.specs.Header.{is_gpt_header, gpt_header, gpt_header_of}
+use Rattle.gpt_marks.specs.Header.{is_gpt_header}
 use Rattle.ntfs_marks.specs.Boot.{is_ntfs_boot, ntfs_boot, ntfs_boot_of}
-use Rattle.ntfs_marks.specs.FileRecord.{is_ntfs_record, ntfs_record, ntfs_record_of}
+use Rattle.ntfs_marks.specs.FileRecord.{is_ntfs_record}
 use Rattle.xfs_marks.specs.Superblock.{is_xfs_super, xfs_super, xfs_super_of}
 use Rattle.xfs_marks.specs.Group.{is_xfs_agf, is_xfs_agi}
-use Rattle.survey_engine.proofs.FourthByte.{gpt_byte, boot_byte, record_byte, super_byte, agf_byte, agi_byte}
-use Rattle.survey_engine.specs.Landmarks.{landmark_in, head_in}
+use Rattle.more_marks.specs.Btrfs.{is_btrfs_super}
+use Rattle.more_marks.specs.Lvm.{is_lvm_label}
+use Rattle.survey_engine.proofs.FourthByte.{gpt_byte, boot_byte, record_byte, super_byte, agf_byte, agi_byte, label_byte, btrfs_byte}
+use Rattle.survey_engine.specs.Landmarks.{front_in, head_in, record_or_label_in}
 use Rattle.survey_engine.specs.declared.landmark.Landmark.{Landmark}
-use Rattle.survey_engine.specs.declared.landmark.Landmark.TheVariants.{Gpt, Boot, FileRecord, Super}
+use Rattle.survey_engine.specs.declared.landmark.Landmark.TheVariants.{Boot, Super}
 
 refuted : (b : Bool) → (b ≡ true → ⊥) → b ≡ false
 refuted true never = absurd (never refl)
 refuted false never = refl
 
-not_gpt : (s : List ℕ) (c : ℕ) → slice_index s 3 ≡ c → c ≢ 32 → is_gpt_header s ≡ false
-not_gpt s c is other = refuted (is_gpt_header s) (λ yes. other (sym is ∙ gpt_byte s yes))
+-- a sector with another byte 3 is no header, and one with another byte 64 no superblock of btrfs
+pub not_gpt : (s : List ℕ) → slice_index s 3 ≢ 32 → is_gpt_header s ≡ false
+not_gpt s other = refuted (is_gpt_header s) (λ yes. other (gpt_byte s yes))
+
+pub not_btrfs : (s : List ℕ) → slice_index s 64 ≢ 95 → is_btrfs_super s ≡ false
+not_btrfs s other = refuted (is_btrfs_super s) (λ yes. other (btrfs_byte s yes))
 
 not_boot : (s : List ℕ) (c : ℕ) → slice_index s 3 ≡ c → c ≢ 78 → is_ntfs_boot s ≡ false
 not_boot s c is other = refuted (is_ntfs_boot s) (λ yes. other (sym is ∙ boot_byte s yes))
@@ -33,68 +39,60 @@ not_agf s c is other = refuted (is_xfs_agf s) (λ yes. other (sym is ∙ agf_byt
 not_agi : (s : List ℕ) (c : ℕ) → slice_index s 3 ≡ c → c ≢ 73 → is_xfs_agi s ≡ false
 not_agi s c is other = refuted (is_xfs_agi s) (λ yes. other (sym is ∙ agi_byte s yes))
 
+not_label : (s : List ℕ) (c : ℕ) → slice_index s 3 ≡ c → c ≢ 69 → is_lvm_label s ≡ false
+not_label s c is other = refuted (is_lvm_label s) (λ yes. other (sym is ∙ label_byte s yes))
+
 map_if : {A : Type 0} (f : A → Landmark) (b : Bool) (x : A) → cond b (Some (f x)) None ≡ option_map f (cond b (Some x) None)
 map_if f true x = refl
 map_if f false x = refl
 
-pub gpt_is : (s : List ℕ) → slice_index s 3 ≡ 32 → landmark_in s ≡ option_map Gpt (gpt_header s)
-unfolding landmark_in gpt_header
-gpt_is s is =
-    let a : is_ntfs_boot s ≡ false = not_boot s 32 is (omega arith) in
-    let b : is_ntfs_record s ≡ false = not_record s 32 is (omega arith) in
-    let c : is_xfs_super s ≡ false = not_super s 32 is (omega arith) in
-    let d : is_xfs_agf s ≡ false = not_agf s 32 is (omega arith) in
-    let e : is_xfs_agi s ≡ false = not_agi s 32 is (omega arith) in
-    rw (a, b, c, d, e) (map_if Gpt (is_gpt_header s) (gpt_header_of s))
-
-pub boot_is : (s : List ℕ) → slice_index s 3 ≡ 78 → landmark_in s ≡ option_map Boot (ntfs_boot s)
-unfolding landmark_in ntfs_boot
+pub boot_is : (s : List ℕ) → slice_index s 3 ≡ 78 → front_in s ≡ option_map Boot (ntfs_boot s)
+unfolding front_in ntfs_boot
 boot_is s is =
-    let a : is_gpt_header s ≡ false = not_gpt s 78 is (omega arith) in
     let b : is_ntfs_record s ≡ false = not_record s 78 is (omega arith) in
     let c : is_xfs_super s ≡ false = not_super s 78 is (omega arith) in
     let d : is_xfs_agf s ≡ false = not_agf s 78 is (omega arith) in
     let e : is_xfs_agi s ≡ false = not_agi s 78 is (omega arith) in
-    rw (a, b, c, d, e) (map_if Boot (is_ntfs_boot s) (ntfs_boot_of s))
+    let f : is_lvm_label s ≡ false = not_label s 78 is (omega arith) in
+    rw (b, c, d, e, f) (map_if Boot (is_ntfs_boot s) (ntfs_boot_of s))
 
-pub record_is : (s : List ℕ) → slice_index s 3 ≡ 69 → landmark_in s ≡ option_map FileRecord (ntfs_record s)
-unfolding landmark_in ntfs_record
-record_is s is =
-    let a : is_gpt_header s ≡ false = not_gpt s 69 is (omega arith) in
+pub record_or_label_is : (s : List ℕ) → slice_index s 3 ≡ 69 → front_in s ≡ record_or_label_in s
+unfolding front_in record_or_label_in
+record_or_label_is s is =
     let b : is_ntfs_boot s ≡ false = not_boot s 69 is (omega arith) in
     let c : is_xfs_super s ≡ false = not_super s 69 is (omega arith) in
     let d : is_xfs_agf s ≡ false = not_agf s 69 is (omega arith) in
     let e : is_xfs_agi s ≡ false = not_agi s 69 is (omega arith) in
-    rw (a, b, c, d, e) (map_if FileRecord (is_ntfs_record s) (ntfs_record_of s))
+    rw (b, c, d, e) refl
 
-pub super_is : (s : List ℕ) → slice_index s 3 ≡ 66 → landmark_in s ≡ option_map Super (xfs_super s)
-unfolding landmark_in xfs_super
+pub super_is : (s : List ℕ) → slice_index s 3 ≡ 66 → front_in s ≡ option_map Super (xfs_super s)
+unfolding front_in xfs_super
 super_is s is =
-    let a : is_gpt_header s ≡ false = not_gpt s 66 is (omega arith) in
     let b : is_ntfs_boot s ≡ false = not_boot s 66 is (omega arith) in
     let c : is_ntfs_record s ≡ false = not_record s 66 is (omega arith) in
     let d : is_xfs_agf s ≡ false = not_agf s 66 is (omega arith) in
     let e : is_xfs_agi s ≡ false = not_agi s 66 is (omega arith) in
-    rw (a, b, c, d, e) (map_if Super (is_xfs_super s) (xfs_super_of s))
+    let f : is_lvm_label s ≡ false = not_label s 66 is (omega arith) in
+    rw (b, c, d, e, f) (map_if Super (is_xfs_super s) (xfs_super_of s))
 
-head_at : (s : List ℕ) (c : ℕ) → slice_index s 3 ≡ c → c ≢ 32 → c ≢ 78 → c ≢ 69 → c ≢ 66 → landmark_in s ≡ head_in s
-unfolding landmark_in head_in
-head_at s byte is other_gpt other_boot other_record other_super =
-    let a : is_gpt_header s ≡ false = not_gpt s byte is other_gpt in
+head_at : (s : List ℕ) (c : ℕ) → slice_index s 3 ≡ c → c ≢ 78 → c ≢ 69 → c ≢ 66 → front_in s ≡ head_in s
+unfolding front_in head_in
+head_at s byte is other_boot other_record other_super =
     let b : is_ntfs_boot s ≡ false = not_boot s byte is other_boot in
     let c : is_ntfs_record s ≡ false = not_record s byte is other_record in
     let d : is_xfs_super s ≡ false = not_super s byte is other_super in
-    rw (a, b, c, d) refl
+    let e : is_lvm_label s ≡ false = not_label s byte is other_record in
+    rw (b, c, d, e) refl
 
-pub agf_is : (s : List ℕ) → slice_index s 3 ≡ 70 → landmark_in s ≡ head_in s
-agf_is s is = head_at s 70 is (omega arith) (omega arith) (omega arith) (omega arith)
+pub agf_is : (s : List ℕ) → slice_index s 3 ≡ 70 → front_in s ≡ head_in s
+agf_is s is = head_at s 70 is (omega arith) (omega arith) (omega arith)
 
-pub agi_is : (s : List ℕ) → slice_index s 3 ≡ 73 → landmark_in s ≡ head_in s
-agi_is s is = head_at s 73 is (omega arith) (omega arith) (omega arith) (omega arith)
+pub agi_is : (s : List ℕ) → slice_index s 3 ≡ 73 → front_in s ≡ head_in s
+agi_is s is = head_at s 73 is (omega arith) (omega arith) (omega arith)
 
-pub none_is : (s : List ℕ) (c : ℕ) → slice_index s 3 ≡ c → c ≢ 32 → c ≢ 78 → c ≢ 69 → c ≢ 66 → c ≢ 70 → c ≢ 73 → landmark_in s ≡ None
+pub none_is : (s : List ℕ) (c : ℕ) → slice_index s 3 ≡ c → c ≢ 78 → c ≢ 69 → c ≢ 66 → c ≢ 70 → c ≢ 73 → front_in s ≡ None
 unfolding head_in
-none_is s byte is other_gpt other_boot other_record other_super other_agf other_agi =
+none_is s byte is other_boot other_record other_super other_agf other_agi =
     let a : is_xfs_agf s ≡ false = not_agf s byte is other_agf in
     let b : is_xfs_agi s ≡ false = not_agi s byte is other_agi in
-    head_at s byte is other_gpt other_boot other_record other_super ∙ rw (a, b) refl
+    head_at s byte is other_boot other_record other_super ∙ rw (a, b) refl

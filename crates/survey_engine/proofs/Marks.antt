@@ -1,5 +1,7 @@
 -- The marks of a group are those of a plan.
 use Rattle.std.proofs.Common.{◌≡◌, ℕ, ◌+◌, ◌*◌, ◌/◌, ◌^◌, ◌<◌, ◌≤◌, List, [], ◌∷◌, Bool, true, false, cond, map, refl, arith, All, IfSome, Option, Some, None}
+use Rattle.std.specs.Prelude.{◌&&◌, ◌==◌}
+use Rattle.std.specs.Str.{bytes_eq}
 use Rattle.std.specs.List.{cons_option, filter_map}
 use Rattle.std.specs.Option.{option_map}
 use Rattle.std.specs.List.Sorted.{IsStrictlyIncreasing}
@@ -11,18 +13,19 @@ use Rattle.ntfs_marks.specs.declared.boot.NtfsBoot.{NtfsBoot}
 use Rattle.ntfs_marks.specs.declared.file_record.NtfsRecord.{NtfsRecord}
 use Rattle.xfs_marks.specs.Superblock.{end_sector, ag_sectors, is_sound}
 use Rattle.xfs_marks.specs.declared.superblock.XfsSuper.{XfsSuper}
+use Rattle.more_marks.proofs.Limits.{address_below}
 use Rattle.landmark_rules.specs.Groups.{group_of, mark_place, IsMark}
 use Rattle.landmark_rules.specs.Rules.{IsRule}
 use Rattle.landmark_rules.specs.declared.marks.Mark.{Mark}
 use Rattle.landmark_rules.specs.declared.marks.Rule.{Rule}
-use Rattle.landmark_rules.specs.declared.marks.Rule.TheVariants.{Either, Every}
+use Rattle.landmark_rules.specs.declared.marks.Rule.TheVariants.{At, Either, Every}
 use Rattle.survey_engine.specs.Landmarks.{kind_of, IsSound}
-use Rattle.survey_engine.specs.Owners.{group_kind, ag_rule, is_same_boot, is_same_super, mark_in, record_rule, rule_in, IsSoundOwner}
-use Rattle.survey_engine.specs.Sightings.{sighting_place, AreRising, IsInImages}
+use Rattle.survey_engine.specs.Owners.{group_kind, ag_rule, is_same_boot, is_same_super, is_same_volume, mark_in, record_rule, rule_in, volume_of, IsSoundOwner}
+use Rattle.survey_engine.specs.Sightings.{sighted_at, sighting_place, AreRising, IsInImages, Place}
 use Rattle.survey_engine.specs.declared.landmark.Landmark.{Landmark}
-use Rattle.survey_engine.specs.declared.landmark.Landmark.TheVariants.{Gpt, Boot, FileRecord, Super, Agf, Agi}
+use Rattle.survey_engine.specs.declared.landmark.Landmark.TheVariants.{Gpt, Boot, FileRecord, Super, Agf, Agi, Btrfs as BtrfsSector, Lvm, Ext as ExtSector}
 use Rattle.survey_engine.specs.declared.owner.Owner.{Owner}
-use Rattle.survey_engine.specs.declared.owner.Owner.TheVariants.{Table, Ntfs, Xfs}
+use Rattle.survey_engine.specs.declared.owner.Owner.TheVariants.{Table, Ntfs, Xfs, Btrfs, Label, Ext}
 use Rattle.survey_engine.specs.declared.sighting.Sighting.{Sighting}
 use Rattle.survey_engine.proofs.Numbers.{rising_from, Rises}
 use Rattle.survey_engine.proofs.Owners.{mapped_each}
@@ -72,29 +75,35 @@ if_alone : (alone : Bool) (rule : Option Rule) → IfSome rule IsRule → IfSome
 if_alone true rule is = is
 if_alone false rule is = tt
 
-rule_is : (o : Owner) (alone : Bool) (l : Landmark) → IsSoundOwner o → IsSound l → IfSome (rule_in o alone l) IsRule
+rule_is : (o : Owner) (alone : Bool) (at : Place) (l : Landmark) → IsSoundOwner o → IsSound l → IfSome (rule_in o alone at l) IsRule
 unfolding rule_in
-rule_is Table alone (Gpt h) so sl = sl
-rule_is (Ntfs b) alone (Boot c) so sl = if_passed (is_same_boot b c) (Either 0 b.total) (λ same. (omega arith, total_near b so))
-rule_is (Ntfs b) alone (FileRecord r) so sl = if_alone alone (record_rule b r) (record_rule_is b r so sl)
-rule_is (Xfs x) alone (Super y) so sl = if_passed (is_same_super x y) (Every (ag_sectors x) x.ag_count 0) (λ same. steps_near x so)
-rule_is (Xfs x) alone (Agf g) so sl = if_alone alone (ag_rule x g 1) (group_rule_is x g 1 so (omega arith))
-rule_is (Xfs x) alone (Agi g) so sl = if_alone alone (ag_rule x g 2) (group_rule_is x g 2 so (omega arith))
-rule_is o alone l so sl = tt
+rule_is Table alone at (Gpt t) so sl = sl.1
+rule_is (Ntfs b) alone at (Boot c) so sl = if_passed (is_same_boot b c) (Either 0 b.total) (λ same. (omega arith, total_near b so))
+rule_is (Ntfs b) alone at (FileRecord r) so sl = if_alone alone (record_rule b r) (record_rule_is b r so sl)
+rule_is (Xfs x) alone at (Super y) so sl = if_passed (is_same_super x y) (Every (ag_sectors x) x.ag_count 0) (λ same. steps_near x so)
+rule_is (Xfs x) alone at (Agf g) so sl = if_alone alone (ag_rule x g 1) (group_rule_is x g 1 so (omega arith))
+rule_is (Xfs x) alone at (Agi g) so sl = if_alone alone (ag_rule x g 2) (group_rule_is x g 2 so (omega arith))
+rule_is (Btrfs f) alone at (BtrfsSector b) so sl = if_passed (bytes_eq f b.fsid) (At (b.address / 512)) (λ same. address_below b.address sl)
+rule_is (Label i s) alone at (Lvm n) so sl = if_passed (i == at.image && s == at.sector) (At n) (λ same. sl)
+rule_is (Ext v) alone at (ExtSector x) so sl = if_passed (is_same_volume v (volume_of x)) (At x.copy_sector) (λ same. sl)
+rule_is o alone at l so sl = tt
 
 any_rule : (P : Type 0) (rule : Option Rule) → P → IfSome rule (λ r. P)
 any_rule P None is = tt
 any_rule P (Some r) is = is
 
-kind_is : (o : Owner) (alone : Bool) (l : Landmark) → IfSome (rule_in o alone l) (λ rule. group_of (kind_of l) ≡ group_kind o)
+kind_is : (o : Owner) (alone : Bool) (at : Place) (l : Landmark) → IfSome (rule_in o alone at l) (λ rule. group_of (kind_of l) ≡ group_kind o)
 unfolding rule_in
-kind_is Table alone (Gpt h) = refl
-kind_is (Ntfs b) alone (Boot c) = any_rule _ (cond (is_same_boot b c) (Some (Either 0 b.total)) None) refl
-kind_is (Ntfs b) alone (FileRecord r) = any_rule _ (cond alone (record_rule b r) None) refl
-kind_is (Xfs x) alone (Super y) = any_rule _ (cond (is_same_super x y) (Some (Every (ag_sectors x) x.ag_count 0)) None) refl
-kind_is (Xfs x) alone (Agf g) = any_rule _ (cond alone (ag_rule x g 1) None) refl
-kind_is (Xfs x) alone (Agi g) = any_rule _ (cond alone (ag_rule x g 2) None) refl
-kind_is o alone l = tt
+kind_is Table alone at (Gpt t) = refl
+kind_is (Ntfs b) alone at (Boot c) = any_rule _ (cond (is_same_boot b c) (Some (Either 0 b.total)) None) refl
+kind_is (Ntfs b) alone at (FileRecord r) = any_rule _ (cond alone (record_rule b r) None) refl
+kind_is (Xfs x) alone at (Super y) = any_rule _ (cond (is_same_super x y) (Some (Every (ag_sectors x) x.ag_count 0)) None) refl
+kind_is (Xfs x) alone at (Agf g) = any_rule _ (cond alone (ag_rule x g 1) None) refl
+kind_is (Xfs x) alone at (Agi g) = any_rule _ (cond alone (ag_rule x g 2) None) refl
+kind_is (Btrfs f) alone at (BtrfsSector b) = any_rule _ (cond (bytes_eq f b.fsid) (Some (At (b.address / 512))) None) refl
+kind_is (Label i s) alone at (Lvm n) = any_rule _ (cond (i == at.image && s == at.sector) (Some (At n)) None) refl
+kind_is (Ext v) alone at (ExtSector x) = any_rule _ (cond (is_same_volume v (volume_of x)) (Some (At x.copy_sector)) None) refl
+kind_is o alone at l = tt
 
 -- ---- marks
 
@@ -105,7 +114,7 @@ of_rule lengths o s (Some r) is rule kind = record { kind_of = kind; image = is.
 
 pub are_marks : (lengths : List ℕ) (o : Owner) (alone : Bool) (found : List Sighting) → IsSoundOwner o → All (IsInImages lengths) found → All (IsMark lengths (group_kind o)) (filter_map (mark_in o alone) found)
 are_marks lengths o alone found so each =
-    mapped_each (IsInImages lengths) (IsMark lengths (group_kind o)) (mark_in o alone) (λ s is. of_rule lengths o s (rule_in o alone s.landmark) is (rule_is o alone s.landmark so is.sound) (kind_is o alone s.landmark)) found each
+    mapped_each (IsInImages lengths) (IsMark lengths (group_kind o)) (mark_in o alone) (λ s is. of_rule lengths o s (rule_in o alone (sighted_at s) s.landmark) is (rule_is o alone (sighted_at s) s.landmark so is.sound) (kind_is o alone (sighted_at s) s.landmark)) found each
 
 -- ---- they rise
 
@@ -120,7 +129,7 @@ above_one n s (Some m) rest at less all = All-cons (λ k. n < k) (mark_place m) 
 above : (n : ℕ) (o : Owner) (alone : Bool) (found : List Sighting) → All (λ t. n < sighting_place t) found → All (λ k. n < k) (map mark_place (filter_map (mark_in o alone) found))
 above n o alone [] all = All-nil (λ k. n < k)
 above n o alone (s ∷ found) all =
-    above_one n s (mark_in o alone s) (filter_map (mark_in o alone) found) (placed s (rule_in o alone s.landmark)) (All-head (λ t. n < sighting_place t) s found all) (above n o alone found (All-tail (λ t. n < sighting_place t) s found all))
+    above_one n s (mark_in o alone s) (filter_map (mark_in o alone) found) (placed s (rule_in o alone (sighted_at s) s.landmark)) (All-head (λ t. n < sighting_place t) s found all) (above n o alone found (All-tail (λ t. n < sighting_place t) s found all))
 
 rise_one : (s : Sighting) (one : Option Mark) (rest : List Mark) → IfSome one (λ m. mark_place m ≡ sighting_place s) → All (λ k. sighting_place s < k) (map mark_place rest) → Rises (map mark_place rest) → Rises (map mark_place (cons_option one rest))
 unfolding Rises
@@ -131,7 +140,7 @@ marks_rise : (o : Owner) (alone : Bool) (found : List Sighting) → AreRising fo
 unfolding Rises
 marks_rise o alone [] rising = tt
 marks_rise o alone (s ∷ found) rising =
-    rise_one s (mark_in o alone s) (filter_map (mark_in o alone) found) (placed s (rule_in o alone s.landmark)) (above (sighting_place s) o alone found rising.0) (marks_rise o alone found rising.1)
+    rise_one s (mark_in o alone s) (filter_map (mark_in o alone) found) (placed s (rule_in o alone (sighted_at s) s.landmark)) (above (sighting_place s) o alone found rising.0) (marks_rise o alone found rising.1)
 
 pub are_rising : (o : Owner) (alone : Bool) (found : List Sighting) → AreRising found → IsStrictlyIncreasing (map mark_place (filter_map (mark_in o alone) found))
 are_rising o alone found rising = rising_from (map mark_place (filter_map (mark_in o alone) found)) (marks_rise o alone found rising)

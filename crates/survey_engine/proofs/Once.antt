@@ -1,6 +1,7 @@
 -- Each sighting gives one mark at most.
 use Rattle.std.proofs.Common.{◌≡◌, ℕ, ◌+◌, ◌≤◌, List, [], ◌∷◌, Bool, true, false, cond, eqb, length, refl, sym, ap, ◌∙◌, arith, Option, Some, None}
-use Rattle.std.specs.Prelude.{count_by, ◌==◌}
+use Rattle.std.specs.Prelude.{count_by, ◌/◌, ◌==◌, ◌&&◌}
+use Rattle.std.specs.Str.{bytes_eq}
 use Rattle.std.specs.List.{cons_option, filter_map, flat_map, sum_by}
 use Rattle.std.specs.Option.{is_some, option_map}
 use Rattle.std.proofs.lemmas.Bool.{eqb-true}
@@ -9,20 +10,22 @@ use Rattle.ntfs_marks.specs.declared.boot.NtfsBoot.{NtfsBoot}
 use Rattle.ntfs_marks.specs.declared.file_record.NtfsRecord.{NtfsRecord}
 use Rattle.xfs_marks.specs.Superblock.{ag_sectors}
 use Rattle.xfs_marks.specs.declared.superblock.XfsSuper.{XfsSuper}
-use Rattle.gpt_marks.specs.declared.header.GptHeader.{GptHeader}
+use Rattle.more_marks.specs.declared.btrfs.BtrfsSuper.{BtrfsSuper}
+use Rattle.ext_marks.specs.declared.copy.ExtSuper.{ExtSuper}
 use Rattle.landmark_rules.specs.Groups.{kind_place}
 use Rattle.mark_kinds.specs.declared.groups.GroupKind.{GroupKind}
 use Rattle.mark_kinds.specs.declared.sectors.Kind.{Kind}
 use Rattle.landmark_rules.specs.declared.marks.Mark.{Mark}
 use Rattle.landmark_rules.specs.declared.marks.Rule.{Rule}
-use Rattle.landmark_rules.specs.declared.marks.Rule.TheVariants.{Either, Every}
+use Rattle.landmark_rules.specs.declared.marks.Rule.TheVariants.{At, Either, Every}
 use Rattle.survey_engine.specs.Landmarks.{kind_of}
-use Rattle.survey_engine.specs.Owners.{is_same_boot, is_same_owner, is_same_super, mark_in, owners_of, rule_in}
-use Rattle.survey_engine.specs.Sightings.{is_same_kind}
+use Rattle.survey_engine.specs.Owners.{is_same_boot, is_same_owner, is_same_super, is_same_volume, mark_in, owners_of, rule_in, volume_of}
+use Rattle.survey_engine.specs.Sightings.{is_same_kind, sighted_at, Place}
+use Rattle.survey_engine.specs.declared.landmark.GptTable.{GptTable}
 use Rattle.survey_engine.specs.declared.landmark.Landmark.{Landmark}
-use Rattle.survey_engine.specs.declared.landmark.Landmark.TheVariants.{Gpt, Boot, FileRecord, Super, Agf, Agi}
+use Rattle.survey_engine.specs.declared.landmark.Landmark.TheVariants.{Gpt, Boot, FileRecord, Super, Agf, Agi, Btrfs as BtrfsSector, Lvm, Ext as ExtSector}
 use Rattle.survey_engine.specs.declared.owner.Owner.{Owner}
-use Rattle.survey_engine.specs.declared.owner.Owner.TheVariants.{Table, Ntfs, Xfs}
+use Rattle.survey_engine.specs.declared.owner.Owner.TheVariants.{Table, Ntfs, Xfs, Btrfs, Label, Ext}
 use Rattle.survey_engine.specs.declared.sighting.Sighting.{Sighting}
 use Rattle.survey_engine.proofs.Owners.{owners_once}
 
@@ -51,57 +54,108 @@ passed : (b : Bool) (rule : Rule) → is_some (cond b (Some rule) None) ≡ b
 passed true rule = refl
 passed false rule = refl
 
-takes_boot : (alone : Bool) (c : NtfsBoot) (o : Owner) → is_some (rule_in o alone (Boot c)) ≡ true → is_same_owner o (Ntfs c) ≡ true
+takes_boot : (alone : Bool) (at : Place) (c : NtfsBoot) (o : Owner) → is_some (rule_in o alone at (Boot c)) ≡ true → is_same_owner o (Ntfs c) ≡ true
 unfolding rule_in
-takes_boot alone c Table takes = takes
-takes_boot alone c (Ntfs b) takes = sym (passed (is_same_boot b c) (Either 0 b.total)) ∙ takes
-takes_boot alone c (Xfs x) takes = takes
+takes_boot alone at c Table takes = takes
+takes_boot alone at c (Ntfs b) takes = sym (passed (is_same_boot b c) (Either 0 b.total)) ∙ takes
+takes_boot alone at c (Xfs x) takes = takes
+takes_boot alone at c (Btrfs f) takes = takes
+takes_boot alone at c (Label i s) takes = takes
+takes_boot alone at c (Ext v) takes = takes
 
-takes_super : (alone : Bool) (y : XfsSuper) (o : Owner) → is_some (rule_in o alone (Super y)) ≡ true → is_same_owner o (Xfs y) ≡ true
+takes_super : (alone : Bool) (at : Place) (y : XfsSuper) (o : Owner) → is_some (rule_in o alone at (Super y)) ≡ true → is_same_owner o (Xfs y) ≡ true
 unfolding rule_in
-takes_super alone y Table takes = takes
-takes_super alone y (Ntfs b) takes = takes
-takes_super alone y (Xfs x) takes = sym (passed (is_same_super x y) (Every (ag_sectors x) x.ag_count 0)) ∙ takes
+takes_super alone at y Table takes = takes
+takes_super alone at y (Ntfs b) takes = takes
+takes_super alone at y (Xfs x) takes = sym (passed (is_same_super x y) (Every (ag_sectors x) x.ag_count 0)) ∙ takes
+takes_super alone at y (Btrfs f) takes = takes
+takes_super alone at y (Label i s) takes = takes
+takes_super alone at y (Ext v) takes = takes
 
-takes_header : (alone : Bool) (h : GptHeader) (o : Owner) → is_some (rule_in o alone (Gpt h)) ≡ true → is_same_owner o Table ≡ true
+takes_header : (alone : Bool) (at : Place) (t : GptTable) (o : Owner) → is_some (rule_in o alone at (Gpt t)) ≡ true → is_same_owner o Table ≡ true
 unfolding rule_in
-takes_header alone h Table takes = takes
-takes_header alone h (Ntfs b) takes = takes
-takes_header alone h (Xfs x) takes = takes
+takes_header alone at t Table takes = takes
+takes_header alone at t (Ntfs b) takes = takes
+takes_header alone at t (Xfs x) takes = takes
+takes_header alone at t (Btrfs f) takes = takes
+takes_header alone at t (Label i s) takes = takes
+takes_header alone at t (Ext v) takes = takes
 
-none_alone_record : (r : NtfsRecord) (o : Owner) → is_some (rule_in o false (FileRecord r)) ≡ false
+takes_btrfs : (alone : Bool) (at : Place) (y : BtrfsSuper) (o : Owner) → is_some (rule_in o alone at (BtrfsSector y)) ≡ true → is_same_owner o (Btrfs y.fsid) ≡ true
 unfolding rule_in
-none_alone_record r Table = refl
-none_alone_record r (Ntfs b) = refl
-none_alone_record r (Xfs x) = refl
+takes_btrfs alone at y Table takes = takes
+takes_btrfs alone at y (Ntfs b) takes = takes
+takes_btrfs alone at y (Xfs x) takes = takes
+takes_btrfs alone at y (Btrfs f) takes = sym (passed (bytes_eq f y.fsid) (At (y.address / 512))) ∙ takes
+takes_btrfs alone at y (Label i s) takes = takes
+takes_btrfs alone at y (Ext v) takes = takes
 
-none_alone_agf : (g : ℕ) (o : Owner) → is_some (rule_in o false (Agf g)) ≡ false
+takes_label : (alone : Bool) (at : Place) (n : ℕ) (o : Owner) → is_some (rule_in o alone at (Lvm n)) ≡ true → is_same_owner o (Label at.image at.sector) ≡ true
 unfolding rule_in
-none_alone_agf g Table = refl
-none_alone_agf g (Ntfs b) = refl
-none_alone_agf g (Xfs x) = refl
+takes_label alone at n Table takes = takes
+takes_label alone at n (Ntfs b) takes = takes
+takes_label alone at n (Xfs x) takes = takes
+takes_label alone at n (Btrfs f) takes = takes
+takes_label alone at n (Label i s) takes = sym (passed (i == at.image && s == at.sector) (At n)) ∙ takes
+takes_label alone at n (Ext v) takes = takes
 
-none_alone_agi : (g : ℕ) (o : Owner) → is_some (rule_in o false (Agi g)) ≡ false
+takes_copy : (alone : Bool) (at : Place) (y : ExtSuper) (o : Owner) → is_some (rule_in o alone at (ExtSector y)) ≡ true → is_same_owner o (Ext (volume_of y)) ≡ true
 unfolding rule_in
-none_alone_agi g Table = refl
-none_alone_agi g (Ntfs b) = refl
-none_alone_agi g (Xfs x) = refl
+takes_copy alone at y Table takes = takes
+takes_copy alone at y (Ntfs b) takes = takes
+takes_copy alone at y (Xfs x) takes = takes
+takes_copy alone at y (Btrfs f) takes = takes
+takes_copy alone at y (Label i s) takes = takes
+takes_copy alone at y (Ext v) takes = sym (passed (is_same_volume v (volume_of y)) (At y.copy_sector)) ∙ takes
 
-alone_or : (owners : List Owner) (l : Landmark) (alone : Bool) → eqb (length owners) 1 ≡ alone → ((o : Owner) → is_some (rule_in o false l) ≡ false) → count_by (λ o. is_some (rule_in o alone l)) owners ≤ 1
-alone_or owners l true e none = let one : length owners ≡ 1 = eqb-true (length owners) 1 e in omega (arith, count_by-le-length (λ o. is_some (rule_in o true l)) owners)
-alone_or owners l false e none = omega (arith, none_pass (λ o. is_some (rule_in o false l)) none owners)
+none_alone_record : (at : Place) (r : NtfsRecord) (o : Owner) → is_some (rule_in o false at (FileRecord r)) ≡ false
+unfolding rule_in
+none_alone_record at r Table = refl
+none_alone_record at r (Ntfs b) = refl
+none_alone_record at r (Xfs x) = refl
+none_alone_record at r (Btrfs f) = refl
+none_alone_record at r (Label i s) = refl
+none_alone_record at r (Ext v) = refl
+
+none_alone_agf : (at : Place) (g : ℕ) (o : Owner) → is_some (rule_in o false at (Agf g)) ≡ false
+unfolding rule_in
+none_alone_agf at g Table = refl
+none_alone_agf at g (Ntfs b) = refl
+none_alone_agf at g (Xfs x) = refl
+none_alone_agf at g (Btrfs f) = refl
+none_alone_agf at g (Label i s) = refl
+none_alone_agf at g (Ext v) = refl
+
+none_alone_agi : (at : Place) (g : ℕ) (o : Owner) → is_some (rule_in o false at (Agi g)) ≡ false
+unfolding rule_in
+none_alone_agi at g Table = refl
+none_alone_agi at g (Ntfs b) = refl
+none_alone_agi at g (Xfs x) = refl
+none_alone_agi at g (Btrfs f) = refl
+none_alone_agi at g (Label i s) = refl
+none_alone_agi at g (Ext v) = refl
+
+alone_or : (owners : List Owner) (at : Place) (l : Landmark) (alone : Bool) → eqb (length owners) 1 ≡ alone → ((o : Owner) → is_some (rule_in o false at l) ≡ false) → count_by (λ o. is_some (rule_in o alone at l)) owners ≤ 1
+alone_or owners at l true e none = let one : length owners ≡ 1 = eqb-true (length owners) 1 e in omega (arith, count_by-le-length (λ o. is_some (rule_in o true at l)) owners)
+alone_or owners at l false e none = omega (arith, none_pass (λ o. is_some (rule_in o false at l)) none owners)
 
 -- one owner of a kind at most
-taken_once : (kind : GroupKind) (found : List Sighting) (l : Landmark) → count_by (λ o. is_some (rule_in o (length (owners_of kind found) == 1) l)) (owners_of kind found) ≤ 1
-taken_once kind found (Gpt h) =
-    omega (arith, fewer (λ o. is_some (rule_in o (length (owners_of kind found) == 1) (Gpt h))) (λ o. is_same_owner o Table) (takes_header (length (owners_of kind found) == 1) h) (owners_of kind found), owners_once kind found Table)
-taken_once kind found (Boot c) =
-    omega (arith, fewer (λ o. is_some (rule_in o (length (owners_of kind found) == 1) (Boot c))) (λ o. is_same_owner o (Ntfs c)) (takes_boot (length (owners_of kind found) == 1) c) (owners_of kind found), owners_once kind found (Ntfs c))
-taken_once kind found (Super y) =
-    omega (arith, fewer (λ o. is_some (rule_in o (length (owners_of kind found) == 1) (Super y))) (λ o. is_same_owner o (Xfs y)) (takes_super (length (owners_of kind found) == 1) y) (owners_of kind found), owners_once kind found (Xfs y))
-taken_once kind found (FileRecord r) = alone_or (owners_of kind found) (FileRecord r) (length (owners_of kind found) == 1) refl (none_alone_record r)
-taken_once kind found (Agf g) = alone_or (owners_of kind found) (Agf g) (length (owners_of kind found) == 1) refl (none_alone_agf g)
-taken_once kind found (Agi g) = alone_or (owners_of kind found) (Agi g) (length (owners_of kind found) == 1) refl (none_alone_agi g)
+taken_once : (kind : GroupKind) (found : List Sighting) (at : Place) (l : Landmark) → count_by (λ o. is_some (rule_in o (length (owners_of kind found) == 1) at l)) (owners_of kind found) ≤ 1
+taken_once kind found at (Gpt t) =
+    omega (arith, fewer (λ o. is_some (rule_in o (length (owners_of kind found) == 1) at (Gpt t))) (λ o. is_same_owner o Table) (takes_header (length (owners_of kind found) == 1) at t) (owners_of kind found), owners_once kind found Table)
+taken_once kind found at (Boot c) =
+    omega (arith, fewer (λ o. is_some (rule_in o (length (owners_of kind found) == 1) at (Boot c))) (λ o. is_same_owner o (Ntfs c)) (takes_boot (length (owners_of kind found) == 1) at c) (owners_of kind found), owners_once kind found (Ntfs c))
+taken_once kind found at (Super y) =
+    omega (arith, fewer (λ o. is_some (rule_in o (length (owners_of kind found) == 1) at (Super y))) (λ o. is_same_owner o (Xfs y)) (takes_super (length (owners_of kind found) == 1) at y) (owners_of kind found), owners_once kind found (Xfs y))
+taken_once kind found at (BtrfsSector y) =
+    omega (arith, fewer (λ o. is_some (rule_in o (length (owners_of kind found) == 1) at (BtrfsSector y))) (λ o. is_same_owner o (Btrfs y.fsid)) (takes_btrfs (length (owners_of kind found) == 1) at y) (owners_of kind found), owners_once kind found (Btrfs y.fsid))
+taken_once kind found at (Lvm n) =
+    omega (arith, fewer (λ o. is_some (rule_in o (length (owners_of kind found) == 1) at (Lvm n))) (λ o. is_same_owner o (Label at.image at.sector)) (takes_label (length (owners_of kind found) == 1) at n) (owners_of kind found), owners_once kind found (Label at.image at.sector))
+taken_once kind found at (ExtSector y) =
+    omega (arith, fewer (λ o. is_some (rule_in o (length (owners_of kind found) == 1) at (ExtSector y))) (λ o. is_same_owner o (Ext (volume_of y))) (takes_copy (length (owners_of kind found) == 1) at y) (owners_of kind found), owners_once kind found (Ext (volume_of y)))
+taken_once kind found at (FileRecord r) = alone_or (owners_of kind found) at (FileRecord r) (length (owners_of kind found) == 1) refl (none_alone_record at r)
+taken_once kind found at (Agf g) = alone_or (owners_of kind found) at (Agf g) (length (owners_of kind found) == 1) refl (none_alone_agf at g)
+taken_once kind found at (Agi g) = alone_or (owners_of kind found) at (Agi g) (length (owners_of kind found) == 1) refl (none_alone_agi at g)
 
 -- ---- marks of a kind
 
@@ -160,23 +214,23 @@ sum_less : (f g : Owner → ℕ) → ((o : Owner) → f o ≤ g o) → (owners :
 sum_less f g less [] = omega arith
 sum_less f g less (o ∷ owners) = omega (arith, sum_by-cons f o owners, sum_by-cons g o owners, less o, sum_less f g less owners)
 
-one_each : (kind : Kind) (owners : List Owner) (alone : Bool) (s : Sighting) (b : Bool) → is_same_kind kind s ≡ b → count_by (λ o. is_some (rule_in o alone s.landmark)) owners ≤ 1 →
+one_each : (kind : Kind) (owners : List Owner) (alone : Bool) (s : Sighting) (b : Bool) → is_same_kind kind s ≡ b → count_by (λ o. is_some (rule_in o alone (sighted_at s) s.landmark)) owners ≤ 1 →
     sum_by (λ o. weight kind (mark_in o alone s)) owners ≤ one_if b
 one_each kind owners alone s true e once =
-    omega (arith, once, sum_less (λ o. weight kind (mark_in o alone s)) (λ o. one_if (is_some (rule_in o alone s.landmark))) (λ o. weight_is kind s (rule_in o alone s.landmark)) owners)
-one_each kind owners alone s false e once = omega (arith, sum_none (λ o. weight kind (mark_in o alone s)) (λ o. weight_none kind s (rule_in o alone s.landmark) e) owners)
+    omega (arith, once, sum_less (λ o. weight kind (mark_in o alone s)) (λ o. one_if (is_some (rule_in o alone (sighted_at s) s.landmark))) (λ o. weight_is kind s (rule_in o alone (sighted_at s) s.landmark)) owners)
+one_each kind owners alone s false e once = omega (arith, sum_none (λ o. weight kind (mark_in o alone s)) (λ o. weight_none kind s (rule_in o alone (sighted_at s) s.landmark) e) owners)
 
 no_marks : (owners : List Owner) (alone : Bool) → marks_with owners alone [] ≡ []
 unfolding marks_with
 no_marks [] alone = refl
 no_marks (o ∷ owners) alone = no_marks owners alone
 
-as_many : (kind : Kind) (owners : List Owner) (alone : Bool) → ((l : Landmark) → count_by (λ o. is_some (rule_in o alone l)) owners ≤ 1) → (found : List Sighting) →
+as_many : (kind : Kind) (owners : List Owner) (alone : Bool) → ((at : Place) (l : Landmark) → count_by (λ o. is_some (rule_in o alone at l)) owners ≤ 1) → (found : List Sighting) →
     count_by (is_of kind) (marks_with owners alone found) ≤ count_by (is_same_kind kind) found
 as_many kind owners alone once [] = omega (arith, ap (count_by (is_of kind)) (no_marks owners alone))
 as_many kind owners alone once (s ∷ found) =
     let rest = as_many kind owners alone once found in
-    omega (arith, with_next kind owners alone s found, sum_by-cons (λ s. one_if (is_same_kind kind s)) s found, one_each kind owners alone s (is_same_kind kind s) refl (once s.landmark), rest)
+    omega (arith, with_next kind owners alone s found, sum_by-cons (λ s. one_if (is_same_kind kind s)) s found, one_each kind owners alone s (is_same_kind kind s) refl (once (sighted_at s) s.landmark), rest)
 
 -- no more marks of a kind than sightings
 pub few_marks : (kind : Kind) (group : GroupKind) (found : List Sighting) →

@@ -1,6 +1,6 @@
 -- The owners of a kind: they are of it, few, and no two are one.
 use Rattle.std.proofs.Common.{◌≡◌, ℕ, ◌<◌, ◌≤◌, List, [], ◌∷◌, ◌++◌, Bool, true, false, not, cond, eqb, ltb, length, fold, refl, sym, ap, subst, ◌∙◌, arith, All, IfSome, Option, Some, None}
-use Rattle.std.specs.Prelude.{◌||◌, count_by, option_and_then}
+use Rattle.std.specs.Prelude.{◌||◌, ◌&&◌, ◌==◌, count_by, option_and_then}
 use Rattle.std.specs.List.{cons_option, filter_map, list_any}
 use Rattle.std.proofs.lemmas.Bool.{and_parts, eqb-true, false≢true}
 use Rattle.std.proofs.lemmas.Bool.Decides.{nat_tests}
@@ -15,11 +15,13 @@ use Rattle.landmark_rules.specs.Groups.{group_place, most_groups}
 use Rattle.mark_kinds.specs.declared.groups.GroupKind.{GroupKind}
 use Rattle.survey_engine.specs.Kept.{kept_with}
 use Rattle.survey_engine.specs.Landmarks.{IsSound}
-use Rattle.survey_engine.specs.Owners.{group_kind, is_new, is_same_boot, is_same_owner, is_same_super, owner_among, owner_in, owners_of, IsSoundOwner}
+use Rattle.survey_engine.specs.Owners.{group_kind, is_new, is_same_boot, is_same_owner, is_same_super, is_same_volume, owner_among, owner_in, owners_of, IsSoundOwner}
 use Rattle.survey_engine.specs.declared.landmark.Landmark.{Landmark}
-use Rattle.survey_engine.specs.declared.landmark.Landmark.TheVariants.{Gpt, Boot, FileRecord, Super, Agf, Agi}
+use Rattle.survey_engine.specs.declared.landmark.Landmark.TheVariants.{Gpt, Boot, FileRecord, Super, Agf, Agi, Btrfs as BtrfsSector, Lvm, Ext as ExtSector}
+use Rattle.survey_engine.specs.Sightings.{sighted_at, Place}
+use Rattle.survey_engine.specs.declared.owner.ExtVolume.{ExtVolume}
 use Rattle.survey_engine.specs.declared.owner.Owner.{Owner}
-use Rattle.survey_engine.specs.declared.owner.Owner.TheVariants.{Table, Ntfs, Xfs}
+use Rattle.survey_engine.specs.declared.owner.Owner.TheVariants.{Table, Ntfs, Xfs, Btrfs, Label, Ext}
 use Rattle.survey_engine.specs.declared.sighting.Sighting.{Sighting}
 
 -- ---- what is kept
@@ -70,7 +72,7 @@ pub owners_kind : (kind : GroupKind) (found : List Sighting) → All (λ o. grou
 unfolding owners_of
 owners_kind kind found =
     kept_each (λ o. group_place (group_kind o) ≡ group_place kind) (is_new kind) (filter_map (owner_among kind) found) []
-    (mapped_each any (λ o. group_place (group_kind o) ≡ group_place kind) (owner_among kind) (λ s h. among kind (owner_in s.landmark)) found (all_any found))
+    (mapped_each any (λ o. group_place (group_kind o) ≡ group_place kind) (owner_among kind) (λ s h. among kind (owner_in (sighted_at s) s.landmark)) found (all_any found))
     (All-nil (λ o. group_place (group_kind o) ≡ group_place kind))
 
 -- ---- they are sound where the sightings are
@@ -83,19 +85,22 @@ sound_among : (kind : GroupKind) (one : Option Owner) → IfSome one IsSoundOwne
 sound_among kind None is = tt
 sound_among kind (Some o) is = sound_tested o (eqb (group_place (group_kind o)) (group_place kind)) is
 
-sound_in : (l : Landmark) → IsSound l → IfSome (owner_in l) IsSoundOwner
-sound_in (Gpt h) is = tt
-sound_in (Boot b) is = is
-sound_in (FileRecord r) is = tt
-sound_in (Super x) is = is
-sound_in (Agf g) is = tt
-sound_in (Agi g) is = tt
+sound_in : (at : Place) (l : Landmark) → IsSound l → IfSome (owner_in at l) IsSoundOwner
+sound_in at (Gpt h) is = tt
+sound_in at (Boot b) is = is
+sound_in at (FileRecord r) is = tt
+sound_in at (Super x) is = is
+sound_in at (Agf g) is = tt
+sound_in at (Agi g) is = tt
+sound_in at (BtrfsSector b) is = tt
+sound_in at (Lvm n) is = tt
+sound_in at (ExtSector x) is = tt
 
 pub owners_sound : (kind : GroupKind) (found : List Sighting) → All (λ s. IsSound s.landmark) found → All IsSoundOwner (owners_of kind found)
 unfolding owners_of
 owners_sound kind found sound =
     kept_each IsSoundOwner (is_new kind) (filter_map (owner_among kind) found) []
-    (mapped_each (λ s. IsSound s.landmark) IsSoundOwner (owner_among kind) (λ s is. sound_among kind (owner_in s.landmark) (sound_in s.landmark is)) found sound)
+    (mapped_each (λ s. IsSound s.landmark) IsSoundOwner (owner_among kind) (λ s is. sound_among kind (owner_in (sighted_at s) s.landmark) (sound_in (sighted_at s) s.landmark is)) found sound)
     (All-nil IsSoundOwner)
 
 -- ---- they are few
@@ -126,20 +131,35 @@ super_means a b same =
     let bytes : bytes_eq a.uuid b.uuid ≡ true = grind arith in
     super_is a b ((bytes_eq-Decides a.uuid b.uuid).0 bytes) (grind (arith, nat_tests)) (grind (arith, nat_tests)) (grind (arith, nat_tests)) (grind (arith, nat_tests))
 
+volume_is : (a b : ExtVolume) → a.uuid ≡ b.uuid → a.block ≡ b.block → a.group_blocks ≡ b.group_blocks → a ≡ b
+volume_is a b u k g = λ j. record { uuid = u j; block = k j; group_blocks = g j }
+
+volume_means : (a b : ExtVolume) → is_same_volume a b ≡ true → a ≡ b
+volume_means a b same =
+    let bytes : bytes_eq a.uuid b.uuid ≡ true = grind arith in
+    volume_is a b ((bytes_eq-Decides a.uuid b.uuid).0 bytes) (grind (arith, nat_tests)) (grind (arith, nat_tests))
+
+label_means : (i s j t : ℕ) → (i == j && s == t) ≡ true → Label i s ≡ Label j t
+label_means i s j t same =
+    let image : i ≡ j = grind (arith, nat_tests) in
+    let sector : s ≡ t = grind (arith, nat_tests) in
+    ap (λ (k : ℕ). Label k s) image ∙ ap (Label j) sector
+
 same_means : (a b : Owner) → is_same_owner a b ≡ true → a ≡ b
 same_means Table Table same = refl
-same_means Table (Ntfs b) same = absurd (false≢true same)
-same_means Table (Xfs b) same = absurd (false≢true same)
-same_means (Ntfs a) Table same = absurd (false≢true same)
 same_means (Ntfs a) (Ntfs b) same = ap Ntfs (boot_means a b same)
-same_means (Ntfs a) (Xfs b) same = absurd (false≢true same)
-same_means (Xfs a) Table same = absurd (false≢true same)
-same_means (Xfs a) (Ntfs b) same = absurd (false≢true same)
 same_means (Xfs a) (Xfs b) same = ap Xfs (super_means a b same)
+same_means (Btrfs a) (Btrfs b) same = ap Btrfs ((bytes_eq-Decides a b).0 same)
+same_means (Label i s) (Label j t) same = label_means i s j t same
+same_means (Ext a) (Ext b) same = ap Ext (volume_means a b same)
+same_means a b same = absurd (false≢true same)
 
 same_self : (a : Owner) → is_same_owner a a ≡ true
 same_self Table = refl
 same_self (Ntfs a) = grind (arith, nat_tests)
+same_self (Btrfs a) = (bytes_eq-Decides a a).1 refl
+same_self (Label i s) = grind (arith, nat_tests)
+same_self (Ext a) = let bytes : bytes_eq a.uuid a.uuid ≡ true = (bytes_eq-Decides a.uuid a.uuid).1 refl in grind (arith, nat_tests)
 same_self (Xfs a) = let bytes : bytes_eq a.uuid a.uuid ≡ true = (bytes_eq-Decides a.uuid a.uuid).1 refl in grind (arith, nat_tests)
 
 same_back : (a b : Owner) → is_same_owner a b ≡ true → is_same_owner b a ≡ true

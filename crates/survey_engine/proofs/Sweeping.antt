@@ -102,7 +102,7 @@ passed_over ask long at (Some l) never = ap (λ (b : Bool). cond b (Some (record
 too_early : (ask : Ask) (long : ℕ) (at : Place) (bytes : List ℕ) → at.sector < slice_index ask.bounds.offsets.items 0 → sighting_in ask long at bytes ≡ None
 unfolding sighting_in
 too_early ask long at bytes early =
-    passed_over ask long at (landmark_in bytes)
+    passed_over ask long at (landmark_in ask.unit bytes)
     (λ l. let no : nat_le (slice_index ask.bounds.offsets.items 0) at.sector ≡ false = grind (arith, nat_tests) in grind arith)
 
 pub none_below : (ask : Ask) (lengths : List ℕ) (images : List (List ℕ)) (number sector : ℕ) → sector ≤ slice_index ask.bounds.offsets.items 0 → found_below ask lengths images number sector ≡ []

@@ -1,57 +1,94 @@
 -- What a sector may be.
-use Rattle.std.specs.Prelude.{ℕ, ◌<◌, Bool, false, IsTrue, List, Option, Some, None, if◌then◌else◌, ◌^◌}
-use Rattle.sector_fields.specs.Fields.{u32_be}
-use Rattle.gpt_marks.specs.Header.{is_gpt_header, gpt_header_of, is_own_table}
+use Rattle.std.specs.Prelude.{ℕ, ◌*◌, ◌<◌, Bool, false, IsTrue, nat_lt, List, Option, Some, None, if◌then◌else◌, ◌^◌}
+use Rattle.std.specs.Option.{option_or}
+use Rattle.sector_fields.specs.Fields.{u32_be, u64_le}
+use Rattle.gpt_marks.specs.Header.{is_gpt_header, gpt_header_of, is_own_table, IsUnit}
+use Rattle.gpt_marks.specs.declared.header.GptHeader.{GptHeader}
 use Rattle.ntfs_marks.specs.Boot.{is_ntfs_boot, is_within_limit, ntfs_boot_of}
 use Rattle.ntfs_marks.specs.FileRecord.{is_ntfs_record, ntfs_record_of}
 use Rattle.xfs_marks.specs.Superblock.{is_sound, is_xfs_super, xfs_super_of}
 use Rattle.xfs_marks.specs.Group.{is_xfs_agf, is_xfs_agi}
+use Rattle.more_marks.specs.Btrfs.{btrfs_super_of, is_btrfs_super, is_super_address}
+use Rattle.more_marks.specs.Lvm.{is_lvm_label}
+use Rattle.ext_marks.specs.Copy.{ext_super_of, is_ext_copy}
 use Rattle.mark_kinds.specs.declared.sectors.Kind.{Kind}
-use Rattle.mark_kinds.specs.declared.sectors.Kind.TheVariants.{Gpt as GptKind, Boot as BootKind, FileRecord as RecordKind, Super as SuperKind, Agf as AgfKind, Agi as AgiKind}
+use Rattle.mark_kinds.specs.declared.sectors.Kind.TheVariants.{Gpt as GptKind, Boot as BootKind, FileRecord as RecordKind, Super as SuperKind, Agf as AgfKind, Agi as AgiKind, Btrfs as BtrfsKind, Lvm as LvmKind, Ext as ExtKind}
+use Rattle.survey_engine.specs.declared.landmark.GptTable.{GptTable}
 use Rattle.survey_engine.specs.declared.landmark.Landmark.{Landmark}
-use Rattle.survey_engine.specs.declared.landmark.Landmark.TheVariants.{Gpt, Boot, FileRecord, Super, Agf, Agi}
+use Rattle.survey_engine.specs.declared.landmark.Landmark.TheVariants.{Gpt, Boot, FileRecord, Super, Agf, Agi, Btrfs, Lvm, Ext}
 
 -- the kind of a landmark, without its numbers
 abbrev pub kind_of : Landmark → Kind
-kind_of (Gpt h) = GptKind
+kind_of (Gpt t) = GptKind
 kind_of (Boot b) = BootKind
 kind_of (FileRecord r) = RecordKind
 kind_of (Super x) = SuperKind
 kind_of (Agf g) = AgfKind
 kind_of (Agi g) = AgiKind
+kind_of (Btrfs b) = BtrfsKind
+kind_of (Lvm n) = LvmKind
+kind_of (Ext x) = ExtKind
 
--- the landmark that a sector is, if it is one: no sector is of two kinds
-unfoldable pub landmark_in : List ℕ → Option Landmark
-landmark_in s =
-    if is_gpt_header s then Some (Gpt (gpt_header_of s))
-    else if is_ntfs_boot s then Some (Boot (ntfs_boot_of s))
-    else if is_ntfs_record s then Some (FileRecord (ntfs_record_of s))
-    else if is_xfs_super s then Some (Super (xfs_super_of s))
-    else if is_xfs_agf s then Some (Agf (u32_be s 8))  -- agf_seqno: u32 at 8
+-- the head of an allocation group of XFS in a sector
+unfoldable pub head_in : List ℕ → Option Landmark
+head_in s =
+    if is_xfs_agf s then Some (Agf (u32_be s 8))  -- agf_seqno: u32 at 8
     else if is_xfs_agi s then Some (Agi (u32_be s 8))  -- agi_seqno: u32 at 8
     else None
 
+-- the file record of NTFS or the label of LVM2 in a sector
+unfoldable pub record_or_label_in : List ℕ → Option Landmark
+record_or_label_in s =
+    if is_ntfs_record s then Some (FileRecord (ntfs_record_of s))
+    else if is_lvm_label s then Some (Lvm (u64_le s 8))  -- sector_xl: u64 at 8
+    else None
+
+-- a header of a partition table on a disk whose blocks have `unit` sectors, where the sector that it names is
+-- below 2^55
+unfoldable pub table_in : ℕ → GptHeader → Option Landmark
+table_in unit header = if nat_lt (unit * header.my_lba) (2 ^ 55) then Some (Gpt (record { header = header; unit = unit })) else None
+
+-- the landmark of NTFS, XFS or LVM2 that a sector is by the bytes at its front
+unfoldable pub front_in : List ℕ → Option Landmark
+front_in s =
+    if is_ntfs_boot s then Some (Boot (ntfs_boot_of s))
+    else if is_ntfs_record s then Some (FileRecord (ntfs_record_of s))
+    else if is_xfs_super s then Some (Super (xfs_super_of s))
+    else if is_xfs_agf s then Some (Agf (u32_be s 8))
+    else if is_xfs_agi s then Some (Agi (u32_be s 8))
+    else if is_lvm_label s then Some (Lvm (u64_le s 8))
+    else None
+
+-- the superblock of btrfs, or the copy of one of ext, that a sector is by bytes further on
+unfoldable pub inner_in : List ℕ → Option Landmark
+inner_in s =
+    if is_btrfs_super s then Some (Btrfs (btrfs_super_of s))
+    else if is_ext_copy s then Some (Ext (ext_super_of s))
+    else None
+
+-- the landmark that a sector is, if it is one, on a disk whose blocks have `unit` sectors. A header of a
+-- partition table is nothing else, wherever it lies, and a sector that is a landmark by its front is none of
+-- btrfs or ext
+unfoldable pub landmark_in : ℕ → List ℕ → Option Landmark
+landmark_in unit s = if is_gpt_header s then table_in unit (gpt_header_of s) else option_or (front_in s) (inner_in s)
+
 -- a landmark in a sector of an image of that length is a header of the image's own partition table
 abbrev pub is_own : Landmark → ℕ → ℕ → Bool
-is_own (Gpt h) sector length = is_own_table h sector length
-is_own (Boot b) sector length = false
-is_own (FileRecord r) sector length = false
-is_own (Super x) sector length = false
-is_own (Agf g) sector length = false
-is_own (Agi g) sector length = false
+is_own (Gpt t) sector length = is_own_table t.header sector length t.unit
+is_own landmark sector length = false
+
+-- the numbers of a header are within limits: the sector that it names is below 2^55
+abbrev pub IsSoundTable : GptTable → Type 0
+IsSoundTable t = IsUnit t.unit × (t.unit * t.header.my_lba < 2 ^ 55)
 
 -- the numbers of a landmark are within the limits that its test sets
 abbrev pub IsSound : Landmark → Type 0
-IsSound (Gpt h) = h.my_lba < 2 ^ 55
+IsSound (Gpt t) = IsSoundTable t
 IsSound (Boot b) = IsTrue (is_within_limit b)
 IsSound (FileRecord r) = r.number < 16
 IsSound (Super x) = IsTrue (is_sound x)
 IsSound (Agf g) = Unit {0}
 IsSound (Agi g) = Unit {0}
-
--- the head of an allocation group of XFS in a sector
-unfoldable pub head_in : List ℕ → Option Landmark
-head_in s =
-    if is_xfs_agf s then Some (Agf (u32_be s 8))
-    else if is_xfs_agi s then Some (Agi (u32_be s 8))
-    else None
+IsSound (Btrfs b) = IsTrue (is_super_address b.address)
+IsSound (Lvm n) = n < 2 ^ 55
+IsSound (Ext x) = x.copy_sector < 2 ^ 55

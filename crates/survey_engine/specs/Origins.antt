@@ -1,28 +1,32 @@
 -- Where partition tables say that partitions begin.
 use Rattle.search_plan.specs.Plans.{AreRising}
-use Rattle.std.specs.Prelude.{ℕ, ◌+◌, ◌^◌, ◌<◌, ◌≤◌, All, length, Bool, false, ◌&&◌, ◌==◌, nat_lt, List, [], take, fold, if◌then◌else◌, slice_index, slice_index_or}
+use Rattle.std.specs.Prelude.{ℕ, ◌+◌, ◌*◌, ◌^◌, ◌<◌, ◌≤◌, All, length, Bool, false, ◌&&◌, ◌==◌, nat_lt, List, [], map, take, fold, Option, Some, None, option_and_then, if◌then◌else◌, slice_index, slice_index_or}
 use Rattle.std.specs.List.{filter_map, flat_map}
 use Rattle.gpt_marks.specs.Entry.{first_lbas}
-use Rattle.gpt_marks.specs.declared.header.GptHeader.{GptHeader}
 use Rattle.survey_engine.specs.Kept.{with_number}
 use Rattle.survey_engine.specs.Sightings.{sector_of}
+use Rattle.survey_engine.specs.declared.landmark.GptTable.{GptTable}
 use Rattle.survey_engine.specs.declared.landmark.Landmark.{Landmark}
 use Rattle.survey_engine.specs.declared.landmark.Landmark.TheVariants.{Gpt}
 use Rattle.survey_engine.specs.declared.sighting.Sighting.{Sighting}
 
--- a header whose entries begin in the next sector, in an image of that length
-abbrev pub has_entries : GptHeader → ℕ → ℕ → Bool
-has_entries h sector length = h.entry_size == 128 && h.table == h.my_lba + 1 && nat_lt (sector + 1) length
+-- a header whose entries begin in the next block, in an image of that length
+abbrev pub has_entries : GptTable → ℕ → ℕ → Bool
+has_entries t sector length = t.header.entry_size == 128 && t.header.table == t.header.my_lba + 1 && nat_lt (sector + t.unit) length
 
--- the first blocks of the partitions that the sector after a header lists
+-- the first sector of a partition, by its first block of `unit` sectors, where it is below 2^55
+abbrev pub first_sector : ℕ → Option ℕ → Option ℕ
+first_sector unit first = option_and_then (λ block. if nat_lt (unit * block) (2 ^ 55) then Some (unit * block) else None) first
+
+-- the first sectors of the partitions that the first sector of the block after a header lists
 abbrev pub hints_by : Landmark → ℕ → ℕ → List ℕ → List ℕ
-hints_by (Gpt h) sector length bytes =
-    if has_entries h sector length then filter_map (λ first. first) (first_lbas (sector_of bytes (sector + 1)) h.alternate) else []
+hints_by (Gpt t) sector length bytes =
+    if has_entries t sector length then filter_map (λ first. first) (map (first_sector t.unit) (first_lbas (sector_of bytes (sector + t.unit)) t.header.alternate)) else []
 hints_by landmark sector length bytes = []
 
 -- entries follow a landmark in a sector of an image of that length, as they follow a header
 abbrev pub entries_follow : Landmark → ℕ → ℕ → Bool
-entries_follow (Gpt h) sector length = has_entries h sector length
+entries_follow (Gpt t) sector length = has_entries t sector length
 entries_follow landmark sector length = false
 
 -- entries follow a sighting, in images of these lengths

@@ -8,19 +8,22 @@ use Rattle.ntfs_marks.specs.declared.boot.NtfsBoot.{NtfsBoot}
 use Rattle.ntfs_marks.specs.declared.file_record.NtfsRecord.{NtfsRecord}
 use Rattle.xfs_marks.specs.Superblock.{ag_sectors, is_sound}
 use Rattle.xfs_marks.specs.declared.superblock.XfsSuper.{XfsSuper}
+use Rattle.ext_marks.specs.declared.copy.ExtSuper.{ExtSuper}
 use Rattle.mark_kinds.specs.Table.{all_groups, is_same_group, most_groups}
 use Rattle.landmark_rules.specs.declared.marks.Group.{Group}
 use Rattle.mark_kinds.specs.declared.groups.GroupKind.{GroupKind}
-use Rattle.mark_kinds.specs.declared.groups.GroupKind.TheVariants.{Gpt as GptGroup, Ntfs as NtfsGroup, Xfs as XfsGroup}
+use Rattle.mark_kinds.specs.declared.groups.GroupKind.TheVariants.{Gpt as GptGroup, Ntfs as NtfsGroup, Xfs as XfsGroup, Btrfs as BtrfsGroup, Lvm as LvmGroup, Ext as ExtGroup}
 use Rattle.landmark_rules.specs.declared.marks.Mark.{Mark}
 use Rattle.landmark_rules.specs.declared.marks.Rule.{Rule}
 use Rattle.landmark_rules.specs.declared.marks.Rule.TheVariants.{At, Either, Every}
 use Rattle.survey_engine.specs.Kept.{kept}
 use Rattle.survey_engine.specs.Landmarks.{kind_of}
+use Rattle.survey_engine.specs.Sightings.{sighted_at, Place}
 use Rattle.survey_engine.specs.declared.landmark.Landmark.{Landmark}
-use Rattle.survey_engine.specs.declared.landmark.Landmark.TheVariants.{Gpt, Boot, FileRecord, Super, Agf, Agi}
+use Rattle.survey_engine.specs.declared.landmark.Landmark.TheVariants.{Gpt, Boot, FileRecord, Super, Agf, Agi, Btrfs as BtrfsSector, Lvm, Ext as ExtSector}
+use Rattle.survey_engine.specs.declared.owner.ExtVolume.{ExtVolume}
 use Rattle.survey_engine.specs.declared.owner.Owner.{Owner}
-use Rattle.survey_engine.specs.declared.owner.Owner.TheVariants.{Table, Ntfs, Xfs}
+use Rattle.survey_engine.specs.declared.owner.Owner.TheVariants.{Table, Ntfs, Xfs, Btrfs, Label, Ext}
 use Rattle.survey_engine.specs.declared.sighting.Sighting.{Sighting}
 
 -- two boot sectors say the same, field by field
@@ -35,11 +38,22 @@ is_same_super a b =
     (a.block == b.block && a.ag_blocks == b.ag_blocks && a.ag_count == b.ag_count)
     && (a.sector == b.sector && bytes_eq a.uuid b.uuid)
 
--- two owners of marks are one
+-- the file system that a copy of a superblock of ext names
+abbrev pub volume_of : ExtSuper → ExtVolume
+volume_of x = record { uuid = x.uuid; block = x.block; group_blocks = x.group_blocks }
+
+-- two of these are one
+abbrev pub is_same_volume : ExtVolume → ExtVolume → Bool
+is_same_volume a b = bytes_eq a.uuid b.uuid && a.block == b.block && a.group_blocks == b.group_blocks
+
+-- two owners of marks are one; each label of LVM2 is an owner of its own, by its place
 abbrev pub is_same_owner : Owner → Owner → Bool
 is_same_owner Table Table = true
 is_same_owner (Ntfs a) (Ntfs b) = is_same_boot a b
 is_same_owner (Xfs a) (Xfs b) = is_same_super a b
+is_same_owner (Btrfs a) (Btrfs b) = bytes_eq a b
+is_same_owner (Label i s) (Label j t) = i == j && s == t
+is_same_owner (Ext a) (Ext b) = is_same_volume a b
 is_same_owner a b = false
 
 -- the kind of the group that the marks of an owner make
@@ -47,16 +61,23 @@ abbrev pub group_kind : Owner → GroupKind
 group_kind Table = GptGroup
 group_kind (Ntfs b) = NtfsGroup
 group_kind (Xfs x) = XfsGroup
+group_kind (Btrfs fsid) = BtrfsGroup
+group_kind (Label image sector) = LvmGroup
+group_kind (Ext volume) = ExtGroup
 
--- the owner that a landmark names: a partition table or a file system, or None where it does not say
-abbrev pub owner_in : Landmark → Option Owner
-owner_in (Gpt h) = Some Table
-owner_in (Boot b) = Some (Ntfs b)
-owner_in (Super x) = Some (Xfs x)
-owner_in landmark = None
+-- the owner that a landmark at a place names: a partition table, a file system or a physical volume, or None
+-- where it does not say
+abbrev pub owner_in : Place → Landmark → Option Owner
+owner_in at (Gpt t) = Some Table
+owner_in at (Boot b) = Some (Ntfs b)
+owner_in at (Super x) = Some (Xfs x)
+owner_in at (BtrfsSector b) = Some (Btrfs b.fsid)
+owner_in at (Lvm n) = Some (Label at.image at.sector)
+owner_in at (ExtSector x) = Some (Ext (volume_of x))
+owner_in at landmark = None
 
 abbrev pub owner_among : GroupKind → Sighting → Option Owner
-owner_among kind s = option_and_then (λ owner. if is_same_group (group_kind owner) kind then Some owner else None) (owner_in s.landmark)
+owner_among kind s = option_and_then (λ owner. if is_same_group (group_kind owner) kind then Some owner else None) (owner_in (sighted_at s) s.landmark)
 
 -- an owner that is new, where there is room for one more of its kind
 abbrev pub is_new : GroupKind → List Owner → Owner → Bool
@@ -77,28 +98,34 @@ record_rule b r =
 unfoldable pub ag_rule : XfsSuper → ℕ → ℕ → Option Rule
 ag_rule x g sectors = if nat_lt g x.ag_count then Some (At (g * ag_sectors x + sectors * (x.sector / 512))) else None
 
--- where a landmark may lie as a mark of an owner: a header of a table at its MyLBA, a boot sector at the
--- start of the volume or, its copy, after the end, a superblock at the start of each group, an AGF one
--- sector and an AGI two sectors after that. File records, AGF and AGI do not say whose they are, and are
--- marks only of an owner that is `alone` of its kind
-unfoldable pub rule_in : Owner → Bool → Landmark → Option Rule
-rule_in Table alone (Gpt h) = Some (At h.my_lba)
-rule_in (Ntfs b) alone (Boot c) = if is_same_boot b c then Some (Either 0 b.total) else None
-rule_in (Ntfs b) alone (FileRecord r) = if alone then record_rule b r else None
-rule_in (Xfs x) alone (Super y) = if is_same_super x y then Some (Every (ag_sectors x) x.ag_count 0) else None
-rule_in (Xfs x) alone (Agf g) = if alone then ag_rule x g 1 else None
-rule_in (Xfs x) alone (Agi g) = if alone then ag_rule x g 2 else None
-rule_in owner alone landmark = None
+-- where a landmark that was found at a place may lie as a mark of an owner: a header of a table at the first
+-- sector of the block MyLBA, a boot sector at the start of the volume or, its copy, after the end, a superblock
+-- of XFS at the start of each group, an AGF one sector and an AGI two sectors after that, a superblock of btrfs
+-- at its own address, a label of LVM2 at the sector that it names, and a copy of a superblock of ext at the start
+-- of its group. File records, AGF and AGI do not say whose they are, and are marks only of an owner that is
+-- `alone` of its kind
+unfoldable pub rule_in : Owner → Bool → Place → Landmark → Option Rule
+rule_in Table alone at (Gpt t) = Some (At (t.unit * t.header.my_lba))
+rule_in (Ntfs b) alone at (Boot c) = if is_same_boot b c then Some (Either 0 b.total) else None
+rule_in (Ntfs b) alone at (FileRecord r) = if alone then record_rule b r else None
+rule_in (Xfs x) alone at (Super y) = if is_same_super x y then Some (Every (ag_sectors x) x.ag_count 0) else None
+rule_in (Xfs x) alone at (Agf g) = if alone then ag_rule x g 1 else None
+rule_in (Xfs x) alone at (Agi g) = if alone then ag_rule x g 2 else None
+rule_in (Btrfs fsid) alone at (BtrfsSector b) = if bytes_eq fsid b.fsid then Some (At (b.address / 512)) else None
+rule_in (Label image sector) alone at (Lvm n) = if image == at.image && sector == at.sector then Some (At n) else None
+rule_in (Ext volume) alone at (ExtSector x) = if is_same_volume volume (volume_of x) then Some (At x.copy_sector) else None
+rule_in owner alone at landmark = None
 
 -- the numbers of an owner are within the limits that the test of its landmark sets
 abbrev pub IsSoundOwner : Owner → Type 0
 IsSoundOwner Table = Unit {0}
 IsSoundOwner (Ntfs b) = IsTrue (is_within_limit b)
 IsSoundOwner (Xfs x) = IsTrue (is_sound x)
+IsSoundOwner owner = Unit {0}
 
 -- the mark of a sighting in the group of an owner
 abbrev pub mark_in : Owner → Bool → Sighting → Option Mark
-mark_in owner alone s = option_map (λ rule. record { kind = kind_of s.landmark; image = s.image; sector = s.sector; rule = rule }) (rule_in owner alone s.landmark)
+mark_in owner alone s = option_map (λ rule. record { kind = kind_of s.landmark; image = s.image; sector = s.sector; rule = rule }) (rule_in owner alone (sighted_at s) s.landmark)
 
 -- the group of an owner: the marks of its sightings, in their order
 abbrev pub group_for : List Sighting → Bool → Owner → Group

@@ -42,7 +42,7 @@ unfoldable pub sighting_in : Ask → ℕ → Place → List ℕ → Option Sight
 sighting_in ask length at bytes =
     option_and_then (λ landmark. if is_sighting ask length at landmark
     then Some (record { image = at.image; sector = at.sector; landmark = landmark }) else None)
-    (landmark_in bytes)
+    (landmark_in ask.unit bytes)
 
 -- all sightings in images of these lengths and bytes, in order of sector, then image
 abbrev pub sighting_at : Ask → List ℕ → List (List ℕ) → Place → Option Sighting
@@ -62,6 +62,10 @@ is_early before s = nat_lt (count_by (is_same_kind (kind_of s.landmark)) before)
 -- the sightings that count: of each kind the first 4,096
 unfoldable pub counted : List Sighting → List Sighting
 counted found = kept is_early found
+
+-- where a sighting is
+abbrev pub sighted_at : Sighting → Place
+sighted_at s = record { sector = s.sector; image = s.image }
 
 -- the place of a sighting in the order of all sectors
 abbrev pub sighting_place : Sighting → ℕ

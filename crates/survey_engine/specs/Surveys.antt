@@ -1,11 +1,12 @@
 -- The plan that a survey makes.
-use Rattle.std.specs.Prelude.{ℕ, ◌≡◌, ◌+◌, ◌-◌, ◌*◌, ◌^◌, ◌≤◌, ◌<◌, List, length, count_by, slice_index, All, Option}
+use Rattle.std.specs.Prelude.{ℕ, true, ◌≡◌, ◌+◌, ◌-◌, ◌*◌, ◌^◌, ◌≤◌, ◌<◌, List, length, count_by, slice_index, All, Option}
 use Rattle.std.specs.Option.{option_map_or}
 use Rattle.outside.specs.Attached.{told_all}
 use Rattle.outside.specs.Causes.{Rose}
 use Rattle.outside.specs.Seen.{Image, Seen, lengths_of}
 use Rattle.raid_params.specs.declared.limits.TheConstants.{MOST}
-use Rattle.search_plan.specs.Plans.{AreBounds, AreLimits, AreTests}
+use Rattle.gpt_marks.specs.Header.{IsUnit}
+use Rattle.search_plan.specs.Plans.{AreBounds, AreLimits, AreMovable, AreTests}
 use Rattle.search_plan.specs.declared.plan.Plan.{Plan}
 use Rattle.survey_engine.specs.Origins.{is_followed, origins_of}
 use Rattle.survey_engine.specs.Owners.{groups_of}
@@ -20,14 +21,17 @@ pub record IsAsk (ask : Ask) : Type 0 where
   pub bounds : AreBounds ask.bounds
   pub limits : AreLimits ask.limits
   pub tests : AreTests ask.tests
+  pub unit : IsUnit ask.unit
 
--- it can be asked of the attached images: there are some, and they reach to the end
+-- it can be asked of the attached images: there are some, and they reach to the end; where each is to have an
+-- offset of its own, they can be moved by them
 pub record IsSurveyable (ask : Ask) (attached : List Image) : Type 0 where
   pub ask_is : IsAsk ask
   pub some : 1 ≤ length attached
   pub most : length attached ≤ MOST
   pub short : All (λ image. image.sectors < 2 ^ 55) attached
   pub long : All (λ image. ask.end ≤ image.sectors) attached
+  pub each : ask.each ≡ true → AreMovable (lengths_of attached) ask.bounds
 
 -- the sightings that count, in images of these bytes
 abbrev pub found_in : Ask → List Image → List (List ℕ) → List Sighting
@@ -51,6 +55,7 @@ pub record Repeats (ask : Ask) (attached : List Image) (plan : Plan) : Type 0 wh
   pub limits : plan.limits ≡ ask.limits
   pub misfits : plan.tests.misfits ≡ ask.tests.misfits
   pub least : plan.tests.least ≡ ask.tests.least
+  pub each : plan.each ≡ ask.each
 
 -- what it adds, by the images' bytes
 pub record Adds (ask : Ask) (attached : List Image) (images : List (List ℕ)) (plan : Plan) : Type 0 where

@@ -19,4 +19,8 @@ pub struct Ask {
     pub kinds: Kinds,
     /// The sectors to pass over.
     pub drops: ArrayVec<DropAt, MOST_DROPS>,
+    /// Whether each image has an offset of its own.
+    pub each: bool,
+    /// The sectors of a block of a partition table: 1 where blocks have 512 bytes, 8 where they have 4,096.
+    pub unit: u64,
 }

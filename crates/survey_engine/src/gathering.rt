@@ -1,5 +1,6 @@
 //! The sightings of images.
 ghost use Rattle.std.specs.Prelude.{◌≡◌, ◌+◌, ◌-◌, ◌*◌, ◌^◌, ◌<◌, ◌≤◌, fold, length, slice_index, All, IfErr, IfOk, OnOk, IfSome};
+ghost use Rattle.gpt_marks.specs.Header.{IsUnit};
 ghost use Rattle.image_blocks.specs.Sweep.{next_of};
 ghost use Rattle.outside.specs.Attached.{told_all};
 ghost use Rattle.outside.specs.Seen.{OnlyReads, lengths_of};
@@ -54,6 +55,7 @@ fn look_at_block(
     sweep: &Sweep,
     counted: &mut Counter,
 ) -> Result<(), Memory>
+    requires unit { IsUnit ask.now.unit }
     requires images { length sweep.now.blocks ≡ length lengths.now }
     requires few { length lengths.now ≤ MOST }
     requires long { All (λ n. next_of sweep.now ≤ n) lengths.now }
@@ -77,6 +79,7 @@ fn look_at_row(
     place: usize,
     counted: &mut Counter,
 ) -> Result<(), Memory>
+    requires unit { IsUnit ask.now.unit }
     requires images { length sweep.now.blocks ≡ length lengths.now }
     requires few { length lengths.now ≤ MOST }
     requires place { place < sweep.now.count }

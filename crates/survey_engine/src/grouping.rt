@@ -94,7 +94,7 @@ fn owner_among(kind: GroupKind, sighting: &Sighting) -> Option<Owner>
     ensures owner { result ≡ owner_among kind sighting.now }
     ensures sound { IfSome result IsSoundOwner }
 {
-    match Owner::of(&sighting.landmark) {
+    match Owner::of(sighting) {
         Some(owner) if owner.group_kind().is_same(kind) => Some(owner),
         _ => None,
     }
@@ -116,7 +116,7 @@ fn group_for(alloc: Global, found: &[Sighting], alone: bool, owner: &Owner) -> R
 {
     let mut marks = Marks::new(alloc);
     for sighting in found {
-        if let Some(rule) = owner.rule(alone, &sighting.landmark) {
+        if let Some(rule) = owner.rule(alone, sighting) {
             marks.push(Mark {
                 kind: sighting.landmark.kind(),
                 image: sighting.image,

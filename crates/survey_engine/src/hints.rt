@@ -1,19 +1,23 @@
 //! The origins of a plan: those that were asked for, and those that partition tables hint at.
-ghost use Rattle.std.specs.Prelude.{◌≡◌, ℕ, ◌+◌, ◌*◌, ◌^◌, ◌<◌, ◌≤◌, if◌then◌else◌, count_by, length, slice_index, take, All, IfOk, IfSome, MatchOption, OnOk};
+ghost use Rattle.std.specs.Prelude.{◌≡◌, ℕ, ◌+◌, ◌*◌, ◌^◌, ◌<◌, ◌≤◌, if◌then◌else◌, count_by, length, map, slice_index, take, All, IfOk, IfSome, MatchOption, OnOk};
 ghost use Rattle.outside.specs.Attached.{told_all};
 ghost use Rattle.outside.specs.Causes.{HasCause};
 ghost use Rattle.outside.specs.Seen.{OnlyReads, lengths_of};
 ghost use Rattle.std.specs.List.{filter_map, insert};
+ghost use Rattle.gpt_marks.specs.Entry.{first_lbas};
+ghost use Rattle.gpt_marks.specs.Header.{IsUnit};
 ghost use Rattle.survey_engine.specs.Kept.{with_number};
-ghost use Rattle.survey_engine.specs.Origins.{has_entries, is_followed, hints_at, origins_of, with_numbers, AreOrigins};
+ghost use Rattle.survey_engine.specs.Landmarks.{IsSoundTable};
+ghost use Rattle.survey_engine.specs.Origins.{first_sector, has_entries, is_followed, hints_at, origins_of, with_numbers, AreOrigins};
 ghost use Rattle.survey_engine.specs.Sightings.{AreSightings, IsInImages};
 
-use crate::landmark::Landmark;
+use crate::landmark::{GptTable, Landmark};
 use crate::sighting::Sighting;
 use arrayvec::ArrayVec;
-use gpt_marks::{GptHeader, read_entries};
+use gpt_marks::read_entries;
 use landmark_rules::MOST_ORIGINS;
 use outside::{Failed, Images, SECTOR};
+use sector_fields::DISTANCE_LIMIT;
 
 /// The bytes of an entry of a partition table.
 const ENTRY: u32 = 128;
@@ -48,8 +52,8 @@ pub fn origins<I: Images>(
     Ok(origins)
 }
 
-/// Adds the hints of a sighting: where it is a header whose entries follow, the first blocks of the
-/// partitions that the next sector lists.
+/// Adds the hints of a sighting: where it is a header whose entries follow, the first sectors of the
+/// partitions that the first sector of the next block lists.
 fn add_hints<I: Images>(
     images: &mut I,
     lengths: &[u64],
@@ -67,20 +71,53 @@ fn add_hints<I: Images>(
     ensures cause { HasCause (I.seen images.old).faults (I.seen images.new).faults result }
 {
     match &sighting.landmark {
-        Landmark::Gpt(header) => {
-            if !has_entries(header, sighting.sector, lengths[sighting.image as usize]) {
+        Landmark::Gpt(table) => {
+            if !has_entries(table, sighting.sector, lengths[sighting.image as usize]) {
                 return Ok(());
             }
             let mut sector = [0; SECTOR];
-            images.read(sighting.image as u32, sighting.sector + 1, &mut sector)?;
-            add_firsts(origins, &read_entries(&sector, header.alternate));
+            images.read(
+                sighting.image as u32,
+                sighting.sector + table.unit,
+                &mut sector,
+            )?;
+            add_firsts(origins, &first_sectors(table, &sector));
             Ok(())
         }
         _ => Ok(()),
     }
 }
 
-/// Adds the first blocks of the entries that are used.
+/// The first sectors of the partitions that a sector of the entries of a table lists, each below 2^55.
+fn first_sectors(table: &GptTable, sector: &[u8; SECTOR]) -> [Option<u64>; 4]
+    requires { IsUnit table.now.unit }
+    ensures firsts { result ≡ map (first_sector table.now.unit) (first_lbas sector.now table.now.header.alternate) }
+    ensures near { All (λ o. IfSome o (λ first. first < 2 ^ 55)) result }
+{
+    let blocks = read_entries(sector, table.header.alternate);
+    [
+        first_sector(table.unit, blocks[0]),
+        first_sector(table.unit, blocks[1]),
+        first_sector(table.unit, blocks[2]),
+        first_sector(table.unit, blocks[3]),
+    ]
+}
+
+/// The first sector of a partition, by its first block of `unit` sectors. None where it is 2^55 or more.
+#[tactic(auto, using(crate::proofs::Rules::block_small))]
+fn first_sector(unit: u64, first: Option<u64>) -> Option<u64>
+    requires unit { IsUnit unit }
+    requires within { IfSome first (λ block. block < 2 ^ 55) }
+    ensures first { result ≡ first_sector unit first }
+    ensures near { IfSome result (λ sector. sector < 2 ^ 55) }
+{
+    match first {
+        Some(block) if unit * block < DISTANCE_LIMIT => Some(unit * block),
+        _ => None,
+    }
+}
+
+/// Adds the first sectors of the partitions.
 #[tactic(auto, using(crate::proofs::Firsts::firsts_none, crate::proofs::Firsts::firsts_some, crate::proofs::Firsts::firsts_same, crate::proofs::Firsts::firsts_all, crate::proofs::Firsts::near_at, crate::proofs::Numbers::origins_with))]
 fn add_firsts(origins: &mut Origins, firsts: &[Option<u64>])
     requires origins { AreOrigins origins.old.items }
@@ -95,13 +132,15 @@ fn add_firsts(origins: &mut Origins, firsts: &[Option<u64>])
     }
 }
 
-/// Whether the entries after a header begin in the next sector of its image, which has that length.
-fn has_entries(header: &GptHeader, sector: u64, length: u64) -> bool
-    requires lba { header.now.my_lba < 2 ^ 55 }
+/// Whether the entries after a header begin in the next block of its image, which has that length.
+#[tactic(auto, using(crate::proofs::Rules::lba_small, crate::proofs::Rules::unit_small))]
+fn has_entries(table: &GptTable, sector: u64, length: u64) -> bool
+    requires table { IsSoundTable table.now }
     requires sector { sector < 2 ^ 55 }
-    ensures { result ≡ has_entries header.now sector length }
+    ensures { result ≡ has_entries table.now sector length }
 {
-    header.entry_size == ENTRY && header.table == header.my_lba + 1 && sector + 1 < length
+    let header = &table.header;
+    header.entry_size == ENTRY && header.table == header.my_lba + 1 && sector + table.unit < length
 }
 
 /// Puts a number into its place, where the list does not have it yet, and drops the last where there is

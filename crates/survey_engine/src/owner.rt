@@ -1,17 +1,33 @@
 //! What marks belong to, and where they may lie.
 ghost use Rattle.std.specs.Prelude.{◌≡◌, ◌+◌, ◌*◌, ◌^◌, ◌<◌, ◌≤◌, IsTrue};
+ghost use Rattle.std.specs.Str.{bytes_eq};
 ghost use Rattle.ntfs_marks.specs.Boot.{is_within_limit, record_sector};
 ghost use Rattle.xfs_marks.specs.Superblock.{ag_sectors, is_sound};
 ghost use Rattle.survey_engine.specs.Landmarks.{IsSound};
-ghost use Rattle.survey_engine.specs.Owners.{group_kind, ag_rule, is_same_boot, is_same_owner, is_same_super, owner_in, record_rule, rule_in, IsSoundOwner};
+ghost use Rattle.survey_engine.specs.Owners.{group_kind, ag_rule, is_same_boot, is_same_owner, is_same_super, is_same_volume, owner_in, record_rule, rule_in, volume_of, IsSoundOwner};
+ghost use Rattle.survey_engine.specs.Sightings.{sighted_at};
 
 use crate::landmark::Landmark;
+use crate::sighting::Sighting;
+use ext_marks::ExtSuper;
 use landmark_rules::{GroupKind, Rule};
 use ntfs_marks::{NtfsBoot, NtfsRecord};
 use sector_fields::SECTOR;
+use uuid::Uuid;
 use xfs_marks::XfsSuper;
 
-/// What marks belong to: the partition table, or a file system.
+/// A file system of ext2, ext3 or ext4, by what each copy of its superblock says of it.
+#[derive(Clone, Copy)]
+pub struct ExtVolume {
+    /// Its identifier, in the order in which its bytes stand in the sector.
+    pub uuid: Uuid,
+    /// The bytes of a block.
+    pub block: u32,
+    /// The blocks of a group.
+    pub group_blocks: u32,
+}
+
+/// What marks belong to: the partition table, a file system, or a physical volume.
 #[derive(Clone, Copy)]
 pub enum Owner {
     /// The GUID partition table.
@@ -20,17 +36,34 @@ pub enum Owner {
     Ntfs(NtfsBoot),
     /// The XFS that a superblock describes.
     Xfs(XfsSuper),
+    /// The btrfs of this identifier.
+    Btrfs(Uuid),
+    /// The physical volume of LVM2 whose label lies there.
+    Label {
+        /// The number of the label's image.
+        image: u8,
+        /// Its sector of the image.
+        sector: u64,
+    },
+    /// The ext2, ext3 or ext4 that a copy of a superblock describes.
+    Ext(ExtVolume),
 }
 
 impl Owner {
-    /// The owner that a landmark names. File records, AGF and AGI do not say whose they are.
-    pub fn of(landmark: &Landmark) -> Option<Owner>
-        ensures { result ≡ owner_in landmark.now }
+    /// The owner that a sighting names. File records, AGF and AGI do not say whose they are.
+    pub fn of(sighting: &Sighting) -> Option<Owner>
+        ensures { result ≡ owner_in (sighted_at sighting.now) sighting.now.landmark }
     {
-        match landmark {
+        match &sighting.landmark {
             Landmark::Gpt(_) => Some(Owner::Table),
             Landmark::Boot(boot) => Some(Owner::Ntfs(*boot)),
             Landmark::Super(found) => Some(Owner::Xfs(*found)),
+            Landmark::Btrfs(found) => Some(Owner::Btrfs(found.fsid)),
+            Landmark::Lvm(_) => Some(Owner::Label {
+                image: sighting.image,
+                sector: sighting.sector,
+            }),
+            Landmark::Ext(copy) => Some(Owner::Ext(volume_of(copy))),
             _ => None,
         }
     }
@@ -43,6 +76,9 @@ impl Owner {
             Owner::Table => GroupKind::Gpt,
             Owner::Ntfs(_) => GroupKind::Ntfs,
             Owner::Xfs(_) => GroupKind::Xfs,
+            Owner::Btrfs(_) => GroupKind::Btrfs,
+            Owner::Label { .. } => GroupKind::Lvm,
+            Owner::Ext(_) => GroupKind::Ext,
         }
     }
 
@@ -54,20 +90,31 @@ impl Owner {
             (Owner::Table, Owner::Table) => true,
             (Owner::Ntfs(a), Owner::Ntfs(b)) => is_same_boot(a, b),
             (Owner::Xfs(a), Owner::Xfs(b)) => is_same_super(a, b),
+            (Owner::Btrfs(a), Owner::Btrfs(b)) => is_same_uuid(a, b),
+            (
+                Owner::Label { image, sector },
+                Owner::Label {
+                    image: other_image,
+                    sector: other_sector,
+                },
+            ) => image == other_image && sector == other_sector,
+            (Owner::Ext(a), Owner::Ext(b)) => is_same_volume(a, b),
             _ => false,
         }
     }
 
-    /// Where a landmark may lie as a mark of this owner, which may be `alone` of its kind, and None where
+    /// Where a sighting may lie as a mark of this owner, which may be `alone` of its kind, and None where
     /// it is no mark of it.
     #[tactic(auto, unfolding(crate::specs::Owners::rule_in))]
-    pub fn rule(&self, alone: bool, landmark: &Landmark) -> Option<Rule>
+    pub fn rule(&self, alone: bool, sighting: &Sighting) -> Option<Rule>
         requires owner { IsSoundOwner self.now }
-        requires landmark { IsSound landmark.now }
-        ensures { result ≡ rule_in self.now alone landmark.now }
+        requires landmark { IsSound sighting.now.landmark }
+        ensures { result ≡ rule_in self.now alone (sighted_at sighting.now) sighting.now.landmark }
     {
-        match (self, landmark) {
-            (Owner::Table, Landmark::Gpt(header)) => Some(Rule::At(header.my_lba)),
+        match (self, &sighting.landmark) {
+            (Owner::Table, Landmark::Gpt(table)) => {
+                Some(Rule::At(table.unit * table.header.my_lba))
+            }
             (Owner::Ntfs(boot), Landmark::Boot(other)) if is_same_boot(boot, other) => {
                 Some(Rule::Either(0, boot.total))
             }
@@ -81,6 +128,15 @@ impl Owner {
             }
             (Owner::Xfs(found), Landmark::Agf(group)) if alone => ag_rule(found, *group, 1),
             (Owner::Xfs(found), Landmark::Agi(group)) if alone => ag_rule(found, *group, 2),
+            (Owner::Btrfs(fsid), Landmark::Btrfs(found)) if is_same_uuid(fsid, &found.fsid) => {
+                Some(Rule::At(found.address / SECTOR as u64))
+            }
+            (Owner::Label { image, sector }, Landmark::Lvm(number))
+                if *image == sighting.image && *sector == sighting.sector => {
+                Some(Rule::At(*number))
+            }
+            (Owner::Ext(volume), Landmark::Ext(copy)) if is_same_volume(volume, &volume_of(copy)) =>
+                { Some(Rule::At(copy.copy_sector)) }
             _ => None,
         }
     }
@@ -100,6 +156,31 @@ fn is_same_super(a: &XfsSuper, b: &XfsSuper) -> bool
 {
     (a.block == b.block && a.ag_blocks == b.ag_blocks && a.ag_count == b.ag_count)
         && (a.sector == b.sector && a.uuid.as_bytes() == b.uuid.as_bytes())
+}
+
+/// Whether two identifiers are one, byte by byte.
+fn is_same_uuid(a: &Uuid, b: &Uuid) -> bool
+    ensures { result ≡ bytes_eq a.now b.now }
+{
+    a.as_bytes() == b.as_bytes()
+}
+
+/// The file system that a copy of a superblock of ext names.
+fn volume_of(copy: &ExtSuper) -> ExtVolume
+    ensures { result ≡ volume_of copy.now }
+{
+    ExtVolume {
+        uuid: copy.uuid,
+        block: copy.block,
+        group_blocks: copy.group_blocks,
+    }
+}
+
+/// Whether two of these are one, field by field.
+fn is_same_volume(a: &ExtVolume, b: &ExtVolume) -> bool
+    ensures { result ≡ is_same_volume a.now b.now }
+{
+    is_same_uuid(&a.uuid, &b.uuid) && a.block == b.block && a.group_blocks == b.group_blocks
 }
 
 /// Where a file record may lie that has the size of the records of its volume.

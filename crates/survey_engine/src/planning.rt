@@ -61,6 +61,7 @@ pub fn survey<I: Images>(alloc: Global, images: &mut I, ask: &Ask) -> Result<Pla
             least: ask.tests.least,
         },
         groups,
+        each: ask.each,
     })
 }
 

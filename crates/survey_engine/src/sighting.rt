@@ -1,5 +1,6 @@
 //! Sightings: the landmark sectors that a survey takes notice of.
 ghost use Rattle.std.specs.Prelude.{◌≡◌, ◌<◌, IfSome, slice_index};
+ghost use Rattle.gpt_marks.specs.Header.{IsUnit};
 ghost use Rattle.survey_engine.specs.Landmarks.{IsSound};
 ghost use Rattle.survey_engine.specs.Sightings.{is_dropped, is_sighting, sighting_in};
 
@@ -27,12 +28,13 @@ pub fn sighting_in(
     sector: u64,
     bytes: &[u8; SECTOR],
 ) -> Option<Sighting>
-    requires { sector < length }
+    requires sector { sector < length }
+    requires unit { IsUnit ask.now.unit }
     ensures found { result ≡ sighting_in ask.now length (record { sector = sector; image = image }) bytes.now }
     ensures place { IfSome result (λ s. (s.image ≡ image) × (s.sector ≡ sector)) }
     ensures sound { IfSome result (λ s. IsSound s.landmark) }
 {
-    match read_landmark(bytes) {
+    match read_landmark(bytes, ask.unit) {
         Some(landmark) if is_sighting(ask, length, image, sector, &landmark) => Some(Sighting {
             image,
             sector,
@@ -45,7 +47,8 @@ pub fn sighting_in(
 /// Whether a landmark is a sighting: its kind is looked for, and its sector neither lies before the smallest offset,
 /// nor is passed over, nor is a header of the image's own partition table.
 fn is_sighting(ask: &Ask, length: u64, image: u8, sector: u64, landmark: &Landmark) -> bool
-    requires { sector < length }
+    requires sector { sector < length }
+    requires sound { IsSound landmark.now }
     ensures { result ≡ is_sighting ask.now length (record { sector = sector; image = image }) landmark.now }
 {
     ask.kinds.has(landmark.kind().group())

@@ -1,38 +1,40 @@
 -- What is asked of a survey, and how it ends.
-use Rattle.std.proofs.Common.{◌≡◌, refl, OnOk, ℕ, ◌<◌, ◌≤◌, ◌^◌, ◌⊎◌, min, max, Bool, false, cond, nat_eq, List, [], length, All, None, Some, Option, Result, Ok, Err, IfOk, IfErr, IfSome, sym, ap, ◌∙◌, subst, arith, inl, inr, ◌∷◌, suc}
+use Rattle.std.proofs.Common.{◌≡◌, refl, OnOk, ℕ, ◌<◌, ◌≤◌, ◌^◌, ◌⊎◌, min, max, Bool, true, false, cond, nat_eq, nat_le, get_or, slice_index, zero, ◌+◌, List, [], length, All, None, Some, Option, Result, Ok, Err, IfOk, IfErr, IfSome, sym, ap, ◌∙◌, subst, arith, inl, inr, ◌∷◌, suc}
 use Rattle.std.proofs.lemmas.Bool.Decides.{nat_tests}
-use Rattle.std.specs.Option.{option_map}
+use Rattle.std.specs.Option.{option_map, option_or}
+use Rattle.std.specs.List.{find, range_with_len}
+use Rattle.std.proofs.lemmas.Bool.{cases_Bool, cases_lt}
+use Rattle.std.proofs.lemmas.List.{get_or_default}
 use Rattle.std.proofs.lemmas.List.Elements.{All-cons, All-nil}
 use Rattle.outside.specs.Attached.{told_all}
-use Rattle.outside.specs.Seen.{Image, OnlyReads, Seen}
+use Rattle.outside.specs.Seen.{Image, OnlyReads, Seen, lengths_of}
 use Rattle.outside.specs.Streams.{Stream}
 use Rattle.raid_params.specs.declared.limits.TheConstants.{MOST}
 use Rattle.command_words.specs.Commands.{AreAsked}
 use Rattle.command_words.specs.declared.command.SurveyWords.{SurveyWords}
 use Rattle.run_ends.proofs.Lengths.{end_near}
 use Rattle.run_ends.proofs.Limits.{all_reach, no_limits}
-use Rattle.run_ends.specs.Agreement.{end_of, limits_fault}
+use Rattle.run_ends.specs.Agreement.{end_of, limits_fault, long_fault, long_image}
 use Rattle.run_ends.proofs.CutShort.{cut_ends, cut_images, cut_other, cut_read}
 use Rattle.run_ends.proofs.Printed.{no_raise, order_allowed}
 use Rattle.run_ends.specs.Cuts.{CutsShort}
 use Rattle.run_ends.specs.Jobs.{Answers, around, named}
 use Rattle.run_ends.specs.declared.agreement.Disagreement.{Disagreement}
 use Rattle.run_ends.specs.declared.stop.Stop.{Stop}
-use Rattle.run_ends.specs.declared.stop.Refusal.{Refusal}
 use Rattle.run_ends.specs.declared.stop.Refusal.TheVariants.{Images}
 use Rattle.run_ends.specs.declared.stop.Stop.TheVariants.{SourceFault, OutFault}
 use Rattle.plan_text.specs.Parts.{AreMembers}
 use Rattle.plan_text.specs.PlanText.{plan_text}
 use Rattle.survey_engine.specs.Surveys.{survey_reads as reads_of, IsSurveyable}
 use Rattle.survey_engine.specs.declared.ask.Ask.{Ask}
-use Rattle.survey_job.specs.Surveying.{ask_of, members_for, survey_job, survey_output, survey_plan, survey_reads, survey_refusal, window_for}
+use Rattle.survey_job.specs.Surveying.{ask_of, members_for, survey_fault, survey_job, survey_output, survey_plan, survey_reads, survey_refusal, window_for}
 
 -- the images are refused, or not
-pub images_refused : (asked : SurveyWords) (names : ℕ) (attached : List Image) (fault : Disagreement) → limits_fault asked.end names attached ≡ Some fault → survey_refusal asked names attached ≡ Some (Images fault)
+pub images_refused : (asked : SurveyWords) (names : ℕ) (attached : List Image) (fault : Disagreement) → survey_fault asked names attached ≡ Some fault → survey_refusal asked names attached ≡ Some (Images fault)
 unfolding survey_refusal
 images_refused asked names attached fault e = ap (option_map (λ (f : Disagreement). Images f)) e
 
-pub images_allowed : (asked : SurveyWords) (names : ℕ) (attached : List Image) → limits_fault asked.end names attached ≡ None → survey_refusal asked names attached ≡ None
+pub images_allowed : (asked : SurveyWords) (names : ℕ) (attached : List Image) → survey_fault asked names attached ≡ None → survey_refusal asked names attached ≡ None
 unfolding survey_refusal
 images_allowed asked names attached e = ap (option_map (λ (f : Disagreement). Images f)) e
 
@@ -55,10 +57,56 @@ window_is : (window : Option ℕ) (end : ℕ) → end < 2 ^ 55 → IfSome window
 window_is None end near given = (omega arith, omega arith)
 window_is (Some n) end near given = given
 
+-- where no image is refused none is for either cause
+first_none : (first last : Option Disagreement) → option_or first last ≡ None → (first ≡ None) × (last ≡ None)
+first_none None last e = (refl, e)
+first_none (Some fault) last e = absurd (cc)
+
+limits_allowed : (asked : SurveyWords) (names : ℕ) (attached : List Image) → survey_fault asked names attached ≡ None → limits_fault asked.end names attached ≡ None
+limits_allowed asked names attached none = (first_none (limits_fault asked.end names attached) (cond asked.each (long_fault attached) None) none).0
+
+long_allowed : (asked : SurveyWords) (names : ℕ) (attached : List Image) → survey_fault asked names attached ≡ None → asked.each ≡ true → long_fault attached ≡ None
+long_allowed asked names attached none each =
+    ap (λ (b : Bool). cond b (long_fault attached) None) (sym each) ∙ (first_none (limits_fault asked.end names attached) (cond asked.each (long_fault attached) None) none).1
+
+-- all images are attached where there are not too many
+pub all_attached : (asked : SurveyWords) (names : ℕ) (attached : List Image) → limits_fault asked.end names attached ≡ None → length attached ≡ min names 65536 → (length attached ≡ names) × (names ≤ MOST)
+all_attached asked names attached none count =
+    let few = (no_limits asked.end names attached none).few in
+    (omega (arith, few, count), few)
+
+-- none of these images is too long
+map_none : (r : Option ℕ) (f : ℕ → Disagreement) → option_map f r ≡ None → r ≡ None
+map_none None f e = refl
+map_none (Some i) f e = absurd (cc)
+
+find_nothing : (attached : List Image) → long_fault attached ≡ None → long_image (lengths_of attached) ≡ None
+find_nothing attached e = map_none (long_image (lengths_of attached)) _ e
+
+too_long : (n : ℕ) → nat_le (2 ^ 54) n ≡ false → n < 2 ^ 54
+too_long n is = grind (arith, nat_tests)
+
+none_in : (p : ℕ → Bool) (a n k : ℕ) → find p (range_with_len a n) ≡ None → a ≤ k → k < a + n → p k ≡ false
+none_in p a zero k h from to = absurd (omega arith)
+none_in p a (suc n) k h from to =
+    elim (cases_Bool (p a)) [
+      | inl is ↦ absurd (let e : Some a ≡ None = sym (ap (λ (b : Bool). cond b (Some a) (find p (range_with_len (a + 1) n))) is) ∙ h in cc)
+      | inr is ↦ (let rest : find p (range_with_len (a + 1) n) ≡ None = sym (ap (λ (b : Bool). cond b (Some a) (find p (range_with_len (a + 1) n))) is) ∙ h in
+          elim (cases_lt a k) [
+            | inl more ↦ none_in p (a + 1) n k rest (omega arith) (omega arith)
+            | inr same ↦ (let e : a ≡ k = omega arith in ap p (sym e) ∙ is)
+          ])
+    ]
+
+none_long : (lengths : List ℕ) → long_image lengths ≡ None → All (λ n. n < 2 ^ 54) lengths
+none_long lengths none k d below =
+    subst (λ (n : ℕ). n < 2 ^ 54) (get_or_default lengths k 0 d below)
+    (too_long (get_or lengths k 0) (none_in (λ i. nat_le (2 ^ 54) (slice_index lengths i)) 0 (length lengths) k none (omega arith) (omega arith)))
+
 -- what is not refused can be surveyed
-pub surveyable : (asked : SurveyWords) (names : ℕ) (attached : List Image) → limits_fault asked.end names attached ≡ None → AreAsked asked → All (λ image. image.sectors < 2 ^ 55) attached → length attached ≡ min names 65536 → IsSurveyable (ask_of asked names (end_of asked.end attached)) attached
+pub surveyable : (asked : SurveyWords) (names : ℕ) (attached : List Image) → survey_fault asked names attached ≡ None → AreAsked asked → All (λ image. image.sectors < 2 ^ 55) attached → length attached ≡ min names 65536 → IsSurveyable (ask_of asked names (end_of asked.end attached)) attached
 surveyable asked names attached none good small count =
-    let allowed = no_limits asked.end names attached none in
+    let allowed = no_limits asked.end names attached (limits_allowed asked names attached none) in
     let few = allowed.few in
     let some = allowed.some in
     let window = window_is asked.window (end_of asked.end attached) (end_near asked.end attached small good.end) good.window in
@@ -67,11 +115,13 @@ surveyable asked names attached none good small count =
         bounds = good.bounds (record { items = members_for asked.bounds.members.items names }) (members_are asked.bounds.members.items names some few good.members);
         limits = record { badrows = good.badrows; some_window = window.0; window = window.1 };
         tests = good.tests;
+        unit = good.unit;
       };
       some = omega arith;
       most = omega arith;
       short = small;
       long = all_reach attached (end_of asked.end attached) allowed.reaches;
+      each = λ e. record { own = (good.each e).0; short = none_long (lengths_of attached) (find_nothing attached (long_allowed asked names attached none e)); near = (good.each e).1 };
     }
 
 -- the text of the plan, where the bytes are known
@@ -91,15 +141,15 @@ text_told asked names end attached told answer ask same is h =
     (subst (λ (a : Ask). IfOk answer (λ text. IfSome told (λ bytes. text ≡ plan_text (survey_plan a attached bytes)))) (is ∙ ap (ask_of asked names) same) h)
 
 -- what is read where the images are not refused: each of them is attached
-pub read_for : (asked : SurveyWords) (names end : ℕ) (old new : Seen) (ask : Ask) → limits_fault asked.end names old.attached ≡ None → length old.attached ≡ min names 65536 → end ≡ end_of asked.end old.attached → ask ≡ ask_of asked names end →
+pub read_for : (asked : SurveyWords) (names end : ℕ) (old new : Seen) (ask : Ask) → survey_fault asked names old.attached ≡ None → length old.attached ≡ min names 65536 → end ≡ end_of asked.end old.attached → ask ≡ ask_of asked names end →
     OnlyReads old new (reads_of ask old.attached) → OnlyReads old new (survey_reads asked old.attached)
 read_for asked names end old new ask none count same is reads =
-    let few = (no_limits asked.end names old.attached none).few in
+    let few = (no_limits asked.end names old.attached (limits_allowed asked names old.attached none)).few in
     let all : names ≡ length old.attached = omega (arith, few, count) in
     subst (λ (a : Ask). OnlyReads old new (reads_of a old.attached)) (is ∙ ap (ask_of asked names) same ∙ ap (λ (n : ℕ). ask_of asked n (end_of asked.end old.attached)) all) reads
 
 -- the answer of a survey that is not refused
-pub survey_answers : (asked : SurveyWords) (names : ℕ) (old new : Seen) (source : Stream) (answer : Result (List ℕ) Stop) → limits_fault asked.end names old.attached ≡ None →
+pub survey_answers : (asked : SurveyWords) (names : ℕ) (old new : Seen) (source : Stream) (answer : Result (List ℕ) Stop) → survey_fault asked names old.attached ≡ None →
     IfOk answer (λ text. IfSome (survey_output asked names old.attached (told_all old.attached)) (λ printed. text ≡ printed)) → OnlyReads old new (survey_reads asked old.attached) → OnOk answer (new.faults ≡ old.faults) → IfErr answer (CutsShort old new) →
     Answers (survey_job asked) (named names old.attached) (around old source) (around new source) answer
 survey_answers asked names old new source answer none text reads quiet ends =

@@ -1,7 +1,8 @@
 -- What `survey` refuses and prints.
 use Rattle.std.specs.Prelude.{ℕ, false, max, nat_eq, if◌then◌else◌, List, [], ◌∷◌, length, unwrap_or}
-use Rattle.std.specs.Option.{option_map}
+use Rattle.std.specs.Option.{option_map, option_or}
 use Rattle.std.specs.declared.option.Option.{Option}
+use Rattle.std.specs.declared.option.Option.TheVariants.{None}
 use Rattle.outside.specs.Seen.{Image, lengths_of}
 use Rattle.search_plan.specs.declared.plan.Plan.{Plan}
 use Rattle.survey_engine.specs.Origins.{origins_of}
@@ -11,7 +12,8 @@ use Rattle.survey_engine.specs.declared.ask.Ask.{Ask}
 use Rattle.plan_text.specs.PlanText.{plan_text}
 use Rattle.command_words.specs.declared.command.SurveyWords.{SurveyWords}
 use Rattle.outside.specs.Attached.{told_all}
-use Rattle.run_ends.specs.Agreement.{end_of, limits_fault}
+use Rattle.run_ends.specs.Agreement.{end_of, limits_fault, long_fault}
+use Rattle.run_ends.specs.declared.agreement.Disagreement.{Disagreement}
 use Rattle.run_ends.specs.Jobs.{Job, textless}
 use Rattle.run_ends.specs.declared.stop.Refusal.{Refusal}
 use Rattle.run_ends.specs.declared.stop.Refusal.TheVariants.{Images}
@@ -33,6 +35,8 @@ ask_of asked names end = record {
   tests = asked.tests;
   kinds = asked.kinds;
   drops = asked.drops;
+  each = asked.each;
+  unit = asked.unit;
 }
 
 -- the plan of a survey: it repeats what was asked, and adds the images' lengths, the groups of the landmarks
@@ -49,11 +53,17 @@ survey_plan ask attached images = record {
     least = ask.tests.least;
   };
   groups = groups_of (found_in ask attached images);
+  each = ask.each;
 }
+
+-- how the images disagree with what `survey` takes; where each is to have an offset of its own, the last cause is
+-- the first image that is too long for that
+abbrev pub survey_fault : SurveyWords → ℕ → List Image → Option Disagreement
+survey_fault asked names attached = option_or (limits_fault asked.end names attached) (if asked.each then long_fault attached else None)
 
 -- the first refusal of `survey`
 unfoldable pub survey_refusal : SurveyWords → ℕ → List Image → Option Refusal
-survey_refusal asked names attached = option_map (λ fault. Images fault) (limits_fault asked.end names attached)
+survey_refusal asked names attached = option_map (λ fault. Images fault) (survey_fault asked names attached)
 
 -- what `survey` prints, where the bytes of the images are known
 unfoldable pub survey_output : SurveyWords → ℕ → List Image → Option (List (List ℕ)) → Option (List ℕ)

@@ -8,14 +8,14 @@ ghost use Rattle.plan_text.specs.PlanText.{plan_text};
 ghost use Rattle.run_ends.specs.Cuts.{CutsShort};
 ghost use Rattle.run_ends.specs.Jobs.{Answers, Does, around, named, stream};
 ghost use Rattle.survey_engine.specs.Surveys.{survey_reads as reads_of, IsSurveyable};
-ghost use Rattle.survey_job.specs.Surveying.{ask_of as ask_of_words, members_for, survey_job, survey_plan};
+ghost use Rattle.survey_job.specs.Surveying.{ask_of as ask_of_words, members_for, survey_fault, survey_job, survey_plan};
 
 use arrayvec::ArrayVec;
 use command_words::SurveyWords;
 use outside::{Images, MOST_ATTACHED, Sink};
 use plan_text::{Text, write_plan};
 use raid_params::{Bounds, MOST, MOST_LESS_ONE};
-use run_ends::{Refusal, Stop, end_of, limits_fault, print};
+use run_ends::{Disagreement, Refusal, Stop, end_of, limits_fault, long_fault, print};
 use search_plan::Limits;
 use std::alloc::Global;
 use survey_engine::{Ask, SurveyFault};
@@ -54,12 +54,26 @@ fn answer<I: Images>(
         (around (I.seen images.old) source) (around (I.seen images.new) source) result }
     ensures kept { (I.seen images.new).attached ≡ (I.seen images.old).attached }
 {
-    if let Some(fault) = limits_fault(images, names, asked.end) {
+    if let Some(fault) = images_fault(images, names, &asked) {
         return Err(Stop::Refused(Refusal::Images(fault)));
     }
     let end = end_of(images, names, asked.end);
     let ask = ask_of(asked, names, end);
     plan_lines(alloc, images, &ask)
+}
+
+/// How the images disagree with what `survey` takes: as with any command over images, and where each is to have
+/// an offset of its own, by the first that is too long for that.
+#[tactic(auto, using(crate::proofs::Surveyed::all_attached))]
+fn images_fault<I: Images>(images: &I, names: usize, asked: &SurveyWords) -> Option<Disagreement>
+    requires attached { length (I.seen images.now).attached ≡ min names MOST_ATTACHED }
+    ensures { result ≡ survey_fault asked.now names (I.seen images.now).attached }
+{
+    match limits_fault(images, names, asked.end) {
+        Some(fault) => Some(fault),
+        None if asked.each => long_fault(images, names),
+        None => None,
+    }
 }
 
 /// The text of the plan of a survey.
@@ -96,6 +110,8 @@ pub fn ask_of(asked: SurveyWords, names: usize, end: u64) -> Ask
         tests: asked.tests,
         kinds: asked.kinds,
         drops: asked.drops,
+        each: asked.each,
+        unit: asked.unit,
     }
 }
 

@@ -28,6 +28,7 @@ returns-clause-plan g c =
       bounds = rw c.copy_of_bounds.ensures c.requires.ask_is.bounds;
       limits = c.requires.ask_is.limits;
       tests = record { origins = origins.rising; few_origins = origins.few; near_origins = origins.near; misfits = c.requires.ask_is.tests.misfits; least = c.requires.ask_is.tests.least };
+      each = λ e. rw (lengths, c.copy_of_bounds.ensures) (c.requires.each e);
       groups = rw made (rw (← same) (are_groups c.deref.result.now c.in_ok-found.found are));
     }
 

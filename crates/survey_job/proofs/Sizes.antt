@@ -1,0 +1,388 @@
+-- How long the text of a plan is at most.
+use Rattle.std.proofs.Common.{◌≡◌, ℕ, zero, suc, ◌+◌, ◌*◌, ◌^◌, ◌<◌, ◌≤◌, List, [], ◌∷◌, ◌++◌, Bool, true, false, cond, length, map, codes, decimal, refl, ap, ◌∙◌, arith, All, IsSomeAnd, slice_get, lit≤, lit<}
+use Rattle.std.specs.Prelude.{count_by, ◌==◌}
+use Rattle.std.specs.List.{flat_map, join_with_byte}
+use Rattle.std.proofs.lemmas.Fmt.{length-decimal-le}
+use Rattle.std.proofs.lemmas.List.{length-append, length-map}
+use Rattle.std.proofs.lemmas.List.Concat.{flat_map-append}
+use Rattle.std.proofs.lemmas.List.Elements.{All-from_recursion, All-head, All-map, All-tail, All-weaker}
+use Rattle.std.proofs.lemmas.List.Sums.{sum_by-cons}
+use Rattle.raid_params.specs.declared.types.Level.{Level}
+use Rattle.raid_params.specs.declared.types.Level.TheVariants.{Raid0, Raid5, Raid6}
+use Rattle.raid_params.specs.declared.types.Pattern.{Pattern}
+use Rattle.raid_params.specs.declared.types.Pattern.TheVariants.{Plain, La, Ra, Ls, Rs, ParityFirst, ParityLast, NRestart, NContinue, La6, Ra6, Ls6, Rs6, ParityFirst6}
+use Rattle.raid_params.specs.declared.types.Syndrome.{Syndrome}
+use Rattle.raid_params.specs.declared.types.Syndrome.TheVariants.{NoQ, AfterQ, ByData, BySlot}
+use Rattle.raid_params.specs.declared.types.Bounds.{Bounds}
+use Rattle.mark_kinds.specs.declared.groups.GroupKind.{GroupKind}
+use Rattle.mark_kinds.specs.declared.groups.GroupKind.TheVariants.{Gpt as GptGroup, Ntfs as NtfsGroup, Xfs as XfsGroup, Btrfs as BtrfsGroup, Lvm as LvmGroup, Ext as ExtGroup}
+use Rattle.mark_kinds.specs.declared.sectors.Kind.{Kind}
+use Rattle.mark_kinds.specs.declared.sectors.Kind.TheVariants.{Gpt, Boot, FileRecord, Super, Agf, Agi, Btrfs, Lvm, Ext}
+use Rattle.mark_kinds.proofs.Counts.{few_in_all}
+use Rattle.landmark_rules.specs.Groups.{group_place, marks_in, AreGroups, IsMark}
+use Rattle.landmark_rules.specs.Rules.{IsRule}
+use Rattle.landmark_rules.specs.declared.marks.Group.{Group}
+use Rattle.landmark_rules.specs.declared.marks.Mark.{Mark}
+use Rattle.landmark_rules.specs.declared.marks.MarkTests.{MarkTests}
+use Rattle.landmark_rules.specs.declared.marks.Rule.{Rule}
+use Rattle.landmark_rules.specs.declared.marks.Rule.TheVariants.{At, Either, Every}
+use Rattle.search_plan.specs.Plans.{AreBounds, AreLengths, AreLimits, AreTests}
+use Rattle.search_plan.specs.declared.plan.Limits.{Limits}
+use Rattle.value_text.specs.Spelling.{level_name, pattern_name, syndrome_name, group_name, kind_name, commas, named, line}
+use Rattle.value_text.proofs.Fits.{chunks_are_short, chunks_fit, levels_fit, members_fit, patterns_fit, syndromes_fit}
+use Rattle.plan_text.specs.PlanText.{group_lines, groups_lines, image_lines, mark_line, rule_text, search_lines, version_line, version_number}
+use Rattle.survey_job.specs.Laws.{NoPlanIsTooLong}
+
+-- ---- numbers and names
+
+abbrev IsShort : List ℕ → Type 0
+IsShort text = length text ≤ 20
+
+short_number : (n : ℕ) → n < 2 ^ 64 → IsShort (decimal n)
+short_number n below = length-decimal-le 20 n (lit< tt) (omega (arith, below)) below
+
+-- a number of sectors has 17 digits at most
+sectors_short : (n : ℕ) → n < 2 ^ 55 → length (decimal n) ≤ 17
+sectors_short n below = length-decimal-le 17 n (lit< tt) (omega (arith, below)) (omega (arith, below))
+
+image_short : (n : ℕ) → n < 24 → length (decimal n) ≤ 2
+image_short n below = length-decimal-le 2 n (lit< tt) (omega (arith, below)) (omega (arith, below))
+
+level_short : (x : Level) → IsShort (level_name x)
+level_short Raid0 = lit≤ tt
+level_short Raid5 = lit≤ tt
+level_short Raid6 = lit≤ tt
+
+pattern_short : (x : Pattern) → IsShort (pattern_name x)
+pattern_short Plain = lit≤ tt
+pattern_short La = lit≤ tt
+pattern_short Ra = lit≤ tt
+pattern_short Ls = lit≤ tt
+pattern_short Rs = lit≤ tt
+pattern_short ParityFirst = lit≤ tt
+pattern_short ParityLast = lit≤ tt
+pattern_short NRestart = lit≤ tt
+pattern_short NContinue = lit≤ tt
+pattern_short La6 = lit≤ tt
+pattern_short Ra6 = lit≤ tt
+pattern_short Ls6 = lit≤ tt
+pattern_short Rs6 = lit≤ tt
+pattern_short ParityFirst6 = lit≤ tt
+
+syndrome_short : (x : Syndrome) → IsShort (syndrome_name x)
+syndrome_short NoQ = lit≤ tt
+syndrome_short AfterQ = lit≤ tt
+syndrome_short ByData = lit≤ tt
+syndrome_short BySlot = lit≤ tt
+
+kind_short : (kind : Kind) → length (kind_name kind) ≤ 6
+kind_short Gpt = lit≤ tt
+kind_short Boot = lit≤ tt
+kind_short FileRecord = lit≤ tt
+kind_short Super = lit≤ tt
+kind_short Agf = lit≤ tt
+kind_short Agi = lit≤ tt
+kind_short Btrfs = lit≤ tt
+kind_short Lvm = lit≤ tt
+kind_short Ext = lit≤ tt
+
+group_short : (kind : GroupKind) → length (group_name kind) ≤ 6
+group_short GptGroup = lit≤ tt
+group_short NtfsGroup = lit≤ tt
+group_short XfsGroup = lit≤ tt
+group_short BtrfsGroup = lit≤ tt
+group_short LvmGroup = lit≤ tt
+group_short ExtGroup = lit≤ tt
+
+-- ---- lines
+
+abbrev IsShortLine : List ℕ → Type 0
+IsShortLine text = length text ≤ 1400
+
+-- pieces and what stands between them
+joined : (c : ℕ) (pieces : List (List ℕ)) → All IsShort pieces → length (join_with_byte c pieces) ≤ length pieces * 21
+joined c [] all = omega arith
+joined c (x ∷ []) all = omega (arith, All-head IsShort x [] all)
+joined c (x ∷ y ∷ pieces) all =
+    omega (arith, length-append x (c ∷ join_with_byte c (y ∷ pieces)), All-head IsShort x (y ∷ pieces) all, joined c (y ∷ pieces) (All-tail IsShort x (y ∷ pieces) all))
+
+list_line : (name : List ℕ) (pieces : List (List ℕ)) → length name ≤ 10 → length pieces ≤ 64 → All IsShort pieces → IsShortLine (named name (commas pieces))
+list_line name pieces short few all = omega (arith, short, few, length-append name (32 ∷ commas pieces), joined 44 pieces all)
+
+number_line : (name : List ℕ) (n : ℕ) → length name ≤ 10 → n < 2 ^ 64 → length (named name (decimal n)) ≤ 31
+number_line name n short below = omega (arith, short, length-append name (32 ∷ decimal n), short_number n below)
+
+short_line : (name : List ℕ) (n : ℕ) → length name ≤ 10 → n < 2 ^ 64 → IsShortLine (named name (decimal n))
+short_line name n short below = omega (arith, number_line name n short below)
+
+-- a list of values with short names
+names_line : {A : Type 0} (name : List ℕ) (spell : A → List ℕ) (xs : List A) → length name ≤ 10 → length xs ≤ 64 → ((x : A) → IsShort (spell x)) → IsShortLine (named name (commas (map spell xs)))
+names_line name spell xs short few each =
+    list_line name (map spell xs) short (omega (arith, few, length-map xs spell)) (All-map IsShort spell xs (λ k d below. each _))
+
+numbers_line : (name : List ℕ) (ns : List ℕ) → length name ≤ 10 → length ns ≤ 64 → All (λ n. n < 2 ^ 64) ns → IsShortLine (named name (commas (map decimal ns)))
+numbers_line name ns short few all =
+    list_line name (map decimal ns) short (omega (arith, few, length-map ns decimal)) (All-map IsShort decimal ns (All-weaker (λ n. n < 2 ^ 64) (λ n. IsShort (decimal n)) short_number ns all))
+
+-- lines together
+line_long : (text : List ℕ) → length (line text) ≡ length text + 1
+line_long text = length-append text (10 ∷ [])
+
+size : List (List ℕ) → ℕ
+size lines = length (flat_map line lines)
+
+size_cons : (text : List ℕ) (lines : List (List ℕ)) → size (text ∷ lines) ≡ length text + 1 + size lines
+unfolding size
+size_cons text lines = omega (arith, length-append (line text) (flat_map line lines), line_long text)
+
+size_append : (some more : List (List ℕ)) → size (some ++ more) ≡ size some + size more
+unfolding size
+size_append some more = ap length (flat_map-append line some more) ∙ length-append (flat_map line some) (flat_map line more)
+
+size_none : size [] ≡ 0
+unfolding size
+size_none = refl
+
+size_short : (lines : List (List ℕ)) → All IsShortLine lines → size lines ≤ length lines * 1401
+size_short [] all = omega (arith, size_none)
+size_short (text ∷ lines) all = omega (arith, size_cons text lines, All-head IsShortLine text lines all, size_short lines (All-tail IsShortLine text lines all))
+
+-- ---- the search
+
+far : (n : ℕ) → n < 2 ^ 55 → n < 2 ^ 64
+far n below = omega (arith, below)
+
+all_far : (ns : List ℕ) → All (λ n. n < 2 ^ 55) ns → All (λ n. n < 2 ^ 64) ns
+all_far ns all = All-weaker (λ n. n < 2 ^ 55) (λ n. n < 2 ^ 64) far ns all
+
+lengths_short : (lengths : List ℕ) → All (λ n. n < 2 ^ 64) lengths → size (map (λ n. named (codes "length") (decimal n)) lengths) ≤ length lengths * 32
+lengths_short [] all = omega (arith, size_none)
+lengths_short (n ∷ lengths) all =
+    omega (
+      arith,
+      size_cons (named (codes "length") (decimal n)) (map (λ n. named (codes "length") (decimal n)) lengths),
+      number_line (codes "length") n (lit≤ tt) (All-head (λ n. n < 2 ^ 64) n lengths all),
+      lengths_short lengths (All-tail (λ n. n < 2 ^ 64) n lengths all),
+    )
+
+images_short : (lengths : List ℕ) → AreLengths lengths → size (image_lines lengths) ≤ 800
+images_short lengths are =
+    let most = are.most in
+    omega (
+      arith,
+      size_cons (named (codes "images") (decimal (length lengths))) (map (λ n. named (codes "length") (decimal n)) lengths),
+      number_line (codes "images") (length lengths) (lit≤ tt) (omega arith),
+      lengths_short lengths (all_far lengths are.short),
+      most,
+    )
+
+members_short : (ns : List ℕ) → All (λ n. (2 ≤ n) × (n ≤ 24)) ns → All (λ n. n < 2 ^ 64) ns
+members_short ns all = All-weaker (λ n. (2 ≤ n) × (n ≤ 24)) (λ n. n < 2 ^ 64) (λ n is. let top = is.1 in omega arith) ns all
+
+search_short : (end : ℕ) (bounds : Bounds) (limits : Limits) (tests : MarkTests) → end < 2 ^ 55 → AreBounds bounds → AreLimits limits → AreTests tests → size (search_lines end bounds limits tests) ≤ 14 * 1401
+search_short end bounds limits tests near are_bounds are_limits are_tests =
+    let levels = levels_fit bounds.levels.items are_bounds.levels in
+    let members = members_fit bounds.members.items are_bounds.members are_bounds.few_members in
+    let patterns = patterns_fit bounds.patterns.items are_bounds.patterns in
+    let syndromes = syndromes_fit bounds.syndromes.items are_bounds.syndromes in
+    let chunks = chunks_fit bounds.chunks.items are_bounds.chunks are_bounds.powers in
+    let missing = are_bounds.missing in
+    let foreign = are_bounds.foreign in
+    size_short (search_lines end bounds limits tests)
+    (All-from_recursion IsShortLine (search_lines end bounds limits tests) (
+      short_line (codes "end") end (lit≤ tt) (far end near),
+      (
+        names_line (codes "levels") level_name bounds.levels.items (lit≤ tt) (omega arith) level_short,
+        (
+          numbers_line (codes "members") bounds.members.items (lit≤ tt) (omega arith) (members_short bounds.members.items are_bounds.few_members),
+          (
+            names_line (codes "patterns") pattern_name bounds.patterns.items (lit≤ tt) (omega arith) pattern_short,
+            (
+              names_line (codes "syndromes") syndrome_name bounds.syndromes.items (lit≤ tt) (omega arith) syndrome_short,
+              (
+                numbers_line (codes "chunks") bounds.chunks.items (lit≤ tt) (omega arith) (chunks_are_short bounds.chunks.items are_bounds.powers),
+                (
+                  numbers_line (codes "offsets") bounds.offsets.items (lit≤ tt) are_bounds.few_offsets (all_far bounds.offsets.items are_bounds.near_offsets),
+                  (
+                    numbers_line (codes "origins") tests.origins.items (lit≤ tt) are_tests.few_origins (all_far tests.origins.items are_tests.near_origins),
+                    (
+                      short_line (codes "missing") bounds.missing (lit≤ tt) (omega arith),
+                      (
+                        short_line (codes "foreign") bounds.foreign (lit≤ tt) (omega arith),
+                        (
+                          short_line (codes "badrows") limits.badrows (lit≤ tt) (far limits.badrows are_limits.badrows),
+                          (
+                            short_line (codes "window") limits.window (lit≤ tt) (far limits.window are_limits.window),
+                            (
+                              short_line (codes "misfits") tests.misfits (lit≤ tt) (far tests.misfits are_tests.misfits),
+                              (
+                                short_line (codes "least") tests.least (lit≤ tt) (far tests.least are_tests.least),
+                                tt,
+                              ),
+                            ),
+                          ),
+                        ),
+                      ),
+                    ),
+                  ),
+                ),
+              ),
+            ),
+          ),
+        ),
+      ),
+    ))
+
+-- ---- marks
+
+rule_short : (rule : Rule) → IsRule rule → length (rule_text rule) ≤ 59
+rule_short (At d) is = omega (arith, length-append (codes "at") (58 ∷ decimal d), sectors_short d is)
+rule_short (Either d e) is =
+    omega (arith, length-append (codes "either") (58 ∷ (decimal d ++ 58 ∷ decimal e)), length-append (decimal d) (58 ∷ decimal e), sectors_short d is.0, sectors_short e is.1)
+rule_short (Every step count plus) is =
+    omega (
+      arith,
+      length-append (codes "every") (58 ∷ (decimal step ++ 58 ∷ (decimal count ++ 58 ∷ decimal plus))),
+      length-append (decimal step) (58 ∷ (decimal count ++ 58 ∷ decimal plus)),
+      length-append (decimal count) (58 ∷ decimal plus),
+      sectors_short step is.0,
+      sectors_short count is.1,
+      sectors_short plus is.2,
+    )
+
+-- a sector of an image
+sector_near : (lengths : List ℕ) (i sector : ℕ) → All (λ n. n < 2 ^ 55) lengths → IsSomeAnd (slice_get lengths i) (λ n. sector < n) → sector < 2 ^ 55
+sector_near [] i sector all is = absurd is
+sector_near (n ∷ lengths) zero sector all is = omega (arith, All-head (λ n. n < 2 ^ 55) n lengths all, is)
+sector_near (n ∷ lengths) (suc i) sector all is = sector_near lengths i sector (All-tail (λ n. n < 2 ^ 55) n lengths all) is
+
+mark_short : (lengths : List ℕ) (kind : GroupKind) (mark : Mark) → All (λ n. n < 2 ^ 55) lengths → IsMark lengths kind mark → length (mark_line mark) ≤ 92
+mark_short lengths kind mark all is =
+    let image = decimal mark.image in
+    let sector = decimal mark.sector in
+    let rule = rule_text mark.rule in
+    omega (
+      arith,
+      length-append (codes "mark") (32 ∷ (kind_name mark.kind ++ 32 ∷ (image ++ 32 ∷ (sector ++ 32 ∷ rule)))),
+      length-append (kind_name mark.kind) (32 ∷ (image ++ 32 ∷ (sector ++ 32 ∷ rule))),
+      length-append image (32 ∷ (sector ++ 32 ∷ rule)),
+      length-append sector (32 ∷ rule),
+      kind_short mark.kind,
+      image_short mark.image is.image,
+      sectors_short mark.sector (sector_near lengths mark.image mark.sector all is.sector),
+      rule_short mark.rule is.rule,
+    )
+
+marks_short : (lengths : List ℕ) (kind : GroupKind) (marks : List Mark) → All (λ n. n < 2 ^ 55) lengths → All (IsMark lengths kind) marks → size (map mark_line marks) ≤ length marks * 93
+marks_short lengths kind [] all are = omega (arith, size_none)
+marks_short lengths kind (mark ∷ marks) all are =
+    omega (
+      arith,
+      size_cons (mark_line mark) (map mark_line marks),
+      mark_short lengths kind mark all (All-head (IsMark lengths kind) mark marks are),
+      marks_short lengths kind marks all (All-tail (IsMark lengths kind) mark marks are),
+    )
+
+-- ---- groups
+
+abbrev HasMarks : List ℕ → Group → Type 0
+HasMarks lengths group = All (IsMark lengths group.kind) group.marks
+
+group_size : (lengths : List ℕ) (group : Group) → All (λ n. n < 2 ^ 55) lengths → HasMarks lengths group → size (group_lines group) ≤ 20 + length group.marks * 93
+group_size lengths group all are =
+    omega (
+      arith,
+      size_cons (named (codes "group") (group_name group.kind)) (map mark_line group.marks),
+      length-append (codes "group") (32 ∷ group_name group.kind),
+      group_short group.kind,
+      marks_short lengths group.kind group.marks all are,
+    )
+
+groups_size : (lengths : List ℕ) (groups : List Group) → All (λ n. n < 2 ^ 55) lengths → All (HasMarks lengths) groups → size (flat_map group_lines groups) ≤ length groups * 20 + length (marks_in groups) * 93
+groups_size lengths [] all are = omega (arith, size_none)
+groups_size lengths (group ∷ groups) all are =
+    omega (
+      arith,
+      size_append (group_lines group) (flat_map group_lines groups),
+      length-append group.marks (marks_in groups),
+      group_size lengths group all (All-head (HasMarks lengths) group groups are),
+      groups_size lengths groups all (All-tail (HasMarks lengths) group groups are),
+    )
+
+abbrev is_at : ℕ → Group → Bool
+is_at n group = group_place group.kind == n
+
+one_of : (kind : GroupKind) →
+    1 ≤ cond (group_place kind == 0) 1 0 + cond (group_place kind == 1) 1 0 + cond (group_place kind == 2) 1 0 + cond (group_place kind == 3) 1 0 + cond (group_place kind == 4) 1 0 + cond (group_place kind == 5) 1 0
+one_of GptGroup = lit≤ tt
+one_of NtfsGroup = lit≤ tt
+one_of XfsGroup = lit≤ tt
+one_of BtrfsGroup = lit≤ tt
+one_of LvmGroup = lit≤ tt
+one_of ExtGroup = lit≤ tt
+
+-- each group is at the place of its kind
+in_all : (groups : List Group) →
+    length groups ≤ count_by (is_at 0) groups + count_by (is_at 1) groups + count_by (is_at 2) groups + count_by (is_at 3) groups + count_by (is_at 4) groups + count_by (is_at 5) groups
+in_all [] = omega arith
+in_all (group ∷ groups) =
+    omega (
+      arith,
+      sum_by-cons (λ g. cond (is_at 0 g) 1 0) group groups,
+      sum_by-cons (λ g. cond (is_at 1 g) 1 0) group groups,
+      sum_by-cons (λ g. cond (is_at 2 g) 1 0) group groups,
+      sum_by-cons (λ g. cond (is_at 3 g) 1 0) group groups,
+      sum_by-cons (λ g. cond (is_at 4 g) 1 0) group groups,
+      sum_by-cons (λ g. cond (is_at 5 g) 1 0) group groups,
+      one_of group.kind,
+      in_all groups,
+    )
+
+few_groups : (lengths : List ℕ) (groups : List Group) → AreGroups lengths groups → length groups ≤ 192
+few_groups lengths groups are =
+    omega (arith, in_all groups, are.few GptGroup, are.few NtfsGroup, are.few XfsGroup, are.few BtrfsGroup, are.few LvmGroup, are.few ExtGroup)
+
+few_marks : (lengths : List ℕ) (groups : List Group) → AreGroups lengths groups → length (marks_in groups) ≤ 9 * 4096
+few_marks lengths groups are = few_in_all (λ (mark : Mark). mark.kind) 4096 (marks_in groups) are.few_marks
+
+groups_short : (lengths : List ℕ) (groups : List Group) → All (λ n. n < 2 ^ 55) lengths → AreGroups lengths groups → size (groups_lines groups) ≤ 192 * 20 + 9 * 4096 * 93 + 5
+groups_short lengths groups all are =
+    omega (
+      arith,
+      size_append (flat_map group_lines groups) (codes "done" ∷ []),
+      size_cons (codes "done") [],
+      size_none,
+      groups_size lengths groups all are.marks,
+      few_groups lengths groups are,
+      few_marks lengths groups are,
+    )
+
+-- ---- the plan
+
+version_small : (each : Bool) → version_number each < 2 ^ 64
+version_small true = lit< tt
+version_small false = lit< tt
+
+version_short : (each : Bool) → length (version_line each) ≤ 40
+version_short each = omega (arith, length-append (codes "reraid-plan") (32 ∷ decimal (version_number each)), short_number (version_number each) (version_small each))
+
+end_near : (lengths : List ℕ) (end : ℕ) → AreLengths lengths → All (λ n. end ≤ n) lengths → end < 2 ^ 55
+end_near [] end are all = let some = are.some in absurd (omega arith)
+end_near (n ∷ lengths) end are all = omega (arith, All-head (λ n. n < 2 ^ 55) n lengths are.short, All-head (λ n. end ≤ n) n lengths all)
+
+pub no_plan_is_too_long : NoPlanIsTooLong
+unfolding size
+no_plan_is_too_long plan is =
+    let images = image_lines plan.lengths.items in
+    let search = search_lines plan.end plan.bounds plan.limits plan.tests in
+    let groups = groups_lines plan.groups in
+    omega (
+      arith,
+      size_cons (version_line plan.each) (images ++ (search ++ groups)),
+      size_append images (search ++ groups),
+      size_append search groups,
+      version_short plan.each,
+      images_short plan.lengths.items is.lengths,
+      search_short plan.end plan.bounds plan.limits plan.tests (end_near plan.lengths.items plan.end is.lengths is.ends) is.bounds is.limits is.tests,
+      groups_short plan.lengths.items plan.groups is.lengths.short is.groups,
+    )

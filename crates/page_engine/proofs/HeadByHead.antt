@@ -14,7 +14,7 @@ use Rattle.head_walk.specs.Walk.{AddsAll, ended_at, FillsPage, Finishes, Gathers
 use Rattle.head_walk.specs.declared.gathering.Gathered.{Gathered}
 use Rattle.head_walk.specs.declared.parts.Line.{Line}
 use Rattle.head_walk.specs.declared.parts.WalkFault.{WalkFault}
-use Rattle.page_engine.specs.Pages.{tested_to}
+use Rattle.page_engine.specs.Pages.{EndsOrFull, tested_to}
 use Rattle.page_engine.specs.declared.page_parts.ListPage.{ListPage}
 use Rattle.page_engine.specs.declared.page_parts.PageFault.{PageFault}
 use Rattle.head_walk.specs.declared.row_tables.OffsetTables.{OffsetTables}
@@ -136,6 +136,7 @@ pub record IsWhole (told : Option (List (List ℕ))) (plan : Plan) (from size sp
   pub sets : All (HoldsSet plan) lines
   pub forward : from ≤ next
   pub within : next ≤ stop_of (total_of plan) from span
+  pub ended : EndsOrFull size from (stop_of (total_of plan) from span) (length lines) next
 
 -- a page that was made, full or not
 whole : (told : Option (List (List ℕ))) (plan : Plan) (from stop size span next : ℕ) (lines : List Line) → from ≤ stop → stop ≡ stop_of (total_of plan) from span →
@@ -147,6 +148,7 @@ whole told plan from stop size span next lines range is (inl (end, adds)) =
       sets = adds.adds.sets (All-nil (HoldsSet plan));
       forward = omega arith;
       within = omega arith;
+      ended = inl (end ∙ is, adds.few);
     }
 whole told plan from stop size span next lines range is (inr fills) =
     let forward : from < next = fills.forward in
@@ -156,6 +158,7 @@ whole told plan from stop size span next lines range is (inr fills) =
       sets = fills.adds.sets (All-nil (HoldsSet plan));
       forward = omega arith;
       within = omega arith;
+      ended = inr (forward, fills.many);
     }
 
 -- the page of lines of which none was there before

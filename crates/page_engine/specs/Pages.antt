@@ -19,6 +19,10 @@ abbrev pub IsPageOf : List (List ℕ) → Plan → ℕ → ℕ → ℕ → ListP
 IsPageOf images plan from size span page =
     IsPage (passes_at images plan) (total_of plan) from size span (map (λ held. held.rank) page.lines) page.next
 
+-- where a page of so many lines ends: at the end of its range, and it is not full; or it is full, and has a rank at least
+abbrev pub EndsOrFull : ℕ → ℕ → ℕ → ℕ → ℕ → Type 0
+EndsOrFull size from stop lines next = ((next ≡ stop) × (lines < size)) ⊎ ((from < next) × (lines ≡ size))
+
 -- a page from a rank on, with its sets, over the bytes of the images where they are known
 pub record IsPageFrom (told : Option (List (List ℕ))) (plan : Plan) (from size span : ℕ) (found : ListPage) : Type 0 where
   pub page : IfSome told (λ bytes. IsPageOf bytes plan from size span found)

@@ -1,12 +1,12 @@
 //! Pages of the sets that pass.
-ghost use Rattle.std.specs.Prelude.{◌≡◌, ◌-◌, ◌<◌, ◌≤◌, ◌^◌, All, IfErr, IfOk, IfSome, IsErrOf};
+ghost use Rattle.std.specs.Prelude.{◌≡◌, ◌-◌, ◌<◌, ◌≤◌, ◌^◌, All, IfErr, IfOk, IfSome, IsErrOf, length};
 ghost use Rattle.std.specs.Result.{is_err};
 ghost use Rattle.outside.specs.Attached.{told_all};
 ghost use Rattle.outside.specs.Seen.{OnlyReads};
 ghost use Rattle.search_terms.specs.Page.{stop_of};
 ghost use Rattle.search_plan.specs.Plans.{IsPlan, AgreeWith};
 ghost use Rattle.search_plan.specs.Sets.{total_of};
-ghost use Rattle.page_engine.specs.Pages.{ArePagesFrom, EndsPage, IsPageOf, page_reads, ReadsPages, tested_to};
+ghost use Rattle.page_engine.specs.Pages.{ArePagesFrom, EndsOrFull, EndsPage, IsPageOf, page_reads, ReadsPages, tested_to};
 ghost use Rattle.head_walk.specs.Walk.{HoldsSet, IsKept, left_after, left_reads, ReadsRange};
 ghost use Rattle.page_engine.specs.declared.page_parts.PageFault.TheVariants.{Cursor, Many};
 
@@ -49,6 +49,7 @@ pub fn page<R: Threads + Sync, I: Images, G: Gate + Sync>(
         (page_reads (told_all (I.seen images.old).attached) plan.now from (tested_to (stop_of (total_of plan.now) from span) result)) }
     ensures forward { IfOk result (λ p. from ≤ p.next) }
     ensures within { IfOk result (λ p. p.next ≤ stop_of (total_of plan.now) from span) }
+    ensures ended { IfOk result (λ p. EndsOrFull size from (stop_of (total_of plan.now) from span) (length p.lines) p.next) }
 {
     let mut kept = KeptTables::new(alloc);
     let paging = Paging {
@@ -85,6 +86,7 @@ fn next_page<R: Threads + Sync, I: Images, G: Gate + Sync>(
     ensures kept { All (IsKept (told_all (I.seen images.old).attached) paging.now.plan.now) kept.new }
     ensures forward { IfOk result (λ p. from ≤ p.next) }
     ensures within { IfOk result (λ p. p.next ≤ stop_of (total_of paging.now.plan.now) from span) }
+    ensures ended { IfOk result (λ p. EndsOrFull paging.now.size from (stop_of (total_of paging.now.plan.now) from span) (length p.lines) p.next) }
 {
     let total = product_total(paging.plan).ok_or(PageFault::Many)?;
     if from > total {

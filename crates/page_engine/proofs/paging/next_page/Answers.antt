@@ -49,6 +49,17 @@ returns-clause-sets g c =
     ] in
     whole.sets
 
+pub returns-clause-ended : goal.returns-clause-ended
+returns-clause-ended g c =
+    let total : c.in_ok-total.total ≡ total_of c.args.paging.now.plan.now = search rules in
+    let low : c.args.from ≤ c.in_ok-total.total = search rules in
+    let P : Gathered → ℕ → Type 0 = λ page next. IsWhole (told_all (g.I.Images.seen c.args.images.now).attached) c.args.paging.now.plan.now c.args.from c.args.paging.now.size c.args.span page.lines next in
+    let whole : P c.match-branch-3.page c.match-branch-3.next = elim c.match-branch-3.branch [
+      | in-Some w ↦ subst (P c.match-branch-3.page) (sym w.next-is) (subst (λ (page : Gathered). P page w.in-Some.next) (sym w.page-is) (whole_full (g.I.Images.seen c.args.images.now).attached c.args.paging.now.plan.now c.args.from c.min-stop.result c.args.paging.now.size c.args.span w.in-Some.next (record { lines = c.new.result; tested = c.args.from; waiting = c.none.result }) c.gather_range.new.page c.in_ok-next.field-0 c.new.ensures refl (omega arith) (omega arith) w.in-Some.is c.in_ok-next.ensures.gathers))
+      | in-None+in_ok-next-in-None w ↦ subst (P c.match-branch-3.page) (sym w.next-is) (subst (λ (page : Gathered). P page w.in_ok-next-in-None.next) (sym w.page-is) (whole_tested (g.I.Images.seen c.args.images.now).attached (g.I.Images.seen c.gather_range.new.images).attached c.args.paging.now.plan.now c.args.from c.min-stop.result c.args.paging.now.size c.args.span w.in_ok-next-in-None.next (record { lines = c.new.result; tested = c.args.from; waiting = c.none.result }) c.gather_range.new.page w.finish.new.page c.in_ok-next.field-0 c.in_ok-next.ensures.reads.spends.reads.attached c.new.ensures refl (omega arith) (omega arith) w.in-None.is c.in_ok-next.ensures.gathers w.in_ok-next-in-None.ensures.finishes))
+    ] in
+    whole.ended
+
 pub returns-clause-reads : goal.returns-clause-reads
 returns-clause-reads g c =
     let P : ℕ → Seen → Type 0 = λ next s. ReadsRange (told_all (g.I.Images.seen c.args.images.now).attached) c.args.paging.now.plan.now c.args.from next 4095 (left_reads c.args.paging.now.plan.now c.args.kept.now) (left_reads c.args.paging.now.plan.now c.gather_range.new.kept) (g.I.Images.seen c.args.images.now) s in

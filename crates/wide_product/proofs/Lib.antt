@@ -1,0 +1,9 @@
+mod Counts
+pub mod Lists
+pub mod Walks
+pub mod Spread
+pub mod Grouped
+pub mod GroupAt
+pub mod PartAt
+pub mod Products
+pub mod MovedPlan

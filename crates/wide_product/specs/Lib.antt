@@ -1,0 +1,5 @@
+pub mod Bases
+pub mod Sets
+pub mod Groups
+pub mod Parts
+pub mod Moved

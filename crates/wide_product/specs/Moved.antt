@@ -1,0 +1,29 @@
+-- The plan of a part over padded images: its sets share an offset there.
+use Rattle.std.specs.Prelude.{ℕ, ◌≡◌, ◌+◌, ◌≤◌, ◌<◌, ◌^◌, List, [], ◌∷◌, slice_get}
+use Rattle.std.specs.declared.option.Option.{Option}
+use Rattle.std.specs.declared.option.Option.TheVariants.{Some}
+use Rattle.padded_images.specs.Plans.{padded_plan}
+use Rattle.search_plan.specs.Plans.{IsPlan}
+use Rattle.search_plan.specs.Sets.{passes_at, sets_of, total_of}
+use Rattle.search_plan.specs.declared.plan.Plan.{Plan}
+use Rattle.slot_math.specs.Space.{lists_of}
+use Rattle.wide_product.specs.Sets.{padded_bytes, wide_passes_at}
+use Rattle.wide_product.specs.declared.moved.MovedPart.{MovedPart}
+use Rattle.wide_product.specs.declared.parts.Part.{Part}
+
+-- the padded plan, with the chunk and the offset of the part alone
+abbrev pub moved_plan : Plan → Part → Plan
+moved_plan plan part = record (padded_plan part.bases.items plan) {
+  bounds = record plan.bounds { chunks = record { items = part.head.chunk ∷ [] }; offsets = record { items = part.head.offset ∷ [] } };
+}
+
+-- a range of the ranks of that plan has the sets of the part, and just those pass that do so with their bases
+pub record IsMoved (plan : Plan) (part : Part) (moved : MovedPart) : Type 0 where
+  pub is : moved.plan ≡ moved_plan plan part
+  pub is_plan : IsPlan moved.plan
+  pub few : total_of moved.plan < 2 ^ 64
+  pub within : moved.first + part.count ≤ total_of moved.plan
+  pub stand : (k : ℕ) (slots : List (Option ℕ)) → slice_get (lists_of part.space) k ≡ Some slots →
+      slice_get (sets_of moved.plan) (moved.first + k) ≡ Some (record { head = part.head; slots = record { items = slots } })
+  pub passing : (images : List (List ℕ)) (k : ℕ) → k < part.count →
+      passes_at (padded_bytes part.bases.items images) moved.plan (moved.first + k) ≡ wide_passes_at images plan (part.first + k)

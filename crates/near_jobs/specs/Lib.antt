@@ -1,0 +1,2 @@
+pub mod MirrorWriting
+pub mod Mirroring

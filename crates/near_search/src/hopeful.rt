@@ -1,0 +1,47 @@
+//! The slot lists of a head of which each beginning is hopeful.
+ghost use Rattle.std.specs.Prelude.{nat_le};
+ghost use Rattle.near_tables.specs.Tables.{table_torn};
+
+use candidate_enum::Family;
+use near_tables::TornTable;
+use raid_params::Slots;
+use slot_math::Space;
+use std::marker::Model;
+
+/// The slot lists of a head with a whole row. A prefix is admitted where no more sectors are torn than may be, of those both of whose
+/// slots are in it and hold images.
+#[derive(Drop)]
+pub(crate) struct NearHopeful {
+    /// The slot lists.
+    pub(crate) space: Space,
+    /// The sectors in which each two images differ.
+    pub(crate) table: TornTable,
+    /// The most torn sectors.
+    pub(crate) most: u64,
+}
+
+impl Model for NearHopeful {
+    ghost use Rattle.std.specs.Prelude.{◌<◌, ◌≤◌};
+    ghost use Rattle.raid_params.specs.declared.limits.TheConstants.{MOST};
+    ghost use Rattle.near_search.specs.Walk.{NearAsked};
+
+    ghost Value = { NearAsked };
+
+    ghost view = { λ s. record { space = s.space; table = s.table; most = s.most } };
+
+    ghost invariant = { λ s. (s.space.images ≤ MOST) × (0 < s.space.members) };
+}
+
+impl Family for NearHopeful {
+    ghost space_of = { λ asked. asked.space };
+
+    ghost admits = { λ asked prefix. nat_le (table_torn asked.table asked.space.members prefix) asked.most };
+
+    fn space(&self) -> Space {
+        self.space
+    }
+
+    fn may_pass(&self, prefix: &Slots) -> bool {
+        self.table.torn(self.space.members, prefix) <= u128::from(self.most)
+    }
+}

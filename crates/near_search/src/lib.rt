@@ -1,0 +1,26 @@
+//! Pages of the mirrors of two copies that pass.
+//!
+//! [`near_page`] goes through all parameter sets of a [`NearAsk`], in the order of its members, chunks, offsets and slot lists,
+//! and gives those with no more torn sectors than may be. For each head the images are read once, into a table of the sectors in
+//! which each two of them differ (`near_tables`); the slot lists are walked place by place (`candidate_enum`), and a beginning in
+//! which more is torn than may be is passed over with all that begins so. The page is made head after head (`page_loop`).
+//!
+//! The product stands in `specs/Product`, and pages with what is read for them in `specs/Pages`.
+#![tactic(auto)]
+
+mod ask;
+mod gathering;
+mod heads;
+mod hopeful;
+mod laws;
+mod paging;
+mod parts;
+mod walk;
+
+// The tests stand in `volume_rows`.
+
+pub use ask::NearAsk;
+pub use heads::NearSets;
+pub use laws::passing_mirrors_are_hopeful;
+pub use paging::near_page;
+pub use parts::{NearFault, NearLine, NearLines, NearPage};

@@ -1,0 +1,6 @@
+pub mod Sums
+pub mod Pairs
+pub mod Told
+pub mod Prefixes
+pub mod Strips
+pub mod Reach

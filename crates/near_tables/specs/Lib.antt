@@ -1,0 +1,4 @@
+pub mod Torn
+pub mod Tables
+pub mod Reading
+pub mod Laws

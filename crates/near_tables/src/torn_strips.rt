@@ -1,0 +1,142 @@
+//! In how many sectors of their regions images differ.
+ghost use Rattle.std.specs.Prelude.{◌≡◌, ◌+◌, ◌-◌, ◌*◌, ◌≤◌, ◌<◌, ◌^◌, ℕ, All, IfSome, OnOk, Some, if◌then◌else◌, length, map, min, slice_index};
+ghost use Rattle.std.specs.Bool.{Decides};
+ghost use Rattle.outside.specs.Attached.{told_all};
+ghost use Rattle.outside.specs.Causes.{HasCause};
+ghost use Rattle.outside.specs.Seen.{OnlyReads};
+ghost use Rattle.std.specs.List.{range_with_len};
+ghost use Rattle.raid_params.specs.declared.limits.TheConstants.{MOST};
+ghost use Rattle.member_regions.specs.Regions.{IsRoomFor};
+ghost use Rattle.member_regions.specs.declared.regions.TheConstants.{BLOCK};
+ghost use Rattle.near_tables.specs.Reading.{HoldStrip, regions_differ, strip_torn};
+ghost use Rattle.near_tables.specs.Tables.{count_of};
+
+use member_regions::{BLOCK, Regions};
+use outside::{Failed, Images};
+use raid_params::{MOST, Slots};
+
+/// For one image with each other, in how many sectors they differ.
+pub(crate) type ImageCounts = [u64; MOST];
+
+/// For each two images, in how many sectors they differ.
+pub(crate) type PairCounts = [ImageCounts; MOST];
+
+/// Slots that hold `count` images, each in the slot of its number.
+fn all_images(count: usize) -> Slots
+    requires { count ≤ MOST }
+    ensures { result.items ≡ map (λ i. Some i) (range_with_len 0 count) }
+{
+    let mut slots = Slots::new();
+    for image in 0..count {
+        slots.push(Some(image as u8));
+    }
+    slots
+}
+
+/// Reads `count` sectors of each of the images from an image sector on, into a region for each.
+pub(crate) fn read_strip<I: Images>(
+    images: &mut I,
+    regions: &mut Regions,
+    many: usize,
+    sector: u64,
+    count: usize,
+) -> Result<(), Failed>
+    requires few { many ≤ MOST }
+    requires attached { length (I.seen images.old).attached ≡ many }
+    requires reach { 1 ≤ count → All (λ image. sector + count ≤ image.sectors) (I.seen images.old).attached }
+    requires near { 1 ≤ count → sector + count < 2 ^ 55 }
+    requires room { IsRoomFor many BLOCK regions.old }
+    requires fits { count ≤ BLOCK }
+    ensures told { OnOk result (IfSome (told_all (I.seen images.old).attached) (λ bytes. HoldStrip bytes many sector count regions.new)) }
+    ensures room { IsRoomFor many BLOCK regions.new }
+    ensures reads { OnlyReads (I.seen images.old) (I.seen images.new) (many * count) }
+    ensures cause { HasCause (I.seen images.old).faults (I.seen images.new).faults result }
+{
+    if count == 0 {
+        return Ok(());
+    }
+    let slots = all_images(many);
+    regions.read(images, &slots, sector, 0, count)
+}
+
+/// The counts of each two images, with those of the first `count` sectors of their regions: the first image's among some regions,
+/// the second's among others.
+pub(crate) fn with_strip(
+    counts: &PairCounts,
+    first: &Regions,
+    second: &Regions,
+    many: usize,
+    count: usize,
+) -> PairCounts
+    requires few { many ≤ MOST }
+    requires first { IsRoomFor many count first.now }
+    requires second { IsRoomFor many count second.now }
+    ensures { (one other : ℕ) → one < many → other < many →
+        count_of result one other ≡ min (count_of counts.now one other + strip_torn first.now second.now count one other) (2 ^ 64 - 1) }
+{
+    let mut more = *counts;
+    for one in 0..many {
+        more[one] = with_image(&more[one], first, one, second, many, count);
+    }
+    more
+}
+
+/// Those of one image with each other.
+fn with_image(
+    counts: &ImageCounts,
+    first: &Regions,
+    one: usize,
+    second: &Regions,
+    many: usize,
+    count: usize,
+) -> ImageCounts
+    requires few { many ≤ MOST }
+    requires one { one < many }
+    requires first { IsRoomFor many count first.now }
+    requires second { IsRoomFor many count second.now }
+    ensures { (other : ℕ) → other < many →
+        slice_index result other ≡ min (slice_index counts.now other + strip_torn first.now second.now count one other) (2 ^ 64 - 1) }
+{
+    let mut more = *counts;
+    for other in 0..many {
+        more[other] = more[other].saturating_add(torn_in(first, one, second, other, count));
+    }
+    more
+}
+
+/// In how many of the first `count` sectors of their regions two images differ.
+fn torn_in(first: &Regions, one: usize, second: &Regions, other: usize, count: usize) -> u64
+    requires first { IsRoomFor (one + 1) count first.now }
+    requires second { IsRoomFor (other + 1) count second.now }
+    ensures { result ≡ strip_torn first.now second.now count one other }
+{
+    let mut torn = 0;
+    for j in 0..count {
+        torn += one_if(are_torn(first, one, second, other, j));
+    }
+    torn
+}
+
+/// 1 where it holds.
+fn one_if(holds: bool) -> u64
+    ensures value { result ≡ if holds then 1 else 0 }
+    ensures few { result ≤ 1 }
+{
+    if holds { 1 } else { 0 }
+}
+
+/// Whether sectors number `j` of their regions differ.
+fn are_torn(first: &Regions, one: usize, second: &Regions, other: usize, j: usize) -> bool
+    requires first { IsRoomFor (one + 1) (j + 1) first.now }
+    requires second { IsRoomFor (other + 1) (j + 1) second.now }
+    ensures { result ≡ regions_differ first.now one second.now other j }
+{
+    !are_same(first.region(one, j, 1), second.region(other, j, 1))
+}
+
+/// Whether two lists of bytes are the same.
+fn are_same(one: &[u8], other: &[u8]) -> bool
+    ensures { Decides result (one.now ≡ other.now) }
+{
+    one == other
+}

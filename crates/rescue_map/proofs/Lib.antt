@@ -1,6 +1,10 @@
-pub mod Numerals
-pub mod FirstWords
-pub mod Reading
-pub mod Covered
-pub mod Bisected
-pub mod Sound
+pub mod Runs
+pub mod Known
+pub mod Rows
+pub mod Passed
+pub mod Cells
+pub mod Found
+pub mod Blocks
+pub mod Padding
+pub mod LawsShown
+pub mod Adjacent

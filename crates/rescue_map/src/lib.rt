@@ -1,22 +1,20 @@
-//! Rescue texts: which ranges of damaged images were read, as the map files of GNU ddrescue say.
+//! The volume of an array whose images have unreadable areas, by the maps of GNU ddrescue.
 //!
-//! A text has a section for each image that has a map file: a line `map I`, and the lines of that file. [`read_rescue`]
-//! reads it in one go, [`read_block`] one line of a map file, and [`read_number`] the numbers in it. What the lines say
-//! stands in `specs/Lines`, and what a text says in `specs/RescueText`.
+//! A sector of an image is good where its map says that it was read. The cells of a row that lie on good sectors are
+//! known, the others are missing for this row alone: two images with a few bad sectors each, in different rows, still are an
+//! array that can be read entirely. [`salvage`] writes the volume, in pieces that may run side by side, and [`lost_text`] says
+//! which sectors of it are lost all the same. [`laws`] says that the volume depends on good sectors alone.
+//!
+//! Which cells are known stands in `specs/Damaged`, the volume in `specs/Salvaged`, the text in `specs/LostText`.
 #![tactic(auto)]
 
-mod block;
-mod draft;
-mod fault;
-mod good;
-mod marker;
-mod number;
-mod rescue;
-mod section;
-mod words;
+mod damaged;
+mod filling;
+pub mod laws;
+mod lost;
+mod reading;
+mod writing;
 
-pub use block::{Block, Status, read_block, read_status};
-pub use fault::RescueFault;
-pub use number::read_number;
-pub use rescue::{Rescue, read_rescue};
-pub use section::Section;
+pub use lost::lost_text;
+pub use rescue_text::{Rescue, RescueFault, read_rescue};
+pub use writing::salvage;

@@ -1,0 +1,35 @@
+use Rattle.std.proofs.Common.{ℕ, ◌≡◌, ◌∙◌, ◌+◌, ◌*◌, ◌<◌, ◌≤◌, IfSome, length, get_or, None, rules, arith}
+use Rattle.outside.specs.Attached.{told_all}
+use Rattle.outside.proofs.Reading.{reads_join}
+use Rattle.raid_terms.specs.Parity.{member_byte}
+use Rattle.member_regions.proofs.IfTold.{if_both}
+use Rattle.rescue_map.specs.Salvaged.{HoldCells}
+use Rattle.rescue_map.proofs.Found.{cells_more}
+use borrow.Rule.Slice.PartMut.{put_mid}
+use Rattle.rescue_map.proofs.reading.read_row.Goals as goal
+
+pub loop-slot-preserved : goal.loop-slot-preserved
+loop-slot-preserved g c =
+    let slots = c.args.geo.now.slots.items in
+    let slot = c.loop-slot.slot in
+    let offset = c.args.geo.now.head.offset in
+    let long : length c.read_cell.new.to ≡ 512 = c.read_cell.ensures.long in
+    let before : length c.loop-slot.row ≡ length c.args.row.now = c.loop-slot.invariant.long in
+    let all = c.requires.row in
+    let under : slot < length slots = search rules in
+    let within : 512 * slot ≤ length c.loop-slot.row = omega arith in
+    let now : IfSome (told_all (g.I.Images.seen c.loop-slot.images).attached) (λ bytes. (x : ℕ) → x < 512 → get_or c.read_cell.new.to x 0 ≡ member_byte bytes offset c.args.sector x (get_or slots slot None)) = search rules in
+    let stays : (g.I.Images.seen c.read_cell.new.images).faults ≡ (g.I.Images.seen c.loop-slot.images).faults = search rules in
+    record {
+      long = omega arith;
+      reads = reads_join (g.I.Images.seen c.args.images.now) (g.I.Images.seen c.loop-slot.images) (g.I.Images.seen c.read_cell.new.images) c.loop-slot.invariant.reads c.read_cell.ensures.reads;
+      stays = stays ∙ c.loop-slot.invariant.stays;
+      told =
+          if_both (told_all (g.I.Images.seen c.args.images.now).attached)
+          (λ bytes. HoldCells bytes slots offset c.args.sector slot c.loop-slot.row)
+          (λ bytes. (x : ℕ) → x < 512 → get_or c.read_cell.new.to x 0 ≡ member_byte bytes offset c.args.sector x (get_or slots slot None))
+          (λ bytes. HoldCells bytes slots offset c.args.sector (slot + 1) (put_mid (512 * slot) _ c.loop-slot.row c.read_cell.new.to))
+          (λ bytes hold here. cells_more bytes slots offset c.args.sector _ slot c.loop-slot.row c.read_cell.new.to long within hold here)
+          c.loop-slot.invariant.told
+          (rw (← c.loop-slot.invariant.reads.attached) now);
+    }

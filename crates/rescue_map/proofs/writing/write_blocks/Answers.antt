@@ -1,0 +1,94 @@
+use Rattle.std.proofs.Common.{ℕ, ◌≡◌, ◌+◌, ◌*◌, ◌/◌, ◌≤◌, List, Option, IfSome, take, length, refl, sym, ◌∙◌, subst, arith, rules}
+use Rattle.std.proofs.lemmas.List.{length-take}
+use Rattle.std.specs.Io.KnownBytes.{Appends}
+use Rattle.outside.specs.Attached.{told_all}
+use Rattle.outside.specs.Streams.{AppendsFront, AppendsSectors, Puts}
+use Rattle.virtual_volume.proofs.Fronts.{puts_err}
+use Rattle.member_regions.proofs.IfTold.{if_any, if_both, if_told}
+use Rattle.rescue_map.specs.Salvaged.{salvaged_sectors}
+use Rattle.rescue_map.proofs.Blocks.{part_count, reads_next, reads_some, reads_start, sectors_cut, sectors_first, sectors_on, sectors_start}
+use Rattle.rescue_map.proofs.writing.write_blocks.Goals as goal
+
+pub loop-first-init : goal.loop-first-init
+loop-first-init g c =
+    let damage = c.args.damage.now in record {
+      put =
+          if_any (told_all (g.I.Images.seen c.args.images.now).attached)
+          (λ bytes. Appends (g.K.Sink.gained c.args.sink.now) (g.K.Sink.gained c.args.sink.now) (salvaged_sectors bytes damage.rescue.now damage.set.now 0 0))
+          (λ bytes. sectors_start bytes damage.rescue.now damage.set.now (g.K.Sink.gained c.args.sink.now));
+      reads = reads_start (g.I.Images.seen c.args.images.now) damage.rescue.now damage.set.now;
+      images_stay = refl;
+      sink_stays = refl;
+      later = omega arith;
+      within = omega arith;
+      block_long = refl;
+      rows_long = refl;
+    }
+
+pub returns-in_err-write_block-clause-put : goal.returns-in_err-write_block-clause-put
+returns-in_err-write_block-clause-put g c =
+    let damage = c.args.damage.now in
+    let count = c.min-count.result in
+    let size = c.min-count.ensures in
+    let few : c.loop-first.first + count ≤ c.args.sectors = omega arith in
+    let same = part_count c.loop-first.block count (let long = c.loop-first.invariant.block_long in let room = c.requires.block in omega arith) in
+    if_both (told_all (g.I.Images.seen c.args.images.now).attached)
+    (λ bytes. Appends (g.K.Sink.gained c.args.sink.now) (g.K.Sink.gained c.loop-first.sink) (salvaged_sectors bytes damage.rescue.now damage.set.now 0 c.loop-first.first))
+    (λ bytes. AppendsFront (g.K.Sink.gained c.loop-first.sink) (g.K.Sink.gained c.write_block.new.sink) (salvaged_sectors bytes damage.rescue.now damage.set.now c.loop-first.first (length (take (512 * count) c.loop-first.block) / 512)))
+    (λ bytes. Puts (g.K.Sink.gained c.args.sink.now) (g.K.Sink.gained c.write_block.new.sink) c.from_residual.result (salvaged_sectors bytes damage.rescue.now damage.set.now 0 c.args.sectors))
+    (λ bytes p q.
+    puts_err (g.K.Sink.gained c.args.sink.now) (g.K.Sink.gained c.write_block.new.sink) (salvaged_sectors bytes damage.rescue.now damage.set.now 0 c.args.sectors) c.from_residual.result c.from_residual.ensures.0
+    (sectors_cut bytes damage.rescue.now damage.set.now c.loop-first.first count c.args.sectors (g.K.Sink.gained c.args.sink.now) (g.K.Sink.gained c.loop-first.sink) (g.K.Sink.gained c.write_block.new.sink) few p
+    (subst (λ (k : ℕ). AppendsFront (g.K.Sink.gained c.loop-first.sink) (g.K.Sink.gained c.write_block.new.sink) (salvaged_sectors bytes damage.rescue.now damage.set.now c.loop-first.first k)) same q)))
+    c.loop-first.invariant.put
+    (rw (← c.loop-first.invariant.reads.attached) c.in_err-write_block.ensures.put)
+
+pub returns-in_err-write_block-clause-whole : goal.returns-in_err-write_block-clause-whole
+returns-in_err-write_block-clause-whole g c = λ is.
+    let damage = c.args.damage.now in
+    let few : c.loop-first.first ≤ c.args.sectors = omega arith in
+    let still : g.K.Sink.gained c.write_block.new.sink ≡ g.K.Sink.gained c.loop-first.sink = c.in_err-write_block.ensures.unput (search rules) in
+    subst (λ (gained : Option (List ℕ)). IfSome (told_all (g.I.Images.seen c.args.images.now).attached)
+    (λ bytes. AppendsSectors (g.K.Sink.gained c.args.sink.now) gained (salvaged_sectors bytes damage.rescue.now damage.set.now 0 c.args.sectors))) (sym still)
+    (if_told (told_all (g.I.Images.seen c.args.images.now).attached)
+    (λ bytes. Appends (g.K.Sink.gained c.args.sink.now) (g.K.Sink.gained c.loop-first.sink) (salvaged_sectors bytes damage.rescue.now damage.set.now 0 c.loop-first.first))
+    (λ bytes. AppendsSectors (g.K.Sink.gained c.args.sink.now) (g.K.Sink.gained c.loop-first.sink) (salvaged_sectors bytes damage.rescue.now damage.set.now 0 c.args.sectors))
+    (λ bytes p. sectors_first bytes damage.rescue.now damage.set.now c.loop-first.first c.args.sectors (g.K.Sink.gained c.args.sink.now) (g.K.Sink.gained c.loop-first.sink) few p)
+    c.loop-first.invariant.put)
+
+pub returns-in_err-write_block-clause-reads : goal.returns-in_err-write_block-clause-reads
+returns-in_err-write_block-clause-reads g c =
+    let damage = c.args.damage.now in
+    let count = c.min-count.result in
+    let size = c.min-count.ensures in
+    let few : c.loop-first.first + count ≤ c.args.sectors = omega arith in
+    let same = part_count c.loop-first.block count (let long = c.loop-first.invariant.block_long in let room = c.requires.block in omega arith) in
+    reads_some (g.I.Images.seen c.args.images.now) (g.I.Images.seen c.write_block.new.images) damage.rescue.now damage.set.now 0 (c.loop-first.first + count) c.args.sectors few
+    (reads_next (g.I.Images.seen c.args.images.now) (g.I.Images.seen c.loop-first.images) (g.I.Images.seen c.write_block.new.images) damage.rescue.now damage.set.now c.loop-first.first (length (take (512 * count) c.loop-first.block) / 512) count same c.loop-first.invariant.reads c.write_block.ensures.reads)
+
+pub loop-first-preserved : goal.loop-first-preserved
+loop-first-preserved g c =
+    let damage = c.args.damage.now in
+    let count = c.min-count.result in
+    let size = c.min-count.ensures in
+    let long = c.loop-first.invariant.block_long in
+    let room = c.requires.block in
+    let same = part_count c.loop-first.block count (omega arith) in record {
+      put =
+          if_both (told_all (g.I.Images.seen c.args.images.now).attached)
+          (λ bytes. Appends (g.K.Sink.gained c.args.sink.now) (g.K.Sink.gained c.loop-first.sink) (salvaged_sectors bytes damage.rescue.now damage.set.now 0 c.loop-first.first))
+          (λ bytes. Appends (g.K.Sink.gained c.loop-first.sink) (g.K.Sink.gained c.write_block.new.sink) (salvaged_sectors bytes damage.rescue.now damage.set.now c.loop-first.first (length (take (512 * count) c.loop-first.block) / 512)))
+          (λ bytes. Appends (g.K.Sink.gained c.args.sink.now) (g.K.Sink.gained c.write_block.new.sink) (salvaged_sectors bytes damage.rescue.now damage.set.now 0 (c.loop-first.first + count)))
+          (λ bytes p q.
+          sectors_on bytes damage.rescue.now damage.set.now c.loop-first.first count (g.K.Sink.gained c.args.sink.now) (g.K.Sink.gained c.loop-first.sink) (g.K.Sink.gained c.write_block.new.sink) p
+          (subst (λ (k : ℕ). Appends (g.K.Sink.gained c.loop-first.sink) (g.K.Sink.gained c.write_block.new.sink) (salvaged_sectors bytes damage.rescue.now damage.set.now c.loop-first.first k)) same q))
+          c.loop-first.invariant.put
+          (rw (← c.loop-first.invariant.reads.attached) c.in_ok-write_block.ensures.put);
+      reads = reads_next (g.I.Images.seen c.args.images.now) (g.I.Images.seen c.loop-first.images) (g.I.Images.seen c.write_block.new.images) damage.rescue.now damage.set.now c.loop-first.first (length (take (512 * count) c.loop-first.block) / 512) count same c.loop-first.invariant.reads c.write_block.ensures.reads;
+      images_stay = (let still : (g.I.Images.seen c.write_block.new.images).faults ≡ (g.I.Images.seen c.loop-first.images).faults = search rules in still ∙ c.loop-first.invariant.images_stay);
+      sink_stays = (let still : g.K.Sink.faults c.write_block.new.sink ≡ g.K.Sink.faults c.loop-first.sink = search rules in still ∙ c.loop-first.invariant.sink_stays);
+      later = omega (arith, c.write_block.ensures.later);
+      within = omega arith;
+      block_long = (let short = length-take (512 * count) c.loop-first.block in omega (arith, c.write_block.ensures.block_long));
+      rows_long = c.write_block.ensures.rows_long ∙ c.loop-first.invariant.rows_long;
+    }

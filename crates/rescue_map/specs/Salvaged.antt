@@ -1,0 +1,79 @@
+-- The volume of damaged members, and what is read for it.
+use Rattle.std.specs.Prelude.{ℕ, ◌≡◌, ◌+◌, ◌*◌, ◌<◌, ◌≤◌, ◌^◌, if◌then◌else◌, List, length, map, replicate, false, slice_index, slice_index_or, All}
+use Rattle.std.specs.List.{flat_map, range_with_len, sum}
+use Rattle.std.specs.declared.option.Option.{Option}
+use Rattle.std.specs.declared.option.Option.TheVariants.{None}
+use Rattle.outside.specs.Seen.{Image}
+use Rattle.raid_params.specs.Size.{volume_sectors}
+use Rattle.raid_params.specs.Wide.{wide_fault}
+use Rattle.raid_params.specs.declared.wide.Wide.{Wide}
+use Rattle.raid_terms.specs.Address.{home_row, home_slot}
+use Rattle.raid_terms.specs.Cells.{row_cells}
+use Rattle.raid_terms.specs.Parity.{member_byte}
+use Rattle.raid_terms.specs.Solving.{lost_byte}
+use Rattle.raid_terms.specs.Volume.{volume_sector}
+use Rattle.rescue_map.specs.Damaged.{damaged_at, is_lost, is_unknown}
+use Rattle.rescue_text.specs.declared.section.Section.{Section}
+
+-- volume sector v: that of the set whose unknown slots are empty, or zeros where it is lost
+unfoldable pub salvaged_sector : List (List ℕ) → List Section → Wide → ℕ → List ℕ
+salvaged_sector images sections set v = if is_lost sections set v then replicate 512 0 else volume_sector images (damaged_at sections set v) v
+
+-- n sectors of it from a sector on
+unfoldable pub salvaged_sectors : List (List ℕ) → List Section → Wide → ℕ → ℕ → List ℕ
+salvaged_sectors images sections set first n = flat_map (salvaged_sector images sections set) (range_with_len first n)
+
+-- the volume, over the bytes of the images. Where they have bases of their own, these are the images once they are padded
+abbrev pub salvaged : List (List ℕ) → List Section → Wide → ℕ → List ℕ
+salvaged images sections set end = salvaged_sectors images sections set 0 (volume_sectors set.geo.head end)
+
+-- what is read for a volume sector: itself where its home is known, the known cells of its row where it is found by these, and
+-- nothing where it is lost
+abbrev pub reads_for : List Section → Wide → ℕ → ℕ
+reads_for sections set v =
+    if is_lost sections set v then 0
+    else if is_unknown sections set v then length set.geo.slots.items
+    else 1
+
+-- for n volume sectors from a sector on
+unfoldable pub reads_for_all : List Section → Wide → ℕ → ℕ → ℕ
+reads_for_all sections set first n = sum (map (reads_for sections set) (range_with_len first n))
+
+-- a byte of volume sector v, by what was read for it: the byte that it was itself, or the known bytes of its column
+unfoldable pub filled_byte : List Section → Wide → ℕ → List ℕ → ℕ → ℕ
+filled_byte sections set v column byte =
+    if is_lost sections set v then 0
+    else if is_unknown sections set v then lost_byte (row_cells (damaged_at sections set v) (home_row set.geo.head v)) column (home_slot set.geo.head v)
+    else byte
+
+-- column x of the row of sectors, one a member, that begins at a byte
+abbrev pub column_at : ℕ → List ℕ → ℕ → ℕ → List ℕ
+column_at members rows at x = map (λ i. slice_index rows (at + (512 * i + x))) (range_with_len 0 members)
+
+-- what was read for sector number j of those from `first` on gives the sector: rows of sectors stand in one list, sectors in another
+abbrev pub IsRead : List (List ℕ) → List Section → Wide → ℕ → List ℕ → List ℕ → ℕ → Type 0
+IsRead images sections set first rows block j =
+    (x : ℕ) → x < 512 → filled_byte sections set (first + j) (column_at (length set.geo.slots.items) rows (512 * length set.geo.slots.items * j) x) (slice_index block (512 * j + x))
+    ≡ slice_index (salvaged_sector images sections set (first + j)) x
+
+-- it was filled by what was read for it
+abbrev pub IsFilled : List Section → Wide → ℕ → List ℕ → List ℕ → List ℕ → ℕ → Type 0
+IsFilled sections set first rows old new j =
+    (x : ℕ) → x < 512 → slice_index new (512 * j + x)
+    ≡ filled_byte sections set (first + j) (column_at (length set.geo.slots.items) rows (512 * length set.geo.slots.items * j) x) (slice_index old (512 * j + x))
+
+-- a row of sectors holds member sector t of the first n slots, and zeros where a slot is empty
+abbrev pub HoldCells : List (List ℕ) → List (Option ℕ) → ℕ → ℕ → ℕ → List ℕ → Type 0
+HoldCells images slots offset t n row =
+    (i x : ℕ) → i < n → x < 512 → slice_index row (512 * i + x) ≡ member_byte images offset t x (slice_index_or slots i None)
+
+-- a set that breaks no rule over the attached images, which all reach to the end. Where it has bases, they are short enough to be padded
+pub record IsSalvaged (set : Wide) (end : ℕ) (attached : List Image) : Type 0 where
+  pub ruled : wide_fault set (length attached) end ≡ None
+  pub near : end < 2 ^ 55
+  pub long : All (λ image. end ≤ image.sectors) attached
+  pub short : 0 < length set.bases.items → All (λ image. image.sectors < 2 ^ 54) attached
+
+-- the homes of n volume sectors from a sector on are known
+abbrev pub AreKnown : List Section → Wide → ℕ → ℕ → Type 0
+AreKnown sections set first n = (i : ℕ) → i < n → is_unknown sections set (first + i) ≡ false

@@ -1,0 +1,130 @@
+//! Which cells of a row are known.
+ghost use Rattle.std.specs.Prelude.{nat_lt, ℕ, ◌≡◌, ◌+◌, ◌<◌, ◌≤◌, ◌^◌, ◌%◌, length, true};
+ghost use Rattle.raid_params.specs.declared.limits.TheConstants.{MOST};
+ghost use Rattle.raid_params.specs.Size.{redundancy, volume_sectors as volume_sectors_of};
+ghost use Rattle.raid_params.specs.Slots.{empties};
+ghost use Rattle.raid_params.specs.Validity.{is_valid_head};
+ghost use Rattle.member_regions.specs.Members.{IsTestable};
+ghost use Rattle.rescue_map.specs.Salvaged.{AreKnown};
+ghost use Rattle.rescue_map.specs.Damaged.{damaged as damaged_of, image_sector as image_sector_of, is_good as is_good_of, is_lost as is_lost_of, known_slot as known_slot_of, AreAllGood, IsDamaged};
+
+use address_map::locate;
+use raid_params::{Geometry, Slots, Wide, count_empty};
+use rescue_text::Rescue;
+
+/// An array whose images are damaged.
+#[derive(Clone, Copy, Drop)]
+pub(crate) struct Damage<'a> {
+    /// Its parameters.
+    pub set: &'a Wide,
+    /// The image sector after the last that may belong to it.
+    pub end: u64,
+    /// What was read of its images.
+    pub rescue: &'a Rescue,
+}
+
+/// The image sector of member sector `sector` of an image.
+fn image_sector(set: &Wide, image: u8, sector: u64) -> u64
+    requires near { set.now.geo.head.offset + sector < 2 ^ 55 }
+    ensures { result ≡ image_sector_of set.now image sector }
+{
+    match set.bases.get(image as usize) {
+        Some(base) => *base + sector,
+        None => set.geo.head.offset + sector,
+    }
+}
+
+/// What a slot holds where member sector `sector` of it is known.
+fn known_slot(set: &Wide, rescue: &Rescue, sector: u64, held: Option<u8>) -> Option<u8>
+    requires near { set.now.geo.head.offset + sector < 2 ^ 55 }
+    ensures { result ≡ known_slot_of rescue.now set.now sector held }
+{
+    let image = held?;
+    if rescue.is_good(image, image_sector(set, image, sector)) {
+        return Some(image);
+    }
+    None
+}
+
+/// The set at member sector `sector`: slots whose cell there is not known are empty.
+pub(crate) fn damaged(set: &Wide, rescue: &Rescue, sector: u64) -> Geometry
+    requires near { set.now.geo.head.offset + sector < 2 ^ 55 }
+    ensures { result ≡ damaged_of rescue.now set.now sector }
+{
+    let mut slots = Slots::new();
+    for held in set.geo.slots.as_slice() {
+        slots.push(known_slot(set, rescue, sector, *held));
+    }
+    Geometry {
+        head: set.geo.head,
+        slots,
+    }
+}
+
+/// Whether `count` member sectors from number `first` on of all slots that hold an image are good.
+pub(crate) fn are_all_good(set: &Wide, rescue: &Rescue, first: u64, count: u64) -> bool
+    requires some { 0 < count }
+    requires near { set.now.geo.head.offset + (first + count) < 2 ^ 55 }
+    ensures { result ≡ true → (t : ℕ) → first ≤ t → t < first + count → AreAllGood rescue.now set.now t }
+{
+    set.geo
+        .slots
+        .iter()
+        .all(|held| are_known(set, rescue, first, count, *held))
+}
+
+/// Whether a slot is empty, or `count` member sectors of it from number `first` on are good.
+fn are_known(set: &Wide, rescue: &Rescue, first: u64, count: u64, held: Option<u8>) -> bool
+    requires some { 0 < count }
+    requires near { set.now.geo.head.offset + (first + count) < 2 ^ 55 }
+    ensures { result ≡ true → (t : ℕ) → first ≤ t → t < first + count → known_slot_of rescue.now set.now t held ≡ held }
+{
+    match held {
+        Some(image) => rescue.are_good(image, image_sector(set, image, first), count),
+        None => true,
+    }
+}
+
+/// Whether a volume sector is lost: neither its home is known, nor enough of its row.
+pub(crate) fn is_lost(set: &Wide, end: u64, rescue: &Rescue, sector: u64) -> bool
+    requires set { IsDamaged set.now end }
+    requires within { sector < volume_sectors_of set.now.geo.head end }
+    ensures { result ≡ is_lost_of rescue.now set.now sector }
+{
+    let head = &set.geo.head;
+    let Some(home) = locate(head, end, sector) else {
+        return false;
+    };
+    let row = damaged(set, rescue, home.sector);
+    row.slots[home.slot as usize].is_none() && is_beyond(&row)
+}
+
+/// Whether more slots are empty than the level survives.
+pub(crate) fn is_beyond(geo: &Geometry) -> bool
+    ensures { result ≡ nat_lt (redundancy geo.now.head.level) (empties geo.now.slots.items) }
+{
+    count_empty(&geo.slots) > geo.head.level.redundancy() as usize
+}
+
+/// How many volume sectors from number `sector` on, `most` at most, lie beside each other on one member and are known: none
+/// where one among those of its chunk is not.
+pub(crate) fn known_run(damage: &Damage, sector: u64, most: u64) -> u64
+    requires set { IsTestable damage.now.set.now.geo }
+    requires near { damage.now.end < 2 ^ 55 }
+    requires some { 1 ≤ most }
+    requires within { sector + most ≤ volume_sectors_of damage.now.set.now.geo.head damage.now.end }
+    ensures most { result ≤ most }
+    ensures chunk { sector % damage.now.set.now.geo.head.chunk + result ≤ damage.now.set.now.geo.head.chunk }
+    ensures known { AreKnown damage.now.rescue.now damage.now.set.now sector result }
+{
+    let head = &damage.set.geo.head;
+    let Some(home) = locate(head, damage.end, sector) else {
+        return 0;
+    };
+    let run = most.min(head.chunk - sector % head.chunk);
+    let held = damage.set.geo.slots[home.slot as usize];
+    if held.is_some() && are_known(damage.set, damage.rescue, home.sector, run, held) {
+        return run;
+    }
+    0
+}

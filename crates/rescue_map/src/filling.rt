@@ -1,0 +1,136 @@
+//! Sectors of the volume, by what was read for them.
+ghost use Rattle.std.specs.Prelude.{ℕ, ◌≡◌, ◌+◌, ◌*◌, ◌^◌, ◌<◌, ◌≤◌, ◌/◌, ◌%◌, length, slice_index};
+ghost use Rattle.member_regions.specs.Members.{IsTestable};
+ghost use Rattle.raid_params.specs.Size.{volume_sectors as volume_sectors_of};
+ghost use Rattle.raid_terms.specs.Parity.{column_of};
+ghost use Rattle.rescue_map.specs.Salvaged.{column_at, filled_byte, IsFilled};
+
+use crate::damaged::{Damage, damaged, is_beyond};
+use address_map::locate;
+use gates::{Gate, OpenGate};
+use outside::SECTOR;
+use pq_parity::solve;
+use raid_layouts::row_cells;
+use std::thread;
+use std::thread::Threads;
+
+/// The bytes of a piece: 64 sectors.
+const PIECE: usize = 64 * SECTOR;
+
+/// What works on pieces.
+#[derive(Drop)]
+pub(crate) struct Threading<'a, R, G> {
+    /// What starts threads.
+    pub rt: &'a R,
+    /// The gate that each piece passes before its work on the first block.
+    pub gate: &'a G,
+}
+
+/// Finishes a sector of the volume, `to`: it stays where it was read itself, is found by `row`, a sector of each member, where
+/// its home is not known, and is zeros where it is lost.
+fn fill_sector(damage: &Damage, sector: u64, row: &[u8], to: &mut [u8])
+    requires set { IsTestable damage.now.set.now.geo }
+    requires near { damage.now.end < 2 ^ 55 }
+    requires within { sector < volume_sectors_of damage.now.set.now.geo.head damage.now.end }
+    requires row { length row.now ≡ 512 * length damage.now.set.now.geo.slots.items }
+    requires to { length to.old ≡ 512 }
+    ensures long { length to.new ≡ 512 }
+    ensures filled { (x : ℕ) → x < 512 → slice_index to.new x ≡ filled_byte damage.now.rescue.now damage.now.set.now sector
+        (column_of (length damage.now.set.now.geo.slots.items) row.now x) (slice_index to.old x) }
+{
+    let Some(home) = locate(&damage.set.geo.head, damage.end, sector) else {
+        return;
+    };
+    let geo = damaged(damage.set, damage.rescue, home.sector);
+    let slot = home.slot as usize;
+    if geo.slots[slot].is_some() {
+        return;
+    }
+    if is_beyond(&geo) {
+        to.fill(0);
+        return;
+    }
+    solve(&row_cells(&geo, home.row), row, slot, to);
+}
+
+/// Finishes the sectors of a piece, the first of which is number `start` of those from `first` on. `rows` has a row of
+/// sectors, one a member, for each of these.
+pub(crate) fn fill_piece(damage: &Damage, first: u64, start: usize, piece: &mut [u8], rows: &[u8])
+    requires set { IsTestable damage.now.set.now.geo }
+    requires near { damage.now.end < 2 ^ 55 }
+    requires whole { length piece.old % 512 ≡ 0 }
+    requires within { first + (start + length piece.old / 512) ≤ volume_sectors_of damage.now.set.now.geo.head damage.now.end }
+    requires rows { 512 * length damage.now.set.now.geo.slots.items * (start + length piece.old / 512) ≤ length rows.now }
+    ensures long { length piece.new ≡ length piece.old }
+    ensures filled { (j x : ℕ) → 512 * j + 512 ≤ length piece.old → x < 512 → slice_index piece.new (512 * j + x)
+        ≡ filled_byte damage.now.rescue.now damage.now.set.now (first + (start + j))
+        (column_at (length damage.now.set.now.geo.slots.items) rows.now (512 * length damage.now.set.now.geo.slots.items * (start + j)) x)
+        (slice_index piece.old (512 * j + x)) }
+{
+    let stride = SECTOR * damage.set.geo.slots.len();
+    for j in 0..piece.len() / SECTOR {
+        let at = stride * (start + j);
+        let row = &rows[at..at + stride];
+        let to = &mut piece[SECTOR * j..SECTOR * j + SECTOR];
+        fill_sector(damage, first + (start + j) as u64, row, to);
+    }
+}
+
+/// Finishes the sectors of a block in pieces that may run side by side. Each piece passes the gate first.
+fn fill_pieces<R: Threads + Sync, G: Gate + Sync>(
+    rt: &R,
+    gate: &G,
+    damage: &Damage,
+    first: u64,
+    block: &mut [u8],
+    rows: &[u8],
+)
+    requires set { IsTestable damage.now.set.now.geo }
+    requires near { damage.now.end < 2 ^ 55 }
+    requires whole { length block.old % 512 ≡ 0 }
+    requires within { first + length block.old / 512 ≤ volume_sectors_of damage.now.set.now.geo.head damage.now.end }
+    requires rows { 512 * length damage.now.set.now.geo.slots.items * (length block.old / 512) ≤ length rows.now }
+    ensures long { length block.new ≡ length block.old }
+    ensures filled { (j : ℕ) → j < length block.old / 512 → IsFilled damage.now.rescue.now damage.now.set.now first rows.now block.old block.new j }
+{
+    thread::for_each_chunk_mut(
+        rt,
+        block,
+        PIECE,
+        &|start: usize, piece: &mut [u8]|
+            requires { IsTestable damage.now.set.now.geo × (damage.now.end < 2 ^ 55) × (length piece.old % 512 ≡ 0)
+                × (first + (start / 512 + length piece.old / 512) ≤ volume_sectors_of damage.now.set.now.geo.head damage.now.end)
+                × (512 * length damage.now.set.now.geo.slots.items * (start / 512 + length piece.old / 512) ≤ length rows.now) }
+            ensures { (j x : ℕ) → 512 * j + 512 ≤ length piece.old → x < 512 → slice_index piece.new (512 * j + x)
+                ≡ filled_byte damage.entry.now.rescue.now damage.entry.now.set.now (first + (start / 512 + j))
+                (column_at (length damage.entry.now.set.now.geo.slots.items) rows.entry.now (512 * length damage.entry.now.set.now.geo.slots.items * (start / 512 + j)) x)
+                (slice_index piece.old (512 * j + x)) }
+        {
+            gate.pass(start / PIECE);
+            fill_piece(damage, first, start / SECTOR, piece, rows);
+        },
+    );
+}
+
+/// Finishes the sectors of the block that begins at volume sector `first`. The pieces of the first block pass the gate.
+pub(crate) fn fill_block<R: Threads + Sync, G: Gate + Sync>(
+    threads: &Threading<R, G>,
+    damage: &Damage,
+    first: u64,
+    block: &mut [u8],
+    rows: &[u8],
+)
+    requires set { IsTestable damage.now.set.now.geo }
+    requires near { damage.now.end < 2 ^ 55 }
+    requires whole { length block.old % 512 ≡ 0 }
+    requires within { first + length block.old / 512 ≤ volume_sectors_of damage.now.set.now.geo.head damage.now.end }
+    requires rows { 512 * length damage.now.set.now.geo.slots.items * (length block.old / 512) ≤ length rows.now }
+    ensures long { length block.new ≡ length block.old }
+    ensures filled { (j : ℕ) → j < length block.old / 512 → IsFilled damage.now.rescue.now damage.now.set.now first rows.now block.old block.new j }
+{
+    if first == 0 {
+        fill_pieces(threads.rt, threads.gate, damage, first, block, rows);
+    } else {
+        fill_pieces(threads.rt, &OpenGate, damage, first, block, rows);
+    }
+}

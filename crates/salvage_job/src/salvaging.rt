@@ -1,0 +1,212 @@
+//! The command `salvage`.
+ghost use Rattle.std.specs.Prelude.{◌≡◌, ◌<◌, ◌≤◌, ◌^◌, ◌∷◌, All, Err, IfErr, IfOk, IfSome, IsTrue, MatchResult, None, Ok, OnOk, Some, length, min};
+ghost use Rattle.std.specs.Io.KnownBytes.{IsAtEnd};
+ghost use Rattle.outside.specs.Streams.{Stream};
+ghost use Rattle.raid_params.specs.Wide.{wide_fault};
+ghost use Rattle.rescue_map.specs.Damaged.{IsDamaged};
+ghost use Rattle.rescue_map.specs.LostText.{lost_text as lost_text_of};
+ghost use Rattle.rescue_map.specs.Salvaged.{IsSalvaged};
+ghost use Rattle.rescue_text.specs.RescueText.{rescue_sections};
+ghost use Rattle.run_ends.specs.Agreement.{end_of as end_of_images};
+ghost use Rattle.run_ends.specs.Counts.{Raises};
+ghost use Rattle.run_ends.specs.Jobs.{Does, around, named, stream};
+ghost use Rattle.run_ends.specs.Source.{TakesFew};
+ghost use Rattle.salvage_job.specs.Salvaging.{EndsEarly, IsReady, IsUnreadable, IsUnready, IsUnrescued, images_refusal, rule_refusal, salvage_job};
+ghost use Rattle.set_jobs.specs.Faults.{stop_of_volume};
+ghost use Rattle.set_jobs.specs.Mapping.{long_refused};
+
+use gates::Gate;
+use outside::{Images, MOST_ATTACHED, Sink, Source};
+use raid_params::{MOST, Wide, WideFault};
+use rescue_map::{Rescue, RescueFault, lost_text, read_rescue};
+use run_ends::{Disagreement, Refusal, Stop, end_of, limits_fault, long_fault, print, text_left};
+use std::alloc::Global;
+use std::thread::Threads;
+use value_text::Text;
+use virtual_volume::VolumeFault;
+
+/// The most bytes of a rescue text.
+const RESCUE_BYTES: usize = 4_194_304;
+
+/// What the work begins with, once nothing is refused.
+#[derive(Drop)]
+pub struct Ready {
+    /// The image sector after the last one of the members.
+    pub end: u64,
+    /// What was read of the images.
+    pub rescue: Rescue,
+}
+
+/// Writes the volume of a set whose images have unreadable areas, by the rescue text of the source, or, where `lost` is set,
+/// prints what of it is lost. `names` is the number of images; `end` is the image sector after the last one of the members,
+/// or None for the shortest image's.
+///
+/// The text of what is lost is made before any of it is put, so only a fault of the output leaves a part of it, and no image is
+/// read. The volume is put as it is read: a fault of the images leaves whole sectors of it. The images are looked at before
+/// the source is read, and the rescue text is let go before the first sector is read.
+pub fn salvage<R: Threads + Sync, S: Source, I: Images, K: Sink, G: Gate + Sync>(
+    rt: &R,
+    alloc: Global,
+    source: &mut S,
+    images: &mut I,
+    names: usize,
+    set: &Wide,
+    lost: bool,
+    end: Option<u64>,
+    out: &mut K,
+    gate: &G,
+) -> Result<(), Stop>
+    requires attached { length (I.seen images.old).attached ≡ min names MOST_ATTACHED }
+    requires small { All (λ image. image.sectors < 2 ^ 55) (I.seen images.old).attached }
+    requires end { IfSome end (λ sector. sector < 2 ^ 55) }
+    ensures does { Does (salvage_job set.now lost end) (named names (I.seen images.old).attached)
+        (around (I.seen images.old) (stream (S.left source.old) (S.faults source.old)))
+        (around (I.seen images.new) (stream (S.left source.new) (S.faults source.new)))
+        (stream (K.gained out.old) (K.faults out.old)) (stream (K.gained out.new) (K.faults out.new)) result }
+    ensures early { EndsEarly (images_refusal set.now end names (I.seen images.old).attached)
+        (stream (S.left source.old) (S.faults source.old)) (stream (S.left source.new) (S.faults source.new)) result }
+    ensures untouched { IsTrue lost → I.seen images.new ≡ I.seen images.old }
+    ensures kept { (I.seen images.new).attached ≡ (I.seen images.old).attached }
+{
+    match prepare(alloc, source, images, names, set, end) {
+        Ok(ready) if lost => print(out, lost_answer(alloc, set, &ready)),
+        Ok(ready) => match rescue_map::salvage(
+            rt,
+            alloc,
+            images,
+            set,
+            ready.end,
+            &ready.rescue,
+            out,
+            gate,
+        ) {
+            Ok(()) => Ok(()),
+            Err(fault) => Err(stop_of(fault)),
+        },
+        Err(stop) => Err(stop),
+    }
+}
+
+/// The text of what is lost.
+fn lost_answer(alloc: Global, set: &Wide, ready: &Ready) -> Result<Text, Stop>
+    requires { IsDamaged set.now ready.now.end }
+    ensures { MatchResult result (λ text. text ≡ lost_text_of ready.now.rescue set.now ready.now.end) (λ stop. stop ≡ Stop.OutOfMemory) }
+{
+    match lost_text(alloc, set, ready.end, &ready.rescue) {
+        Ok(text) => Ok(text),
+        Err(_) => Err(Stop::OutOfMemory),
+    }
+}
+
+/// Why writing ends at a fault.
+fn stop_of(fault: VolumeFault) -> Stop
+    ensures { result ≡ stop_of_volume fault }
+{
+    match fault {
+        VolumeFault::ReadFault => Stop::ImageFault,
+        VolumeFault::WriteFault => Stop::OutFault,
+        VolumeFault::Memory => Stop::OutOfMemory,
+    }
+}
+
+/// What the work begins with: the images are looked at, the rescue text is read, and the set is tested.
+fn prepare<S: Source, I: Images>(
+    alloc: Global,
+    source: &mut S,
+    images: &I,
+    names: usize,
+    set: &Wide,
+    end: Option<u64>,
+) -> Result<Ready, Stop>
+    requires attached { length (I.seen images.now).attached ≡ min names MOST_ATTACHED }
+    requires small { All (λ image. image.sectors < 2 ^ 55) (I.seen images.now).attached }
+    requires end { IfSome end (λ sector. sector < 2 ^ 55) }
+    ensures ready { IfOk result (IsReady set.now end names (I.seen images.now).attached (S.left source.old)) }
+    ensures unready { IfErr result (IsUnready set.now end names (I.seen images.now).attached (S.left source.old)) }
+    ensures early { EndsEarly (images_refusal set.now end names (I.seen images.now).attached)
+        (stream (S.left source.old) (S.faults source.old)) (stream (S.left source.new) (S.faults source.new)) result }
+    ensures takes { TakesFew 4194304 (S.left source.old) (S.left source.new) }
+    ensures end { OnOk result (IsAtEnd (S.left source.new)) }
+    ensures faults { Raises Stop.SourceFault (S.faults source.old) (S.faults source.new) result }
+{
+    match images_end(images, names, set, end) {
+        Ok(end) => match rescue_left(alloc, source, names as u8) {
+            Ok(rescue) => match set.validate(names as u8, end) {
+                Ok(()) => Ok(Ready { end, rescue }),
+                Err(fault) => Err(Stop::Refused(refusal_of(fault))),
+            },
+            Err(stop) => Err(stop),
+        },
+        Err(refusal) => Err(Stop::Refused(refusal)),
+    }
+}
+
+/// The refusal of a set that breaks a rule.
+fn refusal_of(fault: WideFault) -> Refusal
+    ensures { result ≡ rule_refusal fault }
+{
+    match fault {
+        WideFault::Geo(fault) => Refusal::Set(fault),
+        WideFault::Bases(count) => Refusal::Bases(count),
+    }
+}
+
+/// The end of the members, where the images are such that the work goes on.
+fn images_end<I: Images>(
+    images: &I,
+    names: usize,
+    set: &Wide,
+    end: Option<u64>,
+) -> Result<u64, Refusal>
+    requires attached { length (I.seen images.now).attached ≡ min names MOST_ATTACHED }
+    ensures end { IfOk result (λ e. e ≡ end_of_images end (I.seen images.now).attached) }
+    ensures few { OnOk result (names ≤ MOST) }
+    ensures allowed { OnOk result (images_refusal set.now end names (I.seen images.now).attached ≡ None) }
+    ensures refused { IfErr result (λ refusal. images_refusal set.now end names (I.seen images.now).attached ≡ Some refusal) }
+{
+    if let Some(fault) = limits_fault(images, names, end) {
+        return Err(Refusal::Images(fault));
+    }
+    if let Some(fault) = long_for(images, names, set) {
+        return Err(Refusal::Images(fault));
+    }
+    Ok(end_of(images, names, end))
+}
+
+/// The first of `count` images that is too long for the bases of the set.
+fn long_for<I: Images>(images: &I, count: usize, set: &Wide) -> Option<Disagreement>
+    requires attached { length (I.seen images.now).attached ≡ count }
+    requires few { count ≤ MOST }
+    ensures { result ≡ long_refused set.now (I.seen images.now).attached }
+{
+    if set.bases.is_empty() {
+        None
+    } else {
+        long_fault(images, count)
+    }
+}
+
+/// What was read of so many images, by the text that a source has left. The text is let go.
+fn rescue_left<S: Source>(alloc: Global, source: &mut S, images: u8) -> Result<Rescue, Stop>
+    ensures read { IfOk result (λ rescue. IfSome (S.left source.old) (λ text. (length text ≤ 4194304) × (rescue_sections images text ≡ Ok rescue))) }
+    ensures unread { IfErr result (IsUnrescued images (S.left source.old)) }
+    ensures takes { TakesFew 4194304 (S.left source.old) (S.left source.new) }
+    ensures end { OnOk result (IsAtEnd (S.left source.new)) }
+    ensures faults { Raises Stop.SourceFault (S.faults source.old) (S.faults source.new) result }
+{
+    match text_left(alloc, source, RESCUE_BYTES, Refusal::RescueIsLong) {
+        Ok(text) => rescue_in(alloc, &text, images),
+        Err(stop) => Err(stop),
+    }
+}
+
+/// What a text says was read of so many images.
+fn rescue_in(alloc: Global, text: &[u8], images: u8) -> Result<Rescue, Stop>
+    ensures { MatchResult result (λ rescue. rescue_sections images text.now ≡ Ok rescue) (IsUnreadable images text.now) }
+{
+    match read_rescue(alloc, text, images) {
+        Ok(rescue) => Ok(rescue),
+        Err(RescueFault::Line(number)) => Err(Stop::Refused(Refusal::RescueLine(number))),
+        Err(RescueFault::Memory) => Err(Stop::OutOfMemory),
+    }
+}

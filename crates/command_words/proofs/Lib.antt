@@ -10,3 +10,4 @@ pub mod Said
 pub mod OneReading
 pub mod Limits
 pub mod WhatWasRead
+pub mod Copies

@@ -1,34 +1,36 @@
 -- The values of a command are within the limits of its operands.
-use Rattle.std.proofs.Common.{◌≡◌, ℕ, zero, suc, ◌+◌, ◌-◌, ◌*◌, ◌≤◌, ◌<◌, ◌^◌, ◌⊎◌, inl, inr, Bool, true, false, IsTrue, ◌&&◌, ◌||◌, nat_le, nat_lt, List, [], ◌∷◌, length, map, get_or, None, Some, Option, IfSome, unwrap_or, refl, sym, ap, ◌∙◌, subst, arith, All, lit<, lit≤}
+use Rattle.std.proofs.Common.{◌≡◌, ℕ, zero, suc, ◌+◌, ◌-◌, ◌*◌, ◌≤◌, ◌<◌, ◌^◌, ◌⊎◌, inl, inr, Bool, true, false, IsTrue, ◌&&◌, nat_le, nat_lt, nat_eq, cond, List, [], ◌∷◌, length, map, get_or, None, Some, Option, IfSome, unwrap_or, refl, sym, ap, ◌∙◌, subst, arith, All, lit<, lit≤}
 use Rattle.std.specs.List.{list_all}
 use Rattle.std.specs.List.Sorted.{IsStrictlyIncreasing}
-use Rattle.std.proofs.lemmas.Bool.{and_parts, leb-true}
+use Rattle.std.proofs.lemmas.Bool.{and_parts, eqb-true, leb-true}
 use Rattle.std.proofs.lemmas.Bool.Decides.{nat_tests}
 use Rattle.std.proofs.lemmas.List.{length-map}
 use Rattle.std.proofs.lemmas.List.Elements.{All-cons, All-nil}
 use Rattle.arrayvec.specs.ArrayVec.{ArrayVec}
 use Rattle.raid_params.specs.Validity.{is_chunk}
 use Rattle.raid_params.specs.declared.limits.TheConstants.{MOST, MOST_MISSING}
-use Rattle.raid_params.specs.declared.types.Geometry.{Geometry}
+use Rattle.raid_params.specs.declared.wide.Wide.{Wide}
+use Rattle.near_mirror.specs.Words.{HasNearWord}
+use Rattle.near_mirror.specs.declared.types.NearSet.{NearSet}
 use Rattle.value_text.specs.Bounded.{AreMembers}
 use Rattle.value_text.specs.SetText.{HasWord}
 use Rattle.raid_params.specs.Places.{level_place, pattern_place, syndrome_place}
 use Rattle.search_plan.specs.Plans.{AreBounds, AreRising, AreTests}
-use Rattle.command_words.specs.Commands.{AreAsked, IsCommandLine, IsWithin, bounds_of, chunks_or, command_of, drops_or, kinds_or, levels_or, members_or, number_in, number_or, patterns_or, plain_survey, sectors_or, set_in, survey_of, syndromes_or, tests_of}
+use Rattle.command_words.specs.Commands.{AreAsked, IsCommandLine, IsWithin, bounds_of, can_move, chunks_or, command_of, drops_or, each_or, kinds_or, large_or, levels_or, members_or, mirror_in, mirrors_of, number_in, number_or, offsets_or, patterns_or, plain_survey, sectors_or, set_in, survey_of, syndromes_or, tests_of, unit_of}
 use Rattle.mark_kinds.proofs.Asked.{among_some}
 use Rattle.mark_kinds.specs.Table.{group_place, some_asked}
 use Rattle.command_words.specs.Operands.{AreDrops, AreFitting, IsFitting, IsValueOf, kind_of, value_of}
 use Rattle.command_words.specs.declared.command.Command.{Command}
 use Rattle.command_words.specs.declared.command.Verb.{Verb}
-use Rattle.command_words.specs.declared.command.Verb.TheVariants.{Survey, List as ListVerb, Check, Map, Write, Rebuild, Sample, Classes}
+use Rattle.command_words.specs.declared.command.Verb.TheVariants.{Survey, List as ListVerb, Check, Map, Write, Rebuild, Sample, Classes, Mirrors, MirrorWrite, Salvage}
 use Rattle.command_words.specs.declared.operands.Operand.{Operand}
 use Rattle.command_words.specs.declared.table.Name.{Name}
-use Rattle.command_words.specs.declared.table.Name.TheVariants.{Levels as LevelsName, Members as MembersName, Patterns as PatternsName, Syndromes as SyndromesName, Chunks as ChunksName, Offsets as OffsetsName, Origins as OriginsName, Missing as MissingName, Foreign as ForeignName, Badrows as BadrowsName, Misfits as MisfitsName, Least as LeastName, Window as WindowName, End as EndName, Kinds as KindsName, Dropped as DropName, Size as SizeName, Span as SpanName, Pages as PagesName, Set as SetName, Slot as SlotName, Rows as RowsName, Images as ImagesName}
-use Rattle.command_words.specs.declared.table.ValueKind.TheVariants.{Number as NumberKind, Levels as LevelsKind, Members as MembersKind, Patterns as PatternsKind, Syndromes as SyndromesKind, Chunks as ChunksKind, Sectors as SectorsKind, Landmarks as LandmarksKind, Drops as DropsKind, Set as SetKind}
+use Rattle.command_words.specs.declared.table.Name.TheVariants.{Levels as LevelsName, Members as MembersName, Patterns as PatternsName, Syndromes as SyndromesName, Chunks as ChunksName, Offsets as OffsetsName, Origins as OriginsName, Missing as MissingName, Foreign as ForeignName, Badrows as BadrowsName, Misfits as MisfitsName, Least as LeastName, Window as WindowName, End as EndName, Kinds as KindsName, Dropped as DropName, Size as SizeName, Span as SpanName, Pages as PagesName, Set as SetName, Slot as SlotName, Rows as RowsName, Images as ImagesName, Mode as ModeName, Logical as LogicalName}
+use Rattle.command_words.specs.declared.table.ValueKind.TheVariants.{Number as NumberKind, Levels as LevelsKind, Members as MembersKind, Patterns as PatternsKind, Syndromes as SyndromesKind, Chunks as ChunksKind, Sectors as SectorsKind, Landmarks as LandmarksKind, Drops as DropsKind, Set as SetKind, Mirror as MirrorKind}
 use Rattle.command_words.specs.declared.table.ValueKind.{ValueKind}
 use Rattle.command_words.specs.declared.values.Value.{Value}
 use Rattle.command_words.proofs.LookUps.{fitting_value, number_below, number_within, operands_fit}
-use Rattle.command_words.proofs.Said.{made_check, made_list, made_map, made_classes, made_rebuild, made_sample, made_survey, made_write}
+use Rattle.command_words.proofs.Said.{moves, made_check, made_list, made_map, made_classes, made_mirror_write, made_mirrors, made_rebuild, made_salvage, made_sample, made_survey, made_write}
 
 -- numbers that rise, tested
 rises : List ℕ → Bool
@@ -136,67 +138,82 @@ or_within (Some n) other P is be = is
 abbrev LiesIn : ℕ → ℕ → ℕ → Type 0
 LiesIn low high n = (low ≤ n) × (n ≤ high)
 
-number_or_within : (name : Name) (os : List Operand) (low high other : ℕ) → kind_of name ≡ NumberKind low high → AreFitting os → LiesIn low high other → LiesIn low high (number_or other (value_of name os))
-number_or_within name os low high other kind fit be = or_within (number_in (value_of name os)) other (LiesIn low high) (number_within name os low high kind fit) be
+number_or_within : (verb : Verb) (name : Name) (os : List Operand) (low high other : ℕ) → kind_of verb name ≡ NumberKind low high → AreFitting verb os → LiesIn low high other → LiesIn low high (number_or other (value_of name os))
+number_or_within verb name os low high other kind fit be = or_within (number_in (value_of name os)) other (LiesIn low high) (number_within verb name os low high kind fit) be
 
-fits_of : (os : List Operand) → AreFitting os → (name : Name) → Fits (value_of name os) (kind_of name)
-fits_of os fit name v e = fitting_value name os v fit e
+fits_of : (verb : Verb) (os : List Operand) → AreFitting verb os → (name : Name) → Fits (value_of name os) (kind_of verb name)
+fits_of verb os fit name v e = fitting_value verb name os v fit e
 
-bounds_are : (os : List Operand) → AreFitting os → (members : ArrayVec ℕ) → AreMembers members.items → AreBounds (record (bounds_of os) { members = members })
+bounds_are : (os : List Operand) → AreFitting Survey os → (members : ArrayVec ℕ) → AreMembers members.items → AreBounds (record (bounds_of os) { members = members })
 bounds_are os fit members are =
-    let chunks = chunks_are (value_of ChunksName os) (fits_of os fit ChunksName) in
-    let offsets = sectors_are (0 ∷ 2048 ∷ 262144 ∷ 264192 ∷ []) (value_of OffsetsName os) offsets_are (fits_of os fit OffsetsName) in
+    let chunks = chunks_are (value_of ChunksName os) (fits_of Survey os fit ChunksName) in
+    let offsets = sectors_are (0 ∷ 2048 ∷ 262144 ∷ 264192 ∷ []) (value_of OffsetsName os) offsets_are (fits_of Survey os fit OffsetsName) in
     record {
-      levels = levels_rise (value_of LevelsName os) (fits_of os fit LevelsName);
+      levels = levels_rise (value_of LevelsName os) (fits_of Survey os fit LevelsName);
       members = are.0;
       few_members = are.1;
-      patterns = patterns_rise (value_of PatternsName os) (fits_of os fit PatternsName);
-      syndromes = syndromes_rise (value_of SyndromesName os) (fits_of os fit SyndromesName);
+      patterns = patterns_rise (value_of PatternsName os) (fits_of Survey os fit PatternsName);
+      syndromes = syndromes_rise (value_of SyndromesName os) (fits_of Survey os fit SyndromesName);
       chunks = chunks.0;
       powers = chunks.1;
       offsets = offsets.0;
       few_offsets = offsets.1;
       near_offsets = offsets.2;
-      missing = (number_or_within MissingName os 0 MOST_MISSING 0 refl fit ((lit≤ tt), (lit≤ tt))).1;
-      foreign = (number_or_within ForeignName os 0 MOST 0 refl fit ((lit≤ tt), (lit≤ tt))).1;
+      missing = (number_or_within Survey MissingName os 0 MOST_MISSING 0 refl fit ((lit≤ tt), (lit≤ tt))).1;
+      foreign = (number_or_within Survey ForeignName os 0 MOST 0 refl fit ((lit≤ tt), (lit≤ tt))).1;
     }
 
 -- a number below 2^55
-below_end : (name : Name) (os : List Operand) (low other : ℕ) → kind_of name ≡ NumberKind low (2 ^ 55 - 1) → AreFitting os → low ≤ other → other < 2 ^ 55 → number_or other (value_of name os) < 2 ^ 55
-below_end name os low other kind fit least most =
-    let is = (number_or_within name os low (2 ^ 55 - 1) other kind fit (least, (omega arith))).1 in omega arith
+below_end : (verb : Verb) (name : Name) (os : List Operand) (low other : ℕ) → kind_of verb name ≡ NumberKind low (2 ^ 55 - 1) → AreFitting verb os → low ≤ other → other < 2 ^ 55 → number_or other (value_of name os) < 2 ^ 55
+below_end verb name os low other kind fit least most =
+    let is = (number_or_within verb name os low (2 ^ 55 - 1) other kind fit (least, (omega arith))).1 in omega arith
 
-tests_are : (os : List Operand) → AreFitting os → AreTests (tests_of os)
+tests_are : (os : List Operand) → AreFitting Survey os → AreTests (tests_of os)
 tests_are os fit =
-    let origins = sectors_are (0 ∷ 2048 ∷ []) (value_of OriginsName os) origins_are (fits_of os fit OriginsName) in
+    let origins = sectors_are (0 ∷ 2048 ∷ []) (value_of OriginsName os) origins_are (fits_of Survey os fit OriginsName) in
     record {
       origins = origins.0;
       few_origins = origins.1;
       near_origins = origins.2;
-      misfits = below_end MisfitsName os 0 0 refl fit (lit≤ tt) (lit< tt);
-      least = below_end LeastName os 0 1 refl fit (lit≤ tt) (lit< tt);
+      misfits = below_end Survey MisfitsName os 0 0 refl fit (lit≤ tt) (lit< tt);
+      least = below_end Survey LeastName os 0 1 refl fit (lit≤ tt) (lit< tt);
     }
 
 window_is : (r : Option ℕ) → IfSome r (LiesIn 1 (2 ^ 55 - 1)) → IfSome r (λ n. (1 ≤ n) × (n < 2 ^ 55))
 window_is None is = tt
 window_is (Some n) is = let top = is.1 in (is.0, (omega arith))
 
-end_is : (os : List Operand) → AreFitting os → IfSome (number_in (value_of EndName os)) (λ n. n < 2 ^ 55)
-end_is os fit = number_below EndName os 0 (2 ^ 55 - 1) (2 ^ 55) refl (lit< tt) fit
+end_is : (verb : Verb) (os : List Operand) → AreFitting verb os → IfSome (number_in (value_of EndName os)) (λ n. n < 2 ^ 55)
+end_is verb os fit = number_below verb EndName os 0 (2 ^ 55 - 1) (2 ^ 55) refl (lit< tt) fit
 
-asked_are : (os : List Operand) (n : ℕ) → AreFitting os → AreAsked (survey_of os n)
-asked_are os n fit = record {
+unit_is : (large : Bool) → (unit_of large ≡ 1) ⊎ (unit_of large ≡ 8)
+unit_is true = inr refl
+unit_is false = inl refl
+
+-- where images have offsets of their own they can have them
+own_are : (mode foreign offsets : Option Value) → can_move mode foreign offsets ≡ true → each_or mode ≡ true → (number_or 0 foreign ≡ 0) × All (λ n. n < 2 ^ 54) (offsets_or offsets).items
+own_are mode foreign offsets moves each =
+    let own = nat_eq (number_or 0 foreign) 0 in
+    let near = list_all (λ n. nat_lt n (2 ^ 54)) (offsets_or offsets).items in
+    let both : (own && near) ≡ true = ap (λ (b : Bool). cond b (own && near) true) (sym each) ∙ moves in
+    let parts = and_parts own near both in
+    (eqb-true (number_or 0 foreign) 0 parts.0, all_if (λ n. n < 2 ^ 54) (λ n. nat_lt n (2 ^ 54)) (λ n is. first_below n (2 ^ 54) is) (offsets_or offsets).items parts.1)
+
+asked_are : (os : List Operand) (n : ℕ) → AreFitting Survey os → moves os ≡ true → AreAsked (survey_of os n)
+asked_are os n fit going = record {
   bounds = bounds_are os fit;
-  members = members_are (value_of MembersName os) (fits_of os fit MembersName);
-  end = end_is os fit;
-  badrows = below_end BadrowsName os 0 0 refl fit (lit≤ tt) (lit< tt);
-  window = window_is (number_in (value_of WindowName os)) (number_within WindowName os 1 (2 ^ 55 - 1) refl fit);
+  members = members_are (value_of MembersName os) (fits_of Survey os fit MembersName);
+  end = end_is Survey os fit;
+  badrows = below_end Survey BadrowsName os 0 0 refl fit (lit≤ tt) (lit< tt);
+  window = window_is (number_in (value_of WindowName os)) (number_within Survey WindowName os 1 (2 ^ 55 - 1) refl fit);
   tests = tests_are os fit;
-  kinds = kinds_are (value_of KindsName os) (fits_of os fit KindsName);
-  drops = drops_are (value_of DropName os) (fits_of os fit DropName);
+  kinds = kinds_are (value_of KindsName os) (fits_of Survey os fit KindsName);
+  drops = drops_are (value_of DropName os) (fits_of Survey os fit DropName);
+  each = own_are (value_of ModeName os) (value_of ForeignName os) (value_of OffsetsName os) going;
+  unit = unit_is (large_or (value_of LogicalName os));
 }
 
-set_fits : (r : Option Value) (set : Geometry) → Fits r SetKind → set_in r ≡ Some set → HasWord set
+set_fits : (r : Option Value) (set : Wide) → Fits r SetKind → set_in r ≡ Some set → HasWord set
 set_fits None set fits e = cc
 set_fits (Some v) set fits e =
     let is = fits v refl in
@@ -204,43 +221,69 @@ set_fits (Some v) set fits e =
     let same : is.0 ≡ set = cc in
     subst HasWord same is.2
 
-set_is : (os : List Operand) (set : Geometry) → AreFitting os → set_in (value_of SetName os) ≡ Some set → HasWord set
-set_is os set fit e = set_fits (value_of SetName os) set (fits_of os fit SetName) e
+set_is : (verb : Verb) (os : List Operand) (set : Wide) → kind_of verb SetName ≡ SetKind → AreFitting verb os → set_in (value_of SetName os) ≡ Some set → HasWord set
+set_is verb os set kind fit e = set_fits (value_of SetName os) set (subst (λ k. Fits (value_of SetName os) k) kind (fits_of verb os fit SetName)) e
 
-number_is : (name : Name) (os : List Operand) (low high n : ℕ) → kind_of name ≡ NumberKind low high → AreFitting os → number_in (value_of name os) ≡ Some n → LiesIn low high n
-number_is name os low high n kind fit e = subst (λ r. IfSome r (LiesIn low high)) e (number_within name os low high kind fit)
+mirror_fits : (r : Option Value) (set : NearSet) → Fits r MirrorKind → mirror_in r ≡ Some set → HasNearWord set
+mirror_fits None set fits e = cc
+mirror_fits (Some v) set fits e =
+    let is = fits v refl in
+    let both : Some is.0 ≡ Some set = sym (ap (λ w. mirror_in (Some w)) is.1) ∙ e in
+    let same : is.0 ≡ set = cc in
+    subst HasNearWord same is.2
+
+number_is : (verb : Verb) (name : Name) (os : List Operand) (low high n : ℕ) → kind_of verb name ≡ NumberKind low high → AreFitting verb os → number_in (value_of name os) ≡ Some n → LiesIn low high n
+number_is verb name os low high n kind fit e = subst (λ r. IfSome r (LiesIn low high)) e (number_within verb name os low high kind fit)
+
+-- what mirrors are asked for
+mirrors_are : (os : List Operand) (n : ℕ) → AreFitting Mirrors os → IsWithin (mirrors_of os n)
+mirrors_are os n fit = record {
+  members = members_are (value_of MembersName os) (fits_of Mirrors os fit MembersName);
+  chunks = chunks_are (value_of ChunksName os) (fits_of Mirrors os fit ChunksName);
+  offsets = sectors_are (0 ∷ 2048 ∷ 262144 ∷ 264192 ∷ []) (value_of OffsetsName os) offsets_are (fits_of Mirrors os fit OffsetsName);
+  missing = (number_or_within Mirrors MissingName os 0 1 0 refl fit ((lit≤ tt), (lit≤ tt))).1;
+  foreign = (number_or_within Mirrors ForeignName os 0 MOST 0 refl fit ((lit≤ tt), (lit≤ tt))).1;
+  badrows = below_end Mirrors BadrowsName os 0 0 refl fit (lit≤ tt) (lit< tt);
+  window = window_is (number_in (value_of WindowName os)) (number_within Mirrors WindowName os 1 (2 ^ 55 - 1) refl fit);
+  end = end_is Mirrors os fit;
+  size = number_or_within Mirrors SizeName os 1 1000000 100 refl fit ((lit≤ tt), (lit≤ tt));
+  span = (number_or_within Mirrors SpanName os 1 (2 ^ 64 - 1) (2 ^ 64 - 1) refl fit ((lit≤ tt), (lit≤ tt))).0;
+}
 
 lines_are : (m n : ℕ) → nat_le (m * n) 4000000 ≡ true → m * n ≤ 4000000
 lines_are m n is = leb-true (m * n) 4000000 is
 
 -- so it is with no operand
-none_fit : AreFitting []
-none_fit = All-nil (λ (operand : Operand). IsFitting operand)
+none_fit : AreFitting Survey []
+none_fit = All-nil (IsFitting Survey)
 
 pub plain_asked : AreAsked plain_survey
 unfolding plain_survey
-plain_asked = asked_are [] 2 none_fit
+plain_asked = asked_are [] 2 none_fit refl
 
-within : (verb : Verb) (os : List Operand) (n : ℕ) (command : Command) → AreFitting os → command_of verb os n ≡ Some command → IsWithin command
+within : (verb : Verb) (os : List Operand) (n : ℕ) (command : Command) → AreFitting verb os → command_of verb os n ≡ Some command → IsWithin command
 within Survey os n command fit e = made_survey os n command IsWithin e (asked_are os n fit)
 within ListVerb os n command fit e = made_list os n command IsWithin e (λ short.
-    let size = number_or_within SizeName os 1 1000000 100 refl fit ((lit≤ tt), (lit≤ tt)) in
-    let span = number_or_within SpanName os 1 (2 ^ 64 - 1) (2 ^ 64 - 1) refl fit ((lit≤ tt), (lit≤ tt)) in
-    let pages = number_or_within PagesName os 1 1000000 1 refl fit ((lit≤ tt), (lit≤ tt)) in
+    let size = number_or_within ListVerb SizeName os 1 1000000 100 refl fit ((lit≤ tt), (lit≤ tt)) in
+    let span = number_or_within ListVerb SpanName os 1 (2 ^ 64 - 1) (2 ^ 64 - 1) refl fit ((lit≤ tt), (lit≤ tt)) in
+    let pages = number_or_within ListVerb PagesName os 1 1000000 1 refl fit ((lit≤ tt), (lit≤ tt)) in
     (size.0, size.1, span.0, pages.0, pages.1, lines_are (number_or 100 (value_of SizeName os)) (number_or 1 (value_of PagesName os)) short))
-within Check os n command fit e = made_check os n command IsWithin e (λ set is. set_is os set fit is)
-within Map os n command fit e = made_map os n command IsWithin e (λ set sector is had. (set_is os set fit is, end_is os fit))
-within Write os n command fit e = made_write os n command IsWithin e (λ set is. (set_is os set fit is, end_is os fit))
+within Check os n command fit e = made_check os n command IsWithin e (λ set is. set_is Check os set refl fit is)
+within Map os n command fit e = made_map os n command IsWithin e (λ set sector is had. (set_is Map os set refl fit is, end_is Map os fit))
+within Write os n command fit e = made_write os n command IsWithin e (λ set is. (set_is Write os set refl fit is, end_is Write os fit))
 within Rebuild os n command fit e = made_rebuild os n command IsWithin e (λ set slot is had.
-    let lies = (number_is SlotName os 0 (MOST - 1) slot refl fit had).1 in
-    (set_is os set fit is, (omega arith), end_is os fit))
+    let lies = (number_is Rebuild SlotName os 0 (MOST - 1) slot refl fit had).1 in
+    (set_is Rebuild os set refl fit is, (omega arith), end_is Rebuild os fit))
 within Sample os n command fit e = made_sample os n command IsWithin e (λ number set rows is had.
-    let lies = number_is RowsName os 1 65536 rows refl fit had in
-    (set_is os set fit is, lies.0, lies.1))
+    let lies = number_is Sample RowsName os 1 65536 rows refl fit had in
+    (set_is Sample os set refl fit is, lies.0, lies.1))
 within Classes os n command fit e = made_classes os n command IsWithin e (λ images end is had.
-    let few = number_is ImagesName os 1 MOST images refl fit is in
-    let near = number_is EndName os 0 (2 ^ 55 - 1) end refl fit had in
+    let few = number_is Classes ImagesName os 1 MOST images refl fit is in
+    let near = number_is Classes EndName os 0 (2 ^ 55 - 1) end refl fit had in
     (few.0, few.1, (omega arith)))
+within Mirrors os n command fit e = made_mirrors os n command IsWithin e (mirrors_are os n fit)
+within MirrorWrite os n command fit e = made_mirror_write os n command IsWithin e (λ set is. (mirror_fits (value_of SetName os) set (fits_of MirrorWrite os fit SetName) is, end_is MirrorWrite os fit))
+within Salvage os n command fit e = made_salvage os n command IsWithin e (λ set is. (set_is Salvage os set refl fit is, end_is Salvage os fit))
 
 pub line_within : (words : List (List ℕ)) (command : Command) → IsCommandLine words command → IsWithin command
 line_within words command line = within line.verb line.operands (length line.operands + 2) command (operands_fit line.verb line.operands line.are.each) line.says

@@ -12,10 +12,10 @@ use Rattle.command_words.specs.Commands.{IsCommandLine, MayFollow, command_of, v
 use Rattle.command_words.specs.Operands.{AreOperands, IsOperand, name_text, operand_word, operands_of, same_name, value_of, value_text}
 use Rattle.command_words.specs.declared.command.Command.{Command}
 use Rattle.command_words.specs.declared.command.Verb.{Verb}
-use Rattle.command_words.specs.declared.command.Verb.TheVariants.{Survey, List as ListVerb, Check, Map, Write, Rebuild, Sample, Classes}
+use Rattle.command_words.specs.declared.command.Verb.TheVariants.{Survey, List as ListVerb, Check, Map, Write, Rebuild, Sample, Classes, Mirrors, MirrorWrite, Salvage}
 use Rattle.command_words.specs.declared.operands.Operand.{Operand}
 use Rattle.command_words.specs.declared.table.Name.{Name}
-use Rattle.command_words.specs.declared.table.Name.TheVariants.{Levels as LevelsName, Members as MembersName, Patterns as PatternsName, Syndromes as SyndromesName, Chunks as ChunksName, Offsets as OffsetsName, Origins as OriginsName, Missing as MissingName, Foreign as ForeignName, Badrows as BadrowsName, Misfits as MisfitsName, Least as LeastName, Window as WindowName, End as EndName, Kinds as KindsName, Dropped as DropName, From as FromName, Size as SizeName, Span as SpanName, Pages as PagesName, Form as FormName, Set as SetName, Sector as SectorName, Slot as SlotName, Number as NumberName, Rows as RowsName, Marks as MarksName, Images as ImagesName}
+use Rattle.command_words.specs.declared.table.Name.TheVariants.{Levels as LevelsName, Members as MembersName, Patterns as PatternsName, Syndromes as SyndromesName, Chunks as ChunksName, Offsets as OffsetsName, Origins as OriginsName, Missing as MissingName, Foreign as ForeignName, Badrows as BadrowsName, Misfits as MisfitsName, Least as LeastName, Window as WindowName, End as EndName, Kinds as KindsName, Dropped as DropName, From as FromName, Size as SizeName, Span as SpanName, Pages as PagesName, Form as FormName, Set as SetName, Sector as SectorName, Slot as SlotName, Number as NumberName, Rows as RowsName, Marks as MarksName, Images as ImagesName, Mode as ModeName, Logical as LogicalName}
 use Rattle.command_words.proofs.LookUps.{names_in, none_named}
 use Rattle.command_words.proofs.NameTexts.{same_name_decides, same_name_equiv}
 use Rattle.command_words.proofs.Spelled.{one_operand}
@@ -49,6 +49,8 @@ no_dashes NumberName value = refl
 no_dashes RowsName value = refl
 no_dashes MarksName value = refl
 no_dashes ImagesName value = refl
+no_dashes ModeName value = refl
+no_dashes LogicalName value = refl
 
 -- an operand is no `--`
 pub not_dashes : (o : Operand) → bytes_eq (operand_word o) (codes "--") ≡ false
@@ -62,7 +64,7 @@ dashes_differ o e =
 
 -- the command that a word is
 verb_by : List ℕ → Option Verb
-verb_by text = find (λ verb. bytes_eq text (verb_word verb)) (Survey ∷ ListVerb ∷ Check ∷ Map ∷ Write ∷ Rebuild ∷ Sample ∷ Classes ∷ [])
+verb_by text = find (λ verb. bytes_eq text (verb_word verb)) (Survey ∷ ListVerb ∷ Check ∷ Map ∷ Write ∷ Rebuild ∷ Sample ∷ Classes ∷ Mirrors ∷ MirrorWrite ∷ Salvage ∷ [])
 
 is_verb : (verb : Verb) → verb_by (verb_word verb) ≡ Some verb
 unfolding verb_by
@@ -74,6 +76,9 @@ is_verb Write = refl
 is_verb Rebuild = refl
 is_verb Sample = refl
 is_verb Classes = refl
+is_verb Mirrors = refl
+is_verb MirrorWrite = refl
+is_verb Salvage = refl
 
 pub one_verb : (a b : Verb) → verb_word a ≡ verb_word b → a ≡ b
 one_verb a b e = let same : Some a ≡ Some b = sym (is_verb a) ∙ ap verb_by e ∙ is_verb b in cc
@@ -147,7 +152,7 @@ fresh_name (x ∷ os) o more once =
     let later = fresh_name os o more (IsDistinct-tail same_name x.name (names_in (os ++ o ∷ more)) once) in
     ap (λ b. cond b (Some x.value) (value_of o.name os)) here ∙ later
 
-few_names : (verb : Verb) → length (operands_of verb) ≤ 16
+few_names : (verb : Verb) → length (operands_of verb) ≤ 18
 few_names Survey = omega arith
 few_names ListVerb = omega arith
 few_names Check = omega arith
@@ -156,6 +161,9 @@ few_names Write = omega arith
 few_names Rebuild = omega arith
 few_names Sample = omega arith
 few_names Classes = omega arith
+few_names Mirrors = omega arith
+few_names MirrorWrite = omega arith
+few_names Salvage = omega arith
 
 taken_name : (verb : Verb) (os : List Operand) → All (IsOperand verb) os → All (λ name. is_member same_name (operands_of verb) name ≡ true) (names_in os)
 taken_name verb os all =
@@ -163,7 +171,7 @@ taken_name verb os all =
     (All-weaker (IsOperand verb) (λ operand. is_member same_name (operands_of verb) operand.name ≡ true) (λ o is. (is_member-Decides same_name_decides (operands_of verb) o.name).1 is.taken) os all)
 
 -- a command takes so few operands
-pub few_operands : (verb : Verb) (os : List Operand) → AreOperands verb os → length os ≤ 16
+pub few_operands : (verb : Verb) (os : List Operand) → AreOperands verb os → length os ≤ 18
 few_operands verb os are =
     let within = length-le_from_is_member same_name_equiv (names_in os) (operands_of verb) are.once
     (λ q is. All-contains (λ name. is_member same_name (operands_of verb) name ≡ true) (names_in os) q (taken_name verb os are.each) ((is_member-Decides same_name_decides (names_in os) q).0 is)) in

@@ -19,16 +19,16 @@ found_in true w v rest e = let same : w ≡ v = cc in inl (refl, same)
 found_in false w v rest e = inr (refl, e)
 
 -- what is found fits its name
-pub fitting_value : (name : Name) (os : List Operand) (v : Value) → AreFitting os → value_of name os ≡ Some v → IsValueOf v (kind_of name)
-fitting_value name [] v all e = cc
-fitting_value name (o ∷ os) v all e = elim (found_in (same_name o.name name) o.value v (value_of name os) e) [
+pub fitting_value : (verb : Verb) (name : Name) (os : List Operand) (v : Value) → AreFitting verb os → value_of name os ≡ Some v → IsValueOf v (kind_of verb name)
+fitting_value verb name [] v all e = cc
+fitting_value verb name (o ∷ os) v all e = elim (found_in (same_name o.name name) o.value v (value_of name os) e) [
   | inl here ↦ (let same : o.name ≡ name = (same_name_decides o.name name).0 here.0 in
-      subst (λ n. IsValueOf v (kind_of n)) same (subst (λ w. IsValueOf w (kind_of o.name)) here.1 (All-head IsFitting o os all)))
-  | inr later ↦ fitting_value name os v (All-tail IsFitting o os all) later.1
+      subst (λ n. IsValueOf v (kind_of verb n)) same (subst (λ w. IsValueOf w (kind_of verb o.name)) here.1 (All-head (IsFitting verb) o os all)))
+  | inr later ↦ fitting_value verb name os v (All-tail (IsFitting verb) o os all) later.1
 ]
 
-pub operands_fit : (verb : Verb) (os : List Operand) → All (IsOperand verb) os → AreFitting os
-operands_fit verb os all = All-weaker (IsOperand verb) IsFitting (λ o is. is.fitting) os all
+pub operands_fit : (verb : Verb) (os : List Operand) → All (IsOperand verb) os → AreFitting verb os
+operands_fit verb os all = All-weaker (IsOperand verb) (IsFitting verb) (λ o is. is.fitting) os all
 
 number_fits : (r : Option Value) (low high : ℕ) → ((v : Value) → r ≡ Some v → IsValueOf v (NumberKind low high)) → IfSome (number_in r) (λ n. (low ≤ n) × (n ≤ high))
 number_fits None low high fits = tt
@@ -39,15 +39,15 @@ number_fits (Some (Number n)) low high fits =
 number_fits (Some _) low high fits = tt
 
 -- a number that was given lies within the limits of its operand
-pub number_within : (name : Name) (os : List Operand) (low high : ℕ) → kind_of name ≡ NumberKind low high → AreFitting os → IfSome (number_in (value_of name os)) (λ n. (low ≤ n) × (n ≤ high))
-number_within name os low high kind all = number_fits (value_of name os) low high (λ v e. subst (λ k. IsValueOf v k) kind (fitting_value name os v all e))
+pub number_within : (verb : Verb) (name : Name) (os : List Operand) (low high : ℕ) → kind_of verb name ≡ NumberKind low high → AreFitting verb os → IfSome (number_in (value_of name os)) (λ n. (low ≤ n) × (n ≤ high))
+number_within verb name os low high kind all = number_fits (value_of name os) low high (λ v e. subst (λ k. IsValueOf v k) kind (fitting_value verb name os v all e))
 
 weaker : (r : Option ℕ) (low high top : ℕ) → high < top → IfSome r (λ n. (low ≤ n) × (n ≤ high)) → IfSome r (λ n. n < top)
 weaker None low high top below is = tt
 weaker (Some n) low high top below is = let h = is.1 in omega arith
 
-pub number_below : (name : Name) (os : List Operand) (low high top : ℕ) → kind_of name ≡ NumberKind low high → high < top → AreFitting os → IfSome (number_in (value_of name os)) (λ n. n < top)
-number_below name os low high top kind below all = weaker (number_in (value_of name os)) low high top below (number_within name os low high kind all)
+pub number_below : (verb : Verb) (name : Name) (os : List Operand) (low high top : ℕ) → kind_of verb name ≡ NumberKind low high → high < top → AreFitting verb os → IfSome (number_in (value_of name os)) (λ n. n < top)
+number_below verb name os low high top kind below all = weaker (number_in (value_of name os)) low high top below (number_within verb name os low high kind all)
 
 or_later : (b : Bool) (v : Value) (rest later : Option Value) → cond b (Some v) (option_or rest later) ≡ option_or (cond b (Some v) rest) later
 or_later true v rest later = refl

@@ -7,9 +7,11 @@ use Rattle.std.specs.Str.{bytes_eq}
 use Rattle.std.proofs.lemmas.Bool.{and_parts}
 use Rattle.std.proofs.lemmas.List.Elements.{All-nil, All-cons}
 use Rattle.std.proofs.lemmas.Slice.Eq.{bytes_eq-Decides}
-use Rattle.command_words.specs.Operands.{kind_of, name_text, same_name}
+use Rattle.command_words.specs.Operands.{form_kind, kind_of, most_missing, name_text, same_name, set_kind}
+use Rattle.command_words.specs.declared.command.Verb.{Verb}
+use Rattle.command_words.specs.declared.command.Verb.TheVariants.{Mirrors, MirrorWrite, Salvage}
 use Rattle.command_words.specs.declared.table.Name.{Name}
-use Rattle.command_words.specs.declared.table.Name.TheVariants.{Levels as LevelsName, Members as MembersName, Patterns as PatternsName, Syndromes as SyndromesName, Chunks as ChunksName, Offsets as OffsetsName, Origins as OriginsName, Missing as MissingName, Foreign as ForeignName, Badrows as BadrowsName, Misfits as MisfitsName, Least as LeastName, Window as WindowName, End as EndName, Kinds as KindsName, Dropped as DropName, From as FromName, Size as SizeName, Span as SpanName, Pages as PagesName, Form as FormName, Set as SetName, Sector as SectorName, Slot as SlotName, Number as NumberName, Rows as RowsName, Marks as MarksName, Images as ImagesName}
+use Rattle.command_words.specs.declared.table.Name.TheVariants.{Levels as LevelsName, Members as MembersName, Patterns as PatternsName, Syndromes as SyndromesName, Chunks as ChunksName, Offsets as OffsetsName, Origins as OriginsName, Missing as MissingName, Foreign as ForeignName, Badrows as BadrowsName, Misfits as MisfitsName, Least as LeastName, Window as WindowName, End as EndName, Kinds as KindsName, Dropped as DropName, From as FromName, Size as SizeName, Span as SpanName, Pages as PagesName, Form as FormName, Set as SetName, Sector as SectorName, Slot as SlotName, Number as NumberName, Rows as RowsName, Marks as MarksName, Images as ImagesName, Mode as ModeName, Logical as LogicalName}
 use Rattle.command_words.specs.declared.table.ValueKind.{ValueKind}
 use Rattle.command_words.specs.declared.table.ValueKind.TheVariants.{Number as NumberKind}
 
@@ -52,10 +54,12 @@ plain_name NumberName = no_equals (name_text NumberName) refl
 plain_name RowsName = no_equals (name_text RowsName) refl
 plain_name MarksName = no_equals (name_text MarksName) refl
 plain_name ImagesName = no_equals (name_text ImagesName) refl
+plain_name ModeName = no_equals (name_text ModeName) refl
+plain_name LogicalName = no_equals (name_text LogicalName) refl
 
 -- all names
 all_names : List Name
-all_names = LevelsName ∷ MembersName ∷ PatternsName ∷ SyndromesName ∷ ChunksName ∷ OffsetsName ∷ OriginsName ∷ MissingName ∷ ForeignName ∷ BadrowsName ∷ MisfitsName ∷ LeastName ∷ WindowName ∷ EndName ∷ KindsName ∷ DropName ∷ FromName ∷ SizeName ∷ SpanName ∷ PagesName ∷ FormName ∷ SetName ∷ SectorName ∷ SlotName ∷ NumberName ∷ RowsName ∷ MarksName ∷ ImagesName ∷ []
+all_names = LevelsName ∷ MembersName ∷ PatternsName ∷ SyndromesName ∷ ChunksName ∷ OffsetsName ∷ OriginsName ∷ MissingName ∷ ForeignName ∷ BadrowsName ∷ MisfitsName ∷ LeastName ∷ WindowName ∷ EndName ∷ KindsName ∷ DropName ∷ FromName ∷ SizeName ∷ SpanName ∷ PagesName ∷ FormName ∷ SetName ∷ SectorName ∷ SlotName ∷ NumberName ∷ RowsName ∷ MarksName ∷ ImagesName ∷ ModeName ∷ LogicalName ∷ []
 
 -- the name that a text is
 named_by : List ℕ → Option Name
@@ -91,6 +95,8 @@ is_named NumberName = refl
 is_named RowsName = refl
 is_named MarksName = refl
 is_named ImagesName = refl
+is_named ModeName = refl
+is_named LogicalName = refl
 
 -- names are spelled differently
 pub one_name : (m n : Name) → name_text m ≡ name_text n → m ≡ n
@@ -109,35 +115,49 @@ abbrev pub IsShort : ValueKind → Type 0
 IsShort (NumberKind least most) = most < 2 ^ 64
 IsShort _ = Unit {0}
 
-pub short_kind : (n : Name) → IsShort (kind_of n)
-short_kind LevelsName = tt
-short_kind MembersName = tt
-short_kind PatternsName = tt
-short_kind SyndromesName = tt
-short_kind ChunksName = tt
-short_kind OffsetsName = tt
-short_kind OriginsName = tt
-short_kind MissingName = lit< tt
-short_kind ForeignName = lit< tt
-short_kind BadrowsName = lit< tt
-short_kind MisfitsName = lit< tt
-short_kind LeastName = lit< tt
-short_kind WindowName = lit< tt
-short_kind EndName = lit< tt
-short_kind KindsName = tt
-short_kind DropName = tt
-short_kind FromName = lit< tt
-short_kind SizeName = lit< tt
-short_kind SpanName = lit< tt
-short_kind PagesName = lit< tt
-short_kind FormName = tt
-short_kind SetName = tt
-short_kind SectorName = lit< tt
-short_kind SlotName = lit< tt
-short_kind NumberName = lit< tt
-short_kind RowsName = lit< tt
-short_kind MarksName = tt
-short_kind ImagesName = lit< tt
+few_missing : (verb : Verb) → most_missing verb < 2 ^ 64
+few_missing Mirrors = lit< tt
+few_missing _ = lit< tt
+
+short_set : (verb : Verb) → IsShort (set_kind verb)
+short_set MirrorWrite = tt
+short_set _ = tt
+
+short_form : (verb : Verb) → IsShort (form_kind verb)
+short_form Salvage = tt
+short_form _ = tt
+
+pub short_kind : (verb : Verb) (n : Name) → IsShort (kind_of verb n)
+short_kind verb LevelsName = tt
+short_kind verb MembersName = tt
+short_kind verb PatternsName = tt
+short_kind verb SyndromesName = tt
+short_kind verb ChunksName = tt
+short_kind verb OffsetsName = tt
+short_kind verb OriginsName = tt
+short_kind verb MissingName = few_missing verb
+short_kind verb ForeignName = lit< tt
+short_kind verb BadrowsName = lit< tt
+short_kind verb MisfitsName = lit< tt
+short_kind verb LeastName = lit< tt
+short_kind verb WindowName = lit< tt
+short_kind verb EndName = lit< tt
+short_kind verb KindsName = tt
+short_kind verb DropName = tt
+short_kind verb FromName = lit< tt
+short_kind verb SizeName = lit< tt
+short_kind verb SpanName = lit< tt
+short_kind verb PagesName = lit< tt
+short_kind verb FormName = short_form verb
+short_kind verb SetName = short_set verb
+short_kind verb SectorName = lit< tt
+short_kind verb SlotName = lit< tt
+short_kind verb NumberName = lit< tt
+short_kind verb RowsName = lit< tt
+short_kind verb MarksName = tt
+short_kind verb ImagesName = lit< tt
+short_kind verb ModeName = tt
+short_kind verb LogicalName = tt
 
 -- a text that was compared with a name, and differs
 pub is_other : (name text bytes : List ℕ) (r : Bool) → bytes ≡ name → r ≡ bytes_eq bytes text → r ≡ false → text ≢ name

@@ -1,6 +1,6 @@
 -- Which word is refused, and why.
-use Rattle.std.proofs.Common.{◌≡◌, ◌≢◌, ℕ, suc, ◌^◌, ◌≤◌, ◌+◌, ◌-◌, ◌*◌, inl, inr, Bool, true, false, cond, nat_le, List, [], ◌∷◌, ◌++◌, All, Option, None, Some, length, map, take, codes, refl, sym, ap, ap₂, ◌∙◌, subst, arith, append_assoc, append-nil, length-append}
-use Rattle.std.specs.List.{IsDistinct}
+use Rattle.std.proofs.Common.{◌≡◌, ◌≢◌, ℕ, suc, ◌^◌, ◌≤◌, ◌+◌, ◌-◌, ◌*◌, inl, inr, Bool, true, false, cond, nat_le, nat_eq, nat_lt, ◌&&◌, List, [], ◌∷◌, ◌++◌, All, Option, None, Some, length, map, take, codes, refl, sym, ap, ap₂, ◌∙◌, subst, arith, append_assoc, append-nil, length-append}
+use Rattle.std.specs.List.{IsDistinct, list_all}
 use Rattle.std.specs.Option.{option_or, unwrap_or}
 use Rattle.std.specs.Set.{is_member}
 use Rattle.std.proofs.Math.Seq.{take-append_seam, take-length}
@@ -8,16 +8,16 @@ use Rattle.std.proofs.lemmas.Bool.{false≢true}
 use Rattle.std.proofs.lemmas.List.{length-map}
 use Rattle.std.proofs.lemmas.List.Elements.{All-head, All-tail}
 use Rattle.std.proofs.lemmas.Map.Made.{is_member-Decides}
-use Rattle.command_words.specs.Commands.{BeginsLine, IsCommandLine, IsRefusedWord, command_of, form_or, number_in, number_or, takes_names, verb_word}
-use Rattle.command_words.specs.Steps.{lines_fit}
+use Rattle.command_words.specs.Commands.{BeginsLine, IsCommandLine, IsRefusedWord, can_move, command_of, each_or, form_or, number_in, number_or, offsets_or, survey_of, takes_names, verb_word}
+use Rattle.command_words.specs.Steps.{can_go_on, lines_fit}
 use Rattle.command_words.specs.Operands.{AreOperands, IsOperand, operand_word, operands_of, same_name, value_of}
 use Rattle.command_words.specs.declared.command.Command.{Command}
-use Rattle.command_words.specs.declared.command.Command.TheVariants.{List as ListCommand}
+use Rattle.command_words.specs.declared.command.Command.TheVariants.{Survey as SurveyCommand, List as ListCommand}
 use Rattle.command_words.specs.declared.command.Verb.{Verb}
-use Rattle.command_words.specs.declared.command.Verb.TheVariants.{Survey, List as ListVerb, Check, Map, Write, Rebuild, Sample, Classes}
+use Rattle.command_words.specs.declared.command.Verb.TheVariants.{Survey, List as ListVerb, Check, Map, Write, Rebuild, Sample, Classes, Mirrors, MirrorWrite, Salvage}
 use Rattle.command_words.specs.declared.operands.Operand.{Operand}
 use Rattle.command_words.specs.declared.table.Name.{Name}
-use Rattle.command_words.specs.declared.table.Name.TheVariants.{Form as FormName, From as FromName, Size as SizeName, Span as SpanName, Pages as PagesName}
+use Rattle.command_words.specs.declared.table.Name.TheVariants.{Foreign as ForeignName, Form as FormName, Mode as ModeName, Offsets as OffsetsName, From as FromName, Size as SizeName, Span as SpanName, Pages as PagesName}
 use Rattle.command_words.specs.declared.values.Value.{Value}
 use Rattle.command_words.proofs.Completions.{begins}
 use Rattle.command_words.proofs.LineStarts.{IsLineOf, after_verb, dashes_differ, fresh_name, meets, no_end}
@@ -83,14 +83,14 @@ no_words (word ∷ words) e = absurd (omega arith)
 pub no_command : (words : List (List ℕ)) (word : List ℕ) (rest : List (List ℕ)) → words ≡ word ∷ rest → ((verb : Verb) → word ≢ verb_word verb) → IsRefusedWord words 1
 no_command words word rest e none = refused_at words [] word rest 1 e refl begins_at_once (λ more command line. let is = line.spelled in none line.verb (cc))
 
-abbrev pub CanBeShort : List Operand → Type 0
-CanBeShort os = lines_fit (number_in (value_of SizeName os)) (number_in (value_of PagesName os)) ≡ true
+abbrev pub CanGoOn : List Operand → Type 0
+CanGoOn os = can_go_on os ≡ true
 
 -- no line of this command goes on with the word after these operands
 abbrev pub StopsAt : Verb → List Operand → List ℕ → Type 0
 StopsAt verb os word = (rest : List (List ℕ)) (command : Command) → IsLineOf verb (map operand_word os ++ word ∷ rest) command → ⊥
 
-pub refused_after : (verb : Verb) (words : List (List ℕ)) (os : List Operand) (word : List ℕ) (rest : List (List ℕ)) (n : ℕ) → words ≡ map operand_word os ++ word ∷ rest → n ≡ length os + 2 → AreOperands verb os → CanBeShort os → StopsAt verb os word →
+pub refused_after : (verb : Verb) (words : List (List ℕ)) (os : List Operand) (word : List ℕ) (rest : List (List ℕ)) (n : ℕ) → words ≡ map operand_word os ++ word ∷ rest → n ≡ length os + 2 → AreOperands verb os → CanGoOn os → StopsAt verb os word →
     IsRefusedWord (verb_word verb ∷ words) n
 refused_after verb words os word rest n at count are short stops =
     refused_at (verb_word verb ∷ words) (verb_word verb ∷ map operand_word os) word rest n (ap (λ (ws : List (List ℕ)). verb_word verb ∷ ws) at) (let same = length-map os operand_word in omega arith) (begins verb os are short)
@@ -129,8 +129,67 @@ not_taken verb name other (o ∷ os) all =
     let apart = other_name verb name o other (All-head (IsOperand verb) o os all) (same_name o.name name) refl in
     ap (λ b. cond b (Some o.value) (value_of name os)) apart ∙ not_taken verb name other os (All-tail (IsOperand verb) o os all)
 
-unlisted : (verb : Verb) → is_member same_name (operands_of verb) SizeName ≡ false → (os : List Operand) → AreOperands verb os → CanBeShort os
-unlisted verb other os are = ap (λ r. lines_fit (number_in r) (number_in (value_of PagesName os))) (not_taken verb SizeName other os are.each)
+-- a listing of a command without `size` may be short enough, and images of one without `mode` need not move
+unsized : (verb : Verb) → is_member same_name (operands_of verb) SizeName ≡ false → (os : List Operand) → AreOperands verb os → lines_fit (number_in (value_of SizeName os)) (number_in (value_of PagesName os)) ≡ true
+unsized verb other os are = ap (λ r. lines_fit (number_in r) (number_in (value_of PagesName os))) (not_taken verb SizeName other os are.each)
+
+unmoved : (verb : Verb) → is_member same_name (operands_of verb) ModeName ≡ false → (os : List Operand) → AreOperands verb os → can_move (value_of ModeName os) (value_of ForeignName os) (value_of OffsetsName os) ≡ true
+unmoved verb other os are = ap (λ r. can_move r (value_of ForeignName os) (value_of OffsetsName os)) (not_taken verb ModeName other os are.each)
+
+-- nor may one without `pages` be too long
+one_page : (size : Option ℕ) → lines_fit size None ≡ true
+one_page None = refl
+one_page (Some size) = refl
+
+unpaged : (verb : Verb) → is_member same_name (operands_of verb) PagesName ≡ false → (os : List Operand) → AreOperands verb os → lines_fit (number_in (value_of SizeName os)) (number_in (value_of PagesName os)) ≡ true
+unpaged verb other os are = ap (λ r. lines_fit (number_in (value_of SizeName os)) (number_in r)) (not_taken verb PagesName other os are.each) ∙ one_page (number_in (value_of SizeName os))
+
+unlisted : (verb : Verb) → is_member same_name (operands_of verb) SizeName ≡ false → is_member same_name (operands_of verb) ModeName ≡ false → (os : List Operand) → AreOperands verb os → CanGoOn os
+unlisted verb no_size no_mode os are =
+    ap₂ (λ (a b : Bool). a && b) (unsized verb no_size os are) (unmoved verb no_mode os are)
+
+and_one : (a : Bool) → (a && true) ≡ a
+and_one true = refl
+and_one false = refl
+
+-- which of the two does not hold
+not_lines : (a b : Bool) → b ≡ true → (a && b) ≡ false → a ≡ false
+not_lines a b is neither = sym (and_one a) ∙ ap (λ (c : Bool). a && c) (sym is) ∙ neither
+
+not_moves : (a b : Bool) → a ≡ true → (a && b) ≡ false → b ≡ false
+not_moves a b is neither = ap (λ (c : Bool). c && b) (sym is) ∙ neither
+
+-- offsets of their own that cannot be, whatever operands come
+abbrev is_own : Option Value → Bool
+is_own foreign = nat_eq (number_or 0 foreign) 0
+
+abbrev are_near : Option Value → Bool
+are_near offsets = list_all (λ n. nat_lt n (2 ^ 54)) (offsets_or offsets).items
+
+still_foreign : (foreign more : Option Value) → is_own foreign ≡ false → is_own (option_or foreign more) ≡ false
+still_foreign None more is = absurd (false≢true (sym is))
+still_foreign (Some v) more is = is
+
+still_far : (offsets more : Option Value) → are_near offsets ≡ false → are_near (option_or offsets more) ≡ false
+still_far None more is = absurd (false≢true (sym is))
+still_far (Some v) more is = is
+
+either_false : (a b c d : Bool) → (a ≡ false → c ≡ false) → (b ≡ false → d ≡ false) → (a && b) ≡ false → (c && d) ≡ false
+either_false true b c false first second is = both_ways c
+  where
+    both_ways : (c : Bool) → (c && false) ≡ false
+    both_ways true = refl
+    both_ways false = refl
+either_false true b c true first second is = absurd (false≢true (sym (second is)))
+either_false false b c d first second is = ap (λ (x : Bool). x && d) (first refl)
+
+fixed : (each : Bool) (foreign offsets more_f more_o : Option Value) → cond each (is_own foreign && are_near offsets) true ≡ false → cond each (is_own (option_or foreign more_f) && are_near (option_or offsets more_o)) true ≡ false
+fixed false foreign offsets more_f more_o is = absurd (false≢true (sym is))
+fixed true foreign offsets more_f more_o is = either_false (is_own foreign) (are_near offsets) (is_own (option_or foreign more_f)) (are_near (option_or offsets more_o)) (still_foreign foreign more_f) (still_far offsets more_o) is
+
+still_fixed : (mode foreign offsets more_m more_f more_o : Option Value) → can_move mode foreign offsets ≡ false → can_move (option_or mode more_m) (option_or foreign more_f) (option_or offsets more_o) ≡ false
+still_fixed None foreign offsets more_m more_f more_o is = absurd (false≢true (sym is))
+still_fixed (Some v) foreign offsets more_m more_f more_o is = fixed (each_or (Some v)) foreign offsets more_f more_o is
 
 -- too long already: no listing has these operands and more
 number_stays : (r more : Option Value) (n other : ℕ) → number_in r ≡ Some n → number_or other (option_or r more) ≡ n
@@ -147,30 +206,42 @@ still_long s p more_s more_p long =
     let both = both_given (number_in s) (number_in p) long in
     ap₂ (λ (x y : ℕ). nat_le (x * y) 4000000) (number_stays s more_s both.0 100 both.2) (number_stays p more_p both.1 1 both.3) ∙ both.4
 
-pub too_long : (verb : Verb) (os more : List Operand) (n : ℕ) → AreOperands verb os → lines_fit (number_in (value_of SizeName os)) (number_in (value_of PagesName os)) ≡ false → command_of verb (os ++ more) n ≡ None
-too_long Survey os more n are long = absurd (false≢true (sym long ∙ unlisted Survey refl os are))
-too_long ListVerb os more n are long =
+-- so no command has these operands and more
+pub cannot_go_on : (verb : Verb) (os more : List Operand) (n : ℕ) → AreOperands verb os → can_go_on os ≡ false → command_of verb (os ++ more) n ≡ None
+cannot_go_on Survey os more n are stuck =
+    let lines = lines_fit (number_in (value_of SizeName os)) (number_in (value_of PagesName os)) in
+    let moves = can_move (value_of ModeName os) (value_of ForeignName os) (value_of OffsetsName os) in
+    let test = ap (λ (r : Option Value). can_move r (value_of ForeignName (os ++ more)) (value_of OffsetsName (os ++ more))) (value_append ModeName os more)
+    ∙ ap₂ (λ (f o : Option Value). can_move (option_or (value_of ModeName os) (value_of ModeName more)) f o) (value_append ForeignName os more) (value_append OffsetsName os more)
+    ∙ still_fixed (value_of ModeName os) (value_of ForeignName os) (value_of OffsetsName os) (value_of ModeName more) (value_of ForeignName more) (value_of OffsetsName more) (not_moves lines moves (unsized Survey refl os are) stuck) in
+    ap (λ (b : Bool). cond b (Some (SurveyCommand (survey_of (os ++ more) n))) None) test
+cannot_go_on ListVerb os more n are stuck =
+    let lines = lines_fit (number_in (value_of SizeName os)) (number_in (value_of PagesName os)) in
+    let moves = can_move (value_of ModeName os) (value_of ForeignName os) (value_of OffsetsName os) in
     let test = ap₂ (λ (s p : Option Value). nat_le (number_or 100 s * number_or 1 p) 4000000) (value_append SizeName os more) (value_append PagesName os more)
-    ∙ still_long (value_of SizeName os) (value_of PagesName os) (value_of SizeName more) (value_of PagesName more) long in
+    ∙ still_long (value_of SizeName os) (value_of PagesName os) (value_of SizeName more) (value_of PagesName more) (not_lines lines moves (unmoved ListVerb refl os are) stuck) in
     let all = os ++ more in
     let command = ListCommand (number_or 0 (value_of FromName all)) (number_or 100 (value_of SizeName all)) (number_or (2 ^ 64 - 1) (value_of SpanName all)) (number_or 1 (value_of PagesName all)) (form_or (value_of FormName all)) n in
     ap (λ (b : Bool). cond b (Some command) None) test
-too_long Check os more n are long = absurd (false≢true (sym long ∙ unlisted Check refl os are))
-too_long Map os more n are long = absurd (false≢true (sym long ∙ unlisted Map refl os are))
-too_long Write os more n are long = absurd (false≢true (sym long ∙ unlisted Write refl os are))
-too_long Rebuild os more n are long = absurd (false≢true (sym long ∙ unlisted Rebuild refl os are))
-too_long Sample os more n are long = absurd (false≢true (sym long ∙ unlisted Sample refl os are))
-too_long Classes os more n are long = absurd (false≢true (sym long ∙ unlisted Classes refl os are))
+cannot_go_on Check os more n are stuck = absurd (false≢true (sym stuck ∙ unlisted Check refl refl os are))
+cannot_go_on Map os more n are stuck = absurd (false≢true (sym stuck ∙ unlisted Map refl refl os are))
+cannot_go_on Write os more n are stuck = absurd (false≢true (sym stuck ∙ unlisted Write refl refl os are))
+cannot_go_on Rebuild os more n are stuck = absurd (false≢true (sym stuck ∙ unlisted Rebuild refl refl os are))
+cannot_go_on Sample os more n are stuck = absurd (false≢true (sym stuck ∙ unlisted Sample refl refl os are))
+cannot_go_on Classes os more n are stuck = absurd (false≢true (sym stuck ∙ unlisted Classes refl refl os are))
+cannot_go_on Mirrors os more n are stuck = absurd (false≢true (sym stuck ∙ ap₂ (λ (a b : Bool). a && b) (unpaged Mirrors refl os are) (unmoved Mirrors refl os are)))
+cannot_go_on MirrorWrite os more n are stuck = absurd (false≢true (sym stuck ∙ unlisted MirrorWrite refl refl os are))
+cannot_go_on Salvage os more n are stuck = absurd (false≢true (sym stuck ∙ unlisted Salvage refl refl os are))
 
--- an operand with which a listing is too long
-pub long_listing : (verb : Verb) (os : List Operand) (word : List ℕ) (o : Operand) → AreOperands verb os → AreOperands verb (os ++ o ∷ []) → IsOperand verb o → word ≡ operand_word o →
-    lines_fit (number_in (value_of SizeName (os ++ o ∷ []))) (number_in (value_of PagesName (os ++ o ∷ []))) ≡ false → StopsAt verb os word
-long_listing verb os word o are with_it is spelled long rest command line = elim (meets verb os word rest line.operands line.names are.each line.are.each line.spelled) [
+-- an operand with which no command goes on
+pub stuck_with : (verb : Verb) (os : List Operand) (word : List ℕ) (o : Operand) → AreOperands verb os → AreOperands verb (os ++ o ∷ []) → IsOperand verb o → word ≡ operand_word o →
+    can_go_on (os ++ o ∷ []) ≡ false → StopsAt verb os word
+stuck_with verb os word o are with_it is spelled long rest command line = elim (meets verb os word rest line.operands line.names are.each line.are.each line.spelled) [
   | inl ends ↦ dashes_differ o (sym spelled ∙ ends.1)
   | inr more ↦ (let same : more.0 ≡ o = one_operand verb more.0 o more.4 is (sym more.3 ∙ spelled) in
       let all : line.operands ≡ (os ++ o ∷ []) ++ more.1 = more.2 ∙ ap (λ (x : Operand). os ++ x ∷ more.1) same ∙ sym (append_assoc os (o ∷ []) more.1) in
       let says : command_of verb ((os ++ o ∷ []) ++ more.1) (length line.operands + 2) ≡ Some command = ap (λ xs. command_of verb xs (length line.operands + 2)) (sym all) ∙ line.says in
-      let contra : None ≡ Some command = sym (too_long verb (os ++ o ∷ []) more.1 (length line.operands + 2) with_it long) ∙ says in cc)
+      let contra : None ≡ Some command = sym (cannot_go_on verb (os ++ o ∷ []) more.1 (length line.operands + 2) with_it long) ∙ says in cc)
 ]
 
 -- `--`, where an operand is missing or a listing is too long
@@ -208,7 +279,7 @@ name_too_many verb words os name names command n nameless at are says count =
     ])
 
 -- the words end before `--`
-pub no_dashes_come : (verb : Verb) (words : List (List ℕ)) (os : List Operand) (n : ℕ) → words ≡ map operand_word os → n ≡ length words + 2 → AreOperands verb os → CanBeShort os → IsRefusedWord (verb_word verb ∷ words) n
+pub no_dashes_come : (verb : Verb) (words : List (List ℕ)) (os : List Operand) (n : ℕ) → words ≡ map operand_word os → n ≡ length words + 2 → AreOperands verb os → CanGoOn os → IsRefusedWord (verb_word verb ∷ words) n
 no_dashes_come verb words os n at count are short =
     refused_end (verb_word verb ∷ words) n (omega arith) (subst (λ ws. BeginsLine (verb_word verb ∷ ws)) (sym at) (begins verb os are short))
     (λ command line. let after = after_verb verb words command line in no_end verb os after.operands after.names (sym at ∙ after.spelled))

@@ -3,15 +3,16 @@ use Rattle.std.proofs.Common.{◌≡◌, ℕ, suc, ◌+◌, ◌-◌, ◌*◌, �
 use Rattle.std.specs.Str.{bytes_eq}
 use Rattle.std.specs.Prelude.{option_and_then, option_map}
 use Rattle.std.proofs.lemmas.List.{length-map}
-use Rattle.raid_params.specs.declared.types.Geometry.{Geometry}
+use Rattle.raid_params.specs.declared.wide.Wide.{Wide}
+use Rattle.near_mirror.specs.declared.types.NearSet.{NearSet}
 use Rattle.command_words.specs.declared.command.Command.{Command}
-use Rattle.command_words.specs.declared.command.Command.TheVariants.{Survey as SurveyCommand, List as ListCommand, Check as CheckCommand, Map as MapCommand, Write as WriteCommand, Rebuild as RebuildCommand, Sample as SampleCommand, Classes as ClassesCommand}
+use Rattle.command_words.specs.declared.command.Command.TheVariants.{Survey as SurveyCommand, List as ListCommand, Check as CheckCommand, Map as MapCommand, Write as WriteCommand, Rebuild as RebuildCommand, Sample as SampleCommand, Classes as ClassesCommand, MirrorWrite as MirrorWriteCommand, Salvage as SalvageCommand}
 use Rattle.command_words.specs.declared.command.Verb.{Verb}
-use Rattle.command_words.specs.declared.command.Verb.TheVariants.{Survey, List as ListVerb, Check, Map, Write, Rebuild, Sample, Classes}
+use Rattle.command_words.specs.declared.command.Verb.TheVariants.{Survey, List as ListVerb, Check, Map, Write, Rebuild, Sample, Classes, Mirrors, MirrorWrite, Salvage}
 use Rattle.command_words.specs.declared.operands.Operand.{Operand}
-use Rattle.command_words.specs.Commands.{EndFrom, EndsInNames, IsCommandLine, command_of, form_or, marks_or, names_after, names_of, number_in, number_or, set_in, survey_of, takes_names, verb_word}
+use Rattle.command_words.specs.Commands.{EndFrom, EndsInNames, IsCommandLine, can_move, command_of, form_or, lost_or, marks_or, mirror_in, mirrors_of, names_after, names_of, number_in, number_or, set_in, survey_of, takes_names, verb_word}
 use Rattle.command_words.specs.Operands.{operand_word, value_of}
-use Rattle.command_words.specs.declared.table.Name.TheVariants.{End as EndName, Form as FormName, From as FromName, Marks as MarksName, Number as NumberName, Pages as PagesName, Rows as RowsName, Sector as SectorName, Set as SetName, Size as SizeName, Slot as SlotName, Span as SpanName, Images as ImagesName}
+use Rattle.command_words.specs.declared.table.Name.TheVariants.{End as EndName, Form as FormName, From as FromName, Marks as MarksName, Number as NumberName, Pages as PagesName, Rows as RowsName, Sector as SectorName, Set as SetName, Size as SizeName, Slot as SlotName, Span as SpanName, Images as ImagesName, Mode as ModeName, Foreign as ForeignName, Offsets as OffsetsName}
 use Rattle.command_words.proofs.LineStarts.{not_dashes}
 
 -- what a command that was made has, it has
@@ -27,8 +28,12 @@ tested : (b : Bool) (made : Command) (P : Command → Type 0) (command : Command
 tested true made P command e is = let same : made ≡ command = cc in subst P same (is refl)
 tested false made P command e is = cc
 
-pub made_survey : (os : List Operand) (n : ℕ) (command : Command) (P : Command → Type 0) → command_of Survey os n ≡ Some command → P (SurveyCommand (survey_of os n)) → P command
-made_survey os n command P e is = tested true (SurveyCommand (survey_of os n)) P command e (λ u. is)
+-- images can have offsets of their own, where they are to
+abbrev pub moves : List Operand → Bool
+moves os = can_move (value_of ModeName os) (value_of ForeignName os) (value_of OffsetsName os)
+
+pub made_survey : (os : List Operand) (n : ℕ) (command : Command) (P : Command → Type 0) → command_of Survey os n ≡ Some command → (moves os ≡ true → P (SurveyCommand (survey_of os n))) → P command
+made_survey os n command P e is = tested (moves os) (SurveyCommand (survey_of os n)) P command e is
 
 -- the listing of these operands
 abbrev pub listing_of : List Operand → ℕ → Command
@@ -40,29 +45,29 @@ is_short os = nat_le (number_or 100 (value_of SizeName os) * number_or 1 (value_
 pub made_list : (os : List Operand) (n : ℕ) (command : Command) (P : Command → Type 0) → command_of ListVerb os n ≡ Some command → (is_short os ≡ true → P (listing_of os n)) → P command
 made_list os n command P e is = tested (is_short os) (listing_of os n) P command e is
 
-pub made_check : (os : List Operand) (n : ℕ) (command : Command) (P : Command → Type 0) → command_of Check os n ≡ Some command → ((set : Geometry) → set_in (value_of SetName os) ≡ Some set → P (CheckCommand set n)) → P command
-made_check os n command P e is = mapped Geometry (λ set. CheckCommand set n) (set_in (value_of SetName os)) P command e is
+pub made_check : (os : List Operand) (n : ℕ) (command : Command) (P : Command → Type 0) → command_of Check os n ≡ Some command → ((set : Wide) → set_in (value_of SetName os) ≡ Some set → P (CheckCommand set n)) → P command
+made_check os n command P e is = mapped Wide (λ set. CheckCommand set n) (set_in (value_of SetName os)) P command e is
 
 pub made_map : (os : List Operand) (n : ℕ) (command : Command) (P : Command → Type 0) → command_of Map os n ≡ Some command →
-    ((set : Geometry) (sector : ℕ) → set_in (value_of SetName os) ≡ Some set → number_in (value_of SectorName os) ≡ Some sector → P (MapCommand set sector (number_in (value_of EndName os)) n)) → P command
+    ((set : Wide) (sector : ℕ) → set_in (value_of SetName os) ≡ Some set → number_in (value_of SectorName os) ≡ Some sector → P (MapCommand set sector (number_in (value_of EndName os)) n)) → P command
 made_map os n command P e is =
-    chained Geometry (λ set. option_map (λ sector. MapCommand set sector (number_in (value_of EndName os)) n) (number_in (value_of SectorName os))) (set_in (value_of SetName os)) P command e
+    chained Wide (λ set. option_map (λ sector. MapCommand set sector (number_in (value_of EndName os)) n) (number_in (value_of SectorName os))) (set_in (value_of SetName os)) P command e
     (λ set has f. mapped ℕ (λ sector. MapCommand set sector (number_in (value_of EndName os)) n) (number_in (value_of SectorName os)) P command f (λ sector had. is set sector has had))
 
-pub made_write : (os : List Operand) (n : ℕ) (command : Command) (P : Command → Type 0) → command_of Write os n ≡ Some command → ((set : Geometry) → set_in (value_of SetName os) ≡ Some set → P (WriteCommand set (number_in (value_of EndName os)) n)) → P command
-made_write os n command P e is = mapped Geometry (λ set. WriteCommand set (number_in (value_of EndName os)) n) (set_in (value_of SetName os)) P command e is
+pub made_write : (os : List Operand) (n : ℕ) (command : Command) (P : Command → Type 0) → command_of Write os n ≡ Some command → ((set : Wide) → set_in (value_of SetName os) ≡ Some set → P (WriteCommand set (number_in (value_of EndName os)) n)) → P command
+made_write os n command P e is = mapped Wide (λ set. WriteCommand set (number_in (value_of EndName os)) n) (set_in (value_of SetName os)) P command e is
 
 pub made_rebuild : (os : List Operand) (n : ℕ) (command : Command) (P : Command → Type 0) → command_of Rebuild os n ≡ Some command →
-    ((set : Geometry) (slot : ℕ) → set_in (value_of SetName os) ≡ Some set → number_in (value_of SlotName os) ≡ Some slot → P (RebuildCommand set slot (number_in (value_of EndName os)) n)) → P command
+    ((set : Wide) (slot : ℕ) → set_in (value_of SetName os) ≡ Some set → number_in (value_of SlotName os) ≡ Some slot → P (RebuildCommand set slot (number_in (value_of EndName os)) n)) → P command
 made_rebuild os n command P e is =
-    chained Geometry (λ set. option_map (λ slot. RebuildCommand set slot (number_in (value_of EndName os)) n) (number_in (value_of SlotName os))) (set_in (value_of SetName os)) P command e
+    chained Wide (λ set. option_map (λ slot. RebuildCommand set slot (number_in (value_of EndName os)) n) (number_in (value_of SlotName os))) (set_in (value_of SetName os)) P command e
     (λ set has f. mapped ℕ (λ slot. RebuildCommand set slot (number_in (value_of EndName os)) n) (number_in (value_of SlotName os)) P command f (λ slot had. is set slot has had))
 
 pub made_sample : (os : List Operand) (n : ℕ) (command : Command) (P : Command → Type 0) → command_of Sample os n ≡ Some command →
-    ((number : ℕ) (set : Geometry) (rows : ℕ) → set_in (value_of SetName os) ≡ Some set → number_in (value_of RowsName os) ≡ Some rows → P (SampleCommand number set rows (marks_or (value_of MarksName os)))) → P command
+    ((number : ℕ) (set : Wide) (rows : ℕ) → set_in (value_of SetName os) ≡ Some set → number_in (value_of RowsName os) ≡ Some rows → P (SampleCommand number set rows (marks_or (value_of MarksName os)))) → P command
 made_sample os n command P e is =
     chained ℕ (λ number. option_and_then (λ set. option_map (λ rows. SampleCommand number set rows (marks_or (value_of MarksName os))) (number_in (value_of RowsName os))) (set_in (value_of SetName os))) (number_in (value_of NumberName os)) P command e
-    (λ number one f. chained Geometry (λ set. option_map (λ rows. SampleCommand number set rows (marks_or (value_of MarksName os))) (number_in (value_of RowsName os))) (set_in (value_of SetName os)) P command f
+    (λ number one f. chained Wide (λ set. option_map (λ rows. SampleCommand number set rows (marks_or (value_of MarksName os))) (number_in (value_of RowsName os))) (set_in (value_of SetName os)) P command f
     (λ set has g. mapped ℕ (λ rows. SampleCommand number set rows (marks_or (value_of MarksName os))) (number_in (value_of RowsName os)) P command g (λ rows had. is number set rows has had)))
 
 pub made_classes : (os : List Operand) (n : ℕ) (command : Command) (P : Command → Type 0) → command_of Classes os n ≡ Some command →
@@ -71,12 +76,22 @@ made_classes os n command P e is =
     chained ℕ (λ images. option_map (λ end. ClassesCommand images end) (number_in (value_of EndName os))) (number_in (value_of ImagesName os)) P command e
     (λ images has f. mapped ℕ (λ end. ClassesCommand images end) (number_in (value_of EndName os)) P command f (λ end had. is images end has had))
 
+pub made_mirrors : (os : List Operand) (n : ℕ) (command : Command) (P : Command → Type 0) → command_of Mirrors os n ≡ Some command → P (mirrors_of os n) → P command
+made_mirrors os n command P e is = let same : mirrors_of os n ≡ command = cc in subst P same is
+
+pub made_mirror_write : (os : List Operand) (n : ℕ) (command : Command) (P : Command → Type 0) → command_of MirrorWrite os n ≡ Some command → ((set : NearSet) → mirror_in (value_of SetName os) ≡ Some set → P (MirrorWriteCommand set (number_in (value_of EndName os)) n)) → P command
+made_mirror_write os n command P e is = mapped NearSet (λ set. MirrorWriteCommand set (number_in (value_of EndName os)) n) (mirror_in (value_of SetName os)) P command e is
+
+pub made_salvage : (os : List Operand) (n : ℕ) (command : Command) (P : Command → Type 0) → command_of Salvage os n ≡ Some command →
+    ((set : Wide) → set_in (value_of SetName os) ≡ Some set → P (SalvageCommand set (lost_or (value_of FormName os)) (number_in (value_of EndName os)) n)) → P command
+made_salvage os n command P e is = mapped Wide (λ set. SalvageCommand set (lost_or (value_of FormName os)) (number_in (value_of EndName os)) n) (set_in (value_of SetName os)) P command e is
+
 -- the number of words up to the names
 abbrev Counts : Verb → ℕ → Command → Type 0
 Counts verb n command = MatchOption (names_of command) (takes_names verb ≡ false) (λ names. names ≡ n)
 
 count_said : (verb : Verb) (os : List Operand) (n : ℕ) (command : Command) → command_of verb os n ≡ Some command → Counts verb n command
-count_said Survey os n command e = made_survey os n command (Counts Survey n) e refl
+count_said Survey os n command e = made_survey os n command (Counts Survey n) e (λ is. refl)
 count_said ListVerb os n command e = made_list os n command (Counts ListVerb n) e (λ is. refl)
 count_said Check os n command e = made_check os n command (Counts Check n) e (λ set is. refl)
 count_said Map os n command e = made_map os n command (Counts Map n) e (λ set sector is had. refl)
@@ -84,6 +99,9 @@ count_said Write os n command e = made_write os n command (Counts Write n) e (λ
 count_said Rebuild os n command e = made_rebuild os n command (Counts Rebuild n) e (λ set slot is had. refl)
 count_said Sample os n command e = made_sample os n command (Counts Sample n) e (λ number set rows is had. refl)
 count_said Classes os n command e = made_classes os n command (Counts Classes n) e (λ images end is had. refl)
+count_said Mirrors os n command e = made_mirrors os n command (Counts Mirrors n) e refl
+count_said MirrorWrite os n command e = made_mirror_write os n command (Counts MirrorWrite n) e (λ set is. refl)
+count_said Salvage os n command e = made_salvage os n command (Counts Salvage n) e (λ set is. refl)
 
 -- the names are what follows the operands and `--`
 names_past : (operands : List Operand) (names : List (List ℕ)) → names_after (map operand_word operands ++ codes "--" ∷ names) ≡ names
@@ -107,6 +125,9 @@ verb_no_dashes Write = refl
 verb_no_dashes Rebuild = refl
 verb_no_dashes Sample = refl
 verb_no_dashes Classes = refl
+verb_no_dashes Mirrors = refl
+verb_no_dashes MirrorWrite = refl
+verb_no_dashes Salvage = refl
 
 ends : (r : Option ℕ) (words : List (List ℕ)) (verb : Verb) (n : ℕ) → MatchOption r (takes_names verb ≡ false) (λ names. names ≡ n) → (takes_names verb ≡ false → names_after words ≡ []) → EndFrom words n → MatchOption r (names_after words ≡ []) (EndFrom words)
 ends None words verb n is none from = none is

@@ -12,11 +12,12 @@ use Rattle.value_text.specs.Spelling.{IsDrop, drop_name, drop_place, group_name,
 use Rattle.value_text.proofs.Fits.{chunks_are_short, members_are_bytes, offsets_are_short}
 use Rattle.value_text.proofs.Lists.{some_value}
 use Rattle.value_text.proofs.SetWords.{one_spelling}
+use Rattle.near_mirror.proofs.NearWords.{one_spelling as one_near_spelling}
 use Rattle.value_text.proofs.Spellings.{same_list}
 use Rattle.raid_params.specs.Places.{level_place, pattern_place, syndrome_place}
 use Rattle.mark_kinds.specs.declared.looking.DropAt.{DropAt}
 use Rattle.mark_kinds.specs.Table.{group_place}
-use Rattle.command_words.specs.Operands.{IsOperand, IsValueOf, form_text, kind_of, marks_text, name_text, operand_word, operands_of, value_text}
+use Rattle.command_words.specs.Operands.{IsOperand, IsValueOf, form_text, kind_of, logical_text, marks_text, mode_text, name_text, operand_word, operands_of, salvaged_text, value_text}
 use Rattle.command_words.specs.declared.command.Form.{Form}
 use Rattle.command_words.specs.declared.command.Form.TheVariants.{Text, Json}
 use Rattle.command_words.specs.declared.command.Verb.{Verb}
@@ -24,9 +25,9 @@ use Rattle.mark_kinds.specs.declared.groups.GroupKind.{GroupKind}
 use Rattle.command_words.specs.declared.operands.Operand.{Operand}
 use Rattle.command_words.specs.declared.table.Name.{Name}
 use Rattle.command_words.specs.declared.table.ValueKind.{ValueKind}
-use Rattle.command_words.specs.declared.table.ValueKind.TheVariants.{Number as NumberKind, Levels as LevelsKind, Members as MembersKind, Patterns as PatternsKind, Syndromes as SyndromesKind, Chunks as ChunksKind, Sectors as SectorsKind, Landmarks as LandmarksKind, Drops as DropsKind, Form as FormKind, Marks as MarksKind, Set as SetKind}
+use Rattle.command_words.specs.declared.table.ValueKind.TheVariants.{Number as NumberKind, Levels as LevelsKind, Members as MembersKind, Patterns as PatternsKind, Syndromes as SyndromesKind, Chunks as ChunksKind, Sectors as SectorsKind, Landmarks as LandmarksKind, Drops as DropsKind, Form as FormKind, Salvaged as SalvagedKind, Marks as MarksKind, Set as SetKind, Mirror as MirrorKind, Mode as ModeKind, Logical as LogicalKind}
 use Rattle.command_words.specs.declared.values.Value.{Value}
-use Rattle.command_words.specs.declared.values.Value.TheVariants.{Number, Levels, Members, Patterns, Syndromes, Chunks, Sectors, Landmarks, Drops, Form as FormValue, Marks, Set}
+use Rattle.command_words.specs.declared.values.Value.TheVariants.{Number, Levels, Members, Patterns, Syndromes, Chunks, Sectors, Landmarks, Drops, Form as FormValue, Salvaged, Marks, Set, Mirror, Mode, Logical}
 use Rattle.command_words.proofs.NameTexts.{IsShort, one_name, plain_name, short_kind}
 
 -- two texts that are cut at the first `=` are the same where their parts are
@@ -49,6 +50,17 @@ form_back Json = refl
 one_form : (x y : Form) → form_text x ≡ form_text y → x ≡ y
 one_form x y e = sym (form_back x) ∙ ap form_of e ∙ form_back y
 
+salvaged_of : List ℕ → Bool
+salvaged_of text = bytes_eq text (salvaged_text true)
+
+salvaged_back : (lost : Bool) → salvaged_of (salvaged_text lost) ≡ lost
+unfolding salvaged_of
+salvaged_back true = refl
+salvaged_back false = refl
+
+one_salvaged : (x y : Bool) → salvaged_text x ≡ salvaged_text y → x ≡ y
+one_salvaged x y e = sym (salvaged_back x) ∙ ap salvaged_of e ∙ salvaged_back y
+
 marks_of : List ℕ → Bool
 marks_of text = bytes_eq text (marks_text true)
 
@@ -59,6 +71,28 @@ marks_back false = refl
 
 one_marks : (x y : Bool) → marks_text x ≡ marks_text y → x ≡ y
 one_marks x y e = sym (marks_back x) ∙ ap marks_of e ∙ marks_back y
+
+mode_of : List ℕ → Bool
+mode_of text = bytes_eq text (mode_text true)
+
+mode_back : (each : Bool) → mode_of (mode_text each) ≡ each
+unfolding mode_of
+mode_back true = refl
+mode_back false = refl
+
+one_mode : (x y : Bool) → mode_text x ≡ mode_text y → x ≡ y
+one_mode x y e = sym (mode_back x) ∙ ap mode_of e ∙ mode_back y
+
+logical_of : List ℕ → Bool
+logical_of text = bytes_eq text (logical_text true)
+
+logical_back : (large : Bool) → logical_of (logical_text large) ≡ large
+unfolding logical_of
+logical_back true = refl
+logical_back false = refl
+
+one_logical : (x y : Bool) → logical_text x ≡ logical_text y → x ≡ y
+one_logical x y e = sym (logical_back x) ∙ ap logical_of e ∙ logical_back y
 
 -- the texts of two values are those of what they hold
 texts : {A : Type 0} (make : A → Value) (x y : A) (v w : Value) → v ≡ make x → w ≡ make y → value_text v ≡ value_text w → value_text (make x) ≡ value_text (make y)
@@ -100,8 +134,12 @@ one_value DropsKind short v w a b e =
     let same = same_list drop_name IsDrop drop_law a.0.items b.0.items (some_value drop_place a.0.items a.2.list.rising) (some_value drop_place b.0.items b.2.list.rising) a.2.all b.2.all (texts (λ xs. Drops xs) a.0 b.0 v w a.1 b.1 e) in
     same_held (λ (xs : List DropAt). Drops (record { items = xs })) a.0.items b.0.items v w a.1 b.1 same
 one_value FormKind short v w a b e = same_held (λ x. FormValue x) a.0 b.0 v w a.1 b.1 (one_form a.0 b.0 (texts (λ x. FormValue x) a.0 b.0 v w a.1 b.1 e))
+one_value SalvagedKind short v w a b e = same_held (λ x. Salvaged x) a.0 b.0 v w a.1 b.1 (one_salvaged a.0 b.0 (texts (λ x. Salvaged x) a.0 b.0 v w a.1 b.1 e))
 one_value MarksKind short v w a b e = same_held (λ x. Marks x) a.0 b.0 v w a.1 b.1 (one_marks a.0 b.0 (texts (λ x. Marks x) a.0 b.0 v w a.1 b.1 e))
+one_value ModeKind short v w a b e = same_held (λ x. Mode x) a.0 b.0 v w a.1 b.1 (one_mode a.0 b.0 (texts (λ x. Mode x) a.0 b.0 v w a.1 b.1 e))
+one_value LogicalKind short v w a b e = same_held (λ x. Logical x) a.0 b.0 v w a.1 b.1 (one_logical a.0 b.0 (texts (λ x. Logical x) a.0 b.0 v w a.1 b.1 e))
 one_value SetKind short v w a b e = same_held (λ x. Set x) a.0 b.0 v w a.1 b.1 (one_spelling a.0 b.0 a.2 b.2 (texts (λ x. Set x) a.0 b.0 v w a.1 b.1 e))
+one_value MirrorKind short v w a b e = same_held (λ x. Mirror x) a.0 b.0 v w a.1 b.1 (one_near_spelling a.0 b.0 a.2 b.2 (texts (λ x. Mirror x) a.0 b.0 v w a.1 b.1 e))
 
 operand_with : Name → Value → Operand
 operand_with name value = record { name = name; value = value }
@@ -112,8 +150,8 @@ unfolding operand_word operand_with
 one_operand verb a b is_a is_b e =
     let cut = cut_once (name_text a.name) (name_text b.name) (value_text a.value) (value_text b.value) (plain_name a.name) (plain_name b.name) e in
     let name : a.name ≡ b.name = one_name a.name b.name cut.0 in
-    let fitting : IsValueOf b.value (kind_of a.name) = subst (λ n. IsValueOf b.value (kind_of n)) (sym name) is_b.fitting in
-    let value : a.value ≡ b.value = one_value (kind_of a.name) (short_kind a.name) a.value b.value is_a.fitting fitting cut.1 in
+    let fitting : IsValueOf b.value (kind_of verb a.name) = subst (λ n. IsValueOf b.value (kind_of verb n)) (sym name) is_b.fitting in
+    let value : a.value ≡ b.value = one_value (kind_of verb a.name) (short_kind verb a.name) a.value b.value is_a.fitting fitting cut.1 in
     let same : operand_with a.name a.value ≡ operand_with b.name b.value = ap₂ operand_with name value in
     same
 
@@ -140,15 +178,15 @@ another_name verb word name value plain is none o taken e =
     here (cut.0 ∙ ap name_text (sym at.2))
 
 -- nor one with a value that the operand does not take
-pub another_value : (verb : Verb) (word text value : List ℕ) (name : Name) (kind : ValueKind) → All (λ x. x ≢ 61) text → word ≡ text ++ 61 ∷ value → text ≡ name_text name → kind ≡ kind_of name → ((v : Value) → IsValueOf v kind → value ≢ value_text v) → ReadsOperand verb word None
+pub another_value : (verb : Verb) (word text value : List ℕ) (name : Name) (kind : ValueKind) → All (λ x. x ≢ 61) text → word ≡ text ++ 61 ∷ value → text ≡ name_text name → kind ≡ kind_of verb name → ((v : Value) → IsValueOf v kind → value ≢ value_text v) → ReadsOperand verb word None
 unfolding operand_word
 another_value verb word text value name kind plain is named same none o taken e =
     let cut = cut_once text (name_text o.name) value (value_text o.value) plain (plain_name o.name) (sym is ∙ e) in
     let name_is : o.name ≡ name = one_name o.name name (sym cut.0 ∙ named) in
-    none o.value (subst (λ k. IsValueOf o.value k) (ap kind_of name_is ∙ sym same) taken.fitting) cut.1
+    none o.value (subst (λ k. IsValueOf o.value k) (ap (kind_of verb) name_is ∙ sym same) taken.fitting) cut.1
 
 -- a name and a value are an operand
-pub name_and_value : (verb : Verb) (word text value_text_ : List ℕ) (name : Name) (kind : ValueKind) (value : Value) → word ≡ text ++ 61 ∷ value_text_ → Contains (operands_of verb) name → text ≡ name_text name → kind ≡ kind_of name →
+pub name_and_value : (verb : Verb) (word text value_text_ : List ℕ) (name : Name) (kind : ValueKind) (value : Value) → word ≡ text ++ 61 ∷ value_text_ → Contains (operands_of verb) name → text ≡ name_text name → kind ≡ kind_of verb name →
     IsValueOf value kind × (value_text_ ≡ value_text value) → IsOperand verb (record { name = name; value = value }) × (word ≡ operand_word (record { name = name; value = value }))
 unfolding operand_word
 name_and_value verb word text value_text_ name kind value is taken named same found = (

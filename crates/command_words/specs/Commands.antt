@@ -1,38 +1,40 @@
 -- What the words of a command line say, and which word is refused.
-use Rattle.std.specs.Prelude.{ℕ, ◌-◌, ◌*◌, ◌≡◌, ◌≤◌, ◌<◌, ◌^◌, ◌+◌, ◌⊎◌, Bool, true, false, IsTrue, nat_eq, nat_le, ◌||◌, List, [], ◌∷◌, ◌++◌, length, map, take, drop, codes, if◌then◌else◌, unwrap_or, option_and_then, option_map, IfSome, MatchOption, Result, Ok, Err}
-use Rattle.std.specs.List.{list_any}
+use Rattle.std.specs.Prelude.{ℕ, ◌-◌, ◌*◌, ◌≡◌, ◌≤◌, ◌<◌, ◌^◌, ◌+◌, ◌⊎◌, Bool, true, false, IsTrue, nat_eq, nat_le, nat_lt, ◌&&◌, All, List, [], ◌∷◌, ◌++◌, length, map, take, drop, codes, if◌then◌else◌, unwrap_or, option_and_then, option_map, IfSome, MatchOption, Result, Ok, Err}
+use Rattle.std.specs.List.{list_all}
 use Rattle.std.specs.declared.option.Option.{Option}
 use Rattle.std.specs.declared.option.Option.TheVariants.{None, Some}
 use Rattle.std.specs.Str.{bytes_eq}
 use Rattle.arrayvec.specs.ArrayVec.{ArrayVec}
 use Rattle.raid_params.specs.declared.limits.TheConstants.{MOST}
 use Rattle.raid_params.specs.declared.types.Bounds.{Bounds}
-use Rattle.raid_params.specs.declared.types.Geometry.{Geometry}
 use Rattle.raid_params.specs.declared.types.Level.{Level}
 use Rattle.raid_params.specs.declared.types.Level.TheVariants.{Raid0, Raid5, Raid6}
 use Rattle.raid_params.specs.declared.types.Pattern.{Pattern}
 use Rattle.raid_params.specs.declared.types.Pattern.TheVariants.{Plain, La, Ra, Ls, Rs, ParityFirst, ParityLast, NRestart, NContinue, La6, Ra6, Ls6, Rs6, ParityFirst6}
 use Rattle.raid_params.specs.declared.types.Syndrome.{Syndrome}
 use Rattle.raid_params.specs.declared.types.Syndrome.TheVariants.{NoQ, AfterQ, ByData, BySlot}
+use Rattle.raid_params.specs.declared.wide.Wide.{Wide}
 use Rattle.landmark_rules.specs.declared.marks.MarkTests.{MarkTests}
-use Rattle.value_text.specs.Bounded.{AreMembers}
+use Rattle.near_mirror.specs.Words.{HasNearWord}
+use Rattle.near_mirror.specs.declared.types.NearSet.{NearSet}
+use Rattle.value_text.specs.Bounded.{AreChunks, AreMembers, AreSectors}
 use Rattle.value_text.specs.SetText.{HasWord}
 use Rattle.search_plan.specs.Plans.{AreBounds, AreTests}
 use Rattle.mark_kinds.specs.declared.looking.DropAt.{DropAt}
 use Rattle.mark_kinds.specs.declared.looking.Kinds.{Kinds}
-use Rattle.mark_kinds.specs.Table.{every_kind, kinds_among, some_asked}
+use Rattle.mark_kinds.specs.Table.{usual_kinds, kinds_among, some_asked}
 use Rattle.command_words.specs.Operands.{AreDrops, AreOperands, operand_word, value_of}
 use Rattle.command_words.specs.declared.command.Command.{Command}
-use Rattle.command_words.specs.declared.command.Command.TheVariants.{Survey as SurveyCommand, List as ListCommand, Check as CheckCommand, Map as MapCommand, Write as WriteCommand, Rebuild as RebuildCommand, Sample as SampleCommand, Classes as ClassesCommand}
+use Rattle.command_words.specs.declared.command.Command.TheVariants.{Survey as SurveyCommand, List as ListCommand, Check as CheckCommand, Map as MapCommand, Write as WriteCommand, Rebuild as RebuildCommand, Sample as SampleCommand, Classes as ClassesCommand, Mirrors as MirrorsCommand, MirrorWrite as MirrorWriteCommand, Salvage as SalvageCommand}
 use Rattle.command_words.specs.declared.command.Form.{Form}
 use Rattle.command_words.specs.declared.command.Form.TheVariants.{Text}
 use Rattle.command_words.specs.declared.command.SurveyWords.{SurveyWords}
 use Rattle.command_words.specs.declared.command.Verb.{Verb}
-use Rattle.command_words.specs.declared.command.Verb.TheVariants.{Survey, List as ListVerb, Check, Map, Write, Rebuild, Sample, Classes}
+use Rattle.command_words.specs.declared.command.Verb.TheVariants.{Survey, List as ListVerb, Check, Map, Write, Rebuild, Sample, Classes, Mirrors, MirrorWrite, Salvage}
 use Rattle.command_words.specs.declared.operands.Operand.{Operand}
-use Rattle.command_words.specs.declared.table.Name.TheVariants.{Levels as LevelsName, Members as MembersName, Patterns as PatternsName, Syndromes as SyndromesName, Chunks as ChunksName, Offsets as OffsetsName, Origins as OriginsName, Missing as MissingName, Foreign as ForeignName, Badrows as BadrowsName, Misfits as MisfitsName, Least as LeastName, Window as WindowName, End as EndName, Kinds as KindsName, Dropped as DropName, From as FromName, Size as SizeName, Span as SpanName, Pages as PagesName, Form as FormName, Set as SetName, Sector as SectorName, Slot as SlotName, Number as NumberName, Rows as RowsName, Marks as MarksName, Images as ImagesName}
+use Rattle.command_words.specs.declared.table.Name.TheVariants.{Levels as LevelsName, Members as MembersName, Patterns as PatternsName, Syndromes as SyndromesName, Chunks as ChunksName, Offsets as OffsetsName, Origins as OriginsName, Missing as MissingName, Foreign as ForeignName, Badrows as BadrowsName, Misfits as MisfitsName, Least as LeastName, Window as WindowName, End as EndName, Kinds as KindsName, Dropped as DropName, From as FromName, Size as SizeName, Span as SpanName, Pages as PagesName, Form as FormName, Set as SetName, Sector as SectorName, Slot as SlotName, Number as NumberName, Rows as RowsName, Marks as MarksName, Images as ImagesName, Mode as ModeName, Logical as LogicalName}
 use Rattle.command_words.specs.declared.values.Value.{Value}
-use Rattle.command_words.specs.declared.values.Value.TheVariants.{Number, Levels, Members, Patterns, Syndromes, Chunks, Sectors, Landmarks, Drops, Form as FormValue, Marks, Set}
+use Rattle.command_words.specs.declared.values.Value.TheVariants.{Number, Levels, Members, Patterns, Syndromes, Chunks, Sectors, Landmarks, Drops, Form as FormValue, Salvaged, Marks, Set, Mirror, Mode, Logical}
 
 -- the word of a command
 abbrev pub verb_word : Verb → List ℕ
@@ -44,15 +46,22 @@ verb_word Write = codes "write"
 verb_word Rebuild = codes "rebuild"
 verb_word Sample = codes "sample"
 verb_word Classes = codes "classes"
+verb_word Mirrors = codes "mirrors"
+verb_word MirrorWrite = codes "mirrorwrite"
+verb_word Salvage = codes "salvage"
 
 -- the values of operands that were given, and the defaults of those that were not
 abbrev pub number_in : Option Value → Option ℕ
 number_in (Some (Number n)) = Some n
 number_in _ = None
 
-abbrev pub set_in : Option Value → Option Geometry
+abbrev pub set_in : Option Value → Option Wide
 set_in (Some (Set set)) = Some set
 set_in _ = None
+
+abbrev pub mirror_in : Option Value → Option NearSet
+mirror_in (Some (Mirror set)) = Some set
+mirror_in _ = None
 
 abbrev pub levels_or : Option Value → ArrayVec Level
 levels_or (Some (Levels xs)) = xs
@@ -84,15 +93,35 @@ drops_or _ = record { items = [] }
 
 abbrev pub kinds_or : Option Value → Kinds
 kinds_or (Some (Landmarks xs)) = kinds_among xs.items
-kinds_or _ = every_kind
+kinds_or _ = usual_kinds
 
 abbrev pub form_or : Option Value → Form
 form_or (Some (FormValue form)) = form
 form_or _ = Text
 
+abbrev pub lost_or : Option Value → Bool
+lost_or (Some (Salvaged lost)) = lost
+lost_or _ = false
+
 abbrev pub marks_or : Option Value → Bool
 marks_or (Some (Marks xfs)) = xfs
 marks_or _ = false
+
+abbrev pub each_or : Option Value → Bool
+each_or (Some (Mode each)) = each
+each_or _ = false
+
+abbrev pub large_or : Option Value → Bool
+large_or (Some (Logical large)) = large
+large_or _ = false
+
+-- the sectors of a block
+abbrev pub unit_of : Bool → ℕ
+unit_of large = if large then 8 else 1
+
+-- the offsets that are tried
+abbrev pub offsets_or : Option Value → ArrayVec ℕ
+offsets_or offsets = sectors_or (0 ∷ 2048 ∷ 262144 ∷ 264192 ∷ []) offsets
 
 -- the number of the operand of a name
 abbrev pub number_or : ℕ → Option Value → ℕ
@@ -106,7 +135,7 @@ bounds_of operands = record {
   patterns = patterns_or (value_of PatternsName operands);
   syndromes = syndromes_or (value_of SyndromesName operands);
   chunks = chunks_or (value_of ChunksName operands);
-  offsets = sectors_or (0 ∷ 2048 ∷ 262144 ∷ 264192 ∷ []) (value_of OffsetsName operands);
+  offsets = offsets_or (value_of OffsetsName operands);
   missing = number_or 0 (value_of MissingName operands);
   foreign = number_or 0 (value_of ForeignName operands);
 }
@@ -127,6 +156,8 @@ survey_of operands names = record {
   tests = tests_of operands;
   kinds = kinds_or (value_of KindsName operands);
   drops = drops_or (value_of DropName operands);
+  each = each_or (value_of ModeName operands);
+  unit = unit_of (large_or (value_of LogicalName operands));
   names = names;
 }
 
@@ -134,10 +165,24 @@ survey_of operands names = record {
 unfoldable pub plain_survey : SurveyWords
 plain_survey = survey_of [] 2
 
+-- the images of a survey can have offsets of their own, by its `mode`, `foreign` and `offsets`: none of them is
+-- foreign, and all offsets are below 2^54. That is asked only where they are to
+abbrev pub can_move : Option Value → Option Value → Option Value → Bool
+can_move mode foreign offsets = if each_or mode then nat_eq (number_or 0 foreign) 0 && list_all (λ n. nat_lt n (2 ^ 54)) (offsets_or offsets).items else true
+
+-- the page of mirrors that is asked for. The numbers of members are none where they were not given
+abbrev pub mirrors_of : List Operand → ℕ → Command
+mirrors_of operands names =
+    MirrorsCommand (members_or (value_of MembersName operands)) (chunks_or (value_of ChunksName operands)) (offsets_or (value_of OffsetsName operands))
+    (number_or 0 (value_of MissingName operands)) (number_or 0 (value_of ForeignName operands)) (number_or 0 (value_of BadrowsName operands))
+    (number_in (value_of WindowName operands)) (number_in (value_of EndName operands))
+    (number_or 0 (value_of FromName operands)) (number_or 100 (value_of SizeName operands)) (number_or (2 ^ 64 - 1) (value_of SpanName operands)) names
+
 -- the command with these operands and `names` words up to the names, unless an operand is missing that it
--- asks for. A listing has 4,000,000 lines at most on all its pages together
+-- asks for. The images of a survey can have offsets of their own where they are to. A listing has 4,000,000 lines at most on all its pages together
 abbrev pub command_of : Verb → List Operand → ℕ → Option Command
-command_of Survey operands names = Some (SurveyCommand (survey_of operands names))
+command_of Survey operands names =
+    if can_move (value_of ModeName operands) (value_of ForeignName operands) (value_of OffsetsName operands) then Some (SurveyCommand (survey_of operands names)) else None
 command_of ListVerb operands names =
     if nat_le (number_or 100 (value_of SizeName operands) * number_or 1 (value_of PagesName operands)) 4000000
     then Some (ListCommand (number_or 0 (value_of FromName operands)) (number_or 100 (value_of SizeName operands)) (number_or (2 ^ 64 - 1) (value_of SpanName operands)) (number_or 1 (value_of PagesName operands)) (form_or (value_of FormName operands)) names)
@@ -152,6 +197,9 @@ command_of Sample operands names =
     option_and_then (λ number. option_and_then (λ set. option_map (λ rows. SampleCommand number set rows (marks_or (value_of MarksName operands))) (number_in (value_of RowsName operands))) (set_in (value_of SetName operands))) (number_in (value_of NumberName operands))
 command_of Classes operands names =
     option_and_then (λ images. option_map (λ end. ClassesCommand images end) (number_in (value_of EndName operands))) (number_in (value_of ImagesName operands))
+command_of Mirrors operands names = Some (mirrors_of operands names)
+command_of MirrorWrite operands names = option_map (λ set. MirrorWriteCommand set (number_in (value_of EndName operands)) names) (mirror_in (value_of SetName operands))
+command_of Salvage operands names = option_map (λ set. SalvageCommand set (lost_or (value_of FormName operands)) (number_in (value_of EndName operands)) names) (set_in (value_of SetName operands))
 
 -- names may follow the `--` of each command but `sample` and `classes`
 abbrev pub takes_names : Verb → Bool
@@ -212,6 +260,9 @@ names_of (WriteCommand set end names) = Some names
 names_of (RebuildCommand set slot end names) = Some names
 names_of (SampleCommand number set rows xfs) = None
 names_of (ClassesCommand images end) = None
+names_of (MirrorsCommand members chunks offsets missing foreign badrows window end from size span names) = Some names
+names_of (MirrorWriteCommand set end names) = Some names
+names_of (SalvageCommand set lost end names) = Some names
 
 -- the names of a command's images are the last words, from the one of this number on, or there are none
 abbrev pub EndsInNames : List (List ℕ) → Command → Type 0
@@ -227,6 +278,21 @@ pub record AreAsked (asked : SurveyWords) : Type 0 where
   pub tests : AreTests asked.tests
   pub kinds : IsTrue (some_asked asked.kinds)
   pub drops : (asked.drops.items ≡ []) ⊎ AreDrops asked.drops.items
+  pub each : asked.each ≡ true → (asked.bounds.foreign ≡ 0) × All (λ n. n < 2 ^ 54) asked.bounds.offsets.items
+  pub unit : (asked.unit ≡ 1) ⊎ (asked.unit ≡ 8)
+
+-- what mirrors are asked for is within the limits of the words
+pub record AreMirrors (counts sizes places : List ℕ) (empty others torn : ℕ) (top last : Option ℕ) (lines ranks : ℕ) : Type 0 where
+  pub members : (counts ≡ []) ⊎ AreMembers counts
+  pub chunks : AreChunks sizes
+  pub offsets : AreSectors 64 places
+  pub missing : empty ≤ 1
+  pub foreign : others ≤ MOST
+  pub badrows : torn < 2 ^ 55
+  pub window : IfSome top (λ n. (1 ≤ n) × (n < 2 ^ 55))
+  pub end : IfSome last (λ n. n < 2 ^ 55)
+  pub size : (1 ≤ lines) × (lines ≤ 1000000)
+  pub span : 1 ≤ ranks
 
 -- the values of a command are within the limits of its operands
 abbrev pub IsWithin : Command → Type 0
@@ -238,3 +304,6 @@ IsWithin (WriteCommand set end names) = HasWord set × IfSome end (λ n. n < 2 ^
 IsWithin (RebuildCommand set slot end names) = HasWord set × (slot < MOST) × IfSome end (λ n. n < 2 ^ 55)
 IsWithin (SampleCommand number set rows xfs) = HasWord set × (1 ≤ rows) × (rows ≤ 65536)
 IsWithin (ClassesCommand images end) = (1 ≤ images) × (images ≤ MOST) × (end < 2 ^ 55)
+IsWithin (MirrorsCommand members chunks offsets missing foreign badrows window end from size span names) = AreMirrors members.items chunks.items offsets.items missing foreign badrows window end size span
+IsWithin (MirrorWriteCommand set end names) = HasNearWord set × IfSome end (λ n. n < 2 ^ 55)
+IsWithin (SalvageCommand set lost end names) = HasWord set × IfSome end (λ n. n < 2 ^ 55)

@@ -5,11 +5,13 @@ use Rattle.std.specs.Str.{bytes_eq}
 use Rattle.std.specs.declared.option.Option.{Option}
 use Rattle.std.specs.declared.option.Option.TheVariants.{None, Some}
 use Rattle.arrayvec.specs.ArrayVec.{ArrayVec}
-use Rattle.raid_params.specs.declared.limits.TheConstants.{MOST, MOST_LEVELS, MOST_PATTERNS, MOST_SYNDROMES}
-use Rattle.raid_params.specs.declared.types.Geometry.{Geometry}
+use Rattle.raid_params.specs.declared.limits.TheConstants.{MOST, MOST_LEVELS, MOST_MISSING, MOST_PATTERNS, MOST_SYNDROMES}
 use Rattle.raid_params.specs.declared.types.Level.{Level}
 use Rattle.raid_params.specs.declared.types.Pattern.{Pattern}
 use Rattle.raid_params.specs.declared.types.Syndrome.{Syndrome}
+use Rattle.raid_params.specs.declared.wide.Wide.{Wide}
+use Rattle.near_mirror.specs.Words.{HasNearWord, near_word}
+use Rattle.near_mirror.specs.declared.types.NearSet.{NearSet}
 use Rattle.value_text.specs.SetText.{HasWord, set_word}
 use Rattle.value_text.specs.Bounded.{AreChunks, AreMembers, AreSectors}
 use Rattle.value_text.specs.Spelling.{IsDrop, level_name, pattern_name, syndrome_name, group_name, commas, drop_name, drop_place}
@@ -21,15 +23,15 @@ use Rattle.mark_kinds.specs.declared.groups.TheConstants.{GROUP_COUNT}
 use Rattle.command_words.specs.declared.command.Form.{Form}
 use Rattle.command_words.specs.declared.command.Form.TheVariants.{Text, Json}
 use Rattle.command_words.specs.declared.command.Verb.{Verb}
-use Rattle.command_words.specs.declared.command.Verb.TheVariants.{Survey, List as ListVerb, Check, Map, Write, Rebuild, Sample, Classes}
+use Rattle.command_words.specs.declared.command.Verb.TheVariants.{Survey, List as ListVerb, Check, Map, Write, Rebuild, Sample, Classes, Mirrors, MirrorWrite, Salvage}
 use Rattle.mark_kinds.specs.declared.groups.GroupKind.{GroupKind}
 use Rattle.command_words.specs.declared.operands.Operand.{Operand}
 use Rattle.command_words.specs.declared.table.Name.{Name}
-use Rattle.command_words.specs.declared.table.Name.TheVariants.{Levels as LevelsName, Members as MembersName, Patterns as PatternsName, Syndromes as SyndromesName, Chunks as ChunksName, Offsets as OffsetsName, Origins as OriginsName, Missing as MissingName, Foreign as ForeignName, Badrows as BadrowsName, Misfits as MisfitsName, Least as LeastName, Window as WindowName, End as EndName, Kinds as KindsName, Dropped as DropName, From as FromName, Size as SizeName, Span as SpanName, Pages as PagesName, Form as FormName, Set as SetName, Sector as SectorName, Slot as SlotName, Number as NumberName, Rows as RowsName, Marks as MarksName, Images as ImagesName}
+use Rattle.command_words.specs.declared.table.Name.TheVariants.{Levels as LevelsName, Members as MembersName, Patterns as PatternsName, Syndromes as SyndromesName, Chunks as ChunksName, Offsets as OffsetsName, Origins as OriginsName, Missing as MissingName, Foreign as ForeignName, Badrows as BadrowsName, Misfits as MisfitsName, Least as LeastName, Window as WindowName, End as EndName, Kinds as KindsName, Dropped as DropName, From as FromName, Size as SizeName, Span as SpanName, Pages as PagesName, Form as FormName, Set as SetName, Sector as SectorName, Slot as SlotName, Number as NumberName, Rows as RowsName, Marks as MarksName, Images as ImagesName, Mode as ModeName, Logical as LogicalName}
 use Rattle.command_words.specs.declared.table.ValueKind.{ValueKind}
-use Rattle.command_words.specs.declared.table.ValueKind.TheVariants.{Number as NumberKind, Levels as LevelsKind, Members as MembersKind, Patterns as PatternsKind, Syndromes as SyndromesKind, Chunks as ChunksKind, Sectors as SectorsKind, Landmarks as LandmarksKind, Drops as DropsKind, Form as FormKind, Marks as MarksKind, Set as SetKind}
+use Rattle.command_words.specs.declared.table.ValueKind.TheVariants.{Number as NumberKind, Levels as LevelsKind, Members as MembersKind, Patterns as PatternsKind, Syndromes as SyndromesKind, Chunks as ChunksKind, Sectors as SectorsKind, Landmarks as LandmarksKind, Drops as DropsKind, Form as FormKind, Salvaged as SalvagedKind, Marks as MarksKind, Set as SetKind, Mirror as MirrorKind, Mode as ModeKind, Logical as LogicalKind}
 use Rattle.command_words.specs.declared.values.Value.{Value}
-use Rattle.command_words.specs.declared.values.Value.TheVariants.{Number, Levels, Members, Patterns, Syndromes, Chunks, Sectors, Landmarks, Drops, Form as FormValue, Marks, Set}
+use Rattle.command_words.specs.declared.values.Value.TheVariants.{Number, Levels, Members, Patterns, Syndromes, Chunks, Sectors, Landmarks, Drops, Form as FormValue, Salvaged, Marks, Set, Mirror, Mode, Logical}
 
 abbrev pub name_text : Name → List ℕ
 name_text LevelsName = codes "levels"
@@ -60,41 +62,60 @@ name_text NumberName = codes "number"
 name_text RowsName = codes "rows"
 name_text MarksName = codes "marks"
 name_text ImagesName = codes "images"
+name_text ModeName = codes "mode"
+name_text LogicalName = codes "logical"
 
--- what values an operand takes
-abbrev pub kind_of : Name → ValueKind
-kind_of LevelsName = LevelsKind
-kind_of MembersName = MembersKind
-kind_of PatternsName = PatternsKind
-kind_of SyndromesName = SyndromesKind
-kind_of ChunksName = ChunksKind
-kind_of OffsetsName = SectorsKind
-kind_of OriginsName = SectorsKind
-kind_of MissingName = NumberKind 0 2
-kind_of ForeignName = NumberKind 0 MOST
-kind_of BadrowsName = NumberKind 0 (2 ^ 55 - 1)
-kind_of MisfitsName = NumberKind 0 (2 ^ 55 - 1)
-kind_of LeastName = NumberKind 0 (2 ^ 55 - 1)
-kind_of WindowName = NumberKind 1 (2 ^ 55 - 1)
-kind_of EndName = NumberKind 0 (2 ^ 55 - 1)
-kind_of KindsName = LandmarksKind
-kind_of DropName = DropsKind
-kind_of FromName = NumberKind 0 (2 ^ 64 - 1)
-kind_of SizeName = NumberKind 1 1000000
-kind_of SpanName = NumberKind 1 (2 ^ 64 - 1)
-kind_of PagesName = NumberKind 1 1000000
-kind_of FormName = FormKind
-kind_of SetName = SetKind
-kind_of SectorName = NumberKind 0 (2 ^ 64 - 1)
-kind_of SlotName = NumberKind 0 (MOST - 1)
-kind_of NumberName = NumberKind 0 (2 ^ 64 - 1)
-kind_of RowsName = NumberKind 1 65536
-kind_of MarksName = MarksKind
-kind_of ImagesName = NumberKind 1 MOST
+-- the most empty slots: of the two copies of a mirror's chunk one is left where one member is missing
+abbrev pub most_missing : Verb → ℕ
+most_missing Mirrors = 1
+most_missing _ = MOST_MISSING
+
+-- what a `set` is: `mirrorwrite` takes that of a mirror
+abbrev pub set_kind : Verb → ValueKind
+set_kind MirrorWrite = MirrorKind
+set_kind _ = SetKind
+
+-- what a `form` is: `salvage` has forms of its own
+abbrev pub form_kind : Verb → ValueKind
+form_kind Salvage = SalvagedKind
+form_kind _ = FormKind
+
+-- what values an operand of a command takes
+abbrev pub kind_of : Verb → Name → ValueKind
+kind_of _ LevelsName = LevelsKind
+kind_of _ MembersName = MembersKind
+kind_of _ PatternsName = PatternsKind
+kind_of _ SyndromesName = SyndromesKind
+kind_of _ ChunksName = ChunksKind
+kind_of _ OffsetsName = SectorsKind
+kind_of _ OriginsName = SectorsKind
+kind_of verb MissingName = NumberKind 0 (most_missing verb)
+kind_of _ ForeignName = NumberKind 0 MOST
+kind_of _ BadrowsName = NumberKind 0 (2 ^ 55 - 1)
+kind_of _ MisfitsName = NumberKind 0 (2 ^ 55 - 1)
+kind_of _ LeastName = NumberKind 0 (2 ^ 55 - 1)
+kind_of _ WindowName = NumberKind 1 (2 ^ 55 - 1)
+kind_of _ EndName = NumberKind 0 (2 ^ 55 - 1)
+kind_of _ KindsName = LandmarksKind
+kind_of _ DropName = DropsKind
+kind_of _ FromName = NumberKind 0 (2 ^ 64 - 1)
+kind_of _ SizeName = NumberKind 1 1000000
+kind_of _ SpanName = NumberKind 1 (2 ^ 64 - 1)
+kind_of _ PagesName = NumberKind 1 1000000
+kind_of verb FormName = form_kind verb
+kind_of verb SetName = set_kind verb
+kind_of _ SectorName = NumberKind 0 (2 ^ 64 - 1)
+kind_of _ SlotName = NumberKind 0 (MOST - 1)
+kind_of _ NumberName = NumberKind 0 (2 ^ 64 - 1)
+kind_of _ RowsName = NumberKind 1 65536
+kind_of _ MarksName = MarksKind
+kind_of _ ImagesName = NumberKind 1 MOST
+kind_of _ ModeName = ModeKind
+kind_of _ LogicalName = LogicalKind
 
 -- the operands that a command takes
 abbrev pub operands_of : Verb → List Name
-operands_of Survey = LevelsName ∷ MembersName ∷ PatternsName ∷ SyndromesName ∷ ChunksName ∷ OffsetsName ∷ OriginsName ∷ MissingName ∷ ForeignName ∷ BadrowsName ∷ MisfitsName ∷ LeastName ∷ WindowName ∷ EndName ∷ KindsName ∷ DropName ∷ []
+operands_of Survey = LevelsName ∷ MembersName ∷ PatternsName ∷ SyndromesName ∷ ChunksName ∷ OffsetsName ∷ OriginsName ∷ MissingName ∷ ForeignName ∷ BadrowsName ∷ MisfitsName ∷ LeastName ∷ WindowName ∷ EndName ∷ KindsName ∷ DropName ∷ ModeName ∷ LogicalName ∷ []
 operands_of ListVerb = FromName ∷ SizeName ∷ SpanName ∷ PagesName ∷ FormName ∷ []
 operands_of Check = SetName ∷ []
 operands_of Map = SetName ∷ SectorName ∷ EndName ∷ []
@@ -102,15 +123,33 @@ operands_of Write = SetName ∷ EndName ∷ []
 operands_of Rebuild = SetName ∷ SlotName ∷ EndName ∷ []
 operands_of Sample = NumberName ∷ SetName ∷ RowsName ∷ MarksName ∷ []
 operands_of Classes = ImagesName ∷ EndName ∷ []
+operands_of Mirrors = MembersName ∷ ChunksName ∷ OffsetsName ∷ MissingName ∷ ForeignName ∷ BadrowsName ∷ WindowName ∷ EndName ∷ FromName ∷ SizeName ∷ SpanName ∷ []
+operands_of MirrorWrite = SetName ∷ EndName ∷ []
+operands_of Salvage = SetName ∷ FormName ∷ EndName ∷ []
 
 abbrev pub form_text : Form → List ℕ
 form_text Text = codes "text"
 form_text Json = codes "json"
 
+-- what is salvaged: the volume, or the text of what of it is lost
+abbrev pub salvaged_text : Bool → List ℕ
+salvaged_text false = codes "data"
+salvaged_text true = codes "lost"
+
 -- the landmarks of a generated array: none, or those of an XFS file system
 abbrev pub marks_text : Bool → List ℕ
 marks_text false = codes "none"
 marks_text true = codes "xfs"
+
+-- whether each image has an offset of its own, or all images of a set share one
+abbrev pub mode_text : Bool → List ℕ
+mode_text false = codes "common"
+mode_text true = codes "each"
+
+-- whether blocks of partition tables have 4,096 bytes, or 512
+abbrev pub logical_text : Bool → List ℕ
+logical_text false = codes "512"
+logical_text true = codes "4096"
 
 -- a list of values: it rises strictly, and has `most` at most. Where their kind has no more, that says nothing
 pub record IsList {A : Type 0} (place : A → ℕ) (most : ℕ) (xs : List A) : Type 0 where
@@ -134,8 +173,12 @@ IsValueOf value SectorsKind = (ns : ArrayVec ℕ) × (value ≡ Sectors ns) × A
 IsValueOf value LandmarksKind = (xs : ArrayVec GroupKind) × (value ≡ Landmarks xs) × IsList group_place GROUP_COUNT xs.items
 IsValueOf value DropsKind = (ds : ArrayVec DropAt) × (value ≡ Drops ds) × AreDrops ds.items
 IsValueOf value FormKind = (form : Form) × (value ≡ FormValue form)
+IsValueOf value SalvagedKind = (lost : Bool) × (value ≡ Salvaged lost)
 IsValueOf value MarksKind = (xfs : Bool) × (value ≡ Marks xfs)
-IsValueOf value SetKind = (set : Geometry) × (value ≡ Set set) × HasWord set
+IsValueOf value SetKind = (set : Wide) × (value ≡ Set set) × HasWord set
+IsValueOf value MirrorKind = (set : NearSet) × (value ≡ Mirror set) × HasNearWord set
+IsValueOf value ModeKind = (each : Bool) × (value ≡ Mode each)
+IsValueOf value LogicalKind = (large : Bool) × (value ≡ Logical large)
 
 -- how a value is spelled
 abbrev pub value_text : Value → List ℕ
@@ -149,24 +192,28 @@ value_text (Sectors ns) = commas (map decimal ns.items)
 value_text (Landmarks xs) = commas (map group_name xs.items)
 value_text (Drops ds) = commas (map drop_name ds.items)
 value_text (FormValue form) = form_text form
+value_text (Salvaged lost) = salvaged_text lost
 value_text (Marks xfs) = marks_text xfs
 value_text (Set set) = set_word set
+value_text (Mirror set) = near_word set
+value_text (Mode each) = mode_text each
+value_text (Logical large) = logical_text large
 
 -- an operand is spelled NAME=VALUE
 unfoldable pub operand_word : Operand → List ℕ
 operand_word operand = name_text operand.name ++ 61 ∷ value_text operand.value
 
--- the value is one that the operand takes
-abbrev pub IsFitting : Operand → Type 0
-IsFitting operand = IsValueOf operand.value (kind_of operand.name)
+-- the value is one that the command's operand takes
+abbrev pub IsFitting : Verb → Operand → Type 0
+IsFitting verb operand = IsValueOf operand.value (kind_of verb operand.name)
 
-abbrev pub AreFitting : List Operand → Type 0
-AreFitting operands = All IsFitting operands
+abbrev pub AreFitting : Verb → List Operand → Type 0
+AreFitting verb operands = All (IsFitting verb) operands
 
 -- the command takes the operand
 pub record IsOperand (verb : Verb) (operand : Operand) : Type 0 where
   pub taken : Contains (operands_of verb) operand.name
-  pub fitting : IsFitting operand
+  pub fitting : IsFitting verb operand
 
 abbrev pub same_name : Name → Name → Bool
 same_name a b = bytes_eq (name_text a) (name_text b)

@@ -1,8 +1,9 @@
 //! The commands, from their operands and defaults.
-ghost use Rattle.std.specs.Prelude.{◌≡◌, ◌≤◌, ◌<◌, ◌^◌, IfSome, length};
-ghost use Rattle.command_words.specs.Commands.{AreAsked, plain_survey as plain_survey_words, bounds_of, chunks_or, command_of, drops_or, form_or, kinds_or, levels_or, marks_or, members_or, number_in, patterns_or, sectors_or, set_in, survey_of, syndromes_or, tests_of};
+ghost use Rattle.std.specs.Prelude.{◌≡◌, ◌≤◌, ◌<◌, ◌^◌, IfSome, Some, length, nat_lt};
+ghost use Rattle.std.specs.List.{list_all};
+ghost use Rattle.command_words.specs.Commands.{AreAsked, plain_survey as plain_survey_words, bounds_of, can_move as can_move_with, chunks_or, command_of, drops_or, each_or, form_or, large_or, kinds_or, levels_or, lost_or, marks_or, members_or, mirror_in, number_in, patterns_or, sectors_or, set_in, survey_of, syndromes_or, tests_of, unit_of};
 ghost use Rattle.command_words.specs.Operands.{AreFitting, value_of};
-ghost use Rattle.command_words.specs.Steps.{lines_fit};
+ghost use Rattle.command_words.specs.Steps.{can_go_on as can_go_on_with, lines_fit};
 
 use crate::command::{Command, Form, SurveyWords, Verb};
 use crate::operands::{Operand, find_value};
@@ -11,9 +12,10 @@ use crate::values::Value;
 use arrayvec::ArrayVec;
 use landmark_rules::MarkTests;
 use mark_kinds::{DropAt, Kinds, MOST_DROPS};
+use near_mirror::NearSet;
 use raid_params::{
     Bounds, Geometry, Level, MOST_CHUNKS, MOST_LESS_ONE, MOST_LEVELS, MOST_OFFSETS, MOST_PATTERNS,
-    MOST_SYNDROMES, Pattern, Syndrome,
+    MOST_SYNDROMES, Pattern, Syndrome, Wide,
 };
 use value_text::{LEVELS, PATTERNS, SYNDROMES};
 
@@ -34,25 +36,24 @@ const OFFSETS: [u64; 4] = [0, 2048, 262_144, 264_192];
 /// the first partition.
 const ORIGINS: [u64; 2] = [0, 2048];
 
+/// Offsets that are tried for each image alone are below this: 2^54.
+const OWN_OFFSETS_END: u64 = 1 << 54;
+
 /// The command with these operands and `names` words up to the names, unless one is missing that it asks
-/// for, or a listing becomes too long.
+/// for, a listing becomes too long, or images cannot have offsets of their own.
 pub fn build(verb: Verb, operands: &[Operand], names: usize) -> Option<Command>
-    requires { AreFitting operands.now }
+    requires { AreFitting verb operands.now }
     ensures { result ≡ command_of verb operands.now names }
 {
     match verb {
-        Verb::Survey => Some(Command::Survey(survey(operands, names))),
+        Verb::Survey if can_move(operands) => Some(Command::Survey(survey(operands, names))),
+        Verb::Survey => None,
         Verb::List => list(operands, names),
         Verb::Check => Some(Command::Check {
             set: set(operands)?,
             names,
         }),
-        Verb::Map => Some(Command::Map {
-            set: set(operands)?,
-            sector: number(operands, Name::Sector)?,
-            end: number(operands, Name::End),
-            names,
-        }),
+        Verb::Map => map(operands, names),
         Verb::Write => Some(Command::Write {
             set: set(operands)?,
             end: number(operands, Name::End),
@@ -64,17 +65,76 @@ pub fn build(verb: Verb, operands: &[Operand], names: usize) -> Option<Command>
             end: number(operands, Name::End),
             names,
         }),
-        Verb::Sample => Some(Command::Sample {
-            number: number(operands, Name::Number)?,
-            set: set(operands)?,
-            rows: number(operands, Name::Rows)?,
-            xfs: marks(operands),
-        }),
+        Verb::Sample => sample(operands, names),
         Verb::Classes => Some(Command::Classes {
             images: small_number(operands, Name::Images)?,
             end: number(operands, Name::End)?,
         }),
+        Verb::Mirrors => Some(mirrors(operands, names)),
+        Verb::MirrorWrite => Some(Command::MirrorWrite {
+            set: mirror(operands)?,
+            end: number(operands, Name::End),
+            names,
+        }),
+        Verb::Salvage => salvage(operands, names),
     }
+}
+
+/// Where a sector of the volume lies.
+fn map(operands: &[Operand], names: usize) -> Option<Command>
+    ensures { result ≡ command_of Verb.Map operands.now names }
+{
+    Some(Command::Map {
+        set: set(operands)?,
+        sector: number(operands, Name::Sector)?,
+        end: number(operands, Name::End),
+        names,
+    })
+}
+
+/// An array that is generated. No names follow, so their place is not told.
+fn sample(operands: &[Operand], names: usize) -> Option<Command>
+    ensures { result ≡ command_of Verb.Sample operands.now names }
+{
+    Some(Command::Sample {
+        number: number(operands, Name::Number)?,
+        set: set(operands)?,
+        rows: number(operands, Name::Rows)?,
+        xfs: marks(operands),
+    })
+}
+
+/// A page of mirrors.
+fn mirrors(operands: &[Operand], names: usize) -> Command
+    requires { AreFitting Verb.Mirrors operands.now }
+    ensures { Some result ≡ command_of Verb.Mirrors operands.now names }
+{
+    Command::Mirrors {
+        members: members(operands),
+        chunks: chunks(operands),
+        offsets: sectors(operands, Name::Offsets, &OFFSETS),
+        missing: small_number(operands, Name::Missing).unwrap_or(0),
+        foreign: small_number(operands, Name::Foreign).unwrap_or(0),
+        badrows: number(operands, Name::Badrows).unwrap_or(0),
+        window: number(operands, Name::Window),
+        end: number(operands, Name::End),
+        from: number(operands, Name::From).unwrap_or(0),
+        size: number(operands, Name::Size).unwrap_or(DEFAULT_PAGE),
+        span: number(operands, Name::Span).unwrap_or(u64::MAX),
+        names,
+    }
+}
+
+/// The volume of damaged members, or what of it is lost.
+fn salvage(operands: &[Operand], names: usize) -> Option<Command>
+    ensures { result ≡ command_of Verb.Salvage operands.now names }
+{
+    Some(Command::Salvage {
+        set: set(operands)?,
+        lost: lost(operands),
+        end: number(operands, Name::End),
+        names,
+    })
 }
 
 /// A listing, unless it becomes too long.
@@ -96,12 +156,30 @@ fn list(operands: &[Operand], names: usize) -> Option<Command>
     })
 }
 
-/// Whether a listing may still be short enough, whatever operands come: one of `size` and `pages` that was
-/// not given can still be 1.
-pub fn can_be_short(operands: &[Operand]) -> bool
-    ensures { result ≡ lines_fit (number_in (value_of Name.Size operands.now)) (number_in (value_of Name.Pages operands.now)) }
+/// Whether these operands may still be those of a command, whatever operands come: a listing may be short
+/// enough, where one of `size` and `pages` that was not given can still be 1, and images may have offsets
+/// of their own, where they are to.
+pub fn can_go_on(operands: &[Operand]) -> bool
+    ensures { result ≡ can_go_on_with operands.now }
 {
-    both_fit(number(operands, Name::Size), number(operands, Name::Pages))
+    both_fit(number(operands, Name::Size), number(operands, Name::Pages)) && can_move(operands)
+}
+
+/// Whether images may have offsets of their own, where they are to: none of them is foreign, and no offset
+/// is too great.
+fn can_move(operands: &[Operand]) -> bool
+    ensures { result ≡ can_move_with (value_of Name.Mode operands.now) (value_of Name.Foreign operands.now) (value_of Name.Offsets operands.now) }
+{
+    !has_own_offsets(operands)
+        || (number(operands, Name::Foreign).unwrap_or(0) == 0
+            && are_own_offsets(&sectors(operands, Name::Offsets, &OFFSETS)))
+}
+
+/// Whether each of the offsets may be that of one image alone.
+fn are_own_offsets(offsets: &[u64]) -> bool
+    ensures { result ≡ list_all (λ n. nat_lt n (2 ^ 54)) offsets.now }
+{
+    offsets.iter().all(|offset| *offset < OWN_OFFSETS_END)
 }
 
 /// Whether `pages` pages of `size` lines are few enough, as far as they are known.
@@ -128,7 +206,7 @@ pub fn plain_survey() -> SurveyWords
 
 /// What a survey is asked for.
 fn survey(operands: &[Operand], names: usize) -> SurveyWords
-    requires { AreFitting operands.now }
+    requires { AreFitting Verb.Survey operands.now }
     ensures { result ≡ survey_of operands.now names }
 {
     SurveyWords {
@@ -139,13 +217,15 @@ fn survey(operands: &[Operand], names: usize) -> SurveyWords
         tests: tests(operands),
         kinds: kinds(operands),
         drops: drops(operands),
+        each: has_own_offsets(operands),
+        unit: unit(operands),
         names,
     }
 }
 
 /// The parameters to try.
 fn bounds(operands: &[Operand]) -> Bounds
-    requires { AreFitting operands.now }
+    requires { AreFitting Verb.Survey operands.now }
     ensures { result ≡ bounds_of operands.now }
 {
     Bounds {
@@ -171,14 +251,14 @@ fn tests(operands: &[Operand]) -> MarkTests
     }
 }
 
-/// Which landmarks are looked for: all where `kinds` is not given.
+/// Which landmarks are looked for: the usual ones where `kinds` is not given.
 fn kinds(operands: &[Operand]) -> Kinds
     ensures { result ≡ kinds_or (value_of Name.Kinds operands.now) }
 {
     if let Some(Value::Landmarks(landmarks)) = find_value(operands, Name::Kinds) {
         Kinds::among(landmarks)
     } else {
-        Kinds::every()
+        Kinds::usual()
     }
 }
 
@@ -268,6 +348,17 @@ fn form(operands: &[Operand]) -> Form
     }
 }
 
+/// Whether the text of what is lost is asked for: not where `form` is not given.
+fn lost(operands: &[Operand]) -> bool
+    ensures { result ≡ lost_or (value_of Name.Form operands.now) }
+{
+    if let Some(Value::Salvaged(lost)) = find_value(operands, Name::Form) {
+        *lost
+    } else {
+        false
+    }
+}
+
 /// Whether the landmarks of an XFS file system are made: not where `marks` is not given.
 fn marks(operands: &[Operand]) -> bool
     ensures { result ≡ marks_or (value_of Name.Marks operands.now) }
@@ -279,11 +370,51 @@ fn marks(operands: &[Operand]) -> bool
     }
 }
 
-fn set(operands: &[Operand]) -> Option<Geometry>
+/// Whether each image has an offset of its own: not where `mode` is not given.
+fn has_own_offsets(operands: &[Operand]) -> bool
+    ensures { result ≡ each_or (value_of Name.Mode operands.now) }
+{
+    if let Some(Value::Mode(each)) = find_value(operands, Name::Mode) {
+        *each
+    } else {
+        false
+    }
+}
+
+/// The sectors of a block of a partition table: 1 where `logical` is not given.
+fn unit(operands: &[Operand]) -> u64
+    ensures { result ≡ unit_of (large_or (value_of Name.Logical operands.now)) }
+{
+    if let Some(Value::Logical(true)) = find_value(operands, Name::Logical) {
+        8
+    } else {
+        1
+    }
+}
+
+fn set(operands: &[Operand]) -> Option<Wide>
     ensures { result ≡ set_in (value_of Name.Set operands.now) }
 {
     if let Some(Value::Set(set)) = find_value(operands, Name::Set) {
-        Some(Geometry {
+        let geo = Geometry {
+            head: set.geo.head,
+            slots: list_of(&set.geo.slots),
+        };
+        Some(Wide {
+            geo,
+            bases: list_of(&set.bases),
+        })
+    } else {
+        None
+    }
+}
+
+/// The set of a mirror.
+fn mirror(operands: &[Operand]) -> Option<NearSet>
+    ensures { result ≡ mirror_in (value_of Name.Set operands.now) }
+{
+    if let Some(Value::Mirror(set)) = find_value(operands, Name::Set) {
+        Some(NearSet {
             head: set.head,
             slots: list_of(&set.slots),
         })

@@ -2,7 +2,8 @@
 use arrayvec::ArrayVec;
 use landmark_rules::MarkTests;
 use mark_kinds::{DropAt, Kinds, MOST_DROPS};
-use raid_params::{Bounds, Geometry};
+use near_mirror::NearSet;
+use raid_params::{Bounds, MOST_CHUNKS, MOST_LESS_ONE, MOST_OFFSETS, Wide};
 
 /// The first word: which command it is.
 #[derive(Clone, Copy)]
@@ -23,6 +24,12 @@ pub enum Verb {
     Sample,
     /// `classes`: which of the listed sets give the same volume.
     Classes,
+    /// `mirrors`: a page of the mirrors that pass.
+    Mirrors,
+    /// `mirrorwrite`: the volume of a mirror.
+    MirrorWrite,
+    /// `salvage`: the volume of damaged members, or what of it is lost.
+    Salvage,
 }
 
 /// How a listing is written.
@@ -52,6 +59,11 @@ pub struct SurveyWords {
     pub kinds: Kinds,
     /// The sectors that are passed over, by image, then sector. An image may be none of those given.
     pub drops: ArrayVec<DropAt, MOST_DROPS>,
+    /// Whether each image has an offset of its own. Then no image may be foreign, and all offsets to try are below
+    /// 2^54.
+    pub each: bool,
+    /// The sectors of a block of a partition table, 1 or 8.
+    pub unit: u64,
     /// The number of words up to the names of the images.
     pub names: usize,
 }
@@ -80,13 +92,13 @@ pub enum Command {
     /// The tests of one set.
     Check {
         /// The set.
-        set: Geometry,
+        set: Wide,
         names: usize,
     },
     /// Where a sector of the volume lies.
     Map {
         /// The set of the volume.
-        set: Geometry,
+        set: Wide,
         /// The sector of the volume.
         sector: u64,
         end: Option<u64>,
@@ -95,14 +107,14 @@ pub enum Command {
     /// The volume.
     Write {
         /// The set of the volume.
-        set: Geometry,
+        set: Wide,
         end: Option<u64>,
         names: usize,
     },
     /// The member of an empty slot.
     Rebuild {
         /// The set, with that slot empty.
-        set: Geometry,
+        set: Wide,
         /// The slot, counted from 0.
         slot: u8,
         end: Option<u64>,
@@ -113,7 +125,7 @@ pub enum Command {
         /// The number from which its bytes are made.
         number: u64,
         /// The set of its volume.
-        set: Geometry,
+        set: Wide,
         /// The number of its rows of chunks.
         rows: u64,
         /// Whether it gets the landmarks of an XFS file system.
@@ -125,5 +137,47 @@ pub enum Command {
         images: u8,
         /// The image sector after the last one that may belong to the array.
         end: u64,
+    },
+    /// A page of the mirrors that pass: RAID 10 of the Linux md driver in its layout near=2. What depends on
+    /// the images where it is not among the words is empty or None here: `members`, `window` and `end`.
+    Mirrors {
+        /// The numbers of members to try.
+        members: ArrayVec<u8, MOST_LESS_ONE>,
+        /// The chunks to try, in sectors.
+        chunks: ArrayVec<u64, MOST_CHUNKS>,
+        /// The image sectors to try at which the data of each member may begin.
+        offsets: ArrayVec<u64, MOST_OFFSETS>,
+        /// The most empty slots, 0 or 1.
+        missing: u8,
+        /// The most images that stand in no slot.
+        foreign: u8,
+        /// The most tested sectors of the volume whose two copies may differ.
+        badrows: u64,
+        /// The member sector from which on none is tested.
+        window: Option<u64>,
+        end: Option<u64>,
+        /// The first rank.
+        from: u64,
+        /// The most lines of the page.
+        size: u64,
+        /// The most ranks that the page goes through.
+        span: u64,
+        names: usize,
+    },
+    /// The volume of a mirror.
+    MirrorWrite {
+        /// The set of the mirror.
+        set: NearSet,
+        end: Option<u64>,
+        names: usize,
+    },
+    /// The volume of damaged members, or what of it is lost.
+    Salvage {
+        /// The set of the volume.
+        set: Wide,
+        /// Whether the text of what is lost is asked for, in place of the volume.
+        lost: bool,
+        end: Option<u64>,
+        names: usize,
     },
 }

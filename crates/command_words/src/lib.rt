@@ -7,7 +7,8 @@
 //! `reraid_cli` calls [`read_words`] first of all. The operands, their values and their limits stand in
 //! `specs/Operands`, the commands with their defaults and the refused word in `specs/Commands`;
 //! `docs/FORMATS.md` has them for users. A new operand is a line in each table of `table.rt`, and one field of
-//! the command that it belongs to, looked up in `building.rt`.
+//! the command that it belongs to, looked up in `building.rt`. Where a command takes other values under a name
+//! than the other commands, as `mirrorwrite` does under `set`, `Verb` says so in `table.rt`.
 #![tactic(auto)]
 
 mod building;

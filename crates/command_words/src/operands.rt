@@ -41,7 +41,7 @@ pub fn read_operand(verb: Verb, word: &[u8]) -> Option<Operand>
 {
     let (text, value_text) = cut(word, b'=')?;
     let name = find_name(verb, text)?;
-    let value = read_value(name.kind(), value_text)?;
+    let value = read_value(name.kind(verb), value_text)?;
     Some(Operand { name, value })
 }
 

@@ -4,7 +4,7 @@ ghost use Rattle.command_words.specs.Commands.{EndsInNames, IsRefusedWord, IsWit
 ghost use Rattle.command_words.specs.Steps.{StandBefore};
 ghost use Rattle.command_words.specs.declared.command.Verb.{Verb as VerbOf};
 
-use crate::building::{build, can_be_short};
+use crate::building::{build, can_go_on};
 use crate::command::{Command, Verb};
 use crate::operands::{Operands, find_value, read_operand};
 use crate::word::Word;
@@ -52,6 +52,9 @@ fn read_verb(word: &Word) -> Option<Verb>
         "rebuild" => Some(Verb::Rebuild),
         "sample" => Some(Verb::Sample),
         "classes" => Some(Verb::Classes),
+        "mirrors" => Some(Verb::Mirrors),
+        "mirrorwrite" => Some(Verb::MirrorWrite),
+        "salvage" => Some(Verb::Salvage),
         _ => None,
     }
 }
@@ -76,7 +79,7 @@ fn read_operands(verb: Verb, words: &[Word]) -> Result<Operands, u64>
             return Err(refused);
         }
         operands.push(operand);
-        if !can_be_short(&operands) {
+        if !can_go_on(&operands) {
             return Err(refused);
         }
     }

@@ -1,6 +1,6 @@
 //! The operands: how they are named, what values they take, and which command takes which.
 ghost use Rattle.std.specs.Prelude.{◌≡◌};
-ghost use Rattle.command_words.specs.Operands.{kind_of, name_text, operands_of};
+ghost use Rattle.command_words.specs.Operands.{form_kind as form_kind_of, kind_of, most_missing as most_missing_of, name_text, operands_of, set_kind as set_kind_of};
 ghost use Rattle.command_words.specs.Commands.{takes_names as verb_takes_names};
 
 use crate::command::Verb;
@@ -16,7 +16,10 @@ pub const MOST_PAGES: u64 = 1_000_000;
 pub const MOST_ROWS: u64 = 65_536;
 
 /// The most operands that a command takes.
-pub const MOST_OPERANDS: usize = 16;
+pub const MOST_OPERANDS: usize = 18;
+
+/// The most empty slots of a mirror: of the two copies of each chunk one is left.
+const MOST_MISSING_OF_MIRRORS: u64 = 1;
 
 /// The name of an operand.
 #[derive(Clone, Copy)]
@@ -61,7 +64,7 @@ pub enum Name {
     Span,
     /// The most pages.
     Pages,
-    /// How a listing is written.
+    /// How a listing is written, or what is salvaged.
     Form,
     /// A parameter set.
     Set,
@@ -77,6 +80,10 @@ pub enum Name {
     Marks,
     /// How many images listed sets are of.
     Images,
+    /// Whether all images of a set share one offset, or each has its own.
+    Mode,
+    /// The bytes of a block of a partition table.
+    Logical,
 }
 
 /// What values an operand takes. Lists rise strictly.
@@ -107,10 +114,18 @@ pub enum ValueKind {
     Drops,
     /// A form of listings.
     Form,
+    /// What is salvaged: the volume, or the text of what is lost.
+    Salvaged,
     /// The landmarks of a generated array.
     Marks,
     /// A parameter set.
     Set,
+    /// The parameter set of a mirror.
+    Mirror,
+    /// Whether each image has an offset of its own.
+    Mode,
+    /// The bytes of a block, 512 or 4,096.
+    Logical,
 }
 
 static SURVEY_OPERANDS: [Name; MOST_OPERANDS] = [
@@ -130,6 +145,8 @@ static SURVEY_OPERANDS: [Name; MOST_OPERANDS] = [
     Name::End,
     Name::Kinds,
     Name::Dropped,
+    Name::Mode,
+    Name::Logical,
 ];
 
 static LIST_OPERANDS: [Name; 5] = [Name::From, Name::Size, Name::Span, Name::Pages, Name::Form];
@@ -146,6 +163,24 @@ static SAMPLE_OPERANDS: [Name; 4] = [Name::Number, Name::Set, Name::Rows, Name::
 
 static CLASSES_OPERANDS: [Name; 2] = [Name::Images, Name::End];
 
+static MIRRORS_OPERANDS: [Name; 11] = [
+    Name::Members,
+    Name::Chunks,
+    Name::Offsets,
+    Name::Missing,
+    Name::Foreign,
+    Name::Badrows,
+    Name::Window,
+    Name::End,
+    Name::From,
+    Name::Size,
+    Name::Span,
+];
+
+static MIRROR_WRITE_OPERANDS: [Name; 2] = [Name::Set, Name::End];
+
+static SALVAGE_OPERANDS: [Name; 3] = [Name::Set, Name::Form, Name::End];
+
 impl Verb {
     /// The names of the operands that the command takes.
     pub fn operands(&self) -> &'static [Name]
@@ -160,6 +195,39 @@ impl Verb {
             Verb::Rebuild => &REBUILD_OPERANDS,
             Verb::Sample => &SAMPLE_OPERANDS,
             Verb::Classes => &CLASSES_OPERANDS,
+            Verb::Mirrors => &MIRRORS_OPERANDS,
+            Verb::MirrorWrite => &MIRROR_WRITE_OPERANDS,
+            Verb::Salvage => &SALVAGE_OPERANDS,
+        }
+    }
+
+    /// The largest value of the command's `missing`.
+    fn most_missing(&self) -> u64
+        ensures { result ≡ most_missing_of self.now }
+    {
+        match self {
+            Verb::Mirrors => MOST_MISSING_OF_MIRRORS,
+            _ => MOST_MISSING as u64,
+        }
+    }
+
+    /// What the command's `set` is: a set, or the set of a mirror.
+    fn set_kind(&self) -> ValueKind
+        ensures { result ≡ set_kind_of self.now }
+    {
+        match self {
+            Verb::MirrorWrite => ValueKind::Mirror,
+            _ => ValueKind::Set,
+        }
+    }
+
+    /// What the command's `form` is: how a listing is written, or what is salvaged.
+    fn form_kind(&self) -> ValueKind
+        ensures { result ≡ form_kind_of self.now }
+    {
+        match self {
+            Verb::Salvage => ValueKind::Salvaged,
+            _ => ValueKind::Form,
         }
     }
 
@@ -205,12 +273,14 @@ impl Name {
             Name::Rows => "rows",
             Name::Marks => "marks",
             Name::Images => "images",
+            Name::Mode => "mode",
+            Name::Logical => "logical",
         }
     }
 
-    /// What values the operand takes.
-    pub fn kind(&self) -> ValueKind
-        ensures { result ≡ kind_of self.now }
+    /// What values the operand takes, as one of this command.
+    pub fn kind(&self, verb: Verb) -> ValueKind
+        ensures { result ≡ kind_of verb self.now }
     {
         match self {
             Name::Levels => ValueKind::Levels,
@@ -219,7 +289,7 @@ impl Name {
             Name::Syndromes => ValueKind::Syndromes,
             Name::Chunks => ValueKind::Chunks,
             Name::Offsets | Name::Origins => ValueKind::Sectors,
-            Name::Missing => number(0, MOST_MISSING as u64),
+            Name::Missing => number(0, verb.most_missing()),
             Name::Foreign => number(0, MOST as u64),
             Name::Badrows | Name::Misfits | Name::Least | Name::End => number(0, SECTORS_END - 1),
             Name::Window => number(1, SECTORS_END - 1),
@@ -229,12 +299,14 @@ impl Name {
             Name::Size => number(1, LARGEST_PAGE),
             Name::Span => number(1, u64::MAX),
             Name::Pages => number(1, MOST_PAGES),
-            Name::Form => ValueKind::Form,
-            Name::Set => ValueKind::Set,
+            Name::Form => verb.form_kind(),
+            Name::Set => verb.set_kind(),
             Name::Slot => number(0, MOST as u64 - 1),
             Name::Rows => number(1, MOST_ROWS),
             Name::Marks => ValueKind::Marks,
             Name::Images => number(1, MOST as u64),
+            Name::Mode => ValueKind::Mode,
+            Name::Logical => ValueKind::Logical,
         }
     }
 }

@@ -1,6 +1,6 @@
 //! The values of operands, each read from its whole text.
 ghost use Rattle.std.specs.Prelude.{◌≡◌, ◌≢◌, ◌≤◌, ℕ, Bool, MatchOption, decimal};
-ghost use Rattle.command_words.specs.Operands.{IsValueOf, form_text, marks_text, value_text};
+ghost use Rattle.command_words.specs.Operands.{IsValueOf, form_text, logical_text, marks_text, mode_text, salvaged_text, value_text};
 ghost use Rattle.command_words.specs.declared.command.Form.{Form as FormOf};
 ghost use Rattle.command_words.specs.declared.values.Value.{Value as ValueOf};
 
@@ -8,9 +8,10 @@ use crate::command::Form;
 use crate::table::ValueKind;
 use arrayvec::ArrayVec;
 use mark_kinds::{DropAt, GROUP_COUNT, GroupKind, MOST_DROPS};
+use near_mirror::{NearSet, read_near};
 use raid_params::{
-    Geometry, Level, MOST_CHUNKS, MOST_LESS_ONE, MOST_LEVELS, MOST_OFFSETS, MOST_PATTERNS,
-    MOST_SYNDROMES, Pattern, Syndrome,
+    Level, MOST_CHUNKS, MOST_LESS_ONE, MOST_LEVELS, MOST_OFFSETS, MOST_PATTERNS, MOST_SYNDROMES,
+    Pattern, Syndrome, Wide,
 };
 use value_text::{read_chunks, read_members, read_number, read_sectors, read_set, rising};
 
@@ -37,10 +38,18 @@ pub enum Value {
     Drops(ArrayVec<DropAt, MOST_DROPS>),
     /// A form of listings.
     Form(Form),
+    /// Whether the text of what is lost is asked for. Otherwise it is the volume.
+    Salvaged(bool),
     /// Whether the landmarks of an XFS file system are made.
     Marks(bool),
     /// A parameter set.
-    Set(Geometry),
+    Set(Wide),
+    /// The parameter set of a mirror.
+    Mirror(NearSet),
+    /// Whether each image has an offset of its own.
+    Mode(bool),
+    /// Whether blocks of partition tables have 4,096 bytes. Otherwise they have 512.
+    Logical(bool),
 }
 
 /// The value of this kind that the whole text spells.
@@ -60,8 +69,12 @@ pub fn read_value(kind: ValueKind, text: &[u8]) -> Option<Value>
         ValueKind::Landmarks => Some(Value::Landmarks(rising(text)?)),
         ValueKind::Drops => Some(Value::Drops(rising(text)?)),
         ValueKind::Form => Some(Value::Form(read_form(text)?)),
+        ValueKind::Salvaged => Some(Value::Salvaged(read_salvaged(text)?)),
         ValueKind::Marks => Some(Value::Marks(read_marks(text)?)),
         ValueKind::Set => Some(Value::Set(read_set(text)?)),
+        ValueKind::Mirror => Some(Value::Mirror(read_near(text)?)),
+        ValueKind::Mode => Some(Value::Mode(read_mode(text)?)),
+        ValueKind::Logical => Some(Value::Logical(read_logical(text)?)),
     }
 }
 
@@ -92,6 +105,17 @@ fn read_form(text: &[u8]) -> Option<Form>
     }
 }
 
+/// Whether the text of what is lost is asked for.
+fn read_salvaged(text: &[u8]) -> Option<bool>
+    ensures { MatchOption result ((lost : Bool) → text.now ≢ salvaged_text lost) (λ lost. text.now ≡ salvaged_text lost) }
+{
+    match text {
+        b"data" => Some(false),
+        b"lost" => Some(true),
+        _ => None,
+    }
+}
+
 /// Whether the landmarks of an XFS file system are made.
 fn read_marks(text: &[u8]) -> Option<bool>
     ensures { MatchOption result ((xfs : Bool) → text.now ≢ marks_text xfs) (λ xfs. text.now ≡ marks_text xfs) }
@@ -99,6 +123,28 @@ fn read_marks(text: &[u8]) -> Option<bool>
     match text {
         b"none" => Some(false),
         b"xfs" => Some(true),
+        _ => None,
+    }
+}
+
+/// Whether each image has an offset of its own.
+fn read_mode(text: &[u8]) -> Option<bool>
+    ensures { MatchOption result ((each : Bool) → text.now ≢ mode_text each) (λ each. text.now ≡ mode_text each) }
+{
+    match text {
+        b"common" => Some(false),
+        b"each" => Some(true),
+        _ => None,
+    }
+}
+
+/// Whether blocks of partition tables have 4,096 bytes.
+fn read_logical(text: &[u8]) -> Option<bool>
+    ensures { MatchOption result ((large : Bool) → text.now ≢ logical_text large) (λ large. text.now ≡ logical_text large) }
+{
+    match text {
+        b"512" => Some(false),
+        b"4096" => Some(true),
         _ => None,
     }
 }

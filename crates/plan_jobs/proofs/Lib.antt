@@ -1,3 +1,5 @@
+pub mod Bases
+pub mod Told
 pub mod Checks
 pub mod Listed
 pub mod Plans

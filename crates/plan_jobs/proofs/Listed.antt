@@ -11,41 +11,50 @@ use Rattle.page_engine.specs.declared.page_parts.CursorFault.{CursorFault}
 use Rattle.page_engine.specs.declared.page_parts.PageFault.{PageFault}
 use Rattle.page_engine.specs.declared.page_parts.PageFault.TheVariants.{Many as PageMany, Cursor as PageCursor, ReadFault, Memory as PageMemory}
 use Rattle.run_ends.proofs.Printed.{order_allowed, rises, stays}
-use Rattle.run_ends.specs.Stops.{first_of, many_refusal}
+use Rattle.run_ends.specs.Stops.{first_of}
 use Rattle.run_ends.specs.declared.stop.Refusal.{Refusal}
 use Rattle.run_ends.specs.declared.stop.Refusal.TheVariants.{Many, Cursor}
 use Rattle.run_ends.specs.declared.stop.Stop.TheVariants.{Refused, ImageFault, OutOfMemory}
 use Rattle.search_terms.specs.Page.{page_ranks}
 use Rattle.search_plan.specs.declared.plan.Plan.{Plan}
-use Rattle.page_engine.specs.Pages.{ArePagesFrom, EndsPage, IsPageOf, ReadsPages}
-use Rattle.head_walk.specs.Walk.{HoldsSet}
-use Rattle.search_plan.specs.Sets.{passes_at, sets_of, total_of}
+use Rattle.page_engine.specs.Pages.{ReadsPages}
+use Rattle.wide_pages.specs.Pages.{ArePagesFrom, EndsBased, IsPageOf, OnlyCounts}
+use Rattle.wide_pages.specs.Lines.{HoldsBased}
+use Rattle.wide_product.specs.Sets.{based, wide_passes_at, wide_sets, wide_total}
 use Rattle.plan_jobs.proofs.PagesRead.{ends_made, none_read}
 use Rattle.plan_jobs.specs.Faults.{stop_of_page}
-use Rattle.plan_jobs.specs.Listing.{ListReads, cursor_refusal, found_text, line_in, line_of, list_over, listing, next_in, next_of, page_text, pages_text}
-use Rattle.plan_jobs.specs.Plans.{AnswersOver}
+use Rattle.plan_jobs.specs.Listing.{ListReads, cursor_refusal, list_over, found_text, line_in, line_of, listing, next_in, next_of, page_text, pages_text}
+use Rattle.plan_jobs.specs.Plans.{AnswersOver, many_refusal}
 use Rattle.plan_jobs.specs.declared.listing.Listing.{Listing}
 use Rattle.command_words.specs.declared.command.Form.{Form}
-use Rattle.head_walk.specs.declared.parts.Line.{Line}
-use Rattle.page_engine.specs.declared.page_parts.ListPage.{ListPage}
+use Rattle.command_words.specs.declared.command.Form.TheVariants.{Json}
+use Rattle.json_lines.specs.Objects.{set_object}
+use Rattle.raid_params.specs.declared.wide.Wide.{Wide}
+use Rattle.wide_pages.specs.declared.lines.Line.{Line}
+use Rattle.wide_pages.specs.declared.page_parts.ListPage.{ListPage}
 
 -- lines that hold their sets
-lines_of : (form : Form) (plan : Plan) (lines : List Line) → All (HoldsSet plan) lines → flat_map (line_of form plan) (map (λ (held : Line). held.rank) lines) ≡ flat_map (λ (held : Line). line_in form held.rank held.geo) lines
+lines_of : (form : Form) (plan : Plan) (lines : List Line) → All (HoldsBased plan) lines → flat_map (line_of form plan) (map (λ (held : Line). held.rank) lines) ≡ flat_map (λ (held : Line). line_in form held.rank (based held.geo)) lines
 unfolding line_of
 lines_of form plan [] all = refl
 lines_of form plan (held ∷ lines) all =
-    let here : slice_get (sets_of plan) held.rank ≡ Some held.geo = All-head (HoldsSet plan) held lines all in
+    let here : slice_get (wide_sets plan) held.rank ≡ Some (based held.geo) = All-head (HoldsBased plan) held lines all in
     ap (λ found. option_map_or (line_in form held.rank) found [] ++ flat_map (line_of form plan) (map (λ (one : Line). one.rank) lines)) here
-    ∙ ap (λ xs. line_in form held.rank held.geo ++ xs) (lines_of form plan lines (All-tail (HoldsSet plan) held lines all))
+    ∙ ap (λ xs. line_in form held.rank (based held.geo) ++ xs) (lines_of form plan lines (All-tail (HoldsBased plan) held lines all))
+
+-- the object of a set
+pub object_is : (rank : ℕ) (set : Wide) → set_object rank set ≡ line_in Json rank (based set)
+unfolding set_object
+object_is rank set = refl
 
 -- the bytes of a page that was found
-page_is : (form : Form) (bytes : List (List ℕ)) (plan : Plan) (from size span : ℕ) (page : ListPage) → IsPageOf bytes plan from size span page → All (HoldsSet plan) page.lines → page.total ≡ total_of plan →
+page_is : (form : Form) (bytes : List (List ℕ)) (plan : Plan) (from size span : ℕ) (page : ListPage) → IsPageOf bytes plan from size span page → All (HoldsBased plan) page.lines → page.total ≡ wide_total plan →
     found_text form page ≡ page_text form bytes plan size span from
 unfolding found_text page_text
 page_is form bytes plan from size span page is all total =
     ap (λ xs. xs ++ next_in form page.next page.total) (sym (lines_of form plan page.lines all) ∙ ap (flat_map (line_of form plan)) is.front)
-    ∙ ap (λ (n : ℕ). flat_map (line_of form plan) (page_ranks (passes_at bytes plan) (total_of plan) from size span) ++ next_in form n page.total) is.goes_on
-    ∙ ap (λ (t : ℕ). flat_map (line_of form plan) (page_ranks (passes_at bytes plan) (total_of plan) from size span) ++ next_in form (next_of bytes plan size span from) t) total
+    ∙ ap (λ (n : ℕ). flat_map (line_of form plan) (page_ranks (wide_passes_at bytes plan) (wide_total plan) from size span) ++ next_in form n page.total) is.goes_on
+    ∙ ap (λ (t : ℕ). flat_map (line_of form plan) (page_ranks (wide_passes_at bytes plan) (wide_total plan) from size span) ++ next_in form (next_of bytes plan size span from) t) total
 
 other_number : (a b c : ℕ) → c ≡ a → c < b → (a == b) ≡ false
 other_number a b c e lt = grind (arith, nat_tests)
@@ -61,12 +70,12 @@ pages_are form bytes plan size span (suc count) from (page ∷ found) are =
     let on : page.next ≡ next_of bytes plan size span from = are.0.page.goes_on in
     elim are.1 [
       | inl last ↦
-          (let end : (next_of bytes plan size span from == total_of plan) ≡ true = eq-eqb (next_of bytes plan size span from) (total_of plan) (sym on ∙ last.0) in
+          (let end : (next_of bytes plan size span from == wide_total plan) ≡ true = eq-eqb (next_of bytes plan size span from) (wide_total plan) (sym on ∙ last.0) in
           let none : flat_map (found_text form) found ≡ [] = ap (flat_map (found_text form)) last.1 in
           ap₂ (λ (xs ys : List ℕ). xs ++ ys) here
           (none ∙ sym (ap (λ (b : Bool). cond b [] (pages_text form bytes plan size span count (next_of bytes plan size span from))) end)))
       | inr more ↦
-          (let end : (next_of bytes plan size span from == total_of plan) ≡ false = other_number (next_of bytes plan size span from) (total_of plan) page.next on more.0 in
+          (let end : (next_of bytes plan size span from == wide_total plan) ≡ false = other_number (next_of bytes plan size span from) (wide_total plan) page.next on more.0 in
           ap₂ (λ (xs ys : List ℕ). xs ++ ys) here
           (pages_are form bytes plan size span count page.next found more.1
           ∙ ap (pages_text form bytes plan size span count) on
@@ -84,28 +93,28 @@ lt-leb : (a b : ℕ) → a < b → nat_le b a ≡ false
 lt-leb a b lt = grind (arith, nat_tests)
 
 -- sets and ranks in range are not refused
-allowed : (plan : Plan) (from : ℕ) → total_of plan < 2 ^ 64 → from ≤ total_of plan → first_of (many_refusal plan ∷ cursor_refusal from plan ∷ []) ≡ None
+allowed : (plan : Plan) (from : ℕ) → wide_total plan < 2 ^ 64 → from ≤ wide_total plan → first_of (many_refusal plan ∷ cursor_refusal from plan ∷ []) ≡ None
 allowed plan from low in_range =
-    ap (λ (t : Bool). first_of (cond t (Some Many) None ∷ cursor_refusal from plan ∷ [])) (lt-leb (total_of plan) (2 ^ 64) low)
-    ∙ ap (λ (t : Bool). first_of (cond t (Some (Cursor (record { from = from; total = total_of plan }))) None ∷ [])) (le-ltb (total_of plan) from in_range)
+    ap (λ (t : Bool). first_of (cond t (Some Many) None ∷ cursor_refusal from plan ∷ [])) (lt-leb (wide_total plan) (2 ^ 64) low)
+    ∙ ap (λ (t : Bool). first_of (cond t (Some (Cursor (record { from = from; total = wide_total plan }))) None ∷ [])) (le-ltb (wide_total plan) from in_range)
 
-many_first : (plan : Plan) (from : ℕ) → 2 ^ 64 ≤ total_of plan → first_of (many_refusal plan ∷ cursor_refusal from plan ∷ []) ≡ Some Many
-many_first plan from high = ap (λ (t : Bool). first_of (cond t (Some Many) None ∷ cursor_refusal from plan ∷ [])) (le-leb (2 ^ 64) (total_of plan) high)
+many_first : (plan : Plan) (from : ℕ) → 2 ^ 64 ≤ wide_total plan → first_of (many_refusal plan ∷ cursor_refusal from plan ∷ []) ≡ Some Many
+many_first plan from high = ap (λ (t : Bool). first_of (cond t (Some Many) None ∷ cursor_refusal from plan ∷ [])) (le-leb (2 ^ 64) (wide_total plan) high)
 
-cursor_first : (plan : Plan) (from : ℕ) → total_of plan < 2 ^ 64 → total_of plan < from →
-    first_of (many_refusal plan ∷ cursor_refusal from plan ∷ []) ≡ Some (Cursor (record { from = from; total = total_of plan }))
+cursor_first : (plan : Plan) (from : ℕ) → wide_total plan < 2 ^ 64 → wide_total plan < from →
+    first_of (many_refusal plan ∷ cursor_refusal from plan ∷ []) ≡ Some (Cursor (record { from = from; total = wide_total plan }))
 cursor_first plan from low past =
-    ap (λ (t : Bool). first_of (cond t (Some Many) None ∷ cursor_refusal from plan ∷ [])) (lt-leb (total_of plan) (2 ^ 64) low)
-    ∙ ap (λ (t : Bool). first_of (cond t (Some (Cursor (record { from = from; total = total_of plan }))) None ∷ [])) (lt-ltb (total_of plan) from past)
+    ap (λ (t : Bool). first_of (cond t (Some Many) None ∷ cursor_refusal from plan ∷ [])) (lt-leb (wide_total plan) (2 ^ 64) low)
+    ∙ ap (λ (t : Bool). first_of (cond t (Some (Cursor (record { from = from; total = wide_total plan }))) None ∷ [])) (lt-ltb (wide_total plan) from past)
 
 -- what the pages refuse: nothing, where they neither are too many nor begin past the total
 abbrev pub page_refusal : Plan → ℕ → Option Refusal
 page_refusal plan from = first_of (many_refusal plan ∷ cursor_refusal from plan ∷ [])
 
-pub page_allowed : (plan : Plan) (from : ℕ) → (2 ^ 64 ≤ total_of plan → ⊥) → (total_of plan < 2 ^ 64 → total_of plan < from → ⊥) → page_refusal plan from ≡ None
+pub page_allowed : (plan : Plan) (from : ℕ) → (2 ^ 64 ≤ wide_total plan → ⊥) → (wide_total plan < 2 ^ 64 → wide_total plan < from → ⊥) → page_refusal plan from ≡ None
 page_allowed plan from many cursor =
-    elim (cases_lt (total_of plan) (2 ^ 64)) [
-      | inl low ↦ elim (cases_lt (total_of plan) from) [
+    elim (cases_lt (wide_total plan) (2 ^ 64)) [
+      | inl low ↦ elim (cases_lt (wide_total plan) from) [
         | inl past ↦ absurd (cursor low past)
         | inr in_range ↦ allowed plan from low in_range
       ]
@@ -113,47 +122,47 @@ page_allowed plan from many cursor =
     ]
 
 -- pages that were made are not refused
-found_allowed : (plan : Plan) (from : ℕ) (found : List ListPage) → (2 ^ 64 ≤ total_of plan → IsErrOf (Ok found) PageMany) →
-    (total_of plan < 2 ^ 64 → total_of plan < from → IsErrOf (Ok found) (PageCursor (record { from = from; total = total_of plan }))) → page_refusal plan from ≡ None
+found_allowed : (plan : Plan) (from : ℕ) (found : List ListPage) → (2 ^ 64 ≤ wide_total plan → IsErrOf (Ok found) PageMany) →
+    (wide_total plan < 2 ^ 64 → wide_total plan < from → IsErrOf (Ok found) (PageCursor (record { from = from; total = wide_total plan }))) → page_refusal plan from ≡ None
 found_allowed plan from found many cursor = page_allowed plan from (λ high. let e = many high in cc) (λ low past. let e = cursor low past in cc)
 
 -- the text of pages that were made
-pub list_found : (asked : Listing) (names : ℕ) (plan : Plan) (old new : Seen) (found : List ListPage) (text : List ℕ) → (2 ^ 64 ≤ total_of plan → IsErrOf (Ok found) PageMany) →
-    (total_of plan < 2 ^ 64 → total_of plan < asked.from → IsErrOf (Ok found) (PageCursor (record { from = asked.from; total = total_of plan }))) →
-    ArePagesFrom (told_all old.attached) plan asked.size asked.span asked.pages asked.from found → ReadsPages (told_all old.attached) plan asked.size asked.span false asked.pages asked.from old new →
+pub list_found : (asked : Listing) (names : ℕ) (plan : Plan) (old new : Seen) (found : List ListPage) (text : List ℕ) → (2 ^ 64 ≤ wide_total plan → IsErrOf (Ok found) PageMany) →
+    (wide_total plan < 2 ^ 64 → wide_total plan < asked.from → IsErrOf (Ok found) (PageCursor (record { from = asked.from; total = wide_total plan }))) →
+    ArePagesFrom (told_all old.attached) plan asked.size asked.span asked.pages asked.from found → OnlyCounts old new → (plan.each ≡ false → ReadsPages (told_all old.attached) plan asked.size asked.span false asked.pages asked.from old new) →
     new.faults ≡ old.faults → text ≡ flat_map (found_text asked.form) found → AnswersOver (list_over asked) names plan old new (Ok text)
-list_found asked names plan old new found text many cursor are reads quiet is =
+list_found asked names plan old new found text many cursor are counts reads quiet is =
     let none = found_allowed plan asked.from found many cursor in
     record {
       refuses = record { ends = tt; passes = none };
       text = pages_printed (told_all old.attached) plan asked found text are is;
       order = order_allowed (page_refusal plan asked.from) old.sectors_read new.sectors_read None None (Ok text) none;
-      reads = record { ends = reads.ends; are = reads.are; few = reads.reads.sectors_read };
+      reads = λ shared. record { ends = (reads shared).ends; are = (reads shared).are; few = (reads shared).reads.sectors_read };
       faults = stays ImageFault old.faults new.faults (Ok text) quiet (λ e. absurd (cc));
       untaken = λ f. absurd (cc);
       unput = λ f. absurd (cc);
       unread = tt;
-      world = reads.reads.world;
-      attached = reads.reads.attached;
+      world = counts.1.world;
+      attached = counts.1.attached;
     }
 
 -- memory runs out over the text of pages that were made
-pub list_short : (asked : Listing) (names : ℕ) (plan : Plan) (old new : Seen) (found : List ListPage) → (2 ^ 64 ≤ total_of plan → IsErrOf (Ok found) PageMany) →
-    (total_of plan < 2 ^ 64 → total_of plan < asked.from → IsErrOf (Ok found) (PageCursor (record { from = asked.from; total = total_of plan }))) →
-    ReadsPages (told_all old.attached) plan asked.size asked.span false asked.pages asked.from old new → new.faults ≡ old.faults → AnswersOver (list_over asked) names plan old new (Err OutOfMemory)
-list_short asked names plan old new found many cursor reads quiet =
+pub list_short : (asked : Listing) (names : ℕ) (plan : Plan) (old new : Seen) (found : List ListPage) → (2 ^ 64 ≤ wide_total plan → IsErrOf (Ok found) PageMany) →
+    (wide_total plan < 2 ^ 64 → wide_total plan < asked.from → IsErrOf (Ok found) (PageCursor (record { from = asked.from; total = wide_total plan }))) →
+    OnlyCounts old new → (plan.each ≡ false → ReadsPages (told_all old.attached) plan asked.size asked.span false asked.pages asked.from old new) → new.faults ≡ old.faults → AnswersOver (list_over asked) names plan old new (Err OutOfMemory)
+list_short asked names plan old new found many cursor counts reads quiet =
     let none = found_allowed plan asked.from found many cursor in
     record {
       refuses = record { ends = tt; passes = tt };
       text = tt;
       order = order_allowed (page_refusal plan asked.from) old.sectors_read new.sectors_read None None (Err OutOfMemory) none;
-      reads = record { ends = reads.ends; are = ends_made (told_all old.attached) plan asked.size asked.span true asked.pages asked.from reads.ends reads.are; few = reads.reads.sectors_read };
+      reads = λ shared. record { ends = (reads shared).ends; are = ends_made (told_all old.attached) plan asked.size asked.span true asked.pages asked.from (reads shared).ends (reads shared).are; few = (reads shared).reads.sectors_read };
       faults = stays ImageFault old.faults new.faults (Err OutOfMemory) quiet (λ e. absurd (cc));
       untaken = λ f. absurd (cc);
       unput = λ f. absurd (cc);
       unread = λ h. absurd (h refl);
-      world = reads.reads.world;
-      attached = reads.reads.attached;
+      world = counts.1.world;
+      attached = counts.1.attached;
     }
 
 -- pages that are refused are not looked for
@@ -174,41 +183,41 @@ refused_page asked names plan old new refusal same is =
       attached = ap (λ (s : Seen). s.attached) same;
     }
 
-not_many : (plan : Plan) (fault : PageFault) → (2 ^ 64 ≤ total_of plan → IsErrOf {T = List ListPage} (Err fault) PageMany) → (fault ≡ PageMany → ⊥) → 2 ^ 64 ≤ total_of plan → ⊥
+not_many : (plan : Plan) (fault : PageFault) → (2 ^ 64 ≤ wide_total plan → IsErrOf {T = List ListPage} (Err fault) PageMany) → (fault ≡ PageMany → ⊥) → 2 ^ 64 ≤ wide_total plan → ⊥
 not_many plan fault many other high = other (let e = many high in cc)
 
 -- why pages could not be made
-pub list_fault : (asked : Listing) (names : ℕ) (plan : Plan) (old new : Seen) (fault : PageFault) → (2 ^ 64 ≤ total_of plan → IsErrOf {T = List ListPage} (Err fault) PageMany) →
-    (total_of plan < 2 ^ 64 → total_of plan < asked.from → IsErrOf {T = List ListPage} (Err fault) (PageCursor (record { from = asked.from; total = total_of plan }))) → EndsPage plan asked.from old new fault →
-    ReadsPages (told_all old.attached) plan asked.size asked.span true asked.pages asked.from old new → AnswersOver (list_over asked) names plan old new (Err (stop_of_page fault))
-list_fault asked names plan old new PageMany many cursor ends reads = refused_page asked names plan old new Many ends.1 (many_first plan asked.from ends.0)
-list_fault asked names plan old new (PageCursor fault) many cursor ends reads =
-    let low : total_of plan < 2 ^ 64 = elim (cases_lt (total_of plan) (2 ^ 64)) [ inl low ↦ low | inr high ↦ absurd (not_many plan (PageCursor fault) many (λ e. cc) high) ] in
+pub list_fault : (asked : Listing) (names : ℕ) (plan : Plan) (old new : Seen) (fault : PageFault) → (2 ^ 64 ≤ wide_total plan → IsErrOf {T = List ListPage} (Err fault) PageMany) →
+    (wide_total plan < 2 ^ 64 → wide_total plan < asked.from → IsErrOf {T = List ListPage} (Err fault) (PageCursor (record { from = asked.from; total = wide_total plan }))) → EndsBased plan asked.from old new fault →
+    OnlyCounts old new → (plan.each ≡ false → ReadsPages (told_all old.attached) plan asked.size asked.span true asked.pages asked.from old new) → AnswersOver (list_over asked) names plan old new (Err (stop_of_page fault))
+list_fault asked names plan old new PageMany many cursor ends counts reads = refused_page asked names plan old new Many ends.1 (many_first plan asked.from ends.0)
+list_fault asked names plan old new (PageCursor fault) many cursor ends counts reads =
+    let low : wide_total plan < 2 ^ 64 = elim (cases_lt (wide_total plan) (2 ^ 64)) [ inl low ↦ low | inr high ↦ absurd (not_many plan (PageCursor fault) many (λ e. cc) high) ] in
     refused_page asked names plan old new (Cursor (record { from = fault.from; total = fault.total })) ends.2
     (cursor_first plan asked.from low ends.0 ∙ sym (ap (λ (f : CursorFault). Some (Cursor (record { from = f.from; total = f.total }))) ends.1))
-list_fault asked names plan old new ReadFault many cursor ends reads = record {
+list_fault asked names plan old new ReadFault many cursor ends counts reads = record {
   refuses = record { ends = tt; passes = tt };
   text = tt;
   order = order_allowed (page_refusal plan asked.from) old.sectors_read new.sectors_read None None (Err ImageFault)
       (page_allowed plan asked.from (λ high. let e = many high in cc) (λ low past. let e = cursor low past in cc));
-  reads = record { ends = reads.ends; are = reads.are; few = reads.reads.sectors_read };
-  faults = rises ImageFault old.faults new.faults ends reads.reads.faults;
+  reads = λ shared. record { ends = (reads shared).ends; are = (reads shared).are; few = (reads shared).reads.sectors_read };
+  faults = rises ImageFault old.faults new.faults ends counts.1.faults;
   untaken = λ f. absurd (cc);
   unput = λ f. absurd (cc);
   unread = λ h. absurd (h tt);
-  world = reads.reads.world;
-  attached = reads.reads.attached;
+  world = counts.1.world;
+  attached = counts.1.attached;
 }
-list_fault asked names plan old new PageMemory many cursor ends reads = record {
+list_fault asked names plan old new PageMemory many cursor ends counts reads = record {
   refuses = record { ends = tt; passes = tt };
   text = tt;
   order = order_allowed (page_refusal plan asked.from) old.sectors_read new.sectors_read None None (Err OutOfMemory)
       (page_allowed plan asked.from (λ high. let e = many high in cc) (λ low past. let e = cursor low past in cc));
-  reads = record { ends = reads.ends; are = reads.are; few = reads.reads.sectors_read };
+  reads = λ shared. record { ends = (reads shared).ends; are = (reads shared).are; few = (reads shared).reads.sectors_read };
   faults = stays ImageFault old.faults new.faults (Err OutOfMemory) ends (λ e. absurd (cc));
   untaken = λ f. absurd (cc);
   unput = λ f. absurd (cc);
   unread = λ h. absurd (h refl);
-  world = reads.reads.world;
-  attached = reads.reads.attached;
+  world = counts.1.world;
+  attached = counts.1.attached;
 }

@@ -8,7 +8,7 @@ use Rattle.plan_jobs.specs.declared.listing.Listing.{Listing}
 -- nothing is read for no page
 pub none_read : (told : Option (List (List ℕ))) (asked : Listing) (plan : Plan) (cut : Bool) (read : ℕ) → ListReads told asked plan cut read read
 unfolding ArePageEnds
-none_read told asked plan cut read = record { ends = []; are = tt; few = omega arith }
+none_read told asked plan cut read shared = record { ends = []; are = tt; few = omega arith }
 
 -- where pages end that were all made, they end too where the work was cut short after them
 end_made : (told : Option (List (List ℕ))) (plan : Plan) (size span : ℕ) (cut : Bool) (from end : ℕ) (later : List ℕ) → IsPageEnd told plan size span false from end later → IsPageEnd told plan size span cut from end later

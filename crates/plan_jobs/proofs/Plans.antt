@@ -1,5 +1,5 @@
 -- A text that was read, and the plan that it says.
-use Rattle.std.proofs.Common.{◌≡◌, ℕ, ◌<◌, ◌≤◌, Bool, cond, List, [], ◌∷◌, length, None, Some, Option, Ok, Err, IfSome, sym, ap, ◌∙◌, subst}
+use Rattle.std.proofs.Common.{◌≡◌, ℕ, ◌<◌, ◌≤◌, Bool, cond, List, ◌∷◌, length, None, Some, Option, Ok, Err, IfSome, sym, ap, ◌∙◌, subst}
 use Rattle.std.specs.Option.{option_map}
 use Rattle.std.proofs.lemmas.Bool.{lt-ltb, le-ltb}
 use Rattle.outside.specs.Seen.{Image}
@@ -14,7 +14,7 @@ use Rattle.plan_text.specs.declared.fault.PlanFault.TheVariants.{Line as PlanLin
 use Rattle.run_ends.specs.Agreement.{plan_fault}
 use Rattle.plan_jobs.specs.Preparing.{EndsPreparing, IsPlanless, IsPrepared}
 use Rattle.plan_jobs.specs.Plans.{IsTextOf, NoPlan, PlanReading, Reads, plan_refusal, read_refusal}
-use Rattle.run_ends.specs.Stops.{IsTextless, first_of, many_refusal}
+use Rattle.run_ends.specs.Stops.{IsTextless, first_of}
 use Rattle.run_ends.specs.declared.agreement.Disagreement.{Disagreement}
 use Rattle.run_ends.specs.declared.stop.Refusal.{Refusal}
 use Rattle.run_ends.specs.declared.stop.Refusal.TheVariants.{PlanLine, PlanIsLong, Images}
@@ -31,20 +31,20 @@ says_none : (text : List ℕ) (number : ℕ) (read : PlanReading) → ReadsPlan 
 says_none text number (NoPlan n) reads is = ap (λ (k : ℕ). NoPlan k) (one_line_is_refused text n number is reads.fault)
 says_none text number (Reads plan) reads is = absurd (reads.fault.no_plan plan is.0 is.1)
 
-short_refusal : (text : List ℕ) (read : PlanReading) (names : ℕ) (attached : List Image) (further : Plan → Option Refusal) → length text ≤ PLAN_BYTES →
+short_refusal : (text : List ℕ) (read : PlanReading) (names : ℕ) (attached : List Image) (further : Plan → List (Option Refusal)) → length text ≤ PLAN_BYTES →
     plan_refusal text read names attached further ≡ read_refusal read names attached further
 unfolding plan_refusal
 short_refusal text read names attached further short =
     ap (λ (b : Bool). cond b (Some PlanIsLong) (read_refusal read names attached further)) (le-ltb PLAN_BYTES (length text) short)
 
-long_refusal : (text : List ℕ) (read : PlanReading) (names : ℕ) (attached : List Image) (further : Plan → Option Refusal) → PLAN_BYTES < length text →
+long_refusal : (text : List ℕ) (read : PlanReading) (names : ℕ) (attached : List Image) (further : Plan → List (Option Refusal)) → PLAN_BYTES < length text →
     plan_refusal text read names attached further ≡ Some PlanIsLong
 unfolding plan_refusal
 long_refusal text read names attached further long =
     ap (λ (b : Bool). cond b (Some PlanIsLong) (read_refusal read names attached further)) (lt-ltb PLAN_BYTES (length text) long)
 
 too_long : (left : Option (List ℕ)) (names : ℕ) (attached : List Image) → IfSome left (λ text. PLAN_BYTES < length text) →
-    IfSome left (λ text. (read : PlanReading) (further : Plan → Option Refusal) → IsTextOf text read → plan_refusal text read names attached further ≡ Some PlanIsLong)
+    IfSome left (λ text. (read : PlanReading) (further : Plan → List (Option Refusal)) → IsTextOf text read → plan_refusal text read names attached further ≡ Some PlanIsLong)
 too_long None names attached long = tt
 too_long (Some text) names attached long = λ read further is. long_refusal text read names attached further long
 
@@ -62,7 +62,7 @@ pub not_a_plan : (left : Option (List ℕ)) (names : ℕ) (attached : List Image
     EndsPreparing left names attached (Refused (PlanLine number))
 not_a_plan None names attached text number is short reads = tt
 not_a_plan (Some bytes) names attached text number is short reads =
-    let P : List ℕ → Type 0 = λ xs. (read : PlanReading) (further : Plan → Option Refusal) → IsTextOf xs read → plan_refusal xs read names attached further ≡ Some (PlanLine number) in
+    let P : List ℕ → Type 0 = λ xs. (read : PlanReading) (further : Plan → List (Option Refusal)) → IsTextOf xs read → plan_refusal xs read names attached further ≡ Some (PlanLine number) in
     subst P is (λ read further says. short_refusal text read names attached further short
     ∙ ap (λ (r : PlanReading). read_refusal r names attached further) (says_none text number read reads says))
 
@@ -71,10 +71,10 @@ pub disagrees : (left : Option (List ℕ)) (names : ℕ) (attached : List Image)
     plan_fault plan names attached ≡ Some fault → EndsPreparing left names attached (Refused (Images fault))
 disagrees None names attached text plan fault is short reads different = tt
 disagrees (Some bytes) names attached text plan fault is short reads different =
-    let P : List ℕ → Type 0 = λ xs. (read : PlanReading) (further : Plan → Option Refusal) → IsTextOf xs read → plan_refusal xs read names attached further ≡ Some (Images fault) in
+    let P : List ℕ → Type 0 = λ xs. (read : PlanReading) (further : Plan → List (Option Refusal)) → IsTextOf xs read → plan_refusal xs read names attached further ≡ Some (Images fault) in
     subst P is (λ read further says. short_refusal text read names attached further short
     ∙ ap (λ (r : PlanReading). read_refusal r names attached further) (says_plan text plan read reads says)
-    ∙ ap (λ r. first_of (option_map (λ (f : Disagreement). Images f) r ∷ many_refusal plan ∷ further plan ∷ [])) different)
+    ∙ ap (λ r. first_of (option_map (λ (f : Disagreement). Images f) r ∷ further plan)) different)
 
 -- they agree
 pub is_prepared : (left : Option (List ℕ)) (names : ℕ) (attached : List Image) (text : List ℕ) (plan : Plan) → IfSome left (λ bytes. text ≡ bytes) → length text ≤ PLAN_BYTES → ReadsPlan text (Ok plan) →
@@ -82,12 +82,12 @@ pub is_prepared : (left : Option (List ℕ)) (names : ℕ) (attached : List Imag
 is_prepared None names attached text plan is short reads same = tt
 is_prepared (Some bytes) names attached text plan is short reads same =
     let P : List ℕ → Type 0 = λ xs. (read : PlanReading) → IsTextOf xs read →
-    (read ≡ Reads plan) × ((further : Plan → Option Refusal) → plan_refusal xs read names attached further ≡ first_of (many_refusal plan ∷ further plan ∷ [])) in
+    (read ≡ Reads plan) × ((further : Plan → List (Option Refusal)) → plan_refusal xs read names attached further ≡ first_of (further plan)) in
     subst P is (λ read says. (
       says_plan text plan read reads says,
       λ further. short_refusal text read names attached further short
           ∙ ap (λ (r : PlanReading). read_refusal r names attached further) (says_plan text plan read reads says)
-          ∙ ap (λ r. first_of (option_map (λ (f : Disagreement). Images f) r ∷ many_refusal plan ∷ further plan ∷ [])) same,
+          ∙ ap (λ r. first_of (option_map (λ (f : Disagreement). Images f) r ∷ further plan)) same,
     ))
 
 -- a plan has few lengths

@@ -1,5 +1,5 @@
 -- What is known once a plan was read and compared with the images, or could not be.
-use Rattle.std.proofs.Common.{◌≡◌, ℕ, zero, suc, ◌+◌, ◌<◌, min, Bool, true, false, not, cond, nat_eq, List, [], ◌∷◌, length, None, Some, Option, Result, Ok, Err, IfSome, IfOk, OnOk, IsErrOf, refl, sym, subst, arith, slice_index}
+use Rattle.std.proofs.Common.{◌≡◌, ℕ, zero, suc, ◌+◌, ◌<◌, min, Bool, true, false, not, cond, nat_eq, List, length, None, Some, Option, Result, Ok, Err, IfSome, IfOk, OnOk, IsErrOf, refl, sym, subst, arith, slice_index}
 use Rattle.std.specs.List.{find, range_with_len}
 use Rattle.std.specs.Option.{option_map}
 use Rattle.std.specs.Io.KnownBytes.{IsAtEnd}
@@ -17,7 +17,7 @@ use Rattle.run_ends.specs.Agreement.{count_fault, length_fault, other_length, pl
 use Rattle.run_ends.specs.Counts.{Raises}
 use Rattle.run_ends.specs.Jobs.{Answers, Does, Orders, Refuses, around, is_cut, named}
 use Rattle.run_ends.specs.Source.{TakesFew}
-use Rattle.run_ends.specs.Stops.{EndsBy, first_of, many_refusal}
+use Rattle.run_ends.specs.Stops.{EndsBy, first_of}
 use Rattle.run_ends.specs.declared.stop.Refusal.{Refusal}
 use Rattle.run_ends.specs.declared.stop.Stop.{Stop}
 use Rattle.run_ends.specs.declared.stop.Stop.TheVariants.{Refused, ImageFault, SourceFault, OutFault, OutOfMemory}
@@ -72,10 +72,10 @@ said_text : (left : Option (List ℕ)) (Holds : List ℕ → Type 0) (text : Lis
 said_text left Holds text is all = let P : Option (List ℕ) → Type 0 = λ l. IfSome l Holds in subst P is all
 
 -- why the plan was not read, or the images do not agree with it, is the first refusal or has another cause
-ends_by : (left : Option (List ℕ)) (names : ℕ) (attached : List Image) (stop : Stop) (said : PlanSaid) (further : Plan → Option Refusal) → EndsPreparing left names attached stop → left ≡ Some said.text → IsTextOf said.text said.plan →
+ends_by : (left : Option (List ℕ)) (names : ℕ) (attached : List Image) (stop : Stop) (said : PlanSaid) (further : Plan → List (Option Refusal)) → EndsPreparing left names attached stop → left ≡ Some said.text → IsTextOf said.text said.plan →
     EndsBy (plan_refusal said.text said.plan names attached further) stop
 ends_by left names attached (Refused refusal) said further ends is says =
-    let all = said_text left (λ text. (read : PlanReading) (further : Plan → Option Refusal) → IsTextOf text read → plan_refusal text read names attached further ≡ Some refusal) said.text is ends in
+    let all = said_text left (λ text. (read : PlanReading) (further : Plan → List (Option Refusal)) → IsTextOf text read → plan_refusal text read names attached further ≡ Some refusal) said.text is ends in
     all said.plan further says
 ends_by left names attached ImageFault said further ends is says = absurd ends
 ends_by left names attached SourceFault said further ends is says = tt
@@ -97,8 +97,8 @@ pub unprepared : {T : Type 0} (over : OverPlan) (names : ℕ) (seen : Seen) (old
     Raises {T = Plan} SourceFault old.faults new.faults (Err stop) → ((plan : Plan) → over.MayRead seen.attached plan (is_cut {T = T} (Err stop)) seen.sectors_read seen.sectors_read) →
     Does {T = T} (plan_job over) (named names seen.attached) (around seen old) (around seen new) out out (Err stop)
 unprepared {T} over names seen old new out stop ends takes faults none = record {
-  ends = λ said says. ends_unput (plan_refusal said.text said.plan names seen.attached (over.further names)) (printed_over over.text said.plan (told_all seen.attached)) out.known stop
-      (ends_by old.known names seen.attached stop said (over.further names) ends says.0 says.1);
+  ends = λ said says. ends_unput (plan_refusal said.text said.plan names seen.attached (over.further names seen.attached)) (printed_over over.text said.plan (told_all seen.attached)) out.known stop
+      (ends_by old.known names seen.attached stop said (over.further names seen.attached) ends says.0 says.1);
   order = λ said says all refusal is. record {
     unread = refl;
     unput = keeps_itself out.known;
@@ -134,7 +134,7 @@ at_ok (Err stop) P p = tt
 -- what a text says once the plan is prepared
 abbrev SaysPlan : ℕ → List Image → Plan → List ℕ → Type 0
 SaysPlan names attached plan text = (read : PlanReading) → IsTextOf text read →
-    (read ≡ Reads plan) × ((further : Plan → Option Refusal) → plan_refusal text read names attached further ≡ first_of (many_refusal plan ∷ further plan ∷ []))
+    (read ≡ Reads plan) × ((further : Plan → List (Option Refusal)) → plan_refusal text read names attached further ≡ first_of (further plan))
 
 -- the answer of a job over a plan that was read, and with which the images agree
 pub prepared : (over : OverPlan) (names : ℕ) (old new : Seen) (source taken : Stream) (plan : Plan) (answer : Result (List ℕ) Stop) → IsPrepared source.known names old.attached plan → TakesFew PLAN_BYTES source.known taken.known → IsAtEnd taken.known →
@@ -142,10 +142,10 @@ pub prepared : (over : OverPlan) (names : ℕ) (old new : Seen) (source taken : 
 prepared over names old new source taken plan answer known few end faults over_plan =
     let says_plan = λ (said : PlanSaid) (is : source.known ≡ Some said.text) (says : IsTextOf said.text said.plan). said_text source.known (SaysPlan names old.attached plan) said.text is known said.plan says in
     record {
-      refuses = λ said says. subst (λ (refused : Option Refusal). Refuses refused answer) (sym ((says_plan said says.0 says.1).1 (over.further names))) over_plan.refuses;
+      refuses = λ said says. subst (λ (refused : Option Refusal). Refuses refused answer) (sym ((says_plan said says.0 says.1).1 (over.further names old.attached))) over_plan.refuses;
       text = λ said says. subst (λ (read : PlanReading). IfOk answer (λ text. IfSome (printed_over over.text read (told_all old.attached)) (λ printed. text ≡ printed))) (sym (says_plan said says.0 says.1).0)
           (text_answered over plan (told_all old.attached) answer over_plan.text);
-      order = λ said says. subst (λ (refused : Option Refusal). Orders refused old.sectors_read new.sectors_read None None answer) (sym ((says_plan said says.0 says.1).1 (over.further names))) over_plan.order;
+      order = λ said says. subst (λ (refused : Option Refusal). Orders refused old.sectors_read new.sectors_read None None answer) (sym ((says_plan said says.0 says.1).1 (over.further names old.attached))) over_plan.order;
       reads = λ said says. subst (λ (read : PlanReading). IfPlan read (λ p. over.MayRead old.attached p (is_cut answer) old.sectors_read new.sectors_read)) (sym (says_plan said says.0 says.1).0) over_plan.reads;
       takes = (few, at_ok answer (IsAtEnd taken.known) end);
       causes = record {

@@ -1,35 +1,56 @@
 -- What `check` refuses and prints.
-use Rattle.std.specs.Prelude.{ℕ, ◌+◌, ◌*◌, ◌≤◌, Bool, ◌&&◌, nat_le, if◌then◌else◌, List, [], ◌∷◌, ◌++◌, codes, decimal, length}
+use Rattle.std.specs.Prelude.{ℕ, ◌+◌, ◌*◌, ◌≤◌, ◌==◌, Bool, ◌&&◌, nat_le, if◌then◌else◌, List, [], ◌∷◌, ◌++◌, codes, decimal, length}
 use Rattle.std.specs.Option.{option_map}
 use Rattle.std.specs.declared.option.Option.{Option}
 use Rattle.std.specs.declared.option.Option.TheVariants.{None, Some}
 use Rattle.outside.specs.Seen.{Image}
 use Rattle.raid_params.specs.declared.types.Geometry.{Geometry}
-use Rattle.raid_params.specs.Validity.{first_fault}
+use Rattle.raid_params.specs.declared.wide.Wide.{Wide}
+use Rattle.raid_params.specs.declared.wide.WideFault.{WideFault}
+use Rattle.raid_params.specs.declared.wide.WideFault.TheVariants.{Geo, Bases as WideBases}
+use Rattle.raid_params.specs.Wide.{wide_fault}
 use Rattle.raid_terms.specs.Parity.{unsound_rows}
 use Rattle.landmark_rules.specs.Groups.{fits_of, groups_hold, held_origin, misfits_of}
 use Rattle.landmark_rules.specs.declared.marks.Group.{Group}
-use Rattle.search_plan.specs.Sets.{rank_of}
+use Rattle.padded_images.specs.Plans.{padded_plan}
 use Rattle.search_plan.specs.declared.plan.Plan.{Plan}
 use Rattle.plan_text.specs.Spelling.{group_name, line}
 use Rattle.row_scan.specs.ImageRows.{rows_of}
 use Rattle.row_scan.specs.Scan.{read_rows}
-use Rattle.plan_jobs.specs.Plans.{OverPlan, plan_job}
+use Rattle.wide_product.specs.Sets.{based, padded_bytes, wide_rank}
+use Rattle.plan_jobs.specs.Plans.{OverPlan, many_refusal, plan_job}
+use Rattle.run_ends.specs.Agreement.{long_fault}
 use Rattle.run_ends.specs.Jobs.{Job}
 use Rattle.run_ends.specs.Printing.{or_dash, share_line}
 use Rattle.run_ends.specs.declared.stop.Refusal.{Refusal}
-use Rattle.run_ends.specs.declared.stop.Refusal.TheVariants.{Set}
+use Rattle.run_ends.specs.declared.stop.Refusal.TheVariants.{Images, Set, Bases}
 
--- the set breaks a rule, over `names` images and the plan's end
-abbrev pub rule_refusal : Geometry → ℕ → Plan → Option Refusal
-rule_refusal set names plan = option_map (λ fault. Set fault) (first_fault set names plan.end)
+-- an image is too long for the bases of the set
+abbrev pub long_refusal : Wide → List Image → Option Refusal
+long_refusal set attached = if length set.bases.items == 0 then None else option_map (λ fault. Images fault) (long_fault attached)
 
--- the most sectors that `check` reads over a plan: the tested rows of the set on each image, and none where nothing
--- can break a row
-abbrev pub check_reads : Geometry → List Image → Plan → ℕ
-check_reads set attached plan = length attached * read_rows set plan.end plan.limits.window
+-- what is refused of a set that breaks a rule
+abbrev pub refusal_of : WideFault → Refusal
+refusal_of (Geo fault) = Set fault
+refusal_of (WideBases count) = Bases count
 
--- the rank of the set, or a dash where it is not in the product
+-- the set breaks a rule, over `names` images and the plan's end; that on its bases is the last one
+abbrev pub rule_refusal : Wide → ℕ → Plan → Option Refusal
+rule_refusal set names plan = option_map refusal_of (wide_fault set names plan.end)
+
+-- what is refused where the images agree with the plan, in its order
+abbrev pub check_refusals : Wide → ℕ → List Image → Plan → List (Option Refusal)
+check_refusals set names attached plan = long_refusal set attached ∷ many_refusal plan ∷ rule_refusal set names plan ∷ []
+
+-- the most sectors that testing a set reads: its tested rows on each image, and none where nothing can break a row
+abbrev pub tested_reads : Geometry → List Image → Plan → ℕ
+tested_reads geo attached plan = length attached * read_rows geo plan.end plan.limits.window
+
+-- the most sectors that `check` reads over a plan. Padding is not read
+abbrev pub check_reads : Wide → List Image → Plan → ℕ
+check_reads set attached plan = tested_reads set.geo attached plan
+
+-- the line of the rank, or of a dash where the set is not in the product
 unfoldable pub rank_line : Option ℕ → List ℕ
 rank_line rank = line (codes "rank " ++ or_dash rank)
 
@@ -63,24 +84,34 @@ verdict_line holds = line (if holds then codes "pass" else codes "fail")
 abbrev pub tests_hold : Plan → Geometry → ℕ → Bool
 tests_hold plan set unsound = nat_le unsound plan.limits.badrows && groups_hold set plan.end plan.tests plan.groups
 
--- what `check` prints where `unsound` rows are unsound
-unfoldable pub report : Plan → Geometry → ℕ → List ℕ
-report plan set unsound =
-    rank_line (rank_of plan set) ++ unsound_line unsound (rows_of plan set)
+-- what `check` prints of a set with this rank, of which `unsound` rows are unsound
+unfoldable pub report : Option ℕ → Plan → Geometry → ℕ → List ℕ
+report rank plan set unsound =
+    rank_line rank ++ unsound_line unsound (rows_of plan set)
     ++ group_lines plan set 0 plan.groups ++ verdict_line (tests_hold plan set unsound)
 
--- what `check` prints
-abbrev pub check_text : List (List ℕ) → Plan → Geometry → List ℕ
-check_text images plan set = report plan set (unsound_rows images set (rows_of plan set))
+-- the same, over the bytes of the images
+abbrev pub tests_text : Option ℕ → List (List ℕ) → Plan → Geometry → List ℕ
+tests_text rank images plan set = report rank plan set (unsound_rows images set (rows_of plan set))
+
+-- the plan over which a set with these bases is tested: where there are bases, that of the padded images
+abbrev pub plan_with : List ℕ → Plan → Plan
+plan_with [] plan = plan
+plan_with (base ∷ bases) plan = padded_plan (base ∷ bases) plan
+
+-- what `check` prints: the rank of the set in the plan's product, and the tests of its geometry, over padded images and the
+-- padded plan where it has bases
+abbrev pub check_text : List (List ℕ) → Plan → Wide → List ℕ
+check_text images plan set = tests_text (wide_rank plan (based set)) (padded_bytes set.bases.items images) (plan_with set.bases.items plan) set.geo
 
 -- what `check` does over a plan
-abbrev pub check_over : Geometry → OverPlan
+abbrev pub check_over : Wide → OverPlan
 check_over set = record {
-  further = λ names plan. rule_refusal set names plan;
+  further = λ names attached plan. check_refusals set names attached plan;
   text = λ images plan. check_text images plan set;
   MayRead = λ attached plan cut before after. after ≤ before + check_reads set attached plan;
 }
 
 -- `check`
-abbrev pub check_job : Geometry → Job
+abbrev pub check_job : Wide → Job
 check_job set = plan_job (check_over set)

@@ -1,5 +1,5 @@
 -- How preparing a command over a plan ends: its plan read, and the images compared with it.
-use Rattle.std.specs.Prelude.{ℕ, ◌≡◌, ◌<◌, List, [], ◌∷◌, IfSome, Err, length}
+use Rattle.std.specs.Prelude.{ℕ, ◌≡◌, List, IfSome, Err}
 use Rattle.std.specs.declared.option.Option.{Option}
 use Rattle.std.specs.declared.option.Option.TheVariants.{Some}
 use Rattle.outside.specs.Seen.{Image}
@@ -7,7 +7,7 @@ use Rattle.plan_text.specs.PlanText.{ReadsPlan}
 use Rattle.plan_text.specs.declared.fault.PlanFault.TheVariants.{Line}
 use Rattle.search_plan.specs.declared.plan.Plan.{Plan}
 use Rattle.plan_jobs.specs.Plans.{IsTextOf, PlanReading, Reads, plan_refusal}
-use Rattle.run_ends.specs.Stops.{first_of, many_refusal}
+use Rattle.run_ends.specs.Stops.{first_of}
 use Rattle.run_ends.specs.declared.stop.Refusal.{Refusal}
 use Rattle.run_ends.specs.declared.stop.Refusal.TheVariants.{PlanLine}
 use Rattle.run_ends.specs.declared.stop.Stop.{Stop}
@@ -23,7 +23,7 @@ IsPlanless text _ = ⊥
 -- the source failed, or memory ran out
 abbrev pub EndsPreparing : Option (List ℕ) → ℕ → List Image → Stop → Type 0
 EndsPreparing left names attached (Refused refusal) =
-    IfSome left (λ text. (read : PlanReading) (further : Plan → Option Refusal) → IsTextOf text read → plan_refusal text read names attached further ≡ Some refusal)
+    IfSome left (λ text. (read : PlanReading) (further : Plan → List (Option Refusal)) → IsTextOf text read → plan_refusal text read names attached further ≡ Some refusal)
 EndsPreparing left names attached SourceFault = Unit {0}
 EndsPreparing left names attached OutOfMemory = Unit {0}
 EndsPreparing left names attached _ = ⊥
@@ -32,4 +32,4 @@ EndsPreparing left names attached _ = ⊥
 abbrev pub IsPrepared : Option (List ℕ) → ℕ → List Image → Plan → Type 0
 IsPrepared left names attached plan =
     IfSome left (λ text. (read : PlanReading) → IsTextOf text read →
-    (read ≡ Reads plan) × ((further : Plan → Option Refusal) → plan_refusal text read names attached further ≡ first_of (many_refusal plan ∷ further plan ∷ [])))
+    (read ≡ Reads plan) × ((further : Plan → List (Option Refusal)) → plan_refusal text read names attached further ≡ first_of (further plan)))

@@ -6,17 +6,19 @@ ghost use Rattle.run_ends.specs.Jobs.{Does, around, named, stream};
 ghost use Rattle.plan_jobs.specs.Faults.{stop_of_page};
 ghost use Rattle.plan_jobs.specs.Listing.{found_text, line_in, list_job, list_over, next_in};
 ghost use Rattle.plan_jobs.specs.Plans.{AnswersOver};
+ghost use Rattle.wide_product.specs.Sets.{based};
 
 use crate::preparing::prepare;
 use command_words::Form;
 use gates::Gate;
 use outside::{Images, MOST_ATTACHED, Memory, Sink, Source};
-use page_engine::{Line, ListPage, PageFault, pages};
-use plan_text::{Text, json_line, json_next, set_line};
+use plan_text::{Text, json_line, json_next};
 use run_ends::{RankFault, Refusal, Stop, add_share, print};
 use search_plan::Plan;
 use std::alloc::Global;
 use std::thread::Threads;
+use value_text::set_line;
+use wide_pages::{Line, ListPage, PageFault, pages};
 
 /// What a listing is asked for.
 #[derive(Clone, Copy)]
@@ -151,7 +153,7 @@ fn add_page(alloc: Global, text: &mut Text, form: Form, page: &ListPage) -> Resu
 
 /// Appends the lines of a page.
 fn add_lines(alloc: Global, text: &mut Text, form: Form, lines: &[Line]) -> Result<(), Memory>
-    ensures { OnOk result (text.new ≡ text.old ++ flat_map (λ held. line_in form held.rank held.geo) lines.now) }
+    ensures { OnOk result (text.new ≡ text.old ++ flat_map (λ held. line_in form held.rank (based held.geo)) lines.now) }
 {
     for held in lines {
         let line = set_text(alloc, form, held)?;
@@ -161,8 +163,9 @@ fn add_lines(alloc: Global, text: &mut Text, form: Form, lines: &[Line]) -> Resu
 }
 
 /// The line of a set and its rank.
+#[tactic(auto, using(crate::proofs::Listed::object_is))]
 fn set_text(alloc: Global, form: Form, held: &Line) -> Result<Text, Memory>
-    ensures { IfOk result (λ text. text ≡ line_in form held.now.rank held.now.geo) }
+    ensures { IfOk result (λ text. text ≡ line_in form held.now.rank (based held.now.geo)) }
 {
     match form {
         Form::Text => set_line(alloc, held.rank, &held.geo),

@@ -5,7 +5,6 @@ ghost use Rattle.plan_jobs.specs.Checking.{group_line, group_lines, held_text, r
 ghost use Rattle.row_scan.specs.ImageRows.{rows_of};
 ghost use Rattle.raid_params.specs.Validity.{is_shaped};
 ghost use Rattle.search_plan.specs.Plans.{IsPlan};
-ghost use Rattle.search_plan.specs.Sets.{total_of};
 ghost use Rattle.plan_jobs.specs.Reporting.{IsReported};
 
 use landmark_rules::{Group, groups_hold, held_origin, tally};
@@ -14,24 +13,23 @@ use plan_text::{Text, add_number, group_name};
 use raid_params::Geometry;
 use run_ends::{add_or_dash, add_share};
 use search_plan::{Plan, tested_rows};
-use set_product::product_rank;
 use std::alloc::Global;
 
-/// The text of `check` over a set of which `unsound` tested rows are unsound.
+/// The text of `check` over a set of this rank, of which `unsound` tested rows are unsound.
 #[tactic(auto, unfolding(crate::specs::Checking::report))]
 pub(crate) fn report(
     alloc: Global,
     set: &Geometry,
     plan: &Plan,
+    rank: Option<u64>,
     unsound: u64,
 ) -> Result<Text, Memory>
     requires plan { IsPlan plan.now }
-    requires few { total_of plan.now < 2 ^ 64 }
     requires set { IsReported set.now plan.now }
-    ensures { IfOk result (λ text. text ≡ report_of plan.now set.now unsound) }
+    ensures { IfOk result (λ text. text ≡ report_of rank plan.now set.now unsound) }
 {
     let mut text = Text::new(alloc);
-    add_rank(&mut text, product_rank(plan, set))?;
+    add_rank(&mut text, rank)?;
     let tested = tested_rows(plan, set.head.chunk, set.head.offset);
     add_share(&mut text, b"unsound ", unsound, tested)?;
     add_groups(&mut text, set, plan, 0, plan.groups.as_slice())?;

@@ -8,7 +8,7 @@ use Rattle.outside.specs.declared.TheConstants.{MOST_ATTACHED}
 use Rattle.std.proofs.lemmas.List.Elements.{All-cons, All-nil}
 use Rattle.command_words.specs.declared.command.Command.{Command}
 use Rattle.command_words.specs.Commands.{EndsInNames, Reads, names_after}
-use Rattle.command_words.specs.declared.command.Command.TheVariants.{Survey, Sample, List as ListCommand, Check, Map, Write, Rebuild, Classes}
+use Rattle.command_words.specs.declared.command.Command.TheVariants.{Survey, Sample, List as ListCommand, Check, Map, Write, Rebuild, Classes, Mirrors, MirrorWrite, Salvage}
 use Rattle.command_words.proofs.OneReading.{one_reading as readings_agree}
 use Rattle.plan_jobs.proofs.PagesRead.{none_read}
 use Rattle.plan_jobs.proofs.Prepared.{if_plan}
@@ -18,6 +18,7 @@ use Rattle.run_ends.proofs.Printed.{ends_unput, keeps_itself, no_raise, rises}
 use Rattle.run_ends.proofs.Taking.{nothing_read}
 use Rattle.run_ends.specs.Counts.{Raises}
 use Rattle.run_ends.specs.Jobs.{Around, Does, Job, MayHaveRead, Named, Takes, around, is_cut}
+use Rattle.run_ends.specs.declared.stop.Refusal.{Refusal}
 use Rattle.run_ends.specs.declared.stop.Stop.{Stop}
 use Rattle.run_ends.specs.declared.stop.Stop.TheVariants.{ImageFault, SourceFault, OutFault}
 use Rattle.reraid_cli.specs.Answers.{Reading, TakesBy}
@@ -59,6 +60,13 @@ none_read_by (Ok (Write set end names)) given cut n said = omega arith
 none_read_by (Ok (Rebuild set slot end names)) given cut n said = omega arith
 none_read_by (Ok (Sample number set rows xfs)) given cut n said = omega arith
 none_read_by (Ok (Classes images end)) given cut n said = omega arith
+none_read_by (Ok (Mirrors members chunks offsets missing foreign badrows window end from size span names)) given cut n said = omega arith
+none_read_by (Ok (MirrorWrite set end names)) given cut n said = omega arith
+none_read_by (Ok (Salvage set lost end names)) given cut n said = omega arith
+
+-- no refusal is the first, and one is
+pub some_none : (refused : Refusal) → Some refused ≡ None → ⊥
+some_none refused e = absurd (cc)
 
 -- a command that leaves the images alone names none
 pub apart_names : (words : List (List ℕ)) (command : Command) → EndsInNames words command → (job_of (Ok command)).apart ≡ true → names_after words ≡ []
@@ -70,6 +78,9 @@ apart_names words (Check set names) ends apart = absurd (cc)
 apart_names words (Map set sector end names) ends apart = absurd (cc)
 apart_names words (Write set end names) ends apart = absurd (cc)
 apart_names words (Rebuild set slot end names) ends apart = absurd (cc)
+apart_names words (Mirrors members chunks offsets missing foreign badrows window end from size span names) ends apart = absurd (cc)
+apart_names words (MirrorWrite set end names) ends apart = absurd (cc)
+apart_names words (Salvage set lost end names) ends apart = absurd (cc)
 
 takes_none : (most : Option ℕ) (source : Stream) (stop : Stop) → Takes {T = Unit {0}} most source source (Err stop)
 takes_none None source stop = refl

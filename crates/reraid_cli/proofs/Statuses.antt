@@ -6,7 +6,7 @@ use Rattle.outside.specs.Causes.{HasCause}
 use Rattle.outside.specs.Streams.{Puts}
 use Rattle.run_ends.proofs.Printed.{front_of_nothing}
 use Rattle.run_ends.specs.declared.stop.Refusal.{Refusal}
-use Rattle.run_ends.specs.declared.stop.Refusal.TheVariants.{Word, PlanLine, PlanIsLong, SetLine, SetsAreLong, Images, Many, Cursor, Set, Slot, ArraySectors, VolumeSectors, Sector}
+use Rattle.run_ends.specs.declared.stop.Refusal.TheVariants.{Word, PlanLine, PlanIsLong, SetLine, SetsAreLong, RescueLine, RescueIsLong, Images, Many, Cursor, Set, Bases, Near, Slot, ArraySectors, VolumeSectors, Sector}
 use Rattle.run_ends.specs.declared.stop.Stop.{Stop}
 use Rattle.run_ends.specs.declared.stop.Stop.TheVariants.{Refused, ImageFault, SourceFault, OutFault, OutOfMemory}
 use Rattle.run_ends.specs.Jobs.{MayHavePut, MayHaveRead, is_cut}
@@ -25,10 +25,14 @@ refusal_bound (PlanLine number) = (refl, refl)
 refusal_bound PlanIsLong = (refl, refl)
 refusal_bound (SetLine number) = (refl, refl)
 refusal_bound SetsAreLong = (refl, refl)
+refusal_bound (RescueLine number) = (refl, refl)
+refusal_bound RescueIsLong = (refl, refl)
 refusal_bound (Images fault) = (refl, refl)
 refusal_bound Many = (refl, refl)
 refusal_bound (Cursor fault) = (refl, refl)
 refusal_bound (Set fault) = (refl, refl)
+refusal_bound (Bases count) = (refl, refl)
+refusal_bound (Near fault) = (refl, refl)
 refusal_bound (Slot slot) = (refl, refl)
 refusal_bound (ArraySectors sectors) = (refl, refl)
 refusal_bound (VolumeSectors sectors) = (refl, refl)

@@ -16,5 +16,5 @@ pub use command_words::{Command, Form, SurveyWords, Word, read_words};
 pub use gates::{Gate, OpenGate};
 pub use page_engine::{CursorFault, Line, Lines, ListPage, PageFault, page};
 pub use run_ends::{Refusal, Stop};
-pub use set_product::{product_rank, product_set, product_total};
 pub use top::reraid;
+pub use wide_product::{product_rank, product_set, product_total};

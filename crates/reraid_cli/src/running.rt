@@ -11,9 +11,11 @@ ghost use Rattle.reraid_cli.specs.Table.{job_of};
 use class_job::classes;
 use command_words::{Command, Word, read_words};
 use gates::Gate;
+use near_jobs::{MirrorWords, mirrors, mirrorwrite};
 use outside::{Images, MOST_ATTACHED, Sink, Source};
 use plan_jobs::{Listing, check, list};
 use run_ends::{Refusal, Stop, attach_front};
+use salvage_job::salvage;
 use sample_job::sample;
 use set_jobs::{map, rebuild, write};
 use std::alloc::Global;
@@ -68,7 +70,10 @@ fn names_of<'a>(command: &Command, words: &'a [Word]) -> &'a [Word]
         | Command::Check { names, .. }
         | Command::Map { names, .. }
         | Command::Write { names, .. }
-        | Command::Rebuild { names, .. } => &words[*names..],
+        | Command::Rebuild { names, .. }
+        | Command::Mirrors { names, .. }
+        | Command::MirrorWrite { names, .. }
+        | Command::Salvage { names, .. } => &words[*names..],
         Command::Sample { .. } | Command::Classes { .. } => &[],
     }
 }
@@ -130,5 +135,38 @@ fn serve<R: Threads + Sync, S: Source, I: Images, K: Sink, G: Gate + Sync>(
             xfs,
         } => sample(rt, alloc, number, &set, rows, xfs, out, gate),
         Command::Classes { images, end } => classes(alloc, plan, images, end, out),
+        Command::Mirrors {
+            members,
+            chunks,
+            offsets,
+            missing,
+            foreign,
+            badrows,
+            window,
+            end,
+            from,
+            size,
+            span,
+            ..
+        } => {
+            let asked = MirrorWords {
+                members,
+                chunks,
+                offsets,
+                missing,
+                foreign,
+                badrows,
+                window,
+                end,
+                from,
+                size,
+                span,
+            };
+            mirrors(alloc, images, names, asked, out)
+        }
+        Command::MirrorWrite { set, end, .. } => mirrorwrite(alloc, images, names, &set, end, out),
+        Command::Salvage { set, lost, end, .. } => {
+            salvage(rt, alloc, plan, images, names, &set, lost, end, out, gate)
+        }
     }
 }

@@ -22,13 +22,13 @@ use std::thread::Threads;
 /// Does all that the program does, and answers the status that it ends with.
 ///
 /// Status 0: the answer is on `out`. 1: the words are refused at a word. 2: the plan is not understood from
-/// a line on. 3: more than 4,194,304 bytes were left in the source of the plan, or of the list of sets. 4: the images are
-/// not those that the plan or the command takes. 5: the plan has more sets than ranks. 6: the first rank asked for is past
-/// the total. 7: the set breaks a rule. 8: the sector asked for is past the end of the volume. 10, 11 and 12: the images,
-/// the source or the output failed. 13: the list of sets is not understood from a line on. 20: out of memory.
+/// a line on. 3: more than 4,194,304 bytes were left in the source of the plan, of the list of sets, or of the maps. 4: the
+/// images are not those that the plan or the command takes. 5: the plan has more sets than ranks. 6: the first rank asked for is past
+/// the total. 7: the set breaks a rule. 8: the sector asked for is past the end of the volume. 9: the maps
+/// of damaged images are not understood from a line on. 10, 11 and 12: the images, the source or the output failed. 13: the list of sets is not understood from a line on. 20: out of memory.
 ///
-/// Where many sets are tested in one scan, pieces of them may run side by side: each passes the gate, of which no clause
-/// speaks.
+/// Where many sets are tested in one scan, pieces of them may run side by side, and so may pieces of a salvaged volume: each
+/// passes the gate, of which no clause speaks.
 pub fn reraid<R: Threads + Sync, S: Source, I: Images, K: Sink, N: Sink, G: Gate + Sync>(
     rt: &R,
     alloc: Global,

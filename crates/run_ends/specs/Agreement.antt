@@ -1,5 +1,5 @@
 -- Whether the attached images are those that the plan or the command takes.
-use Rattle.std.specs.Prelude.{ℕ, nat_eq, nat_lt, not, if◌then◌else◌, min, List, [], ◌∷◌, length, fold, slice_index, unwrap_or}
+use Rattle.std.specs.Prelude.{ℕ, ◌-◌, ◌^◌, nat_eq, nat_le, nat_lt, not, if◌then◌else◌, min, List, [], ◌∷◌, length, fold, slice_index, unwrap_or}
 use Rattle.std.specs.List.{find, range_with_len}
 use Rattle.std.specs.Option.{option_map}
 use Rattle.std.specs.declared.option.Option.{Option}
@@ -8,7 +8,7 @@ use Rattle.outside.specs.Seen.{Image, lengths_of}
 use Rattle.raid_params.specs.declared.limits.TheConstants.{MOST}
 use Rattle.search_plan.specs.declared.plan.Plan.{Plan}
 use Rattle.run_ends.specs.declared.agreement.Disagreement.{Disagreement}
-use Rattle.run_ends.specs.declared.agreement.Kind.TheVariants.{Count, Length, End}
+use Rattle.run_ends.specs.declared.agreement.Kind.TheVariants.{Count, Length, End, Long}
 
 -- the number of images differs
 abbrev pub count_fault : ℕ → ℕ → Disagreement
@@ -45,3 +45,10 @@ limits_fault end names attached =
     else if nat_lt MOST names then Some (count_fault names MOST)
     else if nat_lt (shortest (lengths_of attached)) (end_of end attached) then Some (record { kind = End; given = end_of end attached; planned = shortest (lengths_of attached) })
     else None
+
+-- the first image of 2^54 sectors or more, which is too long for an offset of its own
+abbrev pub long_image : List ℕ → Option ℕ
+long_image given = find (λ i. nat_le (2 ^ 54) (slice_index given i)) (range_with_len 0 (length given))
+
+abbrev pub long_fault : List Image → Option Disagreement
+long_fault attached = option_map (λ i. record { kind = Long i; given = slice_index (lengths_of attached) i; planned = 2 ^ 54 - 1 }) (long_image (lengths_of attached))

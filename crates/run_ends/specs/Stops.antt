@@ -4,13 +4,15 @@ use Rattle.std.specs.declared.option.Option.{Option}
 use Rattle.std.specs.declared.option.Option.TheVariants.{None, Some}
 use Rattle.raid_params.specs.declared.types.GeoFault.{GeoFault}
 use Rattle.raid_params.specs.declared.types.GeoFault.TheVariants.{Members, Pattern, Syndrome, Chunk, Image, Repeat, Missing, NoRow}
+use Rattle.near_mirror.specs.declared.types.NearRule.{NearRule}
+use Rattle.near_mirror.specs.declared.types.NearRule.TheVariants.{Members as NearMembers, Chunk as NearChunk, Image as NearImage, Repeat as NearRepeat, Missing as NearMissing, NoRow as NearNoRow}
 use Rattle.search_plan.specs.Places.{pattern_place, syndrome_place}
 use Rattle.search_plan.specs.Sets.{total_of}
 use Rattle.search_plan.specs.declared.plan.Plan.{Plan}
 use Rattle.run_ends.specs.declared.agreement.Kind.{Kind}
-use Rattle.run_ends.specs.declared.agreement.Kind.TheVariants.{Count, Length, End}
+use Rattle.run_ends.specs.declared.agreement.Kind.TheVariants.{Count, Length, End, Long}
 use Rattle.run_ends.specs.declared.stop.Refusal.{Refusal}
-use Rattle.run_ends.specs.declared.stop.Refusal.TheVariants.{Word, PlanLine, PlanIsLong, SetLine, SetsAreLong, Images, Many, Cursor, Set, Slot, ArraySectors, VolumeSectors, Sector}
+use Rattle.run_ends.specs.declared.stop.Refusal.TheVariants.{Word, PlanLine, PlanIsLong, SetLine, SetsAreLong, RescueLine, RescueIsLong, Images, Many, Cursor, Set, Bases, Near, Slot, ArraySectors, VolumeSectors, Sector}
 use Rattle.run_ends.specs.declared.stop.Stop.{Stop}
 use Rattle.run_ends.specs.declared.stop.Stop.TheVariants.{Refused, ImageFault, SourceFault, OutFault, OutOfMemory}
 
@@ -36,11 +38,29 @@ value_of (Repeat n) = n
 value_of (Missing n) = n
 value_of (NoRow n) = n
 
+-- the number of a rule of mirrors, in the order of these rules, and the value that breaks it
+abbrev pub near_rule_of : NearRule → ℕ
+near_rule_of (NearMembers n) = 21
+near_rule_of (NearChunk n) = 22
+near_rule_of (NearImage n) = 23
+near_rule_of (NearRepeat n) = 24
+near_rule_of (NearMissing n) = 25
+near_rule_of (NearNoRow n) = 26
+
+abbrev pub near_value_of : NearRule → ℕ
+near_value_of (NearMembers n) = n
+near_value_of (NearChunk n) = n
+near_value_of (NearImage n) = n
+near_value_of (NearRepeat n) = n
+near_value_of (NearMissing n) = n
+near_value_of (NearNoRow n) = n
+
 -- what of the images disagrees, as it is printed
 abbrev pub kind_text : Kind → List ℕ
 kind_text Count = codes "count"
 kind_text (Length image) = codes "length " ++ decimal image
 kind_text End = codes "end"
+kind_text (Long image) = codes "long " ++ decimal image
 
 -- the line of a broken rule
 abbrev pub rule_line : ℕ → ℕ → List ℕ
@@ -53,14 +73,18 @@ refusal_notice (PlanLine number) = (2, codes "reraid: plan line " ++ decimal num
 refusal_notice PlanIsLong = (3, codes "reraid: plan is longer than 4194304 bytes\n")
 refusal_notice (SetLine number) = (13, codes "reraid: set line " ++ decimal number ++ codes " is not understood\n")
 refusal_notice SetsAreLong = (3, codes "reraid: set list is longer than 4194304 bytes\n")
+refusal_notice (RescueLine number) = (9, codes "reraid: rescue line " ++ decimal number ++ codes " is not understood\n")
+refusal_notice RescueIsLong = (3, codes "reraid: rescue text is longer than 4194304 bytes\n")
 refusal_notice (Images fault) =
     (4, codes "reraid: images: " ++ kind_text fault.kind ++ codes " given " ++ decimal fault.given ++ codes " planned " ++ decimal fault.planned ++ codes "\n")
 refusal_notice Many = (5, codes "reraid: the product has more than 18446744073709551615 sets\n")
 refusal_notice (Cursor fault) = (6, codes "reraid: cursor " ++ decimal fault.from ++ codes " is past " ++ decimal fault.total ++ codes "\n")
 refusal_notice (Set fault) = (7, rule_line (rule_of fault) (value_of fault))
+refusal_notice (Near fault) = (7, rule_line (near_rule_of fault) (near_value_of fault))
 refusal_notice (Slot slot) = (7, rule_line 9 slot)
 refusal_notice (ArraySectors sectors) = (7, rule_line 10 sectors)
 refusal_notice (VolumeSectors sectors) = (7, rule_line 11 sectors)
+refusal_notice (Bases count) = (7, rule_line 12 count)
 refusal_notice (Sector fault) = (8, codes "reraid: sector " ++ decimal fault.sector ++ codes " of " ++ decimal fault.size ++ codes "\n")
 
 -- the status with which the program ends at a stop, and its line on the notes

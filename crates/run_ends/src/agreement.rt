@@ -1,12 +1,16 @@
 //! Whether the attached images are those that the plan or the command takes.
-ghost use Rattle.std.specs.Prelude.{◌≡◌, ◌≤◌, ◌<◌, IfSome, length, min, nat_eq, not, slice_index};
+ghost use Rattle.std.specs.Prelude.{◌≡◌, ◌≤◌, ◌<◌, ◌^◌, IfSome, length, min, nat_eq, nat_le, not, slice_index};
+ghost use Rattle.std.specs.List.{find, range_with_len};
 ghost use Rattle.std.specs.Option.{option_map};
 ghost use Rattle.outside.specs.Seen.{lengths_of};
-ghost use Rattle.run_ends.specs.Agreement.{count_fault as count_fault_of, end_of as end_of_images, length_fault as length_fault_of, other_length, limits_fault as limits_fault_of, plan_fault as plan_fault_of, shortest as shortest_of};
+ghost use Rattle.run_ends.specs.Agreement.{count_fault as count_fault_of, end_of as end_of_images, length_fault as length_fault_of, other_length, limits_fault as limits_fault_of, long_fault as long_fault_of, plan_fault as plan_fault_of, shortest as shortest_of};
 
 use outside::{Images, MOST_ATTACHED};
 use raid_params::MOST;
 use search_plan::Plan;
+
+/// An image of as many sectors is too long for an offset of its own: 2^54.
+const LONG: u64 = 1 << 54;
 
 /// What of the images disagrees.
 #[derive(Clone, Copy)]
@@ -17,6 +21,8 @@ pub enum Kind {
     Length(u8),
     /// The end that was asked for, which is past the shortest image.
     End,
+    /// The length of the image of this number, which is too long for an offset of its own.
+    Long(u8),
 }
 
 /// How the images disagree with the plan, or with what the command takes.
@@ -26,8 +32,8 @@ pub struct Disagreement {
     pub kind: Kind,
     /// What the words or the images have: the number of names, the sectors of the image, or the end.
     pub given: u64,
-    /// What the plan has, or the command takes: the number of images, the sectors of the image, or those of the
-    /// shortest image.
+    /// What the plan has, or the command takes: the number of images, the sectors of the image, those of the
+    /// shortest image, or the most that an image may have.
     pub planned: u64,
 }
 
@@ -91,6 +97,40 @@ pub fn limits_fault<I: Images>(images: &I, names: usize, end: Option<u64>) -> Op
     } else {
         None
     }
+}
+
+/// The first of the `count` attached images that is too long for an offset of its own.
+pub fn long_fault<I: Images>(images: &I, count: usize) -> Option<Disagreement>
+    requires attached { length (I.seen images.now).attached ≡ count }
+    requires few { count ≤ MOST }
+    ensures { result ≡ long_fault_of (I.seen images.now).attached }
+{
+    match first_long(images, count) {
+        Some(image) => Some(Disagreement {
+            kind: Kind::Long(image as u8),
+            given: sectors_of(images, image),
+            planned: LONG - 1,
+        }),
+        None => None,
+    }
+}
+
+/// The number of the first of the `count` attached images that is too long for an offset of its own.
+fn first_long<I: Images>(images: &I, count: usize) -> Option<usize>
+    requires attached { length (I.seen images.now).attached ≡ count }
+    requires few { count ≤ MOST }
+    ensures first { result ≡ find (λ i. nat_le (2 ^ 54) (slice_index (lengths_of (I.seen images.now).attached) i)) (range_with_len 0 count) }
+    ensures within { IfSome result (λ image. image < count) }
+{
+    (0..count).find(|image: &usize| is_long(images, *image))
+}
+
+/// Whether an image is too long for an offset of its own.
+fn is_long<I: Images>(images: &I, image: usize) -> bool
+    requires few { image < MOST_ATTACHED }
+    ensures { result ≡ nat_le (2 ^ 54) (slice_index (lengths_of (I.seen images.now).attached) image) }
+{
+    LONG <= sectors_of(images, image)
 }
 
 /// The number of images is not the planned one.

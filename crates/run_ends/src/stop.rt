@@ -1,11 +1,12 @@
 //! Why a run ends without its answer.
 ghost use Rattle.std.specs.Prelude.{◌≡◌, ◌≤◌, ◌+◌, ◌++◌, codes, decimal, length};
-ghost use Rattle.run_ends.specs.Stops.{kind_text as kind_text_of, note_of, refusal_notice, rule_of, status_of, value_of};
+ghost use Rattle.run_ends.specs.Stops.{kind_text as kind_text_of, near_rule_of, near_value_of, note_of, refusal_notice, rule_of, status_of, value_of};
 ghost use Rattle.run_ends.specs.declared.stop.Stop.TheVariants.{OutOfMemory};
 
 use crate::agreement::{Disagreement, Kind};
 use arrayvec::ArrayString;
 use itoa::Buffer;
+use near_mirror::NearRule;
 use outside::Memory;
 use raid_params::GeoFault;
 use search_plan::Placed;
@@ -42,6 +43,10 @@ pub enum Refusal {
     SetLine(u64),
     /// The source of the list of sets had more bytes left than such a list may have.
     SetsAreLong,
+    /// The line of the rescue text of this number, counted from 1: the first with which no rescue text goes on.
+    RescueLine(u64),
+    /// The source of the rescue text had more bytes left than such a text may have.
+    RescueIsLong,
     /// The images disagree with the plan, or with what the command takes.
     Images(Disagreement),
     /// The product has more sets than ranks.
@@ -50,6 +55,10 @@ pub enum Refusal {
     Cursor(RankFault),
     /// The set breaks this rule.
     Set(GeoFault),
+    /// The set has this many offsets, which are not one for each image, or an image stands in no slot.
+    Bases(u8),
+    /// The set of a mirror breaks this rule.
+    Near(NearRule),
     /// The slot is none of the set's, or it holds an image.
     Slot(u8),
     /// The members of a generated array have this many sectors together, which are too many.
@@ -126,6 +135,11 @@ impl Refusal {
                 3,
                 text("reraid: set list is longer than 4194304 bytes\n"),
             ),
+            Refusal::RescueLine(number) => says(9, refused_line("reraid: rescue line ", *number)),
+            Refusal::RescueIsLong => says(
+                3,
+                text("reraid: rescue text is longer than 4194304 bytes\n"),
+            ),
             Refusal::Images(fault) => says(4, images_line(fault)),
             Refusal::Many => says(
                 5,
@@ -133,9 +147,11 @@ impl Refusal {
             ),
             Refusal::Cursor(fault) => says(6, cursor_line(fault)),
             Refusal::Set(fault) => says(7, rule_line(rule(fault), value(fault))),
+            Refusal::Near(fault) => says(7, rule_line(near_rule(fault), near_value(fault))),
             Refusal::Slot(slot) => says(7, rule_line(9, *slot as u64)),
             Refusal::ArraySectors(sectors) => says(7, rule_line(10, *sectors)),
             Refusal::VolumeSectors(sectors) => says(7, rule_line(11, *sectors)),
+            Refusal::Bases(count) => says(7, rule_line(12, *count as u64)),
             Refusal::Sector(fault) => says(8, sector_line(fault)),
         }
     }
@@ -158,9 +174,9 @@ fn text(line: &str) -> ArrayString<LINE>
     room
 }
 
-/// The line that says from where on words, a plan or a list of sets are not understood.
+/// The line that says from where on words, a plan, a list of sets or a rescue text are not understood.
 fn refused_line(what: &str, number: u64) -> ArrayString<LINE>
-    requires { length what.now ≤ 18 }
+    requires { length what.now ≤ 20 }
     ensures { result.bytes ≡ what.now ++ decimal number ++ codes " is not understood\n" }
 {
     let mut line = text(what);
@@ -189,17 +205,19 @@ fn kind_text(kind: Kind) -> ArrayString<LINE>
 {
     match kind {
         Kind::Count => text("reraid: images: count"),
-        Kind::Length(image) => length_text(image),
+        Kind::Length(image) => numbered("reraid: images: length ", image),
+        Kind::Long(image) => numbered("reraid: images: long ", image),
         Kind::End => text("reraid: images: end"),
     }
 }
 
-/// The beginning of the line for the length of an image.
-fn length_text(image: u8) -> ArrayString<LINE>
-    ensures text { result.bytes ≡ codes "reraid: images: length " ++ decimal image }
+/// The beginning of the line for an image.
+fn numbered(what: &str, image: u8) -> ArrayString<LINE>
+    requires { length what.now ≤ 23 }
+    ensures text { result.bytes ≡ what.now ++ decimal image }
     ensures short { length result.bytes ≤ 43 }
 {
-    let mut line = text("reraid: images: length ");
+    let mut line = text(what);
     push_number(&mut line, image as u64);
     line
 }
@@ -278,5 +296,32 @@ fn value(fault: &GeoFault) -> u64
         GeoFault::Pattern(pattern) => pattern.place(),
         GeoFault::Syndrome(syndrome) => syndrome.place(),
         GeoFault::Chunk(number) | GeoFault::NoRow(number) => *number,
+    }
+}
+
+/// The number of a broken rule of mirrors, in the order of these rules.
+fn near_rule(fault: &NearRule) -> u8
+    ensures { result ≡ near_rule_of fault.now }
+{
+    match fault {
+        NearRule::Members(_) => 21,
+        NearRule::Chunk(_) => 22,
+        NearRule::Image(_) => 23,
+        NearRule::Repeat(_) => 24,
+        NearRule::Missing(_) => 25,
+        NearRule::NoRow(_) => 26,
+    }
+}
+
+/// The value that breaks a rule of mirrors.
+fn near_value(fault: &NearRule) -> u64
+    ensures { result ≡ near_value_of fault.now }
+{
+    match fault {
+        NearRule::Members(number)
+        | NearRule::Image(number)
+        | NearRule::Repeat(number)
+        | NearRule::Missing(number) => *number as u64,
+        NearRule::Chunk(number) | NearRule::NoRow(number) => *number,
     }
 }

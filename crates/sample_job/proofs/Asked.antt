@@ -1,5 +1,5 @@
 -- What the survey of a generated array is asked for.
-use Rattle.std.proofs.Common.{◌≡◌, ℕ, ◌+◌, ◌*◌, ◌<◌, ◌≤◌, ◌^◌, Bool, cond, true, List, [], ◌∷◌, length, All, IfSome, None, Some, Option, refl, sym, ap, subst, arith}
+use Rattle.std.proofs.Common.{◌≡◌, ℕ, ◌+◌, ◌*◌, ◌<◌, ◌≤◌, ◌^◌, Bool, cond, true, false, List, [], ◌∷◌, length, All, IfSome, None, Some, Option, refl, sym, ap, subst, arith}
 use Rattle.std.proofs.lemmas.List.Elements.{All-cons, All-nil, All-weaker}
 use Rattle.std.proofs.lemmas.List.Sums.{sum_by-cons}
 use Rattle.std.specs.Option.{is_some}
@@ -86,6 +86,11 @@ window_is : (window : Option ℕ) (end : ℕ) → end < 2 ^ 55 → IfSome window
 window_is None end near given = (omega arith, omega arith)
 window_is (Some n) end near given = given
 
+-- the images share an offset
+plain_shared : plain_survey.each ≡ false
+unfolding plain_survey
+plain_shared = refl
+
 -- it can be asked of the images
 ask_is : (set : Geometry) (end : ℕ) → is_shaped set (held set.slots.items) ≡ true → end < 2 ^ 55 → IsAsk (sample_ask set end)
 unfolding sample_ask
@@ -101,6 +106,7 @@ ask_is set end shaped near =
       bounds = bounds_are (plain_asked.bounds (record { items = 2 ∷ [] }) two_are) set.head.level set.head.members (empties set.slots.items) (omega arith) most (omega arith);
       limits = record { badrows = plain_asked.badrows; some_window = window.0; window = window.1 };
       tests = plain_asked.tests;
+      unit = plain_asked.unit;
     }
 
 pub surveyable : (number : ℕ) (set : Geometry) (rows : ℕ) (xfs : Bool) (end : ℕ) (attached : List Image) → first_fault set (held set.slots.items) (end_of set.head rows) ≡ None →
@@ -121,4 +127,5 @@ surveyable number set rows xfs end attached kept size long is there =
       most = omega arith;
       short = All-weaker (λ (image : Image). image.sectors ≡ end_of set.head rows) (λ (image : Image). image.sectors < 2 ^ 55) (λ image e. omega arith) attached all;
       long = All-weaker (λ (image : Image). image.sectors ≡ end_of set.head rows) (λ (image : Image). end ≤ image.sectors) (λ image e. omega arith) attached all;
+      each = λ e. absurd (let shared = plain_shared in cc);
     }

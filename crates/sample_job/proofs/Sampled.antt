@@ -1,5 +1,5 @@
 -- What a survey and a page find of a generated array.
-use Rattle.std.proofs.Common.{◌≡◌, ℕ, ◌-◌, ◌<◌, ◌≤◌, ◌^◌, ◌⊎◌, Bool, false, nat_eq, ◌||◌, map, List, [], ◌∷◌, All, IfSome, IfErr, OnOk, None, Some, Option, Ok, Err, Result, refl, sym, ap, ◌∙◌, subst, arith, inl, inr}
+use Rattle.std.proofs.Common.{◌≡◌, ℕ, ◌-◌, ◌<◌, ◌≤◌, ◌^◌, Bool, false, nat_eq, ◌||◌, map, List, [], ◌∷◌, All, IfSome, None, Some, Option, Err, Result, refl, sym, ap, ◌∙◌, subst, arith, inl, inr}
 use Rattle.std.proofs.lemmas.Bool.{cases_lt}
 use Rattle.std.proofs.lemmas.Bool.Decides.{nat_tests}
 use Rattle.outside.specs.Attached.{told_all}
@@ -10,6 +10,7 @@ use Rattle.page_engine.specs.declared.page_parts.ListPage.{ListPage}
 use Rattle.std.specs.List.{list_any}
 use Rattle.std.specs.Option.{option_map_or}
 use Rattle.raid_params.specs.declared.types.Geometry.{Geometry}
+use Rattle.raid_params.specs.declared.wide.Wide.{Wide}
 use Rattle.run_ends.specs.Jobs.{Refuses}
 use Rattle.run_ends.specs.Stops.{first_of, many_refusal}
 use Rattle.run_ends.specs.declared.stop.Refusal.{Refusal}
@@ -56,9 +57,9 @@ text_is number set rows xfs end attached plan page text long there is made found
     ∙ ap (λ (p : Plan). sample_text set (end_of set.head rows) (sampled_bytes number set rows xfs) p) made
 
 -- the refusal is the first of those before the array is made, and then that of the product
-pub refused_before : (number : ℕ) (set : Geometry) (rows : ℕ) (xfs : Bool) (refusal : Refusal) → array_refusals set rows xfs ≡ Some refusal → sample_refusal number set rows xfs ≡ Some refusal
+pub refused_before : (number : ℕ) (set : Wide) (rows : ℕ) (xfs : Bool) (refusal : Refusal) → array_refusals set rows xfs ≡ Some refusal → sample_refusal number set rows xfs ≡ Some refusal
 unfolding sample_refusal
-refused_before number set rows xfs refusal e = ap (λ (r : Option Refusal). first_of (r ∷ many_refusal (sample_plan number set rows xfs) ∷ [])) e
+refused_before number set rows xfs refusal e = ap (λ (r : Option Refusal). first_of (r ∷ many_refusal (sample_plan number set.geo rows xfs) ∷ [])) e
 
 first_alone : (r : Option Refusal) → first_of (r ∷ []) ≡ r
 first_alone None = refl
@@ -83,12 +84,12 @@ any_rank [] rank = refl
 any_rank (held ∷ lines) rank = ap (λ (b : Bool). nat_eq held.rank rank || b) (any_rank lines rank)
 
 -- how the work of an array that may be made ends
-pub found_refuses : (number : ℕ) (set : Geometry) (rows : ℕ) (xfs : Bool) (answer : Result (List ℕ) Stop) → array_refusals set rows xfs ≡ None → Refuses (many_refusal (sample_plan number set rows xfs)) answer →
+pub found_refuses : (number : ℕ) (set : Wide) (rows : ℕ) (xfs : Bool) (answer : Result (List ℕ) Stop) → array_refusals set rows xfs ≡ None → Refuses (many_refusal (sample_plan number set.geo rows xfs)) answer →
     Refuses (sample_refusal number set rows xfs) answer
 unfolding sample_refusal
 found_refuses number set rows xfs answer before refuses =
     subst (λ (r : Option Refusal). Refuses r answer)
-    (sym (ap (λ (r : Option Refusal). first_of (r ∷ many_refusal (sample_plan number set rows xfs) ∷ [])) before ∙ first_alone (many_refusal (sample_plan number set rows xfs)))) refuses
+    (sym (ap (λ (r : Option Refusal). first_of (r ∷ many_refusal (sample_plan number set.geo rows xfs) ∷ [])) before ∙ first_alone (many_refusal (sample_plan number set.geo rows xfs)))) refuses
 
 pub refuses_plan : {T : Type 0} (plan other : Plan) (answer : Result T Stop) → plan ≡ other → Refuses (many_refusal plan) answer → Refuses (many_refusal other) answer
 refuses_plan plan other answer same refuses = subst (λ (p : Plan). Refuses (many_refusal p) answer) same refuses

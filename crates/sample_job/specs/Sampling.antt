@@ -1,5 +1,5 @@
 -- What `sample` refuses and prints.
-use Rattle.std.specs.Prelude.{ℕ, ◌*◌, ◌-◌, ◌^◌, Bool, false, nat_eq, nat_lt, ◌&&◌, if◌then◌else◌, List, [], ◌∷◌, ◌++◌, codes, decimal, length, map, sum_by}
+use Rattle.std.specs.Prelude.{ℕ, ◌*◌, ◌-◌, ◌^◌, Bool, false, ◌==◌, nat_eq, nat_lt, ◌&&◌, if◌then◌else◌, List, [], ◌∷◌, ◌++◌, codes, decimal, length, map, sum_by}
 use Rattle.std.specs.List.{list_any}
 use Rattle.std.specs.Option.{option_map, option_map_or}
 use Rattle.std.specs.declared.option.Option.{Option}
@@ -11,6 +11,7 @@ use Rattle.raid_params.specs.Size.{volume_sectors}
 use Rattle.raid_params.specs.Slots.{empties}
 use Rattle.raid_params.specs.Validity.{first_fault}
 use Rattle.raid_params.specs.declared.types.Geometry.{Geometry}
+use Rattle.raid_params.specs.declared.wide.Wide.{Wide}
 use Rattle.search_terms.specs.Page.{page_next, page_ranks}
 use Rattle.search_plan.specs.Sets.{passes_at, rank_of, total_of}
 use Rattle.search_plan.specs.declared.plan.Plan.{Plan}
@@ -25,7 +26,7 @@ use Rattle.run_ends.specs.Jobs.{Job, imageless}
 use Rattle.run_ends.specs.Printing.{share_line}
 use Rattle.run_ends.specs.Stops.{first_of, many_refusal}
 use Rattle.run_ends.specs.declared.stop.Refusal.{Refusal}
-use Rattle.run_ends.specs.declared.stop.Refusal.TheVariants.{Set, ArraySectors, VolumeSectors}
+use Rattle.run_ends.specs.declared.stop.Refusal.TheVariants.{Set, ArraySectors, VolumeSectors, Bases}
 
 -- the images of the array as they are attached
 unfoldable pub sampled_images : ℕ → Geometry → ℕ → Bool → List Image
@@ -58,18 +59,23 @@ abbrev pub volume_refusal : Geometry → ℕ → Bool → Option Refusal
 volume_refusal set rows xfs =
     if xfs && nat_lt (volume_sectors set.head (end_of set.head rows)) 512 then Some (VolumeSectors (volume_sectors set.head (end_of set.head rows))) else None
 
--- the refusals before the array is made: the rules of a set, over as many images as it has filled slots, and the two
--- of a generated array
-unfoldable pub array_refusals : Geometry → ℕ → Bool → Option Refusal
+-- the images of a generated array share an offset: a set with bases is refused
+abbrev pub bases_refusal : List ℕ → Option Refusal
+bases_refusal bases = if length bases == 0 then None else Some (Bases (length bases))
+
+-- the refusals before the array is made: the rules of a set, over as many images as it has filled slots, the two of a
+-- generated array, and that of bases
+unfoldable pub array_refusals : Wide → ℕ → Bool → Option Refusal
 array_refusals set rows xfs =
-    first_of (option_map (λ fault. Set fault) (first_fault set (held set.slots.items) (end_of set.head rows))
-    ∷ array_refusal set rows
-    ∷ volume_refusal set rows xfs
+    first_of (option_map (λ fault. Set fault) (first_fault set.geo (held set.geo.slots.items) (end_of set.geo.head rows))
+    ∷ array_refusal set.geo rows
+    ∷ volume_refusal set.geo rows xfs
+    ∷ bases_refusal set.bases.items
     ∷ [])
 
 -- the first refusal of `sample`
-unfoldable pub sample_refusal : ℕ → Geometry → ℕ → Bool → Option Refusal
-sample_refusal number set rows xfs = first_of (array_refusals set rows xfs ∷ many_refusal (sample_plan number set rows xfs) ∷ [])
+unfoldable pub sample_refusal : ℕ → Wide → ℕ → Bool → Option Refusal
+sample_refusal number set rows xfs = first_of (array_refusals set rows xfs ∷ many_refusal (sample_plan number set.geo rows xfs) ∷ [])
 
 -- the ranks on the first page, which has at most 1,000 sets, and where it goes on
 abbrev pub page_of : List (List ℕ) → Plan → List ℕ
@@ -120,5 +126,5 @@ sample_output number set rows xfs =
     sample_text set (end_of set.head rows) (sampled_bytes number set rows xfs) (sample_plan number set rows xfs)
 
 -- `sample`: it works on images of its own
-abbrev pub sample_job : ℕ → Geometry → ℕ → Bool → Job
-sample_job number set rows xfs = imageless (sample_refusal number set rows xfs) (Some (sample_output number set rows xfs))
+abbrev pub sample_job : ℕ → Wide → ℕ → Bool → Job
+sample_job number set rows xfs = imageless (sample_refusal number set rows xfs) (Some (sample_output number set.geo rows xfs))

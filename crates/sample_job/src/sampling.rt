@@ -4,7 +4,7 @@ ghost use Rattle.std.specs.List.{list_any};
 ghost use Rattle.outside.specs.Attached.{told_all};
 ghost use Rattle.image_source.specs.Memory.{number_of};
 ghost use Rattle.member_regions.specs.Members.{held as held_in};
-ghost use Rattle.plan_text.specs.SetText.{HasWord};
+ghost use Rattle.value_text.specs.SetText.{HasWord};
 ghost use Rattle.raid_params.specs.Size.{volume_sectors as volume_sectors_of};
 ghost use Rattle.raid_params.specs.Validity.{first_fault};
 ghost use Rattle.raid_params.specs.declared.limits.TheConstants.{MOST};
@@ -32,7 +32,7 @@ use landmark_rules::Group;
 use outside::{Images, MOST_ATTACHED, Memory, Sink};
 use page_engine::{Line, ListPage, PageFault, page};
 use plan_text::{Text, add_number};
-use raid_params::{Bounds, Geometry};
+use raid_params::{Bounds, Geometry, Wide};
 use run_ends::{Refusal, Stop, add_share, print};
 use sample_arrays::{LEAST_MARKED, MOST_SAMPLED, count_held};
 use search_plan::Plan;
@@ -64,7 +64,7 @@ pub fn sample<R: Threads + Sync, K: Sink, G: Gate + Sync>(
     rt: &R,
     alloc: Global,
     number: u64,
-    set: &Geometry,
+    set: &Wide,
     rows: u64,
     xfs: bool,
     out: &mut K,
@@ -84,46 +84,49 @@ pub fn sample<R: Threads + Sync, K: Sink, G: Gate + Sync>(
 fn answer<R: Threads + Sync, G: Gate + Sync>(
     tools: &Tools<R, G>,
     number: u64,
-    set: &Geometry,
+    set: &Wide,
     rows: u64,
     xfs: bool,
 ) -> Result<Text, Stop>
     requires set { HasWord set.now }
     requires some { 1 ≤ rows }
     requires most { rows ≤ 65536 }
-    ensures text { IfOk result (λ text. text ≡ sample_output number set.now rows xfs) }
+    ensures text { IfOk result (λ text. text ≡ sample_output number set.now.geo rows xfs) }
     ensures refuses { Refuses (sample_refusal number set.now rows xfs) result }
     ensures early { IfErr result IsEarly }
 {
     match array_end(set, rows, xfs) {
-        Ok(end) => array_text(tools, number, set, rows, xfs, end),
+        Ok(end) => array_text(tools, number, &set.geo, rows, xfs, end),
         Err(refusal) => Err(Stop::Refused(refusal)),
     }
 }
 
 /// The image sector after the last one of the members, where the array may be made.
-#[tactic(auto, using(crate::proofs::Refusals::set_refused, crate::proofs::Refusals::array_refused, crate::proofs::Refusals::volume_refused, crate::proofs::Refusals::array_allowed, sample_arrays::proofs::Sampled::ruled, sample_arrays::proofs::Sampled::near_end, raid_layouts::proofs::Shapes::shaped_head))]
-fn array_end(set: &Geometry, rows: u64, xfs: bool) -> Result<u64, Refusal>
+#[tactic(auto, using(crate::proofs::Refusals::set_refused, crate::proofs::Refusals::array_refused, crate::proofs::Refusals::volume_refused, crate::proofs::Refusals::bases_refused, crate::proofs::Refusals::array_allowed, crate::proofs::Refusals::near_offset, sample_arrays::proofs::Sampled::ruled, sample_arrays::proofs::Sampled::near_end, raid_layouts::proofs::Shapes::shaped_head))]
+fn array_end(set: &Wide, rows: u64, xfs: bool) -> Result<u64, Refusal>
     requires set { HasWord set.now }
     requires most { rows ≤ 65536 }
-    ensures end { IfOk result (λ end. end ≡ end_of set.now.head rows) }
-    ensures ruled { OnOk result (first_fault set.now (held_in set.now.slots.items) (end_of set.now.head rows) ≡ None) }
-    ensures size { OnOk result (set.now.head.members * end_of set.now.head rows ≤ MOST_SAMPLED) }
-    ensures marked { OnOk result (IsTrue xfs → LEAST_MARKED ≤ volume_sectors_of set.now.head (end_of set.now.head rows)) }
+    ensures end { IfOk result (λ end. end ≡ end_of set.now.geo.head rows) }
+    ensures ruled { OnOk result (first_fault set.now.geo (held_in set.now.geo.slots.items) (end_of set.now.geo.head rows) ≡ None) }
+    ensures size { OnOk result (set.now.geo.head.members * end_of set.now.geo.head rows ≤ MOST_SAMPLED) }
+    ensures marked { OnOk result (IsTrue xfs → LEAST_MARKED ≤ volume_sectors_of set.now.geo.head (end_of set.now.geo.head rows)) }
     ensures allowed { OnOk result (array_refusals set.now rows xfs ≡ None) }
     ensures refused { IfErr result (λ refusal. array_refusals set.now rows xfs ≡ Some refusal) }
 {
-    let end = set.head.offset + rows * set.head.chunk;
-    if let Err(fault) = set.validate(count_held(&set.slots), end) {
+    let end = set.geo.head.offset + rows * set.geo.head.chunk;
+    if let Err(fault) = set.geo.validate(count_held(&set.geo.slots), end) {
         return Err(Refusal::Set(fault));
     }
-    let sectors = set.head.members as u64 * end;
+    let sectors = set.geo.head.members as u64 * end;
     if sectors > MOST_SAMPLED {
         return Err(Refusal::ArraySectors(sectors));
     }
-    let volume = volume_sectors(&set.head, end);
+    let volume = volume_sectors(&set.geo.head, end);
     if xfs && volume < LEAST_MARKED {
         return Err(Refusal::VolumeSectors(volume));
+    }
+    if !set.bases.is_empty() {
+        return Err(Refusal::Bases(set.bases.len() as u8));
     }
     Ok(end)
 }

@@ -1,3 +1,4 @@
 pub mod Homes
 pub mod Written
+pub mod Bases
 pub mod SetRefusals

@@ -5,7 +5,7 @@ ghost use Rattle.run_ends.specs.Printing.{or_dash};
 ghost use Rattle.outside.specs.Streams.{Stream};
 ghost use Rattle.run_ends.specs.Jobs.{Answers, Does, Refuses, around, named, stream};
 ghost use Rattle.run_ends.specs.Stops.{IsEarly};
-ghost use Rattle.set_jobs.specs.Mapping.{map_job, map_text as map_text_of, name_line, place_line, sector_refusal, set_refusal};
+ghost use Rattle.set_jobs.specs.Mapping.{base_at, bases_refusal, geo_refusal, long_refused, map_job, map_text as map_text_of, name_line, place_line, sector_refusal, set_refusal};
 ghost use Rattle.value_text.specs.SetText.{HasWord};
 ghost use Rattle.raid_params.specs.Validity.{first_fault, is_valid_head};
 ghost use Rattle.raid_layouts.specs.Names.{name_of};
@@ -15,8 +15,10 @@ ghost use Rattle.raid_terms.specs.Address.{home_item, home_row, home_sector, hom
 use address_map::{Home, locate, volume_sectors};
 use outside::{Images, MOST_ATTACHED, Memory, Sink};
 use raid_layouts::{md_name, p_slot, q_slot};
-use raid_params::{Geometry, Head};
-use run_ends::{Refusal, SectorFault, Stop, add_or_dash, end_of, limits_fault, print};
+use raid_params::{Head, MOST, Wide, WideFault};
+use run_ends::{
+    Disagreement, Refusal, SectorFault, Stop, add_or_dash, end_of, limits_fault, long_fault, print,
+};
 use std::alloc::Global;
 use value_text::{Text, add_number};
 
@@ -27,7 +29,7 @@ pub fn map<I: Images, K: Sink>(
     alloc: Global,
     images: &I,
     names: usize,
-    set: &Geometry,
+    set: &Wide,
     end: Option<u64>,
     sector: u64,
     out: &mut K,
@@ -49,7 +51,7 @@ fn answer<I: Images>(
     alloc: Global,
     images: &I,
     names: usize,
-    set: &Geometry,
+    set: &Wide,
     end: Option<u64>,
     sector: u64,
 ) -> Result<Text, Stop>
@@ -60,51 +62,108 @@ fn answer<I: Images>(
     ensures { (source : Stream) → Answers (map_job set.now end sector) (named names (I.seen images.now).attached)
         (around (I.seen images.now) source) (around (I.seen images.now) source) result }
 {
-    match allowed_end(images, names, set, end) {
+    match suited_end(images, names, set, end) {
         Ok(end) => place_text(alloc, set, end, sector),
         Err(refusal) => Err(Stop::Refused(refusal)),
     }
 }
 
 /// The text of `map` over a set whose members end before the image sector `end`.
-fn place_text(alloc: Global, set: &Geometry, end: u64, sector: u64) -> Result<Text, Stop>
-    requires head { IsTrue (is_valid_head set.now.head) }
-    requires slots { length set.now.slots.items ≡ set.now.head.members }
-    requires offset { set.now.head.offset < 2 ^ 55 }
+fn place_text(alloc: Global, set: &Wide, end: u64, sector: u64) -> Result<Text, Stop>
+    requires head { IsTrue (is_valid_head set.now.geo.head) }
+    requires slots { length set.now.geo.slots.items ≡ set.now.geo.head.members }
+    requires set { HasWord set.now }
     requires end { end < 2 ^ 55 }
     ensures text { IfOk result (λ text. text ≡ map_text_of set.now sector) }
-    ensures refuses { Refuses (sector_refusal set.now.head end sector) result }
+    ensures refuses { Refuses (sector_refusal set.now.geo.head end sector) result }
     ensures early { IfErr result IsEarly }
 {
-    match home_of(&set.head, end, sector) {
+    match home_of(&set.geo.head, end, sector) {
         Ok(home) => Ok(map_text(alloc, set, &home)?),
         Err(refusal) => Err(Stop::Refused(refusal)),
     }
 }
 
 /// The end of the members, where `names` images and the set are such that a command over the set goes on.
-#[tactic(auto, using(run_ends::proofs::Lengths::end_near, crate::proofs::SetRefusals::images_refused, crate::proofs::SetRefusals::rule_refused, crate::proofs::SetRefusals::set_allowed))]
-pub fn allowed_end<I: Images>(
+#[tactic(auto, using(crate::proofs::SetRefusals::geo_refused, crate::proofs::SetRefusals::bases_refused, crate::proofs::SetRefusals::set_allowed))]
+pub fn suited_end<I: Images>(
     images: &I,
     names: usize,
-    set: &Geometry,
+    set: &Wide,
     end: Option<u64>,
 ) -> Result<u64, Refusal>
     requires attached { length (I.seen images.now).attached ≡ min names MOST_ATTACHED }
     requires small { All (λ image. image.sectors < 2 ^ 55) (I.seen images.now).attached }
     requires end { IfSome end (λ sector. sector < 2 ^ 55) }
     ensures end { IfOk result (λ e. (e ≡ end_of_images end (I.seen images.now).attached) × (e < 2 ^ 55)) }
+    ensures geo { OnOk result (geo_refusal set.now end names (I.seen images.now).attached ≡ None) }
+    ensures bases { OnOk result (bases_refusal set.now names ≡ None) }
     ensures allowed { OnOk result (set_refusal set.now end names (I.seen images.now).attached ≡ None) }
-    ensures valid { IfOk result (λ e. first_fault set.now names e ≡ None) }
+    ensures valid { IfOk result (λ e. first_fault set.now.geo names e ≡ None) }
     ensures refused { IfErr result (λ refusal. set_refusal set.now end names (I.seen images.now).attached ≡ Some refusal) }
+{
+    match allowed_end(images, names, set, end) {
+        Ok(end) => match bases_fault(set, names as u8, end) {
+            None => Ok(end),
+            Some(refusal) => Err(refusal),
+        },
+        Err(refusal) => Err(refusal),
+    }
+}
+
+/// The end of the members, where `names` images are such that a command over the set goes on, and the set breaks no
+/// rule but that on its bases.
+#[tactic(auto, using(run_ends::proofs::Lengths::end_near, crate::proofs::SetRefusals::images_refused, crate::proofs::SetRefusals::image_refused, crate::proofs::SetRefusals::rule_refused, crate::proofs::SetRefusals::geo_allowed))]
+pub fn allowed_end<I: Images>(
+    images: &I,
+    names: usize,
+    set: &Wide,
+    end: Option<u64>,
+) -> Result<u64, Refusal>
+    requires attached { length (I.seen images.now).attached ≡ min names MOST_ATTACHED }
+    requires small { All (λ image. image.sectors < 2 ^ 55) (I.seen images.now).attached }
+    requires end { IfSome end (λ sector. sector < 2 ^ 55) }
+    ensures end { IfOk result (λ e. (e ≡ end_of_images end (I.seen images.now).attached) × (e < 2 ^ 55)) }
+    ensures allowed { OnOk result (geo_refusal set.now end names (I.seen images.now).attached ≡ None) }
+    ensures valid { IfOk result (λ e. first_fault set.now.geo names e ≡ None) }
+    ensures few { OnOk result (names ≤ MOST) }
+    ensures refused { IfErr result (λ refusal. geo_refusal set.now end names (I.seen images.now).attached ≡ Some refusal) }
 {
     if let Some(fault) = limits_fault(images, names, end) {
         return Err(Refusal::Images(fault));
     }
+    if let Some(fault) = long_for(images, names, set) {
+        return Err(Refusal::Images(fault));
+    }
     let end = end_of(images, names, end);
-    match set.validate(names as u8, end) {
+    match set.geo.validate(names as u8, end) {
         Ok(()) => Ok(end),
         Err(fault) => Err(Refusal::Set(fault)),
+    }
+}
+
+/// The first of `count` images that is too long for the bases of the set.
+fn long_for<I: Images>(images: &I, count: usize, set: &Wide) -> Option<Disagreement>
+    requires attached { length (I.seen images.now).attached ≡ count }
+    requires few { count ≤ MOST }
+    ensures { result ≡ long_refused set.now (I.seen images.now).attached }
+{
+    if set.bases.is_empty() {
+        None
+    } else {
+        long_fault(images, count)
+    }
+}
+
+/// The refusal of bases that do not suit `images` images or the slots, where the set breaks no other rule.
+#[tactic(auto, using(crate::proofs::SetRefusals::by_bases))]
+pub fn bases_fault(set: &Wide, images: u8, end: u64) -> Option<Refusal>
+    requires { first_fault set.now.geo images end ≡ None }
+    ensures { result ≡ bases_refusal set.now images }
+{
+    match set.validate(images, end) {
+        Err(WideFault::Bases(count)) => Some(Refusal::Bases(count)),
+        _ => None,
     }
 }
 
@@ -130,18 +189,19 @@ fn home_of(head: &Head, end: u64, sector: u64) -> Result<Home, Refusal>
 
 /// The two lines of `map`.
 #[tactic(auto, unfolding(crate::specs::Mapping::place_line))]
-fn map_text(alloc: Global, set: &Geometry, home: &Home) -> Result<Text, Memory>
-    requires head { IsTrue (is_valid_head set.now.head) }
-    requires slots { length set.now.slots.items ≡ set.now.head.members }
-    requires slot { home.now.slot < set.now.head.members }
-    requires sector { set.now.head.offset + home.now.sector < 2 ^ 64 }
-    ensures { IfOk result (λ text. text ≡ place_line set.now home.now.row home.now.item home.now.slot home.now.sector ++ name_line set.now.head) }
+fn map_text(alloc: Global, set: &Wide, home: &Home) -> Result<Text, Memory>
+    requires head { IsTrue (is_valid_head set.now.geo.head) }
+    requires slots { length set.now.geo.slots.items ≡ set.now.geo.head.members }
+    requires slot { home.now.slot < set.now.geo.head.members }
+    requires set { HasWord set.now }
+    requires sector { home.now.sector < 2 ^ 55 }
+    ensures { IfOk result (λ text. text ≡ place_line set.now home.now.row home.now.item home.now.slot home.now.sector ++ name_line set.now.geo.head) }
 {
     let mut text = Text::new(alloc);
     add_item(&mut text, home)?;
     add_image(&mut text, set, home)?;
-    add_parity(&mut text, &set.head, home.row)?;
-    add_name(&mut text, &set.head)?;
+    add_parity(&mut text, &set.geo.head, home.row)?;
+    add_name(&mut text, &set.geo.head)?;
     Ok(text)
 }
 
@@ -158,15 +218,31 @@ fn add_item(text: &mut Text, home: &Home) -> Result<(), Memory>
 }
 
 /// Appends the image that holds the sector, and the sector of the image.
-fn add_image(text: &mut Text, set: &Geometry, home: &Home) -> Result<(), Memory>
-    requires slot { home.now.slot < length set.now.slots.items }
-    requires sector { set.now.head.offset + home.now.sector < 2 ^ 64 }
-    ensures { OnOk result (text.new ≡ text.old ++ (codes " image " ++ (or_dash (slice_index_or set.now.slots.items home.now.slot None) ++ (codes " sector " ++ decimal (set.now.head.offset + home.now.sector))))) }
+fn add_image(text: &mut Text, set: &Wide, home: &Home) -> Result<(), Memory>
+    requires slot { home.now.slot < length set.now.geo.slots.items }
+    requires set { HasWord set.now }
+    requires sector { home.now.sector < 2 ^ 55 }
+    ensures { OnOk result (text.new ≡ text.old ++ (codes " image " ++ (or_dash (slice_index_or set.now.geo.slots.items home.now.slot None) ++ (codes " sector " ++ decimal (base_at set.now (slice_index_or set.now.geo.slots.items home.now.slot None) + home.now.sector))))) }
 {
+    let image = set.geo.slots[home.slot as usize];
     text.extend_from_slice(b" image ")?;
-    add_or_dash(text, widened(set.slots[home.slot as usize]))?;
+    add_or_dash(text, widened(image))?;
     text.extend_from_slice(b" sector ")?;
-    add_number(text, set.head.offset + home.sector)
+    add_number(text, base_of(set, image) + home.sector)
+}
+
+/// Where the data of an image begin: at its base, or at the offset where it has none, and where there is no image.
+#[tactic(auto, using(crate::proofs::Bases::base_near))]
+fn base_of(set: &Wide, image: Option<u8>) -> u64
+    requires { HasWord set.now }
+    ensures base { result ≡ base_at set.now image }
+    ensures near { result < 2 ^ 55 }
+{
+    let offset = set.geo.head.offset;
+    match image {
+        Some(image) => set.bases.get(image as usize).copied().unwrap_or(offset),
+        None => offset,
+    }
 }
 
 /// The number of an image or a slot, as a wider one.

@@ -1,18 +1,11 @@
-use Rattle.std.proofs.Common.{List, Bool, ℕ, ◌+◌, drop, arith, refl, ap, sym, ◌∙◌}
+use Rattle.std.proofs.Common.{ℕ, ◌+◌, drop, arith, refl, ap, sym, ◌∙◌}
 use Rattle.std.proofs.lemmas.List.{take_all}
-use Rattle.command_words.specs.Commands.{number_in}
-use Rattle.command_words.specs.Steps.{lines_fit}
+use Rattle.command_words.specs.Steps.{can_go_on}
 use Rattle.command_words.specs.Operands.{value_of}
-use Rattle.command_words.specs.declared.operands.Operand.{Operand}
-use Rattle.command_words.specs.declared.table.Name.TheVariants.{Pages, Size}
 use Rattle.command_words.proofs.LineStarts.{once_more}
 use Rattle.command_words.proofs.OperandLoop.{count_read, is_dashes, next_word, no_dashes, none_given, read_more, room, value_given}
-use Rattle.command_words.proofs.Refusals.{given_twice, long_listing, no_dashes_come, no_operand, nothing, refused_after}
+use Rattle.command_words.proofs.Refusals.{given_twice, stuck_with, no_dashes_come, no_operand, nothing, refused_after}
 use Rattle.command_words.proofs.reading.read_operands.Goals as goal
-
--- whether a listing with these operands may be short enough
-abbrev fits : List Operand → Bool
-fits os = lines_fit (number_in (value_of Size os)) (number_in (value_of Pages os))
 
 pub loop-place-init : goal.loop-place-init
 loop-place-init c = rw c.new-operands.ensures (refl, nothing c.args.verb, refl)
@@ -25,7 +18,7 @@ returns-then-eq c =
       names = drop (c.loop-place.place + 1) c.args.words.now;
       at = rw dashes at at;
       are = c.loop-place.invariant.1;
-      short = c.loop-place.invariant.2;
+      going = c.loop-place.invariant.2;
     }
 
 pub returns-in_default : goal.returns-in_default
@@ -52,16 +45,16 @@ push-requires c =
     let few = room c.args.verb c.loop-place.operands.items c.in-Some.operand c.loop-place.invariant.1 c.in-Some.ensures.0 (ap (value_of c.in-Some.operand.name) (sym c.deref.ensures.0) ∙ fresh) in
     (omega arith, omega (arith, few))
 
-pub returns-then-not-can_be_short : goal.returns-then-not-can_be_short
-returns-then-not-can_be_short c =
+pub returns-then-not-can_go_on : goal.returns-then-not-can_go_on
+returns-then-not-can_go_on c =
     let at = next_word c.args.words.now c.loop-place.operands.items c.loop-place.place c.index-words-place.result c.loop-place-test.true c.index-words-place.is c.loop-place.invariant.0 in
     let count = count_read c.args.words.now c.loop-place.operands.items c.loop-place.place (omega (arith, c.loop-place-test.true)) c.loop-place.invariant.0 in
     let fresh = none_given (λ v. v.now) c.find_value.result (value_of c.in-Some.operand.name c.deref.result.now) c.is_some.result c.find_value.ensures c.is_some.ensures c.if-is_some.false in
     let more = once_more c.args.verb c.loop-place.operands.items c.in-Some.operand c.loop-place.invariant.1 c.in-Some.ensures.0 (ap (value_of c.in-Some.operand.name) (sym c.deref.ensures.0) ∙ fresh) in
     refused_after c.args.verb c.args.words.now c.loop-place.operands.items c.index-words-place.result _ _ at (ap (λ (n : ℕ). n + 2) (sym count)) c.loop-place.invariant.1 c.loop-place.invariant.2
-    (long_listing c.args.verb c.loop-place.operands.items c.index-words-place.result c.in-Some.operand c.loop-place.invariant.1 more c.in-Some.ensures.0
+    (stuck_with c.args.verb c.loop-place.operands.items c.index-words-place.result c.in-Some.operand c.loop-place.invariant.1 more c.in-Some.ensures.0
     (sym c.as_str-in-loop-place.ensures ∙ sym c.as_bytes.ensures.value ∙ c.in-Some.ensures.1)
-    (ap fits (sym c.push.ensures.items ∙ sym c.deref-in-loop-place.ensures.0) ∙ sym c.can_be_short.ensures ∙ c.if-not-can_be_short.true))
+    (ap can_go_on (sym c.push.ensures.items ∙ sym c.deref-in-loop-place.ensures.0) ∙ sym c.can_go_on.ensures ∙ c.if-not-can_go_on.true))
 
 pub loop-place-preserved : goal.loop-place-preserved
 loop-place-preserved c =
@@ -69,7 +62,7 @@ loop-place-preserved c =
     let more = once_more c.args.verb c.loop-place.operands.items c.in-Some.operand c.loop-place.invariant.1 c.in-Some.ensures.0 (ap (value_of c.in-Some.operand.name) (sym c.deref.ensures.0) ∙ fresh) in
     let read = read_more c.args.words.now c.loop-place.operands.items c.loop-place.place c.index-words-place.result c.in-Some.operand c.loop-place-test.true c.index-words-place.is c.loop-place.invariant.0
     (sym c.as_str-in-loop-place.ensures ∙ sym c.as_bytes.ensures.value ∙ c.in-Some.ensures.1) in
-    let short = ap fits (sym c.push.ensures.items ∙ sym c.deref-in-loop-place.ensures.0) ∙ sym c.can_be_short.ensures ∙ c.if-not-can_be_short.false in
+    let short = ap can_go_on (sym c.push.ensures.items ∙ sym c.deref-in-loop-place.ensures.0) ∙ sym c.can_go_on.ensures ∙ c.if-not-can_go_on.false in
     rw c.push.ensures.items (read, more, short)
 
 pub returns : goal.returns

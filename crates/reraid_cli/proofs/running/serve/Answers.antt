@@ -1,4 +1,5 @@
 use Rattle.run_ends.specs.Jobs.{named, stream}
+use Rattle.reraid_cli.proofs.Mirrors.{are_words}
 use Rattle.reraid_cli.proofs.running.serve.Goals as goal
 
 pub returns-in-Survey-clause-does : goal.returns-in-Survey-clause-does
@@ -32,3 +33,14 @@ pub returns-in-Classes-clause-does : goal.returns-in-Classes-clause-does
 returns-in-Classes-clause-does g c =
     let seen = g.I.Images.seen c.args.images.now in
     rw c.in-Classes.is (c.classes.ensures seen (named c.args.names seen.attached))
+
+pub returns-in-Mirrors-clause-does : goal.returns-in-Mirrors-clause-does
+returns-in-Mirrors-clause-does g c =
+    rw c.in-Mirrors.is (c.mirrors.ensures.does (stream (g.S.Source.left c.args.plan.now) (g.S.Source.faults c.args.plan.now)))
+
+pub returns-in-MirrorWrite-clause-does : goal.returns-in-MirrorWrite-clause-does
+returns-in-MirrorWrite-clause-does g c =
+    rw c.in-MirrorWrite.is (c.mirrorwrite.ensures.does (stream (g.S.Source.left c.args.plan.now) (g.S.Source.faults c.args.plan.now)))
+
+pub returns-in-Salvage-clause-does : goal.returns-in-Salvage-clause-does
+returns-in-Salvage-clause-does g c = rw c.in-Salvage.is c.salvage.ensures.does

@@ -5,7 +5,7 @@ use Rattle.run_ends.specs.declared.stop.Refusal.TheVariants.{Word}
 use Rattle.run_ends.specs.declared.stop.Stop.TheVariants.{ImageFault, OutFault, Refused, SourceFault}
 use Rattle.reraid_cli.specs.Answers.{IsNoted, named_by, refusal, status_by}
 use Rattle.reraid_cli.specs.Table.{job_of}
-use Rattle.reraid_cli.proofs.Runs.{read_does, reading_does, takes_by, takes_ok}
+use Rattle.reraid_cli.proofs.Runs.{some_none, read_does, reading_does, takes_by, takes_ok}
 use Rattle.reraid_cli.proofs.Statuses.{by_refusal, cut_by, eleven_is, fault_is, is_fault, noted, noted_by, noted_none, put_before, put_nothing, read_no_memory, read_nothing, status_some, ten_is, twelve_is}
 use Rattle.reraid_cli.proofs.top.reraid.Goals as goal
 
@@ -22,7 +22,7 @@ returns-in-Ok-clause-note g c exact reading =
 pub returns-in-Ok-clause-order : goal.returns-in-Ok-clause-order
 returns-in-Ok-clause-order g c reading refused is all =
     let does = reading_does c.args.words.now (g.S.Source.left c.args.plan.now) c.in-Ok.ensures.does.0 c.in-Ok.ensures.does.1 c.in-Ok.ensures.does.2 reading in
-    absurd (let none = (does.ends reading.said reading.says).refuses.passes in cc)
+    absurd (some_none refused (sym is ∙ (does.ends reading.said reading.says).refuses.passes))
 
 pub returns-in-Ok-clause-words : goal.returns-in-Ok-clause-words
 returns-in-Ok-clause-words g c number none = absurd (let e = c.in-Ok.ensures.words number none in cc)

@@ -91,12 +91,28 @@ fn headers_of_sgdisk(rt: HostRuntime) {
 #[test]
 fn own_headers(rt: HostRuntime) {
     let header = header_at(1, 16383, 2);
-    assert!(rt; own_table(&header, 1, 16384));
-    assert!(rt; !own_table(&header, 2, 16384));
-    assert!(rt; !own_table(&header, 1, 16385));
+    assert!(rt; own_table(&header, 1, 16384, 1));
+    assert!(rt; !own_table(&header, 2, 16384, 1));
+    assert!(rt; !own_table(&header, 1, 16385, 1));
     let copy = header_at(16383, 1, 16351);
-    assert!(rt; own_table(&copy, 16383, 16384));
-    assert!(rt; !own_table(&copy, 1, 16384));
+    assert!(rt; own_table(&copy, 16383, 16384, 1));
+    assert!(rt; !own_table(&copy, 1, 16384, 1));
+}
+
+// A disk of 64 sectors whose blocks have 4,096 bytes: 8 blocks of 8 sectors.
+#[test]
+fn own_headers_of_large_blocks(rt: HostRuntime) {
+    let header = header_at(1, 7, 2);
+    assert!(rt; own_table(&header, 8, 64, 8));
+    assert!(rt; !own_table(&header, 1, 64, 8));
+    assert!(rt; !own_table(&header, 9, 64, 8));
+    assert!(rt; !own_table(&header, 8, 64, 1));
+    // Blocks to the end, and one that is cut off.
+    assert!(rt; !own_table(&header, 8, 72, 8));
+    assert!(rt; !own_table(&header, 8, 65, 8));
+    let copy = header_at(7, 1, 2);
+    assert!(rt; own_table(&copy, 56, 64, 8));
+    assert!(rt; !own_table(&copy, 7, 64, 8));
 }
 
 // The MyLBA that is read of the header with this size, MyLBA and checksum.

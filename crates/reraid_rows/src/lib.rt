@@ -1,12 +1,15 @@
 //! Tests that run the whole program over objects in memory.
 //!
 //! A run has its words as one line, images and a plan, and a status, an output and a note that were worked out by hand.
-//! `listings`, `checks`, `classes`, `landmarks`, `samples`, `surveys`, `volumes` and `many_images` have answers, `refusals` and
-//! `refused_words` what is refused, and `defaults` operands that are not given. `failing` has each call of each object made to fail in turn, `cut` plans
-//! whose end is missing, and `plan_limits`, `sector_limits` and `image_limits` what stands at both sides of each limit. In
-//! `side_by_side` pieces of a scan wait for each other. That objects are ready for a run stands in `specs/Ready`.
+//! `listings`, `checks`, `classes`, `landmarks`, `samples`, `surveys`, `volumes`, `bases` and `many_images` have answers,
+//! `refusals`, `refused_words` and `long_images` what is refused, and `defaults` operands that are not given. `failing` has each
+//! call of each object made to fail in turn, `cut` plans whose end is missing, and `plan_limits`, `sector_limits` and
+//! `image_limits` what stands at both sides of each limit. In `side_by_side` pieces of a scan wait for each other. That objects
+//! are ready for a run stands in `specs/Ready`.
 #![tactic(auto)]
 
+#[cfg(test)]
+mod bases;
 #[cfg(test)]
 mod checks;
 #[cfg(test)]
@@ -24,7 +27,11 @@ mod landmarks;
 #[cfg(test)]
 mod listings;
 #[cfg(test)]
+mod long_images;
+#[cfg(test)]
 mod many_images;
+#[cfg(test)]
+mod mirrors;
 #[cfg(test)]
 mod objects;
 #[cfg(test)]
@@ -41,6 +48,8 @@ mod refusals;
 mod refused_words;
 #[cfg(test)]
 mod rows;
+#[cfg(test)]
+mod salvages;
 #[cfg(test)]
 mod samples;
 #[cfg(test)]

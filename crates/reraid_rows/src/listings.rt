@@ -1,6 +1,6 @@
 //! Listings whose answers were worked out by hand.
 use crate::plans::{LISTING, ONE_FOREIGN, ONE_LOST, PLAN, PLAN_WITH_A_BAD_ROW, TWO_LEVELS};
-use crate::rows::{Row, STRIPES, check_all};
+use crate::rows::{Row, STRIPES, check, check_all};
 use std::test::Fail;
 
 /// The first listing as JSON.
@@ -75,6 +75,23 @@ const FILTERED: [Row; 7] = [
 #[test]
 fn listings_go_on_to_the_whole_filter(rt: HostRuntime) -> Result<(), Fail> {
     check_all(&rt, rt.alloc(), &FILTERED)
+}
+
+/// Images of which the first begins a sector later than the others.
+const FIRST_LATER: Row = Row {
+    line: "list from=0 size=10 span=18446744073709551615 -- a b c",
+    images: &[&[9, 1, 2], &[3, 4, 9], &[2, 6, 9]],
+    plan: "reraid-plan 2\nimages 3\nlength 3\nlength 3\nlength 3\nend 3\nlevels 5\nmembers 3\npatterns ls\nsyndromes none\nchunks 1\noffsets 0,1\norigins 0\nmissing 0\nforeign 0\nbadrows 0\nwindow 2\nmisfits 0\nleast 1\ndone\n",
+    status: 0,
+    out: "24 5:ls:none:1:1+0+0:0,1,2\n25 5:ls:none:1:1+0+0:0,2,1\n26 5:ls:none:1:1+0+0:1,0,2\n27 5:ls:none:1:1+0+0:1,2,0\n28 5:ls:none:1:1+0+0:2,0,1\n29 5:ls:none:1:1+0+0:2,1,0\nnext 48 of 48\n",
+    notes: "",
+};
+
+// From sector 1 of the first image and 0 of the others on, 1 + 3 + 2 and 2 + 4 + 6 cancel bit by bit; from other sectors on
+// no two rows do. Of the eight lists of offsets, 1, 0, 0 is the fifth, and there are six slot lists for each.
+#[test]
+fn images_with_an_offset_each(rt: HostRuntime) -> Result<(), Fail> {
+    check(&rt, rt.alloc(), &FIRST_LATER)
 }
 
 /// The listings of several pages, and as JSON.

@@ -9,7 +9,7 @@ use std::thread::Threads;
 
 /// Lines with their refused words, counted from 1, or 0 where they are command lines. A refused word is the first with which no
 /// command line goes on, or the one after the last where all of them begin one.
-static LINES: [(&str, u64); 120] = [
+static LINES: [(&str, u64); 124] = [
     // no command, or another spelling of one
     ("", 1),
     (" list -- a", 1),
@@ -174,6 +174,14 @@ static LINES: [(&str, u64); 120] = [
     ("survey drop=0:1,0:2,1:0,23:36028797018963967 -- a", 0),
     ("survey drop=24:0 -- a", 2),
     ("survey drop=0:2,0:1 -- a", 2),
+    // a survey for images with offsets of their own
+    ("survey mode=each foreign=1 -- a", 3),
+    ("survey foreign=1 mode=each -- a", 3),
+    ("survey mode=each offsets=18014398509481984 -- a", 3),
+    (
+        "survey mode=each offsets=18014398509481983 logical=4096 -- a",
+        0,
+    ),
     // after the mark every word is a name
     ("list -- -- size=1 ", 0),
     ("list --", 0),

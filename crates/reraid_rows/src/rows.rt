@@ -131,6 +131,23 @@ pub fn writes_all<R: Threads + Sync + Abort>(
     Ok(())
 }
 
+/// Runs the row over a source of this text, and compares what it puts.
+pub fn writes_by<R: Threads + Sync + Abort>(
+    rt: &R,
+    alloc: Global,
+    row: &Written,
+    text: &str,
+) -> Result<(), Fail> {
+    let contents = images_of(alloc, row.images)?;
+    let out = filled(alloc, row.out)?;
+    let end = End {
+        status: 0,
+        out: &out,
+        notes: b"",
+    };
+    ends_so(rt, alloc, row.line, &contents, text.as_bytes(), &end)
+}
+
 /// Runs the row, and compares what it puts.
 fn writes<R: Threads + Sync + Abort>(rt: &R, alloc: Global, row: &Written) -> Result<(), Fail> {
     let contents = images_of(alloc, row.images)?;

@@ -56,7 +56,7 @@ fn an_array_with_landmarks(rt: HostRuntime) -> Result<(), Fail> {
 }
 
 /// Lines that are refused by a rule of the set, and what is noted.
-const REFUSED: [(&str, &str); 3] = [
+const REFUSED: [(&str, &str); 5] = [
     (
         "sample number=7 set=5:ls:none:8:0:0,1,2 rows=2 marks=xfs --",
         "reraid: set rule 11 value 32\n",
@@ -64,6 +64,15 @@ const REFUSED: [(&str, &str); 3] = [
     (
         "sample number=7 set=5:ls:none:8:0:0,2,- rows=2 --",
         "reraid: set rule 5 value 2\n",
+    ),
+    // The images of a generated array have no offsets of their own, which is the last rule.
+    (
+        "sample number=7 set=5:ls:none:8:0+0+0:0,1,2 rows=2 --",
+        "reraid: set rule 12 value 3\n",
+    ),
+    (
+        "sample number=7 set=5:ls:none:8:0+0+0:0,1,2 rows=2 marks=xfs --",
+        "reraid: set rule 11 value 32\n",
     ),
     // 3 * (699,051 + 1) sectors are 2,097,156.
     (

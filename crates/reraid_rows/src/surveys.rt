@@ -96,6 +96,111 @@ const OWN_COPY: &[Field] = &[
     (84, &[128]),
 ];
 
+/// A header of a partition table of 16 blocks of 4,096 bytes, in block 1, with its copy in block 15.
+const LARGE_BLOCKS: &[Field] = &[
+    (0, b"EFI PART"),
+    (10, &[1]),
+    (12, &[92]),
+    (16, &[0x20, 0xCE, 0x0C, 0x30]),
+    (24, &[1]),
+    (32, &[15]),
+    (72, &[2]),
+    (80, &[4]),
+    (84, &[128]),
+];
+
+/// One entry in use, from block 5 to 12.
+const LARGE_ENTRIES: &[Field] = &[(0, &[1]), (32, &[5]), (40, &[12])];
+
+const LARGE_TABLE: &[Placed] = &[
+    Placed {
+        image: 0,
+        sector: 8,
+        fields: LARGE_BLOCKS,
+    },
+    Placed {
+        image: 0,
+        sector: 16,
+        fields: LARGE_ENTRIES,
+    },
+];
+
+/// A label of LVM2 that names sector 1, and a superblock of btrfs at byte 65,536 of its file system.
+const LABEL: &[Field] = &[(0, b"LABELONE"), (8, &[1]), (24, b"LVM2 001")];
+
+const BTRFS: &[Field] = &[(48, &[0, 0, 1]), (64, b"_BHRfS_M")];
+
+/// The same but for the address and the type.
+const NO_LABEL: &[Field] = &[(0, b"LABELONE"), (8, &[1]), (24, b"LVM2 002")];
+
+const NO_BTRFS: &[Field] = &[(48, &[1, 0, 1]), (64, b"_BHRfS_M")];
+
+const VOLUMES: &[Placed] = &[
+    Placed {
+        image: 0,
+        sector: 3,
+        fields: LABEL,
+    },
+    Placed {
+        image: 0,
+        sector: 130,
+        fields: BTRFS,
+    },
+];
+
+const NO_VOLUMES: &[Placed] = &[
+    Placed {
+        image: 0,
+        sector: 3,
+        fields: NO_LABEL,
+    },
+    Placed {
+        image: 0,
+        sector: 130,
+        fields: NO_BTRFS,
+    },
+];
+
+/// A superblock of ext4 with blocks of 4,096 bytes, 32,768 a group, and its copies in groups 1 and 3.
+const EXT: &[Field] = &[(24, &[2]), (33, &[128]), (56, &[0x53, 0xEF]), (76, &[1])];
+
+const EXT_ONE: &[Field] = &[
+    (24, &[2]),
+    (33, &[128]),
+    (56, &[0x53, 0xEF]),
+    (76, &[1]),
+    (90, &[1]),
+];
+
+const EXT_THREE: &[Field] = &[
+    (24, &[2]),
+    (33, &[128]),
+    (56, &[0x53, 0xEF]),
+    (76, &[1]),
+    (90, &[3]),
+];
+
+const COPIES: &[Placed] = &[
+    Placed {
+        image: 0,
+        sector: 2,
+        fields: EXT,
+    },
+    Placed {
+        image: 0,
+        sector: 100,
+        fields: EXT_ONE,
+    },
+    Placed {
+        image: 0,
+        sector: 200,
+        fields: EXT_THREE,
+    },
+];
+
+/// The length of an image of 400 sectors.
+const FOUR_HUNDRED: &[usize] = &[204_800];
+
 const TABLE: &[Placed] = &[
     Placed {
         image: 0,
@@ -265,7 +370,19 @@ fn group(number: usize) -> [Placed<'static>; 3] {
 }
 
 /// The surveys of partition tables.
-const TABLES: [Surveyed; 6] = [
+const TABLES: [Surveyed; 8] = [
+    Surveyed {
+        line: "survey logical=4096 origins=0 -- a b",
+        lengths: SMALL,
+        placed: LARGE_TABLE,
+        plan: "reraid-plan 1\nimages 2\nlength 64\nlength 64\nend 64\nlevels 0,5,6\nmembers 2\npatterns plain,la,ra,ls,rs,parity-first,parity-last,n-restart,n-continue,la-6,ra-6,ls-6,rs-6,parity-first-6\nsyndromes none,after-q,by-data,by-slot\nchunks 8,16,32,64,128,256,512,1024,2048\noffsets 0,2048,262144,264192\norigins 0,40\nmissing 0\nforeign 0\nbadrows 0\nwindow 64\nmisfits 0\nleast 1\ngroup gpt\nmark gpt 0 8 at:8\ndone\n",
+    },
+    Surveyed {
+        line: "survey origins=0 -- a b",
+        lengths: SMALL,
+        placed: LARGE_TABLE,
+        plan: "reraid-plan 1\nimages 2\nlength 64\nlength 64\nend 64\nlevels 0,5,6\nmembers 2\npatterns plain,la,ra,ls,rs,parity-first,parity-last,n-restart,n-continue,la-6,ra-6,ls-6,rs-6,parity-first-6\nsyndromes none,after-q,by-data,by-slot\nchunks 8,16,32,64,128,256,512,1024,2048\noffsets 0,2048,262144,264192\norigins 0\nmissing 0\nforeign 0\nbadrows 0\nwindow 64\nmisfits 0\nleast 1\ngroup gpt\nmark gpt 0 8 at:1\ndone\n",
+    },
     Surveyed {
         line: "survey origins=0 -- a b",
         lengths: SMALL,
@@ -310,7 +427,37 @@ fn tables_become_a_plan(rt: HostRuntime) -> Result<(), Fail> {
 }
 
 /// The surveys of file systems.
-const FILE_SYSTEMS: [Surveyed; 2] = [
+const FILE_SYSTEMS: [Surveyed; 7] = [
+    Surveyed {
+        line: "survey -- a",
+        lengths: FOUR_HUNDRED,
+        placed: VOLUMES,
+        plan: "reraid-plan 1\nimages 1\nlength 400\nend 400\nlevels 0,5,6\nmembers 2\npatterns plain,la,ra,ls,rs,parity-first,parity-last,n-restart,n-continue,la-6,ra-6,ls-6,rs-6,parity-first-6\nsyndromes none,after-q,by-data,by-slot\nchunks 8,16,32,64,128,256,512,1024,2048\noffsets 0,2048,262144,264192\norigins 0,2048\nmissing 0\nforeign 0\nbadrows 0\nwindow 400\nmisfits 0\nleast 1\ngroup btrfs\nmark btrfs 0 130 at:128\ngroup lvm\nmark lvm 0 3 at:1\ndone\n",
+    },
+    Surveyed {
+        line: "survey -- a",
+        lengths: FOUR_HUNDRED,
+        placed: NO_VOLUMES,
+        plan: "reraid-plan 1\nimages 1\nlength 400\nend 400\nlevels 0,5,6\nmembers 2\npatterns plain,la,ra,ls,rs,parity-first,parity-last,n-restart,n-continue,la-6,ra-6,ls-6,rs-6,parity-first-6\nsyndromes none,after-q,by-data,by-slot\nchunks 8,16,32,64,128,256,512,1024,2048\noffsets 0,2048,262144,264192\norigins 0,2048\nmissing 0\nforeign 0\nbadrows 0\nwindow 400\nmisfits 0\nleast 1\ndone\n",
+    },
+    Surveyed {
+        line: "survey kinds=lvm -- a",
+        lengths: FOUR_HUNDRED,
+        placed: VOLUMES,
+        plan: "reraid-plan 1\nimages 1\nlength 400\nend 400\nlevels 0,5,6\nmembers 2\npatterns plain,la,ra,ls,rs,parity-first,parity-last,n-restart,n-continue,la-6,ra-6,ls-6,rs-6,parity-first-6\nsyndromes none,after-q,by-data,by-slot\nchunks 8,16,32,64,128,256,512,1024,2048\noffsets 0,2048,262144,264192\norigins 0,2048\nmissing 0\nforeign 0\nbadrows 0\nwindow 400\nmisfits 0\nleast 1\ngroup lvm\nmark lvm 0 3 at:1\ndone\n",
+    },
+    Surveyed {
+        line: "survey mode=each -- a",
+        lengths: FOUR_HUNDRED,
+        placed: VOLUMES,
+        plan: "reraid-plan 2\nimages 1\nlength 400\nend 400\nlevels 0,5,6\nmembers 2\npatterns plain,la,ra,ls,rs,parity-first,parity-last,n-restart,n-continue,la-6,ra-6,ls-6,rs-6,parity-first-6\nsyndromes none,after-q,by-data,by-slot\nchunks 8,16,32,64,128,256,512,1024,2048\noffsets 0,2048,262144,264192\norigins 0,2048\nmissing 0\nforeign 0\nbadrows 0\nwindow 400\nmisfits 0\nleast 1\ngroup btrfs\nmark btrfs 0 130 at:128\ngroup lvm\nmark lvm 0 3 at:1\ndone\n",
+    },
+    Surveyed {
+        line: "survey kinds=ext -- a",
+        lengths: FOUR_HUNDRED,
+        placed: COPIES,
+        plan: "reraid-plan 1\nimages 1\nlength 400\nend 400\nlevels 0,5,6\nmembers 2\npatterns plain,la,ra,ls,rs,parity-first,parity-last,n-restart,n-continue,la-6,ra-6,ls-6,rs-6,parity-first-6\nsyndromes none,after-q,by-data,by-slot\nchunks 8,16,32,64,128,256,512,1024,2048\noffsets 0,2048,262144,264192\norigins 0,2048\nmissing 0\nforeign 0\nbadrows 0\nwindow 400\nmisfits 0\nleast 1\ngroup ext\nmark ext 0 100 at:262144\nmark ext 0 200 at:786432\ndone\n",
+    },
     Surveyed {
         line: "survey -- a",
         lengths: ONE,

@@ -1,19 +1,19 @@
 -- Plans of the tests: a test of each rule, and images of their lengths.
-use Rattle.std.proofs.Common.{ℕ, zero, suc, ◌≡◌, ◌<◌, ◌≤◌, ◌+◌, ◌^◌, Bool, true, ◌&&◌, nat_le, nat_lt, List, [], ◌∷◌, length, map, refl, sym, arith, All, IsTrue, subst, get_or, None, Some, ap, ◌∙◌}
+use Rattle.std.proofs.Common.{ℕ, zero, suc, ◌≡◌, ◌<◌, ◌≤◌, ◌+◌, ◌^◌, Bool, true, false, not, ◌&&◌, nat_le, nat_lt, List, [], ◌∷◌, length, map, refl, sym, arith, All, IsTrue, subst, get_or, None, Some, ap, ◌∙◌}
 use Rattle.std.specs.List.{slice_get}
 use Rattle.std.specs.Option.{option_map}
 use Rattle.outside.specs.Seen.{Image}
 use Rattle.std.specs.List.{slice_index}
 use Rattle.std.specs.List.Sorted.{IsStrictlyIncreasing}
-use Rattle.std.proofs.lemmas.Bool.{and_parts, leb-true, ltb-true}
+use Rattle.std.proofs.lemmas.Bool.{and_parts, false≢true, leb-true, ltb-true}
 use Rattle.std.proofs.lemmas.List.Elements.{All-cons, All-nil}
 use Rattle.std.proofs.lemmas.List.Sorted.{IsNonDecreasingBy-short}
 use Rattle.landmark_rules.specs.Groups.{AreGroups, IsMark, group_place, kind_place, mark_place, marks_in, most_groups}
 use Rattle.landmark_rules.specs.declared.marks.Group.{Group}
 use Rattle.mark_kinds.specs.declared.groups.GroupKind.{GroupKind}
-use Rattle.mark_kinds.specs.declared.groups.GroupKind.TheVariants.{Gpt as GptGroup, Ntfs, Xfs}
+use Rattle.mark_kinds.specs.declared.groups.GroupKind.TheVariants.{Gpt as GptGroup, Ntfs, Xfs, Btrfs, Lvm, Ext}
 use Rattle.mark_kinds.specs.declared.sectors.Kind.{Kind}
-use Rattle.mark_kinds.specs.declared.sectors.Kind.TheVariants.{Gpt, Boot, FileRecord, Super, Agf, Agi}
+use Rattle.mark_kinds.specs.declared.sectors.Kind.TheVariants.{Gpt, Boot, FileRecord, Super, Agf, Agi, Btrfs as BtrfsMark, Lvm as LvmMark, Ext as ExtMark}
 use Rattle.landmark_rules.specs.declared.marks.Mark.{Mark}
 use Rattle.landmark_rules.specs.declared.marks.Rule.TheVariants.{At}
 use Rattle.std.specs.Prelude.{◌==◌, IsSomeAnd, count_by}
@@ -91,6 +91,7 @@ rules_of plan =
     ∷ every (λ n. nat_lt n (2 ^ 55)) plan.tests.origins.items
     ∷ nat_lt plan.tests.misfits (2 ^ 55)
     ∷ nat_lt plan.tests.least (2 ^ 55)
+    ∷ not plan.each
     ∷ []
 
 unfoldable pub keeps_rules : Plan → Bool
@@ -141,6 +142,7 @@ from_rules plan are t = record {
     least = ltb-true plan.tests.least (2 ^ 55) (t 23);
   };
   groups = are;
+  each = λ e. absurd (false≢true (sym (ap not e) ∙ t 24));
 }
 
 -- the plan of these lists and numbers
@@ -161,6 +163,7 @@ plan_with lengths end levels members patterns syndromes chunks offsets missing f
   limits = record { badrows = badrows; window = window };
   tests = record { origins = record { items = origins }; misfits = misfits; least = least };
   groups = groups;
+  each = false;
 }
 
 -- a plan of lists that keep the rules
@@ -183,6 +186,7 @@ with_badrows plan badrows few is = record {
   limits = record { badrows = few; some_window = is.limits.some_window; window = is.limits.window };
   tests = is.tests;
   groups = is.groups;
+  each = is.each;
 }
 
 -- images that have these lengths one by one, and no more, have these lengths
@@ -224,6 +228,9 @@ headers_are lengths second third = record {
     few GptGroup = omega arith
     few Ntfs = omega arith
     few Xfs = omega arith
+    few Btrfs = omega arith
+    few Lvm = omega arith
+    few Ext = omega arith
 
     few_marks : (kind : Kind) → count_by (λ mark. kind_place mark.kind == kind_place kind) (marks_in headers) ≤ MOST_MARKS
     few_marks Gpt = omega arith
@@ -232,3 +239,6 @@ headers_are lengths second third = record {
     few_marks Super = omega arith
     few_marks Agf = omega arith
     few_marks Agi = omega arith
+    few_marks BtrfsMark = omega arith
+    few_marks LvmMark = omega arith
+    few_marks ExtMark = omega arith

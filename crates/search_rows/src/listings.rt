@@ -107,7 +107,11 @@ fn read_by_page<R: Threads + Sync + AllocGlobal + Abort>(
 {
     let mut counted = Counted::new(images);
     let made = page_of(rt, &mut counted, plan, 100).expect(rt, "a page");
-    (made.lines.as_slice().len(), made.next, counted.all_reads())
+    let reads = counted
+        .reads()
+        .iter()
+        .fold(0, |all: u64, one| all.saturating_add(*one));
+    (made.lines.as_slice().len(), made.next, reads)
 }
 
 // Four images of one sector: the tables of rows take a reading of each, and leave 18 sets. One scan of these reads at most 64 samples

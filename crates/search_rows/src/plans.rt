@@ -39,6 +39,7 @@ pub fn two_levels(alloc: Global) -> Plan
             least: 2,
         },
         groups: Groups::new(alloc),
+        each: false,
     }
 }
 
@@ -69,6 +70,7 @@ pub fn one_missing(alloc: Global) -> Plan
             least: 2,
         },
         groups: Groups::new(alloc),
+        each: false,
     }
 }
 
@@ -122,6 +124,7 @@ pub fn largest(alloc: Global) -> Plan
             least: 2,
         },
         groups: Groups::new(alloc),
+        each: false,
     }
 }
 
@@ -153,6 +156,7 @@ pub fn three_of_two(alloc: Global) -> Plan
             least: 1,
         },
         groups: Groups::new(alloc),
+        each: false,
     }
 }
 
@@ -197,6 +201,7 @@ pub fn four_of_one(alloc: Global) -> Plan
             least: 1,
         },
         groups: Groups::new(alloc),
+        each: false,
     }
 }
 
@@ -227,6 +232,7 @@ pub fn four_with_each_order(alloc: Global) -> Plan
             least: 1,
         },
         groups: Groups::new(alloc),
+        each: false,
     }
 }
 
@@ -277,6 +283,7 @@ pub fn two_headers(alloc: Global) -> Result<Plan, Fail>
             least: 1,
         },
         groups,
+        each: false,
     })
 }
 
@@ -315,6 +322,7 @@ pub fn two_headers_of_four(alloc: Global) -> Result<Plan, Fail>
             least: 1,
         },
         groups,
+        each: false,
     })
 }
 
@@ -343,5 +351,6 @@ pub fn three_rows(alloc: Global, end: u64, window: u64) -> Plan
             least: 1,
         },
         groups: Groups::new(alloc),
+        each: false,
     }
 }

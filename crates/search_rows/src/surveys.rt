@@ -1,12 +1,12 @@
 //! Surveys over images in memory. Checksums of headers were computed by zlib.
-ghost use Rattle.std.specs.Prelude.{◌≡◌, [], ◌∷◌, ◌+◌, ◌≤◌, ◌<◌, ◌^◌, length, All, IsSomeAnd, IsTrue, slice_get};
+ghost use Rattle.std.specs.Prelude.{◌≡◌, false, [], ◌∷◌, ◌+◌, ◌≤◌, ◌<◌, ◌^◌, length, All, IsSomeAnd, IsTrue, slice_get};
 ghost use Rattle.image_source.specs.Memory.{seen_of};
 ghost use Rattle.survey_engine.specs.Surveys.{IsAsk};
 
 use crate::objects::four_images;
 use arrayvec::ArrayVec;
 use image_source::MemImages;
-use landmark_rules::{Kind, Mark, MarkTests, Rule};
+use landmark_rules::{GroupKind, Kind, Mark, MarkTests, Rule};
 use outside::Images;
 use raid_params::{Bounds, Level, Pattern, SECTORS_END, Syndrome};
 use search_plan::{DropAt, Kinds, Limits, Plan};
@@ -41,6 +41,16 @@ const OWN_LAST: [u8; 92] = [
     0x01, 0x00, 0x00, 0x00, 0x00, 0x00, 0x00, 0x00, 0x00, 0x00, 0x00, 0x00, 0x00, 0x00, 0x00, 0x00,
     0x00, 0x00, 0x00, 0x00, 0x00, 0x00, 0x00, 0x00, 0x01, 0x02, 0x03, 0x04, 0x05, 0x06, 0x07, 0x08,
     0x09, 0x0a, 0x0b, 0x0c, 0x0d, 0x0e, 0x0f, 0x10, 0x20, 0x00, 0x00, 0x00, 0x00, 0x00, 0x00, 0x00,
+    0x80, 0x00, 0x00, 0x00, 0x80, 0x00, 0x00, 0x00, 0x00, 0x00, 0x00, 0x00,
+];
+
+// MyLBA 1, AlternateLBA 15, the entries from block 2 on: a table of a volume of 16 blocks of 4,096 bytes.
+const LARGE_BLOCKS: [u8; 92] = [
+    0x45, 0x46, 0x49, 0x20, 0x50, 0x41, 0x52, 0x54, 0x00, 0x00, 0x01, 0x00, 0x5c, 0x00, 0x00, 0x00,
+    0x52, 0xc6, 0x29, 0xaa, 0x00, 0x00, 0x00, 0x00, 0x01, 0x00, 0x00, 0x00, 0x00, 0x00, 0x00, 0x00,
+    0x0f, 0x00, 0x00, 0x00, 0x00, 0x00, 0x00, 0x00, 0x00, 0x00, 0x00, 0x00, 0x00, 0x00, 0x00, 0x00,
+    0x00, 0x00, 0x00, 0x00, 0x00, 0x00, 0x00, 0x00, 0x01, 0x02, 0x03, 0x04, 0x05, 0x06, 0x07, 0x08,
+    0x09, 0x0a, 0x0b, 0x0c, 0x0d, 0x0e, 0x0f, 0x10, 0x02, 0x00, 0x00, 0x00, 0x00, 0x00, 0x00, 0x00,
     0x80, 0x00, 0x00, 0x00, 0x80, 0x00, 0x00, 0x00, 0x00, 0x00, 0x00, 0x00,
 ];
 
@@ -94,13 +104,14 @@ fn one<T: Copy + Default, const N: usize>(value: T) -> ArrayVec<T, N>
     list
 }
 
-// All kinds, one offset, origin 0, no drops.
+// The kinds that are usual, blocks of 512 bytes, one offset, origin 0, no drops.
 #[tactic(auto, using(crate::proofs::TestAsks::bounds_are, crate::proofs::TestAsks::tests_are))]
 fn ask(offset: u64, end: u64) -> Ask
     requires { offset < 2 ^ 55 }
     ensures limits { IsAsk result }
     ensures end { result.end ≡ end }
     ensures drops { result.drops.items ≡ [] }
+    ensures each { result.each ≡ false }
 {
     let bounds = Bounds {
         levels: one(Level::Raid0),
@@ -125,12 +136,10 @@ fn ask(offset: u64, end: u64) -> Ask
             window: 1,
         },
         tests,
-        kinds: Kinds {
-            gpt: true,
-            ntfs: true,
-            xfs: true,
-        },
+        kinds: Kinds::usual(),
         drops: ArrayVec::new(),
+        each: false,
+        unit: 1,
     }
 }
 
@@ -167,6 +176,7 @@ fn plan_of<R: Abort + AllocGlobal>(
     requires some { 1 ≤ count }
     requires most { count ≤ 24 }
     requires limits { IsAsk ask.now }
+    requires each { ask.now.each ≡ false }
 {
     assert!(rt; are_long(images, count, ask.end));
     Ok(survey(rt.alloc(), images, ask)?)
@@ -204,7 +214,8 @@ fn a_table<R: AllocGlobal>(rt: &R, identifier: u8) -> Result<MemImages, Fail> {
 
 // Whether a survey of such a table finds none.
 fn finds_nothing<R: Abort + AllocGlobal>(rt: &R, identifier: u8, ask: &Ask) -> Result<bool, Fail>
-    requires { IsAsk ask.now }
+    requires limits { IsAsk ask.now }
+    requires each { ask.now.each ≡ false }
 {
     let mut images = a_table(rt, identifier)?;
     let plan = plan_of(rt, &mut images, 2, ask)?;
@@ -215,6 +226,33 @@ fn finds_nothing<R: Abort + AllocGlobal>(rt: &R, identifier: u8, ask: &Ask) -> R
 fn plan_of_table<R: Abort + AllocGlobal>(rt: &R) -> Result<Plan, Fail> {
     let mut images = a_table(rt, 1)?;
     plan_of(rt, &mut images, 2, &ask(0, 64))
+}
+
+// Two images of 64 sectors, zero but for a header in sector 8 of the first, and an entry of blocks 5 to 12 in
+// sector 16.
+fn a_table_of_large_blocks<R: AllocGlobal>(rt: &R) -> Result<MemImages, Fail> {
+    let zeros = vec![in rt.alloc(); 0u8; 32_768]?;
+    let mut first = vec![in rt.alloc(); 0u8; 32_768]?;
+    put(&mut first, 4096, &LARGE_BLOCKS);
+    put(&mut first, 8192, &[1]);
+    put(&mut first, 8224, &[5, 0, 0, 0, 0, 0, 0, 0, 12]);
+    two_images(rt, &first, &zeros)
+}
+
+// Blocks of 4,096 bytes are 8 sectors: so are distances, and the entries lie 8 sectors on.
+#[test]
+fn a_table_may_have_large_blocks(rt: HostRuntime) -> Result<(), Fail> {
+    let mut large = ask(0, 64);
+    large.unit = 8;
+    let mut images = a_table_of_large_blocks(&rt)?;
+    let plan = plan_of(&rt, &mut images, 2, &large)?;
+    assert_eq!(rt; plan.tests.origins.as_slice(), [0, 40].as_slice());
+    assert!(rt; has_marks(&plan, 1, &[(Kind::Gpt, 0, 8, Rule::At(8))]));
+    let mut images = a_table_of_large_blocks(&rt)?;
+    let plan = plan_of(&rt, &mut images, 2, &ask(0, 64))?;
+    assert_eq!(rt; plan.tests.origins.as_slice(), [0].as_slice());
+    assert!(rt; has_marks(&plan, 1, &[(Kind::Gpt, 0, 8, Rule::At(1))]));
+    Ok(())
 }
 
 #[test]
@@ -394,6 +432,148 @@ fn an_xfs_has_its_groups(rt: HostRuntime) -> Result<(), Fail> {
     let mut images = members(&rt)?;
     let plan = plan_of(&rt, &mut images, 4, &ask(0, 640))?;
     assert!(rt; has_marks(&plan, 12, &FIRST_MARKS));
+    Ok(())
+}
+
+// A superblock of btrfs with that address, and a label of LVM2 with sector 1.
+const BTRFS: &[Field] = &[(48, &[0, 0, 1]), (64, b"_BHRfS_M")];
+
+const NO_BTRFS: &[Field] = &[(48, &[1, 0, 1]), (64, b"_BHRfS_M")];
+
+const LABEL: &[Field] = &[(0, b"LABELONE"), (8, &[1]), (24, b"LVM2 001")];
+
+const NO_LABEL: &[Field] = &[(0, b"LABELONE"), (8, &[1]), (24, b"LVM2 002")];
+
+// Whether group `number` of a plan is of this kind and has just these marks.
+fn is_group(plan: &Plan, number: usize, kind: GroupKind, lines: &[Line]) -> bool {
+    match plan.groups.as_slice().get(number) {
+        Some(group) => {
+            let marks = group.marks.as_slice();
+            let mut same = group.kind.is_same(kind) && marks.len() == lines.len();
+            for (place, line) in lines.iter().enumerate() {
+                same = same && marks.get(place).is_some_and(|mark| is_mark(mark, line));
+            }
+            same
+        }
+        None => false,
+    }
+}
+
+// The plan of an image of 400 sectors, zero but for these fields of these sectors.
+fn plan_of_fields<R: Abort + AllocGlobal>(
+    rt: &R,
+    sectors: &[(usize, &'static [Field])],
+    kinds: Kinds,
+) -> Result<Plan, Fail> {
+    let mut bytes = vec![in rt.alloc(); 0u8; 204_800]?;
+    for (sector, fields) in sectors {
+        put_all(&mut bytes, sector.saturating_mul(512), fields);
+    }
+    let mut images = one_image(rt, &bytes)?;
+    let mut asked = ask(0, 400);
+    asked.kinds = kinds;
+    plan_of(rt, &mut images, 1, &asked)
+}
+
+const BTRFS_LINE: Line = (Kind::Btrfs, 0, 130, Rule::At(128));
+
+const LABEL_LINE: Line = (Kind::Lvm, 0, 3, Rule::At(1));
+
+#[test]
+fn btrfs_and_lvm2_have_groups(rt: HostRuntime) -> Result<(), Fail> {
+    let plan = plan_of_fields(&rt, &[(3, LABEL), (130, BTRFS)], Kinds::usual())?;
+    assert_eq!(rt; plan.groups.as_slice().len(), 2);
+    assert!(rt; is_group(&plan, 0, GroupKind::Btrfs, &[BTRFS_LINE]));
+    assert!(rt; is_group(&plan, 1, GroupKind::Lvm, &[LABEL_LINE]));
+    Ok(())
+}
+
+// Not with another address, or another type.
+#[test]
+fn other_sectors_of_theirs_have_none(rt: HostRuntime) -> Result<(), Fail> {
+    let plan = plan_of_fields(&rt, &[(3, NO_LABEL), (130, NO_BTRFS)], Kinds::usual())?;
+    assert!(rt; plan.groups.as_slice().is_empty());
+    Ok(())
+}
+
+// Only the kinds that are asked for; a sector is of its kind whether it is asked for or not.
+#[test]
+fn kinds_may_not_be_asked_for(rt: HostRuntime) -> Result<(), Fail> {
+    let labels = Kinds::among(&[GroupKind::Lvm]);
+    let plan = plan_of_fields(&rt, &[(3, LABEL), (130, BTRFS)], labels)?;
+    assert_eq!(rt; plan.groups.as_slice().len(), 1);
+    assert!(rt; is_group(&plan, 0, GroupKind::Lvm, &[LABEL_LINE]));
+    let supers = Kinds::among(&[GroupKind::Btrfs]);
+    let sectors = [(3, LABEL), (3, BTRFS), (130, AGF), (130, BTRFS)];
+    let plan = plan_of_fields(&rt, &sectors, supers)?;
+    assert!(rt; plan.groups.as_slice().is_empty());
+    Ok(())
+}
+
+// Each label is a group of its own, those of one btrfs are one.
+#[test]
+fn labels_do_not_join(rt: HostRuntime) -> Result<(), Fail> {
+    let sectors = [(3, LABEL), (5, LABEL), (130, BTRFS), (140, BTRFS)];
+    let plan = plan_of_fields(&rt, &sectors, Kinds::usual())?;
+    assert_eq!(rt; plan.groups.as_slice().len(), 3);
+    let copy = (Kind::Btrfs, 0, 140, Rule::At(128));
+    assert!(rt; is_group(&plan, 0, GroupKind::Btrfs, &[BTRFS_LINE, copy]));
+    assert!(rt; is_group(&plan, 1, GroupKind::Lvm, &[LABEL_LINE]));
+    assert!(rt; is_group(&plan, 2, GroupKind::Lvm, &[(Kind::Lvm, 0, 5, Rule::At(1))]));
+    Ok(())
+}
+
+// The head of an allocation group.
+const AGF: &[Field] = &[(0, b"XAGF\x00\x00\x00\x01")];
+
+// A copy of a superblock of ext4 with blocks of 4,096 bytes, 32,768 a group, but for its group.
+const COPY: &[Field] = &[(24, &[2]), (33, &[128]), (56, &[0x53, 0xef]), (76, &[1])];
+
+// Its group, and what makes it no copy that tells its place: larger blocks, a later group, no blocks.
+const GROUP_ONE: &[Field] = &[(90, &[1])];
+
+const GROUP_THREE: &[Field] = &[(90, &[3])];
+
+const LATER_GROUP: &[Field] = &[(90, &[255, 255])];
+
+const LARGER_BLOCKS: &[Field] = &[(24, &[7])];
+
+const NO_BLOCKS: &[Field] = &[(33, &[0])];
+
+// The superblock itself, which is of group 0, makes no mark.
+#[test]
+fn copies_of_ext_have_a_group(rt: HostRuntime) -> Result<(), Fail> {
+    let sectors = [
+        (2, COPY),
+        (100, COPY),
+        (100, GROUP_ONE),
+        (200, COPY),
+        (200, GROUP_THREE),
+    ];
+    let plan = plan_of_fields(&rt, &sectors, Kinds::among(&[GroupKind::Ext]))?;
+    assert_eq!(rt; plan.groups.as_slice().len(), 1);
+    let first = (Kind::Ext, 0, 100, Rule::At(262_144));
+    let second = (Kind::Ext, 0, 200, Rule::At(786_432));
+    assert!(rt; is_group(&plan, 0, GroupKind::Ext, &[first, second]));
+    let plan = plan_of_fields(&rt, &sectors, Kinds::usual())?;
+    assert!(rt; plan.groups.as_slice().is_empty());
+    Ok(())
+}
+
+// Whether a survey for ext of these sectors finds none.
+fn finds_no_copy<R: Abort + AllocGlobal>(
+    rt: &R,
+    sectors: &[(usize, &'static [Field])],
+) -> Result<bool, Fail> {
+    let plan = plan_of_fields(rt, sectors, Kinds::among(&[GroupKind::Ext]))?;
+    Ok(plan.groups.as_slice().is_empty())
+}
+
+#[test]
+fn copies_that_tell_no_place_have_none(rt: HostRuntime) -> Result<(), Fail> {
+    assert!(rt; finds_no_copy(&rt, &[(9, COPY), (9, GROUP_ONE), (9, LARGER_BLOCKS)])?);
+    assert!(rt; finds_no_copy(&rt, &[(9, COPY), (9, LATER_GROUP)])?);
+    assert!(rt; finds_no_copy(&rt, &[(9, COPY), (9, GROUP_ONE), (9, NO_BLOCKS)])?);
     Ok(())
 }
 

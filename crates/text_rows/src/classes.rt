@@ -2,7 +2,7 @@
 use std::alloc::Global;
 use std::process::Abort;
 use std::test::Fail;
-use value_text::read_set;
+use value_text::read_common_set;
 use volume_classes::{ClassFault, classes, same_volume};
 
 /// Four sets over three images. The first two have their parity on image 2, the third has none, and all three read images 0
@@ -59,6 +59,13 @@ fn the_third_row_tells_two_orders_of_q_apart(rt: HostRuntime) -> Result<(), Fail
 }
 
 #[test]
+fn a_set_with_bases_is_refused(rt: HostRuntime) {
+    let list = b"0 5:ls:none:1:0:0,1,2\n1 5:ls:none:1:0+0+0:0,1,2\n";
+    let fault = classes(rt.alloc(), list, 3, 2).err();
+    assert_eq!(rt; fault, Some(ClassFault::Line(2)));
+}
+
+#[test]
 fn a_set_without_a_row_is_refused(rt: HostRuntime) {
     let fault = classes(rt.alloc(), b"0 5:ls:none:1:2:0,1,2\n", 3, 2).err();
     assert_eq!(rt; fault, Some(ClassFault::Line(1)));
@@ -66,8 +73,8 @@ fn a_set_without_a_row_is_refused(rt: HostRuntime) {
 
 #[test]
 fn the_third_row_tells_two_sets_apart(rt: HostRuntime) -> Result<(), Fail> {
-    let one = read_set(b"6:ls:after-q:1:0:-,-,0,1").ok_or("a set")?;
-    let other = read_set(b"6:ls:by-slot:1:0:-,-,0,1").ok_or("a set")?;
+    let one = read_common_set(b"6:ls:after-q:1:0:-,-,0,1").ok_or("a set")?;
+    let other = read_common_set(b"6:ls:by-slot:1:0:-,-,0,1").ok_or("a set")?;
     assert!(rt; one.validate(2, 2).is_ok() && other.validate(2, 2).is_ok());
     assert!(rt; same_volume(&one, &other, 2, 2));
     assert!(rt; one.validate(2, 3).is_ok() && other.validate(2, 3).is_ok());

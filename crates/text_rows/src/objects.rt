@@ -1,10 +1,12 @@
 //! Lines as they are to be read, written out by hand.
+use arrayvec::ArrayVec;
 use json_lines::{json_line, json_next};
-use raid_params::{Geometry, Head, Level, Pattern, Slots, Syndrome};
+use raid_params::{Geometry, Head, Level, Pattern, Slots, Syndrome, Wide};
 use std::test::Fail;
+use value_text::read_set;
 
 /// Four members, of which the second is missing.
-fn one_missing() -> Geometry {
+fn one_missing() -> Wide {
     let mut slots = Slots::new();
     slots.push(Some(0));
     slots.push(None);
@@ -18,7 +20,10 @@ fn one_missing() -> Geometry {
         chunk: 128,
         offset: 2048,
     };
-    Geometry { head, slots }
+    Wide {
+        geo: Geometry { head, slots },
+        bases: ArrayVec::new(),
+    }
 }
 
 /// Its line.
@@ -36,5 +41,17 @@ fn a_set(rt: HostRuntime) -> Result<(), Fail> {
 fn where_the_next_page_begins(rt: HostRuntime) -> Result<(), Fail> {
     let next = json_next(rt.alloc(), 8, 18)?;
     assert!(rt; next.as_slice() == b"{\"next\":8,\"total\":18}\n".as_slice());
+    Ok(())
+}
+
+/// The line of a set in which the data of the first image begin one sector after those of the others.
+const APART: &[u8] =
+    b"{\"chunk\":1,\"level\":5,\"name\":\"left-symmetric\",\"offset\":[1,0,0],\"pattern\":\"ls\",\"rank\":24,\"slots\":[0,1,2],\"syndrome\":\"none\"}\n";
+
+#[test]
+fn a_set_with_bases(rt: HostRuntime) -> Result<(), Fail> {
+    let set = read_set(b"5:ls:none:1:1+0+0:0,1,2").ok_or("a set")?;
+    let line = json_line(rt.alloc(), 24, &set)?;
+    assert!(rt; line.as_slice() == APART);
     Ok(())
 }

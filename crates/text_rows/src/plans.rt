@@ -1,7 +1,7 @@
 //! That plans and sets are read and written, and at which line texts one step off are refused.
 use arrayvec::ArrayVec;
 use plan_text::{PlanFault, Text, read_plan, read_set, set_line, write_plan, write_set};
-use raid_params::{Geometry, Head, Level, Pattern, Syndrome};
+use raid_params::{Geometry, Head, Level, Pattern, Syndrome, Wide};
 use search_plan::Plan;
 use std::alloc::Global;
 use std::process::Abort;
@@ -145,7 +145,7 @@ fn one_mark_too_many_is_refused_at_its_line(rt: HostRuntime) -> Result<(), Fail>
 }
 
 /// Four members, of which the first is missing.
-fn one_missing() -> Geometry {
+fn one_missing() -> Wide {
     let mut slots = ArrayVec::new();
     slots.push(None);
     slots.push(Some(11));
@@ -159,7 +159,10 @@ fn one_missing() -> Geometry {
         chunk: 128,
         offset: 2048,
     };
-    Geometry { head, slots }
+    Wide {
+        geo: Geometry { head, slots },
+        bases: ArrayVec::new(),
+    }
 }
 
 #[test]
@@ -195,7 +198,7 @@ fn is_one_missing(geo: &Geometry) -> bool {
 #[test]
 fn a_set_is_read(rt: HostRuntime) -> Result<(), Fail> {
     let read = read_set(b"6:n-restart:by-slot:128:2048:-,11,0,3");
-    assert!(rt; read.is_some_and(|geo| is_one_missing(&geo)));
+    assert!(rt; read.is_some_and(|set| set.bases.is_empty() && is_one_missing(&set.geo)));
     Ok(())
 }
 

@@ -1,6 +1,7 @@
 //! Command lines and the words at which they are refused, found by hand from the rules of the grammar.
 use command_words::{Command, Form, SurveyWords, Word, read_words};
-use raid_params::{Bounds, Geometry, Level, Pattern, Syndrome};
+use near_mirror::NearSet;
+use raid_params::{Bounds, Geometry, Level, Pattern, Syndrome, Wide};
 use std::alloc::Global;
 use std::process::Abort;
 use std::test::Fail;
@@ -21,7 +22,7 @@ fn refused_word(alloc: Global, line: &str) -> Result<u64, Fail> {
 }
 
 /// Lines with their refused words, counted from 1.
-static REFUSED: [(&str, u64); 70] = [
+static REFUSED: [(&str, u64); 103] = [
     ("", 1),
     ("lists -- a", 1),
     ("LIST -- a", 1),
@@ -74,6 +75,7 @@ static REFUSED: [(&str, u64); 70] = [
     ("write set=1:plain:none:8:0:0,1 -- a", 2),
     ("write set=0:plain:none:4294967296:0:0,1 -- a", 2),
     ("write set=0:plain:none:8:36028797018963968:0,1 -- a", 2),
+    ("write set=0:plain:none:8:0+18014398509481984:0,1 -- a b", 2),
     ("write set=0:plain:none:8:0:0,24 -- a", 2),
     ("write set=0:plain:none:8:0: -- a", 2),
     ("map set=0:plain:none:8:0:0,1 -- a", 3),
@@ -97,11 +99,43 @@ static REFUSED: [(&str, u64); 70] = [
     ("survey kinds=xfs,gpt -- a", 2),
     ("survey drop=0:5,0:5 -- a", 2),
     ("survey drop=24:0 -- a", 2),
+    ("survey kinds=lvm,btrfs -- a", 2),
+    ("survey mode=own -- a", 2),
+    ("survey logical=1024 -- a", 2),
+    ("survey logical=0512 -- a", 2),
+    ("list mode=common -- a", 2),
+    ("survey mode=each foreign=1 -- a", 3),
+    ("survey foreign=1 mode=each -- a", 3),
+    ("survey foreign=1 logical=512 mode=each", 4),
+    ("survey mode=each offsets=0,18014398509481984 -- a", 3),
+    ("survey offsets=0,18014398509481984 mode=each -- a", 3),
     ("sample number=1 set=0:plain:none:8:0:0,1 rows=2 -- a", 6),
+    ("mirror -- a", 1),
+    ("mirrors missing=2 -- a", 2),
+    ("mirrors pages=1 -- a", 2),
+    ("mirrors form=text -- a", 2),
+    ("mirrors levels=0 -- a", 2),
+    ("mirrors set=near2:1:0:0,1 -- a b", 2),
+    ("mirrors size=1000001 -- a", 2),
+    ("mirrors chunks=1 offsets=36028797018963968 -- a", 3),
+    ("mirrors members=1 -- a", 2),
+    ("mirrors size=2", 3),
+    ("mirrorwrite -- a b", 2),
+    ("mirrorwrite set=5:ls:none:1:0:0,1,2 -- a b c", 2),
+    ("mirrorwrite end=4 set=near2:1:0+0:0,1 -- a b", 3),
+    ("write set=near2:1:0:0,1 -- a b", 2),
+    ("mirrorwrite set=near2:1:0:0,1 set=near2:1:0:0,1 -- a b", 3),
+    ("salvage -- a", 2),
+    ("salvage form=lost end=8 -- a", 4),
+    ("salvage form=text -- a", 2),
+    ("salvage set=5:ls:none:1:0:0,1,2 form=json -- a b c", 3),
+    ("salvage set=near2:1:0:0,1 -- a b", 2),
+    ("salvage set=5:ls:none:1:0:0,1,2 slot=0 -- a b c", 3),
+    ("list form=lost -- a", 2),
 ];
 
 /// Lines that are command lines.
-static ACCEPTED: [&str; 30] = [
+static ACCEPTED: [&str; 47] = [
     "list --",
     "list -- a",
     "list -- -- a",
@@ -117,6 +151,7 @@ static ACCEPTED: [&str; 30] = [
     "map sector=18446744073709551615 set=5:ls:none:1:0:0 -- a",
     "map end=0 sector=0 set=0:la:after-q:1:0:0,1 -- a",
     "write set=5:ls:none:1:0:0,1,2 -- a b c",
+    "write set=5:ls:none:1:1+0+0:0,1,2 -- a b c",
     "write end=36028797018963967 set=5:ls:none:1:0:0,1,2 -- a b c",
     "rebuild slot=23 set=5:ls:none:1:0:0,1,- -- a b",
     "sample rows=65536 set=5:ls:none:1:0:0,1,- number=0 --",
@@ -132,6 +167,22 @@ static ACCEPTED: [&str; 30] = [
     "survey kinds=ntfs -- a",
     "survey drop=0:5,0:6,23:0 -- a",
     "survey drop=1:36028797018963967,2:0 -- a",
+    "survey kinds=gpt,ntfs,xfs,btrfs,lvm,ext -- a",
+    "survey kinds=ext -- a",
+    "survey mode=common foreign=1 offsets=18014398509481984 -- a",
+    "survey offsets=0,18014398509481983 mode=each foreign=0 -- a",
+    "survey logical=4096 mode=each -- a",
+    "survey logical=512 -- a",
+    "mirrors --",
+    "mirrors -- a b",
+    "mirrors missing=1 foreign=24 badrows=36028797018963967 window=1 end=0 -- a b",
+    "mirrors span=1 size=1000000 from=18446744073709551615 -- a b",
+    "mirrorwrite set=near2:1:0:0,1 -- a b",
+    "mirrorwrite end=36028797018963967 set=near2:4294967295:36028797018963967:-,-,0 --",
+    "salvage set=5:ls:none:1:0:0,1,2 -- a b c",
+    "salvage form=data set=5:ls:none:1:0:0,1,2 -- a b c",
+    "salvage form=lost end=36028797018963967 set=5:ls:none:1:1+0+0:0,1,2 -- a b c",
+    "salvage set=6:parity-first-6:by-slot:4294967295:36028797018963967:0,0,23 --",
 ];
 
 /// Compares the refused word of a line, or 0.
@@ -193,7 +244,7 @@ fn operands_are_told_from_defaults(rt: HostRuntime) -> Result<(), Fail> {
 }
 
 /// What a volume is asked for: the set, the end, and the place of the names.
-fn volume(alloc: Global, line: &str) -> Result<Option<(Geometry, Option<u64>, usize)>, Fail> {
+fn volume(alloc: Global, line: &str) -> Result<Option<(Wide, Option<u64>, usize)>, Fail> {
     Ok(match read_text(alloc, line)? {
         Ok(Command::Write { set, end, names }) => Some((set, end, names)),
         _ => None,
@@ -217,7 +268,7 @@ fn a_volume_has_its_operands(rt: HostRuntime) -> Result<(), Fail> {
     let asked = volume(rt.alloc(), line)?;
     assert!(rt; asked.is_some());
     if let Some((set, end, names)) = asked {
-        assert!(rt; is_the_set(&set));
+        assert!(rt; set.bases.is_empty() && is_the_set(&set.geo));
         assert_eq!(rt; (end, names), (Some(8), 4));
     }
     Ok(())
@@ -254,6 +305,8 @@ fn compare_others<R: Abort>(rt: &R, plain: &SurveyWords) {
         (None, None, 0, 2)
     );
     assert!(rt; plain.kinds.gpt && plain.kinds.ntfs && plain.kinds.xfs);
+    assert!(rt; plain.kinds.btrfs && plain.kinds.lvm && !plain.kinds.ext);
+    assert_eq!(rt; (plain.each, plain.unit), (false, 1));
     assert_eq!(rt; plain.drops.len(), 0);
 }
 
@@ -283,5 +336,146 @@ fn a_survey_has_its_operands(rt: HostRuntime) -> Result<(), Fail> {
     if let Some(told) = told {
         compare_told(&rt, &told);
     }
+    Ok(())
+}
+
+#[test]
+fn a_survey_has_its_mode_and_blocks(rt: HostRuntime) -> Result<(), Fail> {
+    let line = "survey logical=4096 kinds=lvm,ext mode=each -- a";
+    let told = asked(rt.alloc(), line)?;
+    assert!(rt; told.is_some());
+    if let Some(told) = told {
+        assert_eq!(rt; (told.each, told.unit, told.names), (true, 8, 5));
+        assert!(rt; told.kinds.lvm && told.kinds.ext && !told.kinds.btrfs && !told.kinds.gpt);
+    }
+    let line = "survey logical=512 mode=common -- a";
+    let told = asked(rt.alloc(), line)?;
+    assert!(rt; told.is_some_and(|told| !told.each && told.unit == 1));
+    Ok(())
+}
+
+#[test]
+fn mirrors_have_their_defaults(rt: HostRuntime) -> Result<(), Fail> {
+    let plain = read_text(rt.alloc(), "mirrors -- a b")?;
+    if let Ok(
+        Command::Mirrors {
+            members,
+            chunks,
+            offsets,
+            missing,
+            foreign,
+            badrows,
+            window,
+            end,
+            from,
+            size,
+            span,
+            names,
+        },
+    ) = plain
+    {
+        assert_eq!(rt; (members.len(), chunks.len()), (0, 9));
+        assert_eq!(rt; offsets.as_slice(), [0, 2048, 262144, 264192].as_slice());
+        assert_eq!(rt; (missing, foreign, badrows), (0, 0, 0));
+        assert_eq!(rt; (window, end), (None, None));
+        assert_eq!(rt; (from, size, span, names), (0, 100, u64::MAX, 2));
+    } else {
+        assert!(rt; false, "mirrors");
+    }
+    Ok(())
+}
+
+#[test]
+fn mirrors_have_their_operands(rt: HostRuntime) -> Result<(), Fail> {
+    let line =
+        "mirrors span=9 size=2 from=7 end=6 window=5 badrows=4 foreign=3 missing=1 offsets=0,2 chunks=1,8 members=2,5 -- a b";
+    let told = read_text(rt.alloc(), line)?;
+    if let Ok(
+        Command::Mirrors {
+            members,
+            chunks,
+            offsets,
+            missing,
+            foreign,
+            badrows,
+            window,
+            end,
+            from,
+            size,
+            span,
+            names,
+        },
+    ) = told
+    {
+        assert_eq!(rt; members.as_slice(), [2, 5].as_slice());
+        assert_eq!(rt; chunks.as_slice(), [1, 8].as_slice());
+        assert_eq!(rt; offsets.as_slice(), [0, 2].as_slice());
+        assert_eq!(rt; (missing, foreign, badrows), (1, 3, 4));
+        assert_eq!(rt; (window, end), (Some(5), Some(6)));
+        assert_eq!(rt; (from, size, span, names), (7, 2, 9, 13));
+    } else {
+        assert!(rt; false, "mirrors");
+    }
+    Ok(())
+}
+
+/// What the volume of a mirror is asked for: the set, the end, and the place of the names.
+fn mirror(alloc: Global, line: &str) -> Result<Option<(NearSet, Option<u64>, usize)>, Fail> {
+    Ok(match read_text(alloc, line)? {
+        Ok(Command::MirrorWrite { set, end, names }) => Some((set, end, names)),
+        _ => None,
+    })
+}
+
+#[test]
+fn the_volume_of_a_mirror_has_its_operands(rt: HostRuntime) -> Result<(), Fail> {
+    let asked = mirror(
+        rt.alloc(),
+        "mirrorwrite end=8 set=near2:128:2048:11,-,0 -- a",
+    )?;
+    assert!(rt; asked.is_some());
+    if let Some((set, end, names)) = asked {
+        let head = set.head;
+        assert_eq!(rt; (head.members, head.chunk, head.offset), (3, 128, 2048));
+        assert!(rt; set.slots.as_slice() == [Some(11), None, Some(0)].as_slice());
+        assert_eq!(rt; (end, names), (Some(8), 4));
+    }
+    Ok(())
+}
+
+/// What is to be salvaged: the set, whether what is lost is asked for, the end, and the place of the names.
+fn salvaged(alloc: Global, line: &str) -> Result<Option<(Wide, bool, Option<u64>, usize)>, Fail> {
+    Ok(match read_text(alloc, line)? {
+        Ok(
+            Command::Salvage {
+                set,
+                lost,
+                end,
+                names,
+            },
+        ) => Some((set, lost, end, names)),
+        _ => None,
+    })
+}
+
+#[test]
+fn a_salvage_has_its_operands(rt: HostRuntime) -> Result<(), Fail> {
+    let line = "salvage end=8 set=6:n-restart:by-slot:128:2048:-,11,0 form=lost -- a";
+    let asked = salvaged(rt.alloc(), line)?;
+    assert!(rt; asked.is_some());
+    if let Some((set, lost, end, names)) = asked {
+        assert!(rt; set.bases.is_empty() && is_the_set(&set.geo));
+        assert_eq!(rt; (lost, end, names), (true, Some(8), 5));
+    }
+    Ok(())
+}
+
+#[test]
+fn a_salvage_gives_the_volume_unless_told(rt: HostRuntime) -> Result<(), Fail> {
+    let alloc = rt.alloc();
+    let plain = salvaged(alloc, "salvage set=5:ls:none:1:0:0,1,2 -- a b c")?;
+    assert!(rt; plain.is_some_and(|(_, lost, end, names)| !lost && end.is_none() && names == 3));
+    let told = salvaged(alloc, "salvage form=data set=5:ls:none:1:0:0,1,2 -- a b c")?;
+    assert!(rt; told.is_some_and(|(_, lost, end, names)| !lost && end.is_none() && names == 4));
     Ok(())
 }

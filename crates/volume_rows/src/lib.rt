@@ -1,7 +1,8 @@
 //! Tests of the libraries of volumes and parity, over objects in memory.
 //!
 //! What each answers was worked out by hand: `single_rows` the parity of one row, `region_rows` that of rows in
-//! regions, `memory` that memory is enough, `volumes`, `members` and `mirrors` what is written, `puts` in which pieces, and
+//! regions, `memory` that memory is enough, `volumes`, `members`, `mirrors` and `rescues` what is written, `near_pages` which
+//! mirrors pass, `bases` what is written where the data of images begin at different sectors, `puts` in which pieces, and
 //! `read_counts` how much is read for it. The tests stand here, since a library with tests is proved a second time
 //! with them. Sets, images and sinks stand in `objects`, rows in `cells`.
 //!
@@ -9,6 +10,8 @@
 //! test.
 #![tactic(auto)]
 
+#[cfg(test)]
+mod bases;
 #[cfg(test)]
 mod cells;
 #[cfg(test)]
@@ -18,6 +21,8 @@ mod memory;
 #[cfg(test)]
 mod mirrors;
 #[cfg(test)]
+mod near_pages;
+#[cfg(test)]
 mod objects;
 #[cfg(test)]
 mod puts;
@@ -25,6 +30,8 @@ mod puts;
 mod read_counts;
 #[cfg(test)]
 mod region_rows;
+#[cfg(test)]
+mod rescues;
 #[cfg(test)]
 mod single_rows;
 #[cfg(test)]

@@ -1,12 +1,14 @@
 //! Sets, images and sinks in memory, as the tests have them.
-ghost use Rattle.std.specs.Prelude.{◌≡◌, ◌≤◌, length, All, IsSomeAnd, IsTrue, None, slice_get};
+ghost use Rattle.std.specs.Prelude.{◌≡◌, ◌≤◌, ◌<◌, length, All, IsSomeAnd, IsTrue, None, slice_get};
 ghost use Rattle.near_volume.specs.Mirrored.{IsMirrored};
+ghost use Rattle.rescue_map.specs.Damaged.{IsDamaged};
+ghost use Rattle.rescue_map.specs.Salvaged.{IsSalvaged};
 ghost use Rattle.virtual_volume.specs.Served.{IsServed};
 
 use image_source::{MemImages, MemSink};
 use near_mirror::NearSet;
 use outside::{Failed, Images, SECTOR, Sink};
-use raid_params::{Geometry, Head, Level, Pattern, Slots, Syndrome};
+use raid_params::{Geometry, Head, Level, Pattern, Slots, Syndrome, Wide};
 use std::alloc::Global;
 use std::process::Abort;
 use std::test::Fail;
@@ -127,7 +129,7 @@ fn reaches<I: Images>(images: &I, image: u32, end: u64) -> bool
 }
 
 /// Whether `count` images are attached, and each reaches to the end.
-fn all_reach<I: Images>(images: &I, count: u8, end: u64) -> bool
+pub fn all_reach<I: Images>(images: &I, count: u8, end: u64) -> bool
     ensures { IsTrue result → (length (I.seen images.now).attached ≡ count) × All (λ a. end ≤ a.sectors) (I.seen images.now).attached }
 {
     for i in 0..count {
@@ -136,6 +138,34 @@ fn all_reach<I: Images>(images: &I, count: u8, end: u64) -> bool
         }
     }
     images.length(count as u32).is_none()
+}
+
+/// Whether `count` images are attached.
+fn are_attached<I: Images>(images: &I, count: u8) -> bool
+    ensures { IsTrue result → (length (I.seen images.now).attached ≡ count) × All (λ a. a.sectors < FAR) (I.seen images.now).attached }
+{
+    for i in 0..count {
+        if !is_near(images, i as u32) {
+            return false;
+        }
+    }
+    images.length(count as u32).is_none()
+}
+
+fn is_near<I: Images>(images: &I, image: u32) -> bool
+    ensures { IsTrue result → IsSomeAnd (slice_get (I.seen images.now).attached image) (λ a. a.sectors < FAR) }
+{
+    match images.length(image) {
+        Some(sectors) => sectors < FAR,
+        None => false,
+    }
+}
+
+/// Looks whether `count` images are attached.
+pub fn attached<R: Abort, I: Images>(rt: &R, images: &I, count: u8)
+    ensures { (length (I.seen images.now).attached ≡ count) × All (λ a. a.sectors < FAR) (I.seen images.now).attached }
+{
+    assert!(rt; are_attached(images, count));
 }
 
 /// Looks whether the volume of a set can be written, over `count` images.
@@ -154,6 +184,17 @@ pub fn serve_mirror<R: Abort, I: Images>(rt: &R, images: &I, count: u8, set: &Ne
     ensures { IsMirrored set.now end (I.seen images.now).attached }
 {
     assert!(rt; end < FAR);
+    assert!(rt; set.validate(count, end).is_ok());
+    assert!(rt; all_reach(images, count, end));
+}
+
+/// Looks whether the volume of a set can be salvaged, over `count` images with one common offset.
+#[tactic(auto, using(crate::proofs::TestSets::wide_salvaged, crate::proofs::TestSets::wide_damaged))]
+pub fn serve_damaged<R: Abort, I: Images>(rt: &R, images: &I, count: u8, set: &Wide, end: u64)
+    ensures salvaged { IsSalvaged set.now end (I.seen images.now).attached }
+    ensures damaged { IsDamaged set.now end }
+{
+    assert!(rt; end < FAR && set.bases.is_empty());
     assert!(rt; set.validate(count, end).is_ok());
     assert!(rt; all_reach(images, count, end));
 }

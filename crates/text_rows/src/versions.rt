@@ -1,0 +1,137 @@
+//! Plans and sets in which each image has an offset of its own, and the later kinds of groups.
+use plan_text::{PlanFault, read_common_set, read_plan, read_set, set_line, write_plan, write_set};
+use std::alloc::Global;
+use std::process::Abort;
+use std::test::Fail;
+
+/// The words of sets: their bases, and the offset that is the greatest of them.
+static BASES: [(&[u8], &[u64], u64); 5] = [
+    (b"5:ls:none:1:1+0+0:0,1,2", &[1, 0, 0], 1),
+    (b"5:ls:none:1:0+0:0,1,2", &[0, 0], 0),
+    (b"0:plain:none:8:2048+7+2049:0,-", &[2048, 7, 2049], 2049),
+    (
+        b"0:plain:none:8:0+18014398509481983:0,1",
+        &[0, 18014398509481983],
+        18014398509481983,
+    ),
+    (
+        b"0:plain:none:8:36028797018963967:0,1",
+        &[],
+        36028797018963967,
+    ),
+];
+
+#[test]
+fn bases_are_read_and_written(rt: HostRuntime) -> Result<(), Fail> {
+    for (word, bases, offset) in &BASES {
+        let set = read_set(word).ok_or("a set")?;
+        assert_eq!(rt; set.bases.as_slice(), *bases);
+        assert_eq!(rt; set.geo.head.offset, *offset);
+        let again = write_set(rt.alloc(), &set)?;
+        assert_eq!(rt; again.as_slice(), *word);
+    }
+    Ok(())
+}
+
+#[test]
+fn a_set_with_bases_is_written_with_its_rank(rt: HostRuntime) -> Result<(), Fail> {
+    let set = read_set(b"5:ls:none:1:1+0+0:0,1,2").ok_or("a set")?;
+    let line = set_line(rt.alloc(), 24, &set)?;
+    assert_eq!(rt; line.as_slice(), b"24 5:ls:none:1:1+0+0:0,1,2\n".as_slice());
+    Ok(())
+}
+
+/// Words whose offset is none.
+static NO_OFFSETS: [&[u8]; 8] = [
+    b"0:plain:none:8:36028797018963968:0,1",
+    b"0:plain:none:8:0+18014398509481984:0,1",
+    b"0:plain:none:8:1+:0,1",
+    b"0:plain:none:8:+1:0,1",
+    b"0:plain:none:8:1++1:0,1",
+    b"0:plain:none:8:1+01:0,1",
+    b"0:plain:none:8:1,1:0,1",
+    b"0:plain:none:8:0+0+0+0+0+0+0+0+0+0+0+0+0+0+0+0+0+0+0+0+0+0+0+0+0:0,1",
+];
+
+#[test]
+fn other_offsets_are_refused(rt: HostRuntime) -> Result<(), Fail> {
+    for word in &NO_OFFSETS {
+        assert!(rt; read_set(word).is_none());
+    }
+    Ok(())
+}
+
+#[test]
+fn a_common_offset_is_one_number(rt: HostRuntime) -> Result<(), Fail> {
+    assert!(rt; read_common_set(b"5:ls:none:1:7:0,1,2").is_some_and(|geo| geo.head.offset == 7));
+    assert!(rt; read_common_set(b"5:ls:none:1:0+0+0:0,1,2").is_none());
+    Ok(())
+}
+
+/// A plan over three images of three sectors, each with an offset of its own.
+const APART: &[u8] =
+    b"reraid-plan 2\nimages 3\nlength 3\nlength 3\nlength 3\nend 3\nlevels 5\nmembers 3\npatterns ls\nsyndromes none\nchunks 1\noffsets 0,1\norigins 0\nmissing 0\nforeign 0\nbadrows 0\nwindow 2\nmisfits 0\nleast 1\ndone\n";
+
+/// A plan with the kinds of groups that come after XFS.
+const LATER_GROUPS: &[u8] =
+    b"reraid-plan 1\nimages 1\nlength 18014398509481984\nend 0\nlevels 0\nmembers 2\npatterns plain\nsyndromes none\nchunks 8\noffsets 18014398509481984\norigins 0\nmissing 1\nforeign 1\nbadrows 0\nwindow 1\nmisfits 0\nleast 1\ngroup xfs\ngroup btrfs\nmark btrfs 0 130 at:128\ngroup btrfs\ngroup lvm\nmark lvm 0 3 at:1\ngroup ext\nmark ext 0 5 either:2:4\ndone\n";
+
+/// Compares what is written of a plan that was read.
+fn compare_again<R: Abort>(rt: &R, alloc: Global, text: &[u8], each: bool) -> Result<(), Fail> {
+    let plan = read_plan(alloc, text)?;
+    assert_eq!(rt; plan.each, each);
+    let again = write_plan(alloc, &plan)?;
+    assert_eq!(rt; again.as_slice(), text);
+    Ok(())
+}
+
+#[test]
+fn both_versions_are_read_and_written(rt: HostRuntime) -> Result<(), Fail> {
+    compare_again(&rt, rt.alloc(), APART, true)?;
+    compare_again(&rt, rt.alloc(), LATER_GROUPS, false)
+}
+
+/// Beginnings of texts whose last line no plan has there, and its number.
+static REFUSED: [(&str, u64); 11] = [
+    ("reraid-plan 3\n", 1),
+    ("reraid-plan 02\n", 1),
+    ("reraid-plan 2\nimages 1\nlength 18014398509481984\n", 3),
+    ("reraid-plan 1\nimages 1\nlength 36028797018963968\n", 3),
+    (
+        "reraid-plan 2\nimages 1\nlength 3\nend 3\nlevels 5\nmembers 3\npatterns ls\nsyndromes none\nchunks 1\noffsets 0,18014398509481984\n",
+        10,
+    ),
+    (
+        "reraid-plan 2\nimages 1\nlength 3\nend 3\nlevels 5\nmembers 3\npatterns ls\nsyndromes none\nchunks 1\noffsets 0\norigins 36028797018963967\nmissing 2\nforeign 1\n",
+        13,
+    ),
+    (
+        "reraid-plan 1\nimages 1\nlength 3\nend 3\nlevels 5\nmembers 3\npatterns ls\nsyndromes none\nchunks 1\noffsets 0\norigins 0\nmissing 2\nforeign 25\n",
+        13,
+    ),
+    (
+        "reraid-plan 1\nimages 1\nlength 3\nend 3\nlevels 5\nmembers 3\npatterns ls\nsyndromes none\nchunks 1\noffsets 0\norigins 0\nmissing 0\nforeign 0\nbadrows 0\nwindow 1\nmisfits 0\nleast 1\ngroup lvm\ngroup btrfs\n",
+        19,
+    ),
+    (
+        "reraid-plan 1\nimages 1\nlength 3\nend 3\nlevels 5\nmembers 3\npatterns ls\nsyndromes none\nchunks 1\noffsets 0\norigins 0\nmissing 0\nforeign 0\nbadrows 0\nwindow 1\nmisfits 0\nleast 1\ngroup ext\ngroup ext\ngroup lvm\n",
+        20,
+    ),
+    (
+        "reraid-plan 1\nimages 1\nlength 3\nend 3\nlevels 5\nmembers 3\npatterns ls\nsyndromes none\nchunks 1\noffsets 0\norigins 0\nmissing 0\nforeign 0\nbadrows 0\nwindow 1\nmisfits 0\nleast 1\ngroup btrfs\nmark super 0 0 at:0\n",
+        19,
+    ),
+    (
+        "reraid-plan 1\nimages 1\nlength 3\nend 3\nlevels 5\nmembers 3\npatterns ls\nsyndromes none\nchunks 1\noffsets 0\norigins 0\nmissing 0\nforeign 0\nbadrows 0\nwindow 1\nmisfits 0\nleast 1\ngroup jfs\n",
+        18,
+    ),
+];
+
+#[test]
+fn other_texts_are_refused_at_their_line(rt: HostRuntime) -> Result<(), Fail> {
+    for (text, line) in &REFUSED {
+        let fault = read_plan(rt.alloc(), text.as_bytes()).err();
+        assert_eq!(rt; fault, Some(PlanFault::Line(*line)));
+    }
+    Ok(())
+}

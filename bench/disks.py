@@ -1,17 +1,22 @@
 #!/usr/bin/env python3
-"""Makes the disks of an array from the bytes of its volume, for trying reraid: an array of level 5 or 6,
+"""Makes the disks of an array from the bytes of its volume, for trying reraid. Where nothing else is asked for, it is
 left-symmetric, with Q in the order after Q, its data from sector 2048 on and noise before it, as md has them.
 
-Usage: disks.py LEVEL CHUNK VOLUME DISK..
-CHUNK is in sectors of 512 bytes. The disks are written in the order of their slots; the volume is filled up
-with zeros to whole rows.
+Usage: disks.py [pattern=NAME] [syndrome=NAME] [offsets=LIST] LEVEL CHUNK VOLUME DISK..
+LEVEL is 0, 5 or 6, or near2 for two copies next to each other. CHUNK is in sectors of 512 bytes. The disks are written in
+the order of their slots; the volume is filled up with zeros to whole rows. NAME is one that reraid has for a pattern or
+an order of Q; LIST is the sector at which the data begin, on all disks, or on each, with commas. Then all disks are as long
+as the one whose data begin last, by noise after the data.
 """
 
 import random
 import sys
 
 SECTOR = 512
-OFFSET = 2048
+PARITY = {"0": 0, "5": 1, "6": 2}
+PATTERNS = {"0": ["plain"], "5": ["ls", "la", "ra", "rs", "parity-first", "parity-last"]}
+PATTERNS["6"] = PATTERNS["5"] + ["n-restart", "n-continue", "la-6", "ra-6", "ls-6", "rs-6", "parity-first-6"]
+ORDERS = ["after-q", "by-data", "by-slot"]
 
 
 def powers():
@@ -42,38 +47,106 @@ def added(blocks):
     return total.to_bytes(len(blocks[0]), "little")
 
 
-def row_of(items, row, members):
-    """The blocks of a row by their slots, left-symmetric; with two slots more than items, P and Q."""
-    p = members - 1 - row % members
+def parity_slots(pattern, row, members, parity):
+    """The slots of P, and of Q where there are two, in a row."""
+    if pattern.endswith("-6"):
+        return parity_slots(pattern[:-2], row, members - 1, 1) + [members - 1]
+    if pattern == "n-restart":
+        return parity_slots("la", row + 1, members, parity)
+    if pattern.startswith("parity-"):
+        first = 0 if pattern == "parity-first" else members - parity
+    elif pattern in ("ra", "rs"):
+        first = row % members
+    else:
+        first = members - 1 - row % members
+    if pattern == "n-continue":
+        return [first, (first - 1) % members]
+    return [(first + step) % members for step in range(parity)]
+
+
+def item_slots(pattern, row, members, parity):
+    """The slots of the data items of a row, in their order: from the slot after the parity on and round, or as the slots are."""
+    if parity == 0:
+        return range(members)
+    taken, wide, first = parity_slots(pattern, row, members, parity), members - pattern.endswith("-6"), 0
+    if pattern in ("ls", "rs"):
+        first = taken[-1] + 1
+    elif pattern in ("ls-6", "rs-6", "n-continue"):
+        first = taken[0] + 1
+    return [slot for slot in ((first + step) % wide for step in range(wide)) if slot not in taken]
+
+
+def row_of(items, row, members, pattern, order):
+    """The blocks of a row by their slots. With one slot more than items there is P, with two P and Q."""
     parity = members - len(items)
-    data = {(p + parity + i) % members: item for i, item in enumerate(items)}
+    taken, data = parity_slots(pattern, row, members, parity), dict(zip(item_slots(pattern, row, members, parity), items))
     blocks = dict(data)
-    blocks[p] = added(items)
+    if parity:
+        blocks[taken[0]] = added(items)
     if parity == 2:
-        q = (p + 1) % members
-        walk = [slot for slot in ((q + 1 + step) % members for step in range(members)) if slot in data]
-        blocks[q] = added([weighed(data[slot], k) for k, slot in enumerate(walk)])
+        walk = [slot for slot in ((taken[1] + 1 + step) % members for step in range(members)) if slot in data]
+        by = {"after-q": walk.index, "by-data": list(data).index, "by-slot": int}[order]
+        blocks[taken[1]] = added([weighed(block, by(slot)) for slot, block in data.items()])
     return [blocks[slot] for slot in range(members)]
 
 
-def main():
-    level, chunk, volume, *names = sys.argv[1:]
-    size = int(chunk) * SECTOR
-    count = len(names) - {"5": 1, "6": 2}[level]
-    with open(volume, "rb") as file:
-        data = file.read()
+def striped(data, size, members, parity, pattern, order):
+    """What each disk holds of the volume, chunk by chunk."""
+    count = members - parity
     rows = -(-len(data) // (size * count))
     data = data.ljust(rows * size * count, b"\0")
-    noise = random.Random(0)
-    disks = [bytearray(noise.randbytes(OFFSET * SECTOR)) for _ in names]
+    disks = [bytearray() for _ in range(members)]
     for row in range(rows):
         start = row * count * size
         items = [data[start + i * size : start + (i + 1) * size] for i in range(count)]
-        for disk, block in zip(disks, row_of(items, row, len(names))):
+        for disk, block in zip(disks, row_of(items, row, members, pattern, order)):
             disk += block
-    for name, disk in zip(names, disks):
+    return disks
+
+
+def mirrored(data, size, members, noise):
+    """What each disk holds of a volume of which each chunk stands twice, on one disk and the next, round and round. Of an odd number of
+    disks the last chunk may hold nothing of it."""
+    rows = -(-2 * len(data) // (size * members))
+    while rows * members // 2 * size < len(data):
+        rows += 1
+    data = data.ljust(rows * members // 2 * size, b"\0")
+    disks = [bytearray() for _ in range(members)]
+    for cell in range(rows * members):
+        start = cell // 2 * size
+        disks[cell % members] += data[start:start + size] or noise.randbytes(size)
+    return disks
+
+
+def read_words(words):
+    """What is asked for by name, and the words after it."""
+    asked = {"pattern": None, "syndrome": "after-q", "offsets": "2048"}
+    while words and "=" in words[0] and words[0].partition("=")[0] in asked:
+        name, _, value = words[0].partition("=")
+        asked[name], words = value, words[1:]
+    return asked, words
+
+
+def main():
+    asked, words = read_words(sys.argv[1:])
+    if len(words) < 5 or words[0] not in (*PARITY, "near2"):
+        sys.exit(__doc__)
+    level, chunk, volume, *names = words
+    patterns = PATTERNS.get(level, [None])
+    pattern, offsets = asked["pattern"] or patterns[0], [int(sector) for sector in asked["offsets"].split(",")]
+    if pattern not in patterns or asked["syndrome"] not in ORDERS or len(offsets) not in (1, len(names)):
+        sys.exit(__doc__)
+    with open(volume, "rb") as file:
+        data = file.read()
+    noise, size = random.Random(0), int(chunk) * SECTOR
+    before = [noise.randbytes(offset * SECTOR) for offset in offsets * (len(names) // len(offsets))]
+    if level == "near2":
+        disks = mirrored(data, size, len(names), noise)
+    else:
+        disks = striped(data, size, len(names), PARITY[level], pattern, asked["syndrome"])
+    for name, first, disk in zip(names, before, disks):
         with open(name, "wb") as file:
-            file.write(disk)
+            file.write(first + disk + noise.randbytes(max(offsets) * SECTOR - len(first)))
 
 
 if __name__ == "__main__":

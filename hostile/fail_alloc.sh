@@ -1,7 +1,8 @@
 #!/bin/bash
 # Refuses each request for memory in turn, over the proved program: a library that is loaded before the C library counts the
 # requests and refuses one of them. The runs are listings, of which one scans few sets and one scans pieces of 720 side by side, a
-# test of a set with Q, a survey of images with tables of their own, a volume, a member, a generated array and classes of sets.
+# test of a set with Q, surveys of images with tables of their own and with labels, volumes, a member, a generated array, mirrors, a
+# damaged array and classes of sets.
 # Each ends with its own status and answer, or with status 20, its line, and nothing put; the images hold what they held.
 #
 # Usage: hostile/fail_alloc.sh PROGRAM [FOLDER]
@@ -44,13 +45,19 @@ def plan(images, length, lines):
     return "".join(line + "\n" for line in [*text, *(f"{name} {value}" for name, value in usual.items()), "done"]).encode()
 
 
+# a label of LVM2 at sector 3, and a superblock of btrfs at sector 130
+label = struct.pack("<8sQ8x8s", b"LABELONE", 1, b"LVM2 001").ljust(512, b"\0")
+super_block = struct.pack("<32x16sQ8x8s", bytes(range(16)), 65536, b"_BHRfS_M").ljust(512, b"\0")
+landmarks = bytes(3 * 512) + label + bytes(126 * 512) + super_block + bytes(269 * 512)
 tables = bytes(512) + header(1, 99, 2) + bytes(97 * 512) + header(99, 1, 98)
 files = {"a": sectors(1, 2), "b": sectors(3, 4), "c": sectors(2, 6), "q": sectors(0x1C), "x": sectors(1), "y": sectors(0x80),
-         "p": sectors(0x81), "t": tables, "z": sectors(0)}
+         "p": sectors(0x81), "t": tables, "z": sectors(0), "d": sectors(9, 1, 2), "e": sectors(3, 4, 9), "f": sectors(2, 6, 9),
+         "m": sectors(1, 2), "n": sectors(3, 4), "l": landmarks}
 for name, data in files.items():
     with open(name, "wb") as file:
         file.write(data)
 listing = plan(3, 2, {})
+rescue = b"map 0\n# a map file\n0x0 ? 1\n0x0 0x200 -\n0x200 0x200 +\nmap 1\n0 +\n0 512 -\n512 512 +\n"
 double = plan(4, 1, {"levels": "6", "syndromes": "after-q,by-data,by-slot"})
 pieces = plan(6, 1, {"levels": "6", "syndromes": "after-q"})
 runs = [
@@ -64,6 +71,13 @@ runs = [
     (["rebuild", "set=5:ls:none:1:0:-,0,1", "slot=0", "--", "b", "c"], b""),
     (["map", "set=5:ls:none:1:0:0,1,2", "sector=2", "--", "a", "b", "c"], b""),
     (["sample", "number=7", "set=5:ls:none:8:0:0,1,2", "rows=2", "--"], b""),
+    (["write", "set=5:ls:none:1:1+0+0:0,1,2", "--", "d", "e", "f"], b""),
+    (["check", "set=5:ls:none:1:1+0+0:0,1,2", "--", "d", "e", "f"], plan(3, 3, {})),
+    (["survey", "kinds=btrfs,lvm,ext", "--", "l"], b""),
+    (["mirrors", "chunks=1", "offsets=0", "--", "m", "m", "n", "n"], b""),
+    (["mirrorwrite", "set=near2:1:0:0,1,2,3", "--", "m", "m", "n", "n"], b""),
+    (["salvage", "set=5:ls:none:1:0:0,1,2", "--", "a", "b", "c"], rescue),
+    (["salvage", "set=5:ls:none:1:0:0,1,2", "form=lost", "--", "a", "b", "c"], rescue),
     (["classes", "images=3", "end=2", "--"], b"0 5:ls:none:1:0:0,1,2\n1 5:parity-last:none:1:0:0,1,2\n2 0:plain:none:1:0:0,1\nnext 3 of 3\n"),
 ]
 

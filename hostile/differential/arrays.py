@@ -1,11 +1,8 @@
-"""Layouts, the equations of rows, landmarks in sets, and the product of a plan, as docs/FORMATS.md and docs/LAYOUTS.md have them."""
+"""Layouts, the equations of rows, and landmarks in sets, as docs/FORMATS.md and docs/LAYOUTS.md have them."""
 
-import bisect
 import functools
-import itertools
-import math
 
-from texts import FEWEST, FIVE, PATTERNS, REDUNDANCY, SECTOR, SIX, Set
+from texts import REDUNDANCY, SECTOR
 
 
 # Layouts, as docs/LAYOUTS.md draws them
@@ -114,15 +111,18 @@ NOTHING = bytes(SECTOR)
 
 
 class Row:
-    """One sector row of a set: its cells, exponents, and the blocks that are there."""
+    """One sector row of a set: its cells, exponents, and the blocks that are there. Of an image that is there a sector may be lost."""
 
-    def __init__(self, found, images, sector):
+    def __init__(self, found, images, sector, lost=lambda image, sector: False):
         row = sector // found.chunk
         self.found = found
         self.cells = cells(found.level, found.pattern, found.members, row)
         self.logs = exponents(found.pattern, found.syndrome, found.members, row) if found.level == 6 else [None] * found.members
-        start = (found.offset + sector) * SECTOR
-        self.blocks = [None if image is None else images[image][start:start + SECTOR] for image in found.slots]
+        self.blocks = [None] * found.members
+        for slot, image in enumerate(found.slots):
+            if image is not None and not lost(image, found.base(image) + sector):
+                start = (found.base(image) + sector) * SECTOR
+                self.blocks[slot] = images[image][start:start + SECTOR]
         self.lost = [slot for slot in range(found.members) if self.blocks[slot] is None]
 
     def sums(self):
@@ -194,9 +194,17 @@ class Sums:
     """What the bytes of images add up to by equations. Many sets ask the same of the same sectors, which are added up once."""
 
     def __init__(self, images):
-        self.images, self.known = images, {}
+        self.images, self.known, self.later = images, {}, {}
         # so many sectors of zeros has each image at its start: they add up to zero by all equations
         self.zeros = min((len(image) - len(image.lstrip(b"\0"))) // SECTOR for image in images)
+
+    def after(self, bases):
+        """The sums of the images without what stands before their bases."""
+        if bases not in self.later:
+            if len(self.later) == 64:
+                self.later.clear()
+            self.later[bases] = Sums([image[base * SECTOR:] for image, base in zip(self.images, bases)])
+        return self.later[bases]
 
     def first_unsound(self, equation, start, stop):
         """The first sector of the images from this one on where the sum is not zero, or the stop."""
@@ -224,10 +232,14 @@ def unsound_rows(found, sums, tested, most=None):
     """How many of the first rows are unsound, or one more than `most` once there are so many."""
     if found.lost >= REDUNDANCY[found.level]:
         return 0
+    begin = found.offset
+    if found.bases:
+        # cut so, the images have one common offset
+        sums, begin = sums.after(found.bases), 0
     alike = found.level == 5 or turns(found.pattern, found.members) == 1
     wide, count = tested if alike else found.chunk, 0
-    for first in range(max(0, sums.zeros - found.offset) // wide * wide, tested, wide):
-        at, end, told = found.offset + first, found.offset + min(first + wide, tested), equations(found, first // found.chunk)
+    for first in range(max(0, sums.zeros - begin) // wide * wide, tested, wide):
+        at, end, told = begin + first, begin + min(first + wide, tested), equations(found, first // found.chunk)
         while at < end:
             bad = end
             for equation in told:
@@ -276,7 +288,7 @@ def held(plan, found, group):
     fit, misfit = [0] * len(origins), [0] * len(origins)
     for _, image, sector, rule in marks:
         if image in found.slots:
-            place = volume_sector(found, found.slots.index(image), sector - found.offset, plan.end)
+            place = volume_sector(found, found.slots.index(image), sector - found.base(image), plan.end)
             if place is not None:
                 for which, origin in enumerate(origins):
                     good = fits(rule, place - origin)
@@ -288,104 +300,3 @@ def held(plan, found, group):
         if misfit[which] <= plan.misfits and fit[which] >= min(plan.least, len(marks)):
             return origin, fit[which], misfit[which]
     return None
-
-
-# The product
-
-class Product:
-    """The sets of a plan by their ranks."""
-
-    def __init__(self, plan):
-        self.plan = plan
-        self.images = len(plan.lengths)
-        self.heads, self.counts, self.known, self.lists = [], [], {}, {}
-        shapes = itertools.product(plan.levels, plan.members, plan.patterns, plan.syndromes, plan.chunks, plan.offsets)
-        for level, members, pattern, syndrome, chunk, offset in shapes:
-            patterns = {0: PATTERNS[:1], 5: FIVE, 6: SIX}[level]
-            if members >= FEWEST[level] and pattern in patterns and (syndrome != "none") == (level == 6):
-                self.heads.append((level, members, pattern, syndrome, chunk, offset))
-                self.counts.append(self.ways(level, members, 0, 0))
-        self.firsts = [0] + list(itertools.accumulate(self.counts))
-        self.total = self.firsts[-1]
-
-    def ways(self, level, members, used, empty):
-        """How many lists begin with so many images and so many empty slots, in some order."""
-        key = level, members, used, empty
-        if key not in self.known:
-            self.known[key] = self.counted_ways(*key)
-        return self.known[key]
-
-    def counted_ways(self, level, members, used, empty):
-        left, count = members - used - empty, 0
-        for more in range(left + 1):
-            lost, there = empty + more, used + left - more
-            if lost <= min(self.plan.missing, REDUNDANCY[level]) and there <= self.images \
-                    and self.images - there <= self.plan.foreign:
-                count += math.comb(left, more) * math.perm(self.images - used, left - more)
-        return count
-
-    def set_at(self, rank):
-        place = bisect.bisect_right(self.firsts, rank) - 1
-        level, members, *rest = self.heads[place]
-        key = level, members, rank - self.firsts[place]
-        if key not in self.lists:
-            self.lists[key] = self.slots_at(*key)
-        return Set(level, *rest, self.lists[key])
-
-    def slots_at(self, level, members, rank):
-        """The slots of that place in the order of all of a level and so many members."""
-        slots = []
-        while len(slots) < members:
-            for choice in [image for image in range(self.images) if image not in slots] + [None]:
-                empty = slots.count(None) + (choice is None)
-                count = self.ways(level, members, len(slots) + 1 - empty, empty)
-                if rank < count:
-                    slots.append(choice)
-                    break
-                rank -= count
-        return tuple(slots)
-
-    def rank_of(self, found):
-        if found.head() not in self.heads:
-            return None
-        place = self.heads.index(found.head())
-        if len({slot for slot in found.slots if slot is not None}) + found.lost < found.members:
-            return None
-        if any(slot is not None and slot >= self.images for slot in found.slots):
-            return None
-        rank, slots = self.firsts[place], []
-        for slot in found.slots:
-            for choice in [image for image in range(self.images) if image not in slots] + [None]:
-                if choice == slot:
-                    break
-                empty = slots.count(None) + (choice is None)
-                rank += self.ways(found.level, found.members, len(slots) + 1 - empty, empty)
-            slots.append(slot)
-        return rank if self.ways(found.level, found.members, found.members - found.lost, found.lost) else None
-
-
-def passes(plan, found, sums):
-    if found.rows(plan.end) == 0:
-        return False
-    if any(held(plan, found, group) is None for group in plan.groups):
-        return False
-    return unsound_rows(found, sums, min(found.area(plan.end), plan.window), plan.badrows) <= plan.badrows
-
-
-def page(plan, product, sums, first, size, span):
-    """The sets of a page with their ranks, and where the next begins."""
-    stop, lines, rank = min(product.total, first + span), [], first - 1
-    while rank + 1 < stop:
-        rank += 1
-        place = bisect.bisect_right(product.firsts, rank) - 1
-        *_, chunk, offset = product.heads[place]
-        if offset + chunk > plan.end:
-            # no set of this head has a whole row
-            rank = product.firsts[place + 1] - 1
-            continue
-        found = product.set_at(rank)
-        if passes(plan, found, sums):
-            lines.append((rank, found))
-            if len(lines) == size:
-                return lines, rank + 1
-    return lines, stop

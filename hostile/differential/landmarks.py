@@ -1,6 +1,6 @@
 """Landmark sectors of images, and the groups and origins of a survey, as docs/FORMATS.md has them. What it does not say, where the
-fields of the sectors stand and the limits of their numbers, is that of the UEFI specification, of the documentation of Linux-NTFS, and of
-"XFS Algorithms & Data Structures", with the limits that the definitions of ntfs_marks and xfs_marks name.
+fields of the sectors stand and the limits of their numbers, is that of the UEFI specification, of the documentation of Linux-NTFS, of
+"XFS Algorithms & Data Structures", and of the kernel's pages on btrfs and ext4, with the limits that the definitions of the landmarks name.
 """
 
 import struct
@@ -64,41 +64,76 @@ def head_of_group(magic):
     return read
 
 
+def label(sector):
+    own, = struct.unpack_from("<Q", sector, 8)
+    return own if sector[:8] == b"LABELONE" and sector[24:32] == b"LVM2 001" and own < FAR else None
+
+
+BTRFS_PLACES = [65536, 67108864, 274877906944]
+
+
+def btrfs(sector):
+    own, = struct.unpack_from("<Q", sector, 48)
+    return (sector[32:48], own) if sector[64:72] == b"_BHRfS_M" and own in BTRFS_PLACES else None
+
+
+def ext(sector):
+    """Of a later copy the file system that it tells of, and the sector of it at which it stands."""
+    first, power, blocks = struct.unpack_from("<II4xI", sector, 20)
+    magic, revision, group = *struct.unpack_from("<H18xI", sector, 56), *struct.unpack_from("<H", sector, 90)
+    if magic != 0xEF53 or power > 6 or blocks == 0 or revision > 1 or not 1 <= group <= 65534:
+        return None
+    if first > (power == 0):
+        return None
+    return (sector[104:120], 1024 << power, blocks), (first + group * blocks) * (2 << power)
+
+
 READERS = {"gpt": gpt, "boot": boot, "record": record, "super": super_block, "agf": head_of_group(b"XAGF"),
-           "agi": head_of_group(b"XAGI")}
-MAGICS = {b"EFI ": "gpt", b"FILE": "record", b"XFSB": "super", b"XAGF": "agf", b"XAGI": "agi"}
+           "agi": head_of_group(b"XAGI"), "lvm": label, "btrfs": btrfs, "ext": ext}
+MAGICS = {b"EFI ": "gpt", b"FILE": "record", b"XFSB": "super", b"XAGF": "agf", b"XAGI": "agi", b"LABE": "lvm"}
 
 
-def sightings(images, first, end, kinds, passed_over):
+def read(block):
+    """The kind of a sector, if it is of one, and its fields. What is of one of the first kinds is of no later one."""
+    told = MAGICS.get(block[:4]) or ("boot" if block[3:7] == b"NTFS" else None)
+    for kind in (told, "btrfs" if block[64:66] == b"_B" else None, "ext" if block[56:58] == b"\x53\xEF" else None):
+        found = READERS[kind](block) if kind else None
+        if found is not None:
+            return kind, found
+    return None, None
+
+
+def own_table(header, sector, length, unit):
+    """Whether a header at a sector of an image of this length is of that image's own partition table, in blocks of so many sectors."""
+    last = length // unit - 1
+    return length % unit == 0 and unit * header["own"] == sector and (header["own"], header["other"]) in ((1, last), (last, 1))
+
+
+def sightings(images, first, end, kinds, passed_over, unit):
     """The landmark sectors that count, by kind, in order of sector, then image."""
     wanted = {kind for asked in kinds for kind in MARKS_OF[asked]}
     seen = {kind: [] for kind in READERS}
     for sector in range(first, end):
         for place, image in enumerate(images):
-            block = image[sector * SECTOR:(sector + 1) * SECTOR]
-            kind = MAGICS.get(block[:4]) or ("boot" if block[3:7] == b"NTFS" else None)
+            kind, found = read(image[sector * SECTOR:(sector + 1) * SECTOR])
             if kind not in wanted or len(seen[kind]) == 4096 or (place, sector) in passed_over:
                 continue
-            found = READERS[kind](block)
-            last = len(image) // SECTOR - 1
-            if kind == "gpt" and found and found["own"] == sector and \
-                    (found["own"], found["other"]) in ((1, last), (last, 1)):
+            if kind == "gpt" and (unit * found["own"] >= FAR or own_table(found, sector, len(image) // SECTOR, unit)):
                 continue
-            if found is not None:
-                seen[kind].append((sector, place, found))
+            seen[kind].append((sector, place, found))
     return seen
 
 
-def first_blocks(images, headers):
-    """The first blocks of the partitions that headers tell of."""
+def first_blocks(images, headers, unit):
+    """The sectors at which the partitions begin that headers tell of."""
     firsts = set()
     for sector, place, header in headers:
-        if header["entry"] == 128 and header["entries"] == header["own"] + 1 and sector + 1 < len(images[place]) // SECTOR:
-            for at in range(0, SECTOR, 128):
-                entry = images[place][(sector + 1) * SECTOR + at:(sector + 1) * SECTOR + at + 128]
+        if header["entry"] == 128 and header["entries"] == header["own"] + 1 and sector + unit < len(images[place]) // SECTOR:
+            for at in range((sector + unit) * SECTOR, (sector + unit + 1) * SECTOR, 128):
+                entry = images[place][at:at + 128]
                 first, last = struct.unpack_from("<QQ", entry, 32)
-                if entry[:16] != bytes(16) and first <= last <= header["other"] and first < FAR:
-                    firsts.add(first)
+                if entry[:16] != bytes(16) and first <= last <= header["other"] and unit * first < FAR:
+                    firsts.add(unit * first)
     return firsts
 
 
@@ -114,10 +149,18 @@ def file_systems(heads, rule, others):
     return groups
 
 
-def groups_of(seen):
+def gathered(kind, seen, key, rule):
+    """The groups of one kind: of each value of the key, the first of them, the sightings that have it."""
+    groups = {}
+    for sector, place, found in seen[kind]:
+        groups.setdefault(key(sector, place, found), []).append((kind, place, sector, f"at:{rule(found)}"))
+    return [(kind, marks) for marks in list(groups.values())[:32]]
+
+
+def groups_of(seen, unit):
     groups = []
     if seen["gpt"]:
-        groups.append(("gpt", [("gpt", place, sector, f"at:{found['own']}") for sector, place, found in seen["gpt"]]))
+        groups.append(("gpt", [("gpt", place, sector, f"at:{unit * found['own']}") for sector, place, found in seen["gpt"]]))
 
     def records(geometry):
         cluster, _, mft, mirror, size, _ = geometry
@@ -134,4 +177,7 @@ def groups_of(seen):
     groups += [("ntfs", marks) for marks in file_systems(("boot", seen["boot"]), lambda g: f"either:0:{g[1]}", records)]
     groups += [("xfs", marks) for marks in
                file_systems(("super", seen["super"]), lambda g: f"every:{g[2] * g[1] // 512}:{g[3]}:0", heads)]
+    groups += gathered("btrfs", seen, lambda sector, place, found: found[0], lambda found: found[1] // SECTOR)
+    groups += gathered("lvm", seen, lambda sector, place, found: (sector, place), lambda found: found)
+    groups += gathered("ext", seen, lambda sector, place, found: found[0], lambda found: found[1])
     return groups

@@ -3,21 +3,41 @@ plain where the program is quick. It holds all images and whole answers in memor
 one.
 
 `answer(words, text, files)` gives status, standard output and standard error of a run with these words over a plan text, where
-`files` has the bytes of each image by its name, and None for a name that is no regular file.
+`files` has the bytes of each image by its name, and None for a name that is no regular file. A file has fewer than 2^54 sectors, so none
+is too long for an offset of its own.
 """
 
 import json
 import math
 import random
 
-from arrays import Product, Row, Sums, cells, held, layout_name, page, turns, unsound_rows, volume_sector
+import mirrors
+import salvage
+from arrays import Row, Sums, cells, held, layout_name, turns, unsound_rows, volume_sector
 from generated import array_images, put_file_system, volume_of
 from landmarks import first_blocks, groups_of, sightings
-from texts import KINDS, LEVELS, LISTS, MOST, PATTERNS, RANKS, SECTOR, SYNDROMES, Plan, Set, Stop, broken_rule, read_plan, read_sets, read_words
+from product import Product, page
+from texts import (LEVELS, LISTS, MOST, PATTERNS, RANKS, SECTOR, SYNDROMES, USUAL_KINDS, Plan, Set, Stop, broken_bases,
+                   broken_mirror_rule, broken_rule, read_plan, read_sets, read_words)
 
 
 def given_images(kind, given, planned):
     raise Stop(4, f"reraid: images: {kind} given {given} planned {planned}")
+
+
+def followed_total(product):
+    """The product's total, where its sets have ranks."""
+    if product.total >= RANKS:
+        raise Stop(5, "reraid: the product has more than 18446744073709551615 sets")
+    return product.total
+
+
+def followed_cursor(given, total):
+    """The rank from which a listing goes, where it is not past the total."""
+    first = given.get("from", 0)
+    if first > total:
+        raise Stop(6, f"reraid: cursor {first} is past {total}")
+    return first
 
 
 def planned_work(text, images):
@@ -29,8 +49,7 @@ def planned_work(text, images):
         if len(image) // SECTOR != length:
             given_images(f"length {place}", len(image) // SECTOR, length)
     product = Product(plan)
-    if product.total >= RANKS:
-        raise Stop(5, "reraid: the product has more than 18446744073709551615 sets")
+    followed_total(product)
     return plan, product
 
 
@@ -47,23 +66,26 @@ def usual_end(given, images):
     return end
 
 
-def follow_rules(found, images, end):
-    broken = broken_rule(found, images, end)
+def follow(broken):
+    """Goes on where no rule is broken."""
     if broken:
         raise Stop(7, f"reraid: set rule {broken[0]} value {broken[1]}")
 
 
+def follow_rules(found, images, end, further=None):
+    """Goes on where a set breaks no rule. A further one comes before that of the bases."""
+    follow(broken_rule(found, images, end) or further and further() or broken_bases(found, images))
+
+
 def list_sets(given, text, images):
     plan, product = planned_work(text, images)
-    first = given.get("from", 0)
-    if first > product.total:
-        raise Stop(6, f"reraid: cursor {first} is past {product.total}")
-    out, sums = [], Sums(images)
+    first, out, sums = followed_cursor(given, product.total), [], Sums(images)
     for _ in range(given.get("pages", 1)):
         lines, first = page(plan, product, sums, first, given.get("size", 100), given.get("span", RANKS - 1))
         if given.get("form") == "json":
             for rank, found in lines:
-                shown = {"chunk": found.chunk, "level": found.level, "name": layout_name(found), "offset": found.offset,
+                shown = {"chunk": found.chunk, "level": found.level, "name": layout_name(found),
+                         "offset": list(found.bases) if found.bases else found.offset,
                          "pattern": found.pattern, "rank": rank, "slots": list(found.slots), "syndrome": found.syndrome}
                 out.append(json.dumps(shown, separators=(",", ":")))
             out.append(json.dumps({"next": first, "total": product.total}, separators=(",", ":")))
@@ -75,8 +97,8 @@ def list_sets(given, text, images):
 
 
 def check(given, text, images):
-    plan, product = planned_work(text, images)
     found = given["set"]
+    plan, product = planned_work(text, images)
     follow_rules(found, len(images), plan.end)
     tested = min(found.area(plan.end), plan.window)
     rank, unsound = product.rank_of(found), unsound_rows(found, Sums(images), tested)
@@ -89,9 +111,15 @@ def check(given, text, images):
     return "".join(line + "\n" for line in out + ["pass" if good else "fail"]).encode()
 
 
-def map_sector(given, images):
+def set_and_end(given, images, further=None):
+    """The set and the end that are asked for, where they are such."""
     end, found = usual_end(given, images), given["set"]
-    follow_rules(found, len(images), end)
+    follow_rules(found, len(images), end, further)
+    return found, end
+
+
+def map_sector(given, images):
+    found, end = set_and_end(given, images)
     sector, size = given["sector"], found.area(end) * found.data
     if sector >= size:
         raise Stop(8, f"reraid: sector {sector} of {size}")
@@ -101,14 +129,13 @@ def map_sector(given, images):
     slot = made.index(item)
     shown = [made.index(kind) if kind in made else "-" for kind in "PQ"]
     image = "-" if found.slots[slot] is None else found.slots[slot]
-    place = found.offset + row * found.chunk + inner
+    place = (found.offset if image == "-" else found.base(image)) + row * found.chunk + inner
     return (f"row {row} item {item} slot {slot} image {image} sector {place} p {shown[0]} q {shown[1]}\n"
             f"name {layout_name(found) or '-'}\n").encode()
 
 
 def write(given, images):
-    end, found = usual_end(given, images), given["set"]
-    follow_rules(found, len(images), end)
+    found, end = set_and_end(given, images)
     out = bytearray(found.area(end) * found.data * SECTOR)
     for sector in range(found.area(end)):
         row = Row(found, images, sector)
@@ -120,42 +147,40 @@ def write(given, images):
 
 
 def rebuild(given, images):
-    end, found, slot = usual_end(given, images), given["set"], given["slot"]
-    follow_rules(found, len(images), end)
-    if slot >= found.members or found.slots[slot] is not None:
-        raise Stop(7, f"reraid: set rule 9 value {slot}")
+    wanted, slot = given["set"], given["slot"]
+    found, end = set_and_end(given, images, lambda: (9, slot) if slot >= wanted.members or wanted.slots[slot] is not None else None)
     return b"".join(Row(found, images, sector).whole()[slot] for sector in range(found.area(end)))
 
 
-def survey_plan(given, images):
-    end = usual_end(given, images)
+def asked_values(given, images, end):
+    """What is asked for, with what is usual where it is not said."""
     asked = {"levels": LEVELS, "members": [max(2, len(images))], "patterns": PATTERNS, "syndromes": SYNDROMES,
              "chunks": [8 * 2 ** power for power in range(9)], "offsets": [0, 2048, 262144, 264192], "origins": [0, 2048],
              "missing": 0, "foreign": 0, "badrows": 0, "window": max(1, end), "misfits": 0, "least": 1}
-    asked.update({name: value for name, value in given.items() if name in LISTS})
-    seen = sightings(images, asked["offsets"][0], end, given.get("kinds", KINDS), set(given.get("drop", [])))
-    asked["origins"] = sorted(set(asked["origins"]) | first_blocks(images, seen["gpt"]))[:64]
-    return Plan([len(image) // SECTOR for image in images], end, asked, groups_of(seen))
+    return {**asked, **{name: value for name, value in given.items() if name in LISTS}}
+
+
+def survey_plan(given, images):
+    unit, end = 8 if given.get("logical") == "4096" else 1, usual_end(given, images)
+    asked = asked_values(given, images, end)
+    seen = sightings(images, asked["offsets"][0], end, given.get("kinds", USUAL_KINDS), set(given.get("drop", [])), unit)
+    asked["origins"] = sorted(set(asked["origins"]) | first_blocks(images, seen["gpt"], unit))[:64]
+    return Plan([len(image) // SECTOR for image in images], end, asked, groups_of(seen, unit), given.get("mode") == "each")
 
 
 def sample(given):
-    found, rows = given["set"], given["rows"]
-    end, images = found.offset + rows * found.chunk, found.members - found.lost
-    follow_rules(found, images, end)
-    if found.members * end > 2097152:
-        raise Stop(7, f"reraid: set rule 10 value {found.members * end}")
-    size = rows * found.chunk * found.data
-    if given.get("marks") == "xfs" and size < 512:
-        raise Stop(7, f"reraid: set rule 11 value {size}")
+    found, rows, marked = given["set"], given["rows"], given.get("marks") == "xfs"
+    end, images, size = found.offset + rows * found.chunk, found.members - found.lost, rows * found.chunk * found.data
+    follow(broken_rule(found, images, end) or (found.members * end > 2097152 and (10, found.members * end))
+           or (marked and size < 512 and (11, size)) or (found.bases and (12, len(found.bases))))
     volume = volume_of(given["number"], size * SECTOR)
-    if given.get("marks") == "xfs":
+    if marked:
         put_file_system(volume, found.data)
     made = array_images(found, rows, volume)
     del volume
     plan = survey_plan({"levels": [found.level], "missing": found.lost, "members": [found.members]}, made)
     product = Product(plan)
-    if product.total >= RANKS:
-        raise Stop(5, "reraid: the product has more than 18446744073709551615 sets")
+    followed_total(product)
     lines, after = page(plan, product, Sums(made), 0, 1000, RANKS - 1)
     there = "yes" if any(line.word() == found.word() for _, line in lines) else "no"
     marks = sum(len(group[1]) for group in plan.groups)
@@ -183,6 +208,31 @@ def classes(given, text):
     return "".join([*out, f"classes {len(numbers)} of {len(found)}\n"]).encode()
 
 
+def salvage_volume(given, text, images):
+    end, found = usual_end(given, images), given["set"]
+    sections = salvage.read_rescue(text, len(images))
+    follow_rules(found, len(images), end)
+    sectors = salvage.salvaged(found, images, end, sections)
+    if given.get("form") == "lost":
+        return salvage.lost_text(sectors).encode()
+    return b"".join(bytes(SECTOR) if sector is None else sector for sector in sectors)
+
+
+def list_mirrors(given, images):
+    end = usual_end(given, images)
+    asked = {**asked_values(given, images, end), "end": end}
+    product = mirrors.Mirrors(asked, len(images))
+    first = followed_cursor(given, followed_total(product))
+    lines, after = mirrors.page(asked, product, images, first, given.get("size", 100), given.get("span", RANKS - 1))
+    return "".join([f"{rank} {found.word()}\n" for rank, found in lines] + [f"next {after} of {product.total}\n"]).encode()
+
+
+def write_mirror(given, images):
+    end, found = usual_end(given, images), given["set"]
+    follow(broken_mirror_rule(found, len(images), end))
+    return mirrors.volume(found, images, end)
+
+
 def answer(words, text, files):
     """Status, standard output and standard error of a run."""
     try:
@@ -196,7 +246,8 @@ def answer(words, text, files):
         jobs = {"survey": lambda: survey_plan(given, images).text().encode(), "list": lambda: list_sets(given, text, images),
                 "check": lambda: check(given, text, images), "map": lambda: map_sector(given, images),
                 "write": lambda: write(given, images), "rebuild": lambda: rebuild(given, images), "sample": lambda: sample(given),
-                "classes": lambda: classes(given, text)}
+                "classes": lambda: classes(given, text), "salvage": lambda: salvage_volume(given, text, images),
+                "mirrors": lambda: list_mirrors(given, images), "mirrorwrite": lambda: write_mirror(given, images)}
         return 0, jobs[command](), b""
     except Stop as stop:
         return stop.status, b"", (stop.line + "\n").encode()

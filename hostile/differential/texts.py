@@ -4,6 +4,7 @@ import re
 
 SECTOR = 512
 FAR = 2 ** 55
+MOVED = 2 ** 54  # lengths and offsets are below it where each image has an offset of its own
 RANKS = 2 ** 64
 PLAN_BYTES = 4194304
 MOST = 24
@@ -12,8 +13,9 @@ MOST_SETS = 1024
 LEVELS = [0, 5, 6]
 PATTERNS = ("plain la ra ls rs parity-first parity-last n-restart n-continue la-6 ra-6 ls-6 rs-6 parity-first-6").split()
 SYNDROMES = ["none", "after-q", "by-data", "by-slot"]
-KINDS = ["gpt", "ntfs", "xfs"]
-MARKS_OF = {"gpt": ["gpt"], "ntfs": ["boot", "record"], "xfs": ["super", "agf", "agi"]}
+KINDS = ["gpt", "ntfs", "xfs", "btrfs", "lvm", "ext"]
+USUAL_KINDS = KINDS[:5]
+MARKS_OF = {"gpt": ["gpt"], "ntfs": ["boot", "record"], "xfs": ["super", "agf", "agi"], "btrfs": ["btrfs"], "lvm": ["lvm"], "ext": ["ext"]}
 FIVE = PATTERNS[1:7]
 SIX = PATTERNS[1:]
 REDUNDANCY = {0: 0, 5: 1, 6: 2}
@@ -81,24 +83,21 @@ LISTS = {
     "misfits": one(0, FAR - 1),
     "least": one(0, FAR - 1),
 }
+# What else a list or number has to be where each image has an offset of its own
+MOVABLE = {"offsets": numbers(0, MOVED - 1, 64), "foreign": one(0, 0)}
+CHUNKS = [2 ** power for power in range(16)]
 
 
-class Set:
-    """A parameter set."""
+class Array:
+    """Chunks of images that begin at an offset, with the images, or none, in their slots."""
 
-    def __init__(self, level, pattern, syndrome, chunk, offset, slots):
-        self.level, self.pattern, self.syndrome, self.chunk, self.offset = level, pattern, syndrome, chunk, offset
-        self.slots = tuple(slots)
+    def __init__(self, chunk, offset, slots):
+        self.chunk, self.offset, self.slots = chunk, offset, tuple(slots)
         self.members = len(self.slots)
-        self.data = self.members - REDUNDANCY[level]
         self.lost = self.slots.count(None)
 
-    def head(self):
-        return (self.level, self.members, self.pattern, self.syndrome, self.chunk, self.offset)
-
-    def word(self):
-        slots = ",".join("-" if image is None else str(image) for image in self.slots)
-        return f"{self.level}:{self.pattern}:{self.syndrome}:{self.chunk}:{self.offset}:{slots}"
+    def slot_words(self):
+        return ",".join("-" if image is None else str(image) for image in self.slots)
 
     def rows(self, end):
         return max(0, end - self.offset) // self.chunk
@@ -107,32 +106,105 @@ class Set:
         return self.rows(end) * self.chunk
 
 
+class Set(Array):
+    """A parameter set. Where each image has an offset of its own, these are its bases, and its offset is the greatest of them."""
+
+    def __init__(self, level, pattern, syndrome, chunk, offset, slots, bases=()):
+        super().__init__(chunk, max(bases, default=offset), slots)
+        self.level, self.pattern, self.syndrome, self.bases = level, pattern, syndrome, tuple(bases)
+        self.data = self.members - REDUNDANCY[level]
+
+    def like(self, **changed):
+        """The set with what is changed in it."""
+        names = ("level", "pattern", "syndrome", "chunk", "offset", "slots", "bases")
+        return Set(**{**{name: getattr(self, name) for name in names}, **changed})
+
+    def shape(self):
+        return (self.level, self.members, self.pattern, self.syndrome, self.chunk)
+
+    def base(self, image):
+        """The sector of an image at which its data begin."""
+        return self.bases[image] if self.bases else self.offset
+
+    def word(self):
+        offset = "+".join(str(base) for base in self.bases or [self.offset])
+        return f"{self.level}:{self.pattern}:{self.syndrome}:{self.chunk}:{offset}:{self.slot_words()}"
+
+
+class Mirror(Array):
+    """A set of two copies next to each other."""
+
+    def word(self):
+        return f"near2:{self.chunk}:{self.offset}:{self.slot_words()}"
+
+
+def slots_word(text):
+    slots = [-1 if part == "-" else number(part, 0, MOST - 1) for part in text.split(",")]
+    return None if None in slots or len(slots) > MOST else [None if slot == -1 else slot for slot in slots]
+
+
 def set_word(text):
     parts = text.split(":")
     if len(parts) != 6 or parts[0] not in ("0", "5", "6") or parts[1] not in PATTERNS or parts[2] not in SYNDROMES:
         return None
-    chunk, offset = number(parts[3], 0, 2 ** 32 - 1), number(parts[4], 0, FAR - 1)
-    slots = [-1 if part == "-" else number(part, 0, MOST - 1) for part in parts[5].split(",")]
-    if chunk is None or offset is None or None in slots or not 1 <= len(slots) <= MOST:
+    bases = [number(part, 0, MOVED - 1 if "+" in parts[4] else FAR - 1) for part in parts[4].split("+")]
+    chunk, slots = number(parts[3], 0, 2 ** 32 - 1), slots_word(parts[5])
+    if chunk is None or None in bases or len(bases) > MOST or slots is None:
         return None
-    return Set(int(parts[0]), parts[1], parts[2], chunk, offset, [None if slot == -1 else slot for slot in slots])
+    return Set(int(parts[0]), parts[1], parts[2], chunk, bases[0], slots, bases if len(bases) > 1 else ())
+
+
+def mirror_word(text):
+    parts = text.split(":")
+    if len(parts) != 4 or parts[0] != "near2":
+        return None
+    chunk, offset, slots = number(parts[1], 0, 2 ** 32 - 1), number(parts[2], 0, FAR - 1), slots_word(parts[3])
+    return None if None in (chunk, offset, slots) else Mirror(chunk, offset, slots)
+
+
+def strange_images(found, images):
+    """The images of a set that do not exist, and those that stand in a slot before."""
+    there = [slot for slot in found.slots if slot is not None]
+    return [slot for slot in there if slot >= images], [slot for place, slot in enumerate(there) if slot in there[:place]]
+
+
+def broken_mirror_rule(found, images, end):
+    """The first rule that a set of copies breaks, and its value."""
+    absent, again = strange_images(found, images)
+    if not 2 <= found.members <= MOST:
+        return 21, found.members
+    if found.chunk not in CHUNKS:
+        return 22, found.chunk
+    if absent:
+        return 23, absent[0]
+    if again:
+        return 24, again[0]
+    if found.lost > 1:
+        return 25, found.lost
+    if found.rows(end) == 0:
+        return 26, found.offset
+    return None
+
+
+def broken_bases(found, images):
+    """Rule 12 and its value, where a set has bases that are not one for each image, or an image in no slot."""
+    if found.bases and (len(found.bases) != images or any(image not in found.slots for image in range(images))):
+        return 12, len(found.bases)
+    return None
 
 
 def broken_rule(found, images, end):
-    """The first rule that a set breaks, and its value."""
+    """The first of the rules of all commands that a set breaks, but for that of its bases, and its value."""
     patterns = {0: PATTERNS[:1], 5: FIVE, 6: SIX}[found.level]
     syndromes = SYNDROMES[1:] if found.level == 6 else SYNDROMES[:1]
-    there = [slot for slot in found.slots if slot is not None]
-    absent = [slot for slot in there if slot >= images]
-    again = [slot for place, slot in enumerate(there) if slot in there[:place]]
-    chunks = [2 ** power for power in range(16)]
+    absent, again = strange_images(found, images)
     if not FEWEST[found.level] <= found.members <= MOST:
         return 1, found.members
     if found.pattern not in patterns:
         return 2, PATTERNS.index(found.pattern)
     if found.syndrome not in syndromes:
         return 3, SYNDROMES.index(found.syndrome)
-    if found.chunk not in chunks:
+    if found.chunk not in CHUNKS:
         return 4, found.chunk
     if absent:
         return 5, absent[0]
@@ -161,19 +233,31 @@ def either(*choices):
     return lambda text: text if text in choices else None
 
 
+END = {"end": one(0, FAR - 1)}
+RANGE = {"from": one(0, RANKS - 1), "size": one(1, 1000000), "span": one(1, RANKS - 1)}
 OPERANDS = {
-    "survey": {**LISTS, "end": one(0, FAR - 1), "kinds": named(KINDS), "drop": drops},
-    "list": {"from": one(0, RANKS - 1), "size": one(1, 1000000), "span": one(1, RANKS - 1), "pages": one(1, 1000000),
-             "form": either("text", "json")},
+    "survey": {**LISTS, **END, "kinds": named(KINDS), "drop": drops, "mode": either("common", "each"), "logical": either("512", "4096")},
+    "list": {**RANGE, "pages": one(1, 1000000), "form": either("text", "json")},
     "check": {"set": set_word},
-    "map": {"set": set_word, "sector": one(0, RANKS - 1), "end": one(0, FAR - 1)},
-    "write": {"set": set_word, "end": one(0, FAR - 1)},
-    "rebuild": {"set": set_word, "slot": one(0, MOST - 1), "end": one(0, FAR - 1)},
+    "map": {"set": set_word, "sector": one(0, RANKS - 1), **END},
+    "write": {"set": set_word, **END},
+    "rebuild": {"set": set_word, "slot": one(0, MOST - 1), **END},
     "sample": {"number": one(0, RANKS - 1), "set": set_word, "rows": one(1, 65536), "marks": either("none", "xfs")},
-    "classes": {"images": one(1, MOST), "end": one(0, FAR - 1)},
+    "classes": {"images": one(1, MOST), **END},
+    "salvage": {"set": set_word, "form": either("data", "lost"), **END},
+    "mirrors": {**{name: LISTS[name] for name in ("members", "chunks", "offsets", "foreign", "badrows", "window")}, "missing": one(0, 1),
+                **END, **RANGE},
+    "mirrorwrite": {"set": mirror_word, **END},
 }
 REQUIRED = {"survey": [], "list": [], "check": ["set"], "map": ["set", "sector"], "write": ["set"], "rebuild": ["set", "slot"],
-            "sample": ["number", "set", "rows"], "classes": ["images", "end"]}
+            "sample": ["number", "set", "rows"], "classes": ["images", "end"], "salvage": ["set"], "mirrors": [], "mirrorwrite": ["set"]}
+
+
+def clash(given):
+    """Whether operands do not go together with which a command line may not go on."""
+    too_many = given.get("size", 1) * given.get("pages", 1) > MOST_LINES
+    each = given.get("mode") == "each"
+    return too_many or each and (given.get("foreign", 0) > 0 or given.get("offsets", [0])[-1] >= MOVED)
 
 
 def read_words(words):
@@ -195,7 +279,7 @@ def read_words(words):
         if not mark or name in given or name not in OPERANDS[command]:
             refuse(place)
         given[name] = OPERANDS[command][name](text)
-        if given[name] is None or given.get("size", 1) * given.get("pages", 1) > MOST_LINES:
+        if given[name] is None or clash(given):
             refuse(place)
     refuse(len(words) + 1)
 
@@ -216,7 +300,7 @@ def read_sets(data, images, end):
         if not last and len(parts) == 4 and parts[0] == "next" and parts[2] == "of" and None not in (ranks(parts[1]), ranks(parts[3])):
             continue
         made = set_word(parts[1]) if not last and len(parts) == 2 and ranks(parts[0]) is not None else None
-        if made is None or broken_rule(made, images, end) or len(found) == MOST_SETS:
+        if made is None or made.bases or broken_rule(made, images, end) or len(found) == MOST_SETS:
             raise Stop(13, f"reraid: set line {place} is not understood")
         found.append(made)
     raise AssertionError
@@ -225,17 +309,18 @@ def read_sets(data, images, end):
 # The plan
 
 class Plan:
-    """A plan: its lists and numbers by their names, and its groups, each with its kind and its marks."""
+    """A plan: its lists and numbers by their names, its groups, each with its kind and its marks, and whether each image has an offset
+    of its own."""
 
-    def __init__(self, lengths, end, given, groups):
-        self.lengths, self.end, self.groups = lengths, end, groups
+    def __init__(self, lengths, end, given, groups, each=False):
+        self.lengths, self.end, self.groups, self.each = lengths, end, groups, each
         for name in LISTS:
             setattr(self, name, given[name])
 
     def text(self):
         def shown(value):
             return ",".join(str(part) for part in value) if isinstance(value, list) else str(value)
-        lines = ["reraid-plan 1", f"images {len(self.lengths)}"] + [f"length {length}" for length in self.lengths]
+        lines = [f"reraid-plan {2 if self.each else 1}", f"images {len(self.lengths)}"] + [f"length {length}" for length in self.lengths]
         lines.append(f"end {self.end}")
         order = "levels members patterns syndromes chunks offsets origins missing foreign badrows window misfits least".split()
         lines += [f"{name} {shown(getattr(self, name))}" for name in order]
@@ -278,12 +363,14 @@ def read_plan(data):
             refuse()
         return result
 
-    if line() != "reraid-plan 1":
+    first = line()
+    if first not in ("reraid-plan 1", "reraid-plan 2"):
         refuse()
-    lengths = [value("length", one(0, FAR - 1)) for _ in range(value("images", one(1, MOST)))]
+    each = first == "reraid-plan 2"
+    lengths = [value("length", one(0, (MOVED if each else FAR) - 1)) for _ in range(value("images", one(1, MOST)))]
     end = value("end", one(0, min(lengths)))
     order = "levels members patterns syndromes chunks offsets origins missing foreign badrows window misfits least".split()
-    given = {name: value(name, LISTS[name]) for name in order}
+    given = {name: value(name, MOVABLE.get(name, LISTS[name]) if each else LISTS[name]) for name in order}
     groups, seen = [], {kind: 0 for kinds in MARKS_OF.values() for kind in kinds}
     while (text := line()) != "done":
         parts = text.split(" ")
@@ -308,4 +395,4 @@ def read_plan(data):
     place += 1
     if place < len(lines) or lines[-1] != "":
         refuse()
-    return Plan(lengths, end, given, groups)
+    return Plan(lengths, end, given, groups, each)

@@ -1,0 +1,293 @@
+#!/usr/bin/env python3
+"""Compares the reference with answers that were worked out by hand, and prints how many of them agree.
+
+Usage: rows.py
+An answer is the status, the line, and standard output as text, or as the bytes that fill its sectors. The status is 0 where all agree.
+"""
+
+import itertools
+import struct
+import sys
+import zlib
+
+import reference
+from texts import PATTERNS, SECTOR, SYNDROMES
+
+NAMES = "abcdefghijklmnopqrstuvwx"
+ROWS = []
+
+
+def sectors(filled):
+    """Sectors that are each filled with one byte."""
+    return b"".join(bytes([byte]) * SECTOR for byte in bytes.fromhex(filled))
+
+
+def with_sectors(length, there):
+    """An image of zeros but for some sectors."""
+    image = bytearray(length * SECTOR)
+    for place, block in there.items():
+        image[place * SECTOR:place * SECTOR + len(block)] = block
+    return bytes(image)
+
+
+def row(words, images=(), text="", out=None, status=0, line="", ends=None):
+    """A run over images, named by letters, and its answer; `ends` has the first and last lines alone."""
+    ROWS.append((words, images, text, out, status, line and f"reraid: {line}\n", ends))
+
+
+def plan(lengths, version=1, groups="", **changed):
+    """A plan of a RAID 5 with all members there, with what is changed."""
+    values = {"end": min(lengths), "levels": 5, "members": 3, "patterns": "ls", "syndromes": "none", "chunks": 1, "offsets": 0,
+              "origins": 0, "missing": 0, "foreign": 0, "badrows": 0, "window": max(1, min(lengths)), "misfits": 0, "least": 1, **changed}
+    lines = [f"reraid-plan {version}", f"images {len(lengths)}"] + [f"length {length}" for length in lengths]
+    return "".join(f"{line}\n" for line in lines + [f"{name} {value}" for name, value in values.items()]) + groups + "done\n"
+
+
+# Landmark sectors
+
+def little(fields):
+    """A sector with these fields, by their places, lowest byte first."""
+    block = bytearray(SECTOR)
+    for place, (form, value) in fields.items():
+        struct.pack_into("<" + form, block, place, value)
+    return bytes(block)
+
+
+def gpt_header(own, other, entries=2):
+    block = bytearray(little({0: ("8s", b"EFI PART"), 12: ("I", 92), 24: ("Q", own), 32: ("Q", other), 72: ("Q", entries), 84: ("I", 128)}))
+    struct.pack_into("<I", block, 16, zlib.crc32(block[:92]))
+    return bytes(block)
+
+
+def gpt_entry(first, last):
+    return little({0: ("16s", b"\1" * 16), 32: ("Q", first), 40: ("Q", last)})
+
+
+def label(sector, version=b"LVM2 001"):
+    return little({0: ("8s", b"LABELONE"), 8: ("Q", sector), 24: ("8s", version)})
+
+
+def btrfs(address, fsid=b"\7" * 16, more=b""):
+    return more + little({32: ("16s", fsid), 48: ("Q", address), 64: ("8s", b"_BHRfS_M")})[len(more):]
+
+
+def ext(group, power=2, first=0, blocks=4, revision=1, uuid=b"\5" * 16):
+    return little({20: ("I", first), 24: ("I", power), 32: ("I", blocks), 56: ("H", 0xEF53), 76: ("I", revision), 90: ("H", group),
+                   104: ("16s", uuid)})
+
+
+# An offset for each image
+
+def own_offsets():
+    images = [sectors("090102"), sectors("030409"), sectors("020609")]
+    each = plan([3, 3, 3], 2, offsets="0,1", window=2)
+    orders = [",".join(map(str, order)) for order in itertools.permutations(range(3))]
+    passing = [f"{24 + place} 5:ls:none:1:1+0+0:{order}" for place, order in enumerate(orders)] + ["next 48 of 48"]
+    row("list", images, each, "".join(line + "\n" for line in passing))
+    row("list from=24 size=1 form=json", images, each, '{"chunk":1,"level":5,"name":"left-symmetric","offset":[1,0,0],"pattern":"ls",'
+        '"rank":24,"slots":[0,1,2],"syndrome":"none"}\n{"next":25,"total":48}\n')
+    right = "set=5:ls:none:1:1+0+0:0,1,2"
+    row(f"write {right}", images, out=sectors("01030602"))
+    row("write set=5:ls:none:1:0+0:0,1,2", images, status=7, line="set rule 12 value 2")
+    row(f"check {right}", images, each, "rank 24\nunsound 0 of 2\npass\n")
+    row("check set=5:ls:none:1:0+0+1:0,1,2", images, each, "rank 6\nunsound 2 of 2\nfail\n")
+    row("check set=5:ls:none:1:0:0,1,2", images, each, "rank -\nunsound 2 of 2\nfail\n")
+    row(f"check {right}", images, plan([3, 3, 3]), "rank -\nunsound 0 of 2\npass\n")
+    row("check set=5:ls:none:1:3+0+0:0,1,2", images, each, status=7, line="set rule 8 value 3")
+    row(f"map {right} sector=2", images, out="row 1 item 0 slot 2 image 2 sector 1 p 1 q -\nname left-symmetric\n")
+    row(f"map {right} sector=0", images, out="row 0 item 0 slot 0 image 0 sector 1 p 2 q -\nname left-symmetric\n")
+    row("map set=5:ls:none:1:0+1:0,1,- sector=2", images[:2], out="row 1 item 0 slot 2 image - sector 2 p 1 q -\nname left-symmetric\n")
+    row("rebuild set=5:ls:none:1:1+0:0,1,- slot=2", images[:2], out=sectors("0206"))
+    row("rebuild set=5:ls:none:1:0+0:0,1,- slot=0", images[:2], status=7, line="set rule 9 value 0")
+    row("rebuild set=5:ls:none:1:0+0+0:0,1,- slot=2", images[:2], status=7, line="set rule 12 value 3")
+    row("write set=5:ls:none:1:0+0+0+0:0,1,2", [*images, images[0]], status=7, line="set rule 12 value 4")
+    row("sample number=7 set=5:ls:none:8:0+0+0:0,1,2 rows=2", status=7, line="set rule 12 value 3")
+    row("sample number=7 set=5:ls:none:8:0+0+0:0,1,2 rows=2 marks=xfs", status=7, line="set rule 11 value 32")
+    many = plan([1] * 16, 2, levels=0, members=16, patterns="plain", offsets=",".join(map(str, range(64))))
+    past = "the product has more than 18446744073709551615 sets"
+    row("list", [sectors("00")] * 16, many, status=5, line=past)
+    row("list", [sectors("00")] * 16, plan([1] * 16, 2, levels=0, members=16, patterns="plain", offsets="0"),
+        ends=("0 0:plain:none:1:" + "+".join("0" * 16) + ":" + ",".join(map(str, range(16))), "next 100 of 20922789888000"))
+    row("list", [sectors("00")] * 2, plan([1, 1], 2, foreign=1), status=2, line="plan line 14 is not understood")
+    row("list", [sectors("00")] * 2, plan([1, 1], 2, offsets=2 ** 54), status=2, line="plan line 11 is not understood")
+    row("list", [sectors("00")] * 2, plan([1, 2 ** 54], 2), status=2, line="plan line 4 is not understood")
+    for words, place in (("mode=each foreign=1", 3), ("foreign=1 mode=each", 3), ("mode=each offsets=18014398509481984", 3),
+                         ("offsets=18014398509481984 mode=each", 3), ("mode=each mode=each", 3), ("mode=every", 2)):
+        row(f"survey {words}", [sectors("00")], status=1, line=f"word {place} is not understood")
+    row("survey mode=each levels=5 patterns=ls syndromes=none chunks=1 offsets=0,1 members=3 origins=0", images,
+        out=plan([3, 3, 3], 2, offsets="0,1"))
+
+
+# Partition tables of blocks of 4,096 bytes, and 24 images
+
+def large_blocks():
+    images = [with_sectors(64, {8: gpt_header(1, 15), 16: gpt_entry(5, 12)}), with_sectors(64, {})]
+    for words, origins, mark in (("logical=4096 ", "0,40", "at:8"), ("", "0", "at:1")):
+        asked = {"levels": 0, "members": 2, "patterns": "plain", "syndromes": "none", "chunks": 1, "offsets": 0}
+        operands = words + " ".join(f"{name}={value}" for name, value in asked.items()) + " origins=0"
+        row(f"survey {operands}", images, out=plan([64, 64], groups=f"group gpt\nmark gpt 0 8 {mark}\n", **{**asked, "origins": origins}))
+    row("list", [sectors("00")] * 24, plan([1] * 24, members=24), status=5, line="the product has more than 18446744073709551615 sets")
+    row("list size=1", [sectors("00")] * 24, plan([1] * 24, foreign=21), out="0 5:ls:none:1:0:0,1,2\nnext 1 of 12144\n")
+
+
+# Rescue texts
+
+def rescue():
+    images, word = [sectors("0102"), sectors("0304"), sectors("0206")], "set=5:ls:none:1:0:0,1,2"
+    first = "map 0\n# x\n0x0 ? 1\n0x0 0x200 -\n0x200 0x200 +\n"
+    row(f"salvage {word}", images, first, sectors("01030602"))
+    row(f"salvage {word} form=lost", images, first, "good 4 of 4\n")
+    second = first + "map 1\n0 +\n0 512 -\n"
+    row(f"salvage {word}", images, second + "512 512 +\n", sectors("00000602"))
+    row(f"salvage {word} form=lost", images, second + "512 512 +\n", "lost 0 2\ngood 2 of 4\n")
+    row(f"salvage {word}", images, second + "513 512 +\n", status=9, line="rescue line 9 is not understood")
+    row(f"salvage {word}", images, "", sectors("01030602"))
+    # a section without blocks has no good sector; a status line may read like the beginning of another
+    row(f"salvage {word} form=lost", images, "map 2", "good 4 of 4\n")
+    row(f"salvage {word} form=lost", images, "map 1\nmap 2\n", "good 4 of 4\n")
+    row(f"salvage {word} form=lost", images, "map 1\nx\nmap 2\n", "lost 1 2\ngood 2 of 4\n")
+    for text, place in (("map 3\n", 1), ("map 01\n", 1), ("map  0\n", 1), ("map 0 \n", 1), ("map 0\nmap 01\nmap 0\n", 3), ("0 1 +\n", 1),
+                        (" \n", 1), ("map 1\nx\nmap 0\n", 3), ("map 0\nx\n0 0 +\n", 3), ("map 0\nx\n0X0 1 +\n", 3),
+                        ("map 0\nx\n0x 1 +\n", 3), ("map 0\nx\n\n# y\n0 1 +\r\n", 5), ("map 0\nx\n18446744073709551615 1 +\n", 3),
+                        ("map 0\nx\n0 1 %\n", 3)):
+        row(f"salvage {word}", images, text, status=9, line=f"rescue line {place} is not understood")
+    row(f"salvage {word} form=lost", images, "map 0\n\n# y\n \n\t0x00\t0x1fF + \n511 1 +\n512 511 +", "good 4 of 4\n")
+    # the first sector of image 0 is good by two blocks together, so nothing of row 0 is lost but image 1; in row 1 two are lost
+    row(f"salvage {word} form=lost", images, "map 0\n?\n0 511 +\n511 1 +\n512 511 +\nmap 1\n?\n", "lost 3 1\ngood 3 of 4\n")
+    row(f"salvage {word}", images, "x" * 4194305, status=3, line="rescue text is longer than 4194304 bytes")
+    row("salvage set=5:ls:none:1:0+0:0,1,2", images, "map 5\n", status=9, line="rescue line 1 is not understood")
+    row("salvage set=5:ls:none:1:0+0:0,1,2", images, status=7, line="set rule 12 value 2")
+
+
+# Copies next to each other
+
+def near():
+    four, usual = [sectors("0102"), sectors("0102"), sectors("0304"), sectors("0304")], "chunks=1 offsets=0"
+    orders = [",".join(map(str, order)) for order in itertools.permutations(range(4))]
+    lines = [f"{rank} near2:1:0:{orders[rank]}\n" for rank in (0, 1, 6, 7, 16, 17, 22, 23)]
+    row(f"mirrors {usual}", four, out="".join(lines) + "next 24 of 24\n")
+    row(f"mirrors {usual} size=2 from=1", four, out="".join(lines[1:3]) + "next 7 of 24\n")
+    row("mirrorwrite set=near2:1:0:0,1,2,3", four, out=sectors("01030204"))
+    three = [sectors("0506"), sectors("0507"), sectors("0607")]
+    row(f"mirrors {usual}", three, out="0 near2:1:0:0,1,2\nnext 6 of 6\n")
+    # the second copy of the middle chunk lies past the window, so its sector is not tested
+    row(f"mirrors {usual} window=1", [sectors("0506"), sectors("0507"), sectors("0807")],
+        out="0 near2:1:0:0,1,2\n2 near2:1:0:1,0,2\nnext 6 of 6\n")
+    row("mirrorwrite set=near2:1:0:0,-,1", [three[0], three[2]], out=sectors("050607"))
+    row("mirrorwrite set=near2:1:0:0,-,-", [three[0]], status=7, line="set rule 25 value 2")
+    for word, rule, value in (("1:0:0", 21, 1), ("3:0:0,1,2", 22, 3), ("1:0:0,1,7", 23, 7), ("1:0:0,1,1", 24, 1), ("1:2:0,1,2", 26, 2)):
+        row(f"mirrorwrite set=near2:{word}", three, status=7, line=f"set rule {rule} value {value}")
+    row(f"mirrors {usual} from=7", three, status=6, line="cursor 7 is past 6")
+    row("mirrors missing=2", three, status=1, line="word 2 is not understood")
+    row("mirrors pages=1", three, status=1, line="word 2 is not understood")
+    row("mirrorwrite", three, status=1, line="word 2 is not understood")
+    row("mirrors end=3", three, status=4, line="images: end given 3 planned 2")
+    row(f"mirrors {usual}", [sectors("00")] * 21, status=5, line="the product has more than 18446744073709551615 sets")
+
+
+# Landmarks of btrfs, LVM2 and ext
+
+def file_systems():
+    asked = {"levels": 0, "members": 2, "patterns": "plain", "syndromes": "none", "chunks": 1, "offsets": 0}
+    words = "survey " + " ".join(f"{name}={value}" for name, value in asked.items()) + " origins=0"
+
+    def seen(there, groups, more="", length=400):
+        row(f"{words} {more}".strip(), [with_sectors(length, there)], out=plan([length], groups=groups, **asked))
+    two, lvm = {3: label(1), 130: btrfs(65536)}, "group lvm\nmark lvm 0 3 at:1\n"
+    seen(two, "group btrfs\nmark btrfs 0 130 at:128\n" + lvm)
+    seen({3: label(1, b"LVM2 002"), 130: btrfs(65537)}, "")
+    seen(two, lvm, "kinds=lvm")
+    seen({3: label(2 ** 55 - 1), 4: label(2 ** 55)}, "group lvm\nmark lvm 0 3 at:36028797018963967\n")
+    seen({3: label(1), 4: label(1)}, lvm + "group lvm\nmark lvm 0 4 at:1\n")
+    seen({1: btrfs(67108864, b"\1" * 16), 2: btrfs(65536, b"\2" * 16), 3: btrfs(274877906944, b"\1" * 16)},
+         "group btrfs\nmark btrfs 0 1 at:131072\nmark btrfs 0 3 at:536870912\ngroup btrfs\nmark btrfs 0 2 at:128\n")
+    # an AGF, or a label, is no btrfs, whatever is asked for
+    seen({1: btrfs(65536, more=b"XAGF\0\0\0\1")}, "", "kinds=btrfs")
+    seen({1: btrfs(65536, more=b"XAGF\0\0\0\2")}, "group btrfs\nmark btrfs 0 1 at:128\n", "kinds=btrfs")
+    seen({1: btrfs(65536, more=label(1)[:32])}, "", "kinds=btrfs")
+    seen({1: ext(0), 33: ext(1), 50: ext(3)}, "group ext\nmark ext 0 33 at:32\nmark ext 0 50 at:96\n", "kinds=ext")
+    seen({33: ext(1)}, "")
+    seen({1: ext(1, power=7), 2: ext(65535), 3: ext(1, blocks=0), 4: ext(1, first=1), 5: ext(1, power=0, first=2), 6: ext(1, revision=2)},
+         "", "kinds=ext")
+    seen({1: ext(1, power=0, first=1), 2: ext(65534, power=6, blocks=2 ** 32 - 1)},
+         f"group ext\nmark ext 0 1 at:10\ngroup ext\nmark ext 0 2 at:{65534 * (2 ** 32 - 1) * 128}\n", "kinds=ext")
+    both = little({32: ("16s", b"\7" * 16), 48: ("Q", 65536), 56: ("H", 0), 64: ("8s", b"_BHRfS_M")})
+    seen({5: both, 6: ext(2, uuid=b"\6" * 16), 7: label(9)},
+         "group btrfs\nmark btrfs 0 5 at:128\ngroup lvm\nmark lvm 0 7 at:9\ngroup ext\nmark ext 0 6 at:64\n",
+         "kinds=gpt,ntfs,xfs,btrfs,lvm,ext")
+    # the first bytes of the identifier are the blocks of a group of what would be an ext
+    one = little({32: ("16s", b"\7" * 16), 48: ("Q", 65536), 56: ("H", 0xEF53), 64: ("8s", b"_BHRfS_M"), 90: ("H", 1)})
+    seen({5: one}, "group btrfs\nmark btrfs 0 5 at:128\n", "kinds=btrfs,ext")
+    seen({5: one}, "", "kinds=ext")
+    other = one[:64] + bytes(8) + one[72:]
+    seen({5: other}, f"group ext\nmark ext 0 5 at:{2 * 0x07070707}\n", "kinds=btrfs,ext")
+    seen({7: label(9)}, "group lvm\nmark lvm 0 7 at:9\n", "kinds=lvm,ext")
+    row("survey kinds=ext,lvm", [sectors("00")], status=1, line="word 2 is not understood")
+    on_two = plan([4, 4], groups="group btrfs\nmark btrfs 0 1 at:2\n", **{**asked, "origins": "0,1"})
+    for rank, slots in ((0, "0,1"), (1, "1,0")):
+        row(f"check set=0:plain:none:1:0:{slots}", [with_sectors(4, {})] * 2, on_two,
+            f"rank {rank}\nunsound 0 of 4\ngroup 0 btrfs origin {rank} fits 1 misfits 0\npass\n")
+    for place, groups in ((19, "group lvm\ngroup btrfs\n"), (18, "group zfs\n"), (19, "group lvm\nmark btrfs 0 1 at:0\n"),
+                          (50, "group ext\n" * 33)):
+        row("list", [with_sectors(4, {})], plan([4], groups=groups), status=2, line=f"plan line {place} is not understood")
+
+
+# What was there before
+
+def earlier():
+    images, three = [sectors("0102"), sectors("0304"), sectors("0206")], plan([2, 2, 2])
+    orders = [",".join(map(str, order)) for order in itertools.permutations(range(3))]
+    row("list size=10", images, three, "".join(f"{rank} 5:ls:none:1:0:{order}\n" for rank, order in enumerate(orders)) + "next 6 of 6\n")
+    row("list", [*images[:2], sectors("0207")], three, "next 6 of 6\n")
+    row("list from=7", images, three, status=6, line="cursor 7 is past 6")
+    row("list size=4 pages=2", images, three, ends=("0 5:ls:none:1:0:0,1,2", "next 6 of 6"))
+    row("list", [*images, sectors("0000")], plan([2] * 4, foreign=1), ends=("0 5:ls:none:1:0:0,1,2", "next 24 of 24"))
+    row("list", images[:2], plan([2, 2], missing=1), ends=("0 5:ls:none:1:0:0,1,-", "next 6 of 6"))
+    row("list from=12 size=1", images, plan([2, 2, 2], levels="0,5", members="2,3", patterns="plain,ls", foreign=1),
+        out="12 5:ls:none:1:0:0,1,2\nnext 13 of 18\n")
+    parity = [sectors("1C"), sectors("01"), sectors("80"), sectors("81")]
+    six = plan([1] * 4, levels=6, members=4, syndromes="after-q,by-data,by-slot")
+    row("list", parity, six, "0 6:ls:after-q:1:0:0,1,2,3\n24 6:ls:by-data:1:0:0,1,2,3\nnext 72 of 72\n")
+    row("check set=6:ls:by-slot:1:0:0,1,2,3", parity, six, "rank 48\nunsound 1 of 1\nfail\n")
+    row("write set=6:ls:after-q:1:0:0,-,-,1", [parity[0], parity[3]], out=sectors("0180"))
+    row("rebuild set=6:ls:after-q:1:0:-,0,1,2 slot=0", parity[1:], out=sectors("1C"))
+    lists = {"patterns": PATTERNS[1:], "syndromes": SYNDROMES[1:], "chunks": [1 << k for k in range(16)], "offsets": range(64)}
+    lists = {name: ",".join(map(str, values)) for name, values in lists.items()}
+    many = plan([1] * 16, levels=6, members=16, missing=2, foreign=2, **lists)
+    row("list", [sectors("00")] * 16, many, status=5, line="the product has more than 18446744073709551615 sets")
+    row("sample number=7 set=5:ls:none:8:0:0,1,2 rows=2 marks=none",
+        out="images 3\nsectors 16\nmarks 0\ntotal 1296\nfound yes\nnext 1296 of 1296\n")
+    for words, place in (("", 1), ("list size=0", 2), ("list size=2 size=3", 3), ("write", 2), ("list size=1000000 pages=5", 3)):
+        row(words, [sectors("00")], status=1, line=f"word {place} is not understood")
+
+
+def differs(words, images, text, out, status, line, ends):
+    """What the reference answers, where that is another answer."""
+    given = words.split()
+    if given:
+        given += ["--", *NAMES[:len(images)]]
+    answered, put, told = reference.answer(given, text.encode(), dict(zip(NAMES, images)))
+    wanted = b"" if out is None else out.encode() if isinstance(out, str) else out
+    if ends is not None:
+        lines = put.decode().splitlines()
+        agrees = answered == 0 and lines and (lines[0], lines[-1]) == ends
+    else:
+        agrees = (answered, put, told.decode()) == (status, wanted, line)
+    return None if agrees else (answered, put[:400], told)
+
+
+def main():
+    for rows in (earlier, own_offsets, large_blocks, rescue, near, file_systems):
+        rows()
+    differing = 0
+    for words, *rest in ROWS:
+        answered = differs(words, *rest)
+        if answered:
+            differing += 1
+            print(f"{words}\n  wanted {rest[3]} {rest[4]!r} {rest[2] if rest[2] is not None else rest[5]!r}\n  given  {answered}")
+    print(f"{len(ROWS) - differing} of {len(ROWS)} rows agree")
+    return differing > 0
+
+
+if __name__ == "__main__":
+    sys.exit(main())

@@ -1,7 +1,7 @@
 #!/bin/bash
 # Makes file systems on arrays of five disks, level by level, with all disks and with one lost, and prints of how many sets how many pass,
 # without landmarks and with those of the file system's kind; the true set is among the latter, or the line says so.
-# Needs root and the Debian packages e2fsprogs, xfsprogs, btrfs-progs, ntfs-3g, lvm2 and gdisk.
+# Needs the Debian packages e2fsprogs, xfsprogs, btrfs-progs and ntfs-3g.
 # Usage: bench/kinds.sh [MEGABYTES] [FOLDER]
 set -eu
 bench=$(cd "$(dirname "$0")" && pwd)

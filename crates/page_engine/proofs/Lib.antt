@@ -1,5 +1,12 @@
-pub mod PageReads
-pub mod Ahead
-pub mod HeadByHead
+pub mod Cut
+pub mod Shifted
+pub mod PartPage
+pub mod PartReads
+pub mod Walked
+pub mod Shared
+pub mod SharedPages
 pub mod PageByPage
-mod Among
+pub mod Hopeful
+pub mod Law
+pub mod RangeReads
+pub mod RuledOut

@@ -1,25 +1,24 @@
 -- Pages made one after another.
-use Rattle.std.proofs.Common.{ℕ, zero, suc, ◌≡◌, ◌≢◌, ◌<◌, ◌≤◌, ◌+◌, ◌*◌, ◌^◌, ◌⊎◌, inl, inr, List, [], ◌∷◌, ◌++◌, length, map, refl, sym, ap, ◌∙◌, subst, arith, Option, Some, None, IfSome, Result, IsErrOf, Bool, true, Ok}
-use Rattle.std.proofs.Math.Nat.{add-mul, mul-le-mul_right}
+use Rattle.std.proofs.Common.{ℕ, zero, suc, true, ◌≡◌, ◌≢◌, ◌<◌, ◌≤◌, ◌+◌, ◌*◌, ◌^◌, ◌⊎◌, inl, inr, Bool, cond, List, [], ◌∷◌, ◌++◌, length, map, refl, sym, ap, ◌∙◌, subst, arith, Option, Some, None, IfSome, Result, IsErrOf, Ok}
 use Rattle.std.proofs.lemmas.Bool.{cases_lt}
+use Rattle.outside.proofs.Reading.{reads_join, reads_none, reads_up}
+use Rattle.outside.specs.Attached.{told_all}
+use Rattle.outside.specs.Seen.{Image, OnlyReads, Seen}
 use Rattle.std.proofs.lemmas.List.{map-append}
-use Rattle.outside.proofs.Reading.{reads_up}
-use Rattle.outside.specs.Seen.{Seen}
-use Rattle.search_terms.specs.Page.{page_next, stop_of}
-use Rattle.search_plan.specs.Sets.{passes_at, total_of}
-use Rattle.search_plan.specs.declared.plan.Plan.{Plan}
-use Rattle.page_engine.specs.Pages.{ArePageEnds, ArePagesFrom, IsPageEnd, IsPageFrom, IsPageOf, ReadsPages, scans, scans_to, table_reads}
 use Rattle.head_walk.specs.Counts.{most_scanned}
-use Rattle.head_walk.specs.Walk.{ReadsRange, Spends}
+use Rattle.common_pages.specs.Pages.{scans_to, table_reads}
+use Rattle.search_terms.specs.Page.{page_next, stop_of}
+use Rattle.search_plan.specs.declared.plan.Plan.{Plan}
+use Rattle.common_pages.specs.declared.page_parts.PageFault.{PageFault}
+use Rattle.wide_product.specs.Sets.{wide_passes_at, wide_total}
+use Rattle.page_engine.specs.Reads.{ArePageEnds, IsPageEnd, ReadsWide, based_reads, based_to, wide_reads_to}
+use Rattle.page_engine.specs.Pages.{ArePagesFrom, IsPageFrom, IsPageOf}
 use Rattle.page_engine.specs.declared.page_parts.ListPage.{ListPage}
-use Rattle.page_engine.specs.declared.page_parts.PageFault.{PageFault}
-use Rattle.page_engine.proofs.PageReads.{within_scans}
-use Rattle.head_walk.proofs.Scanned.{spends_join, spends_none, spends_up}
 
 -- pages from one rank to another, each where the last one goes on, of which none goes on at the total
 unfoldable pub Going : Option (List (List ℕ)) → Plan → ℕ → ℕ → ℕ → ℕ → List ListPage → Type 0
 Going told plan size span from to [] = from ≡ to
-Going told plan size span from to (page ∷ pages) = IsPageFrom told plan from size span page × (page.next < total_of plan) × Going told plan size span page.next to pages
+Going told plan size span from to (page ∷ pages) = IsPageFrom told plan from size span page × (page.next < wide_total plan) × Going told plan size span page.next to pages
 
 -- no page yet
 pub none_made : (told : Option (List (List ℕ))) (plan : Plan) (size span from : ℕ) → Going told plan size span from from []
@@ -28,14 +27,14 @@ none_made told plan size span from = refl
 
 -- one page more
 pub one_more : (told : Option (List (List ℕ))) (plan : Plan) (size span from mid : ℕ) (pages : List ListPage) (page : ListPage) → Going told plan size span from mid pages → IsPageFrom told plan mid size span page →
-    page.next < total_of plan → Going told plan size span from page.next (pages ++ page ∷ [])
+    page.next < wide_total plan → Going told plan size span from page.next (pages ++ page ∷ [])
 unfolding Going
 one_more told plan size span from mid [] page going is_page below = ((let P : ℕ → Type 0 = λ n. IsPageFrom told plan n size span page in subst P (sym going) is_page), below, refl)
 one_more told plan size span from mid (first ∷ pages) page going is_page below = (going.0, going.1, one_more told plan size span first.next mid pages page going.2 is_page below)
 
 -- the last page
 pub the_last : (told : Option (List (List ℕ))) (plan : Plan) (size span count from mid : ℕ) (pages : List ListPage) (page : ListPage) → Going told plan size span from mid pages → IsPageFrom told plan mid size span page →
-    page.next ≡ total_of plan → length pages < count → ArePagesFrom told plan size span count from (pages ++ page ∷ [])
+    page.next ≡ wide_total plan → length pages < count → ArePagesFrom told plan size span count from (pages ++ page ∷ [])
 unfolding Going ArePagesFrom
 the_last told plan size span zero from mid pages page going is_page at few = absurd (omega arith)
 the_last told plan size span (suc count) from mid [] page going is_page at few = ((let P : ℕ → Type 0 = λ n. IsPageFrom told plan n size span page in subst P (sym going) is_page), inl (at, refl))
@@ -51,7 +50,7 @@ all_made told plan size span (suc count) from to (page ∷ pages) going many = (
 
 -- nothing was done yet, or the pages made say that the total is small and not passed
 abbrev pub Begun : Plan → ℕ → ℕ → ℕ → Seen → Seen → Type 0
-Begun plan from made at old now = ((made ≡ 0) × (at ≡ from) × (now ≡ old)) ⊎ ((1 ≤ made) × (at ≤ total_of plan) × (total_of plan < 2 ^ 64))
+Begun plan from made at old now = ((made ≡ 0) × (at ≡ from) × (now ≡ old)) ⊎ ((1 ≤ made) × (at ≤ wide_total plan) × (wide_total plan < 2 ^ 64))
 
 -- a page that does not go on at the total goes on before it
 pub below_total : (next total all span at : ℕ) → next ≢ total → total ≡ all → next ≤ stop_of all at span → next < all
@@ -72,7 +71,7 @@ ends_of pages = map (λ (page : ListPage). page.next) pages
 made_end : (told : Option (List (List ℕ))) (plan : Plan) (size span : ℕ) (failed : Bool) (from : ℕ) (page : ListPage) (later : List ℕ) → IsPageFrom told plan from size span page → IsPageEnd told plan size span failed from page.next later
 made_end told plan size span failed from page later is_page = inr (is_page.forward, is_page.within, at told is_page.page)
   where
-    at : (known : Option (List (List ℕ))) → IfSome known (λ bytes. IsPageOf bytes plan from size span page) → IfSome known (λ bytes. page.next ≡ page_next (passes_at bytes plan) (total_of plan) from size span)
+    at : (known : Option (List (List ℕ))) → IfSome known (λ bytes. IsPageOf bytes plan from size span page) → IfSome known (λ bytes. page.next ≡ page_next (wide_passes_at bytes plan) (wide_total plan) from size span)
     at None is = tt
     at (Some bytes) is = is.goes_on
 
@@ -92,53 +91,54 @@ ends_all told plan size span failed count from to [] going few = tt
 ends_all told plan size span failed zero from to (page ∷ pages) going few = absurd (omega arith)
 ends_all told plan size span failed (suc count) from to (page ∷ pages) going few = (made_end told plan size span failed from page (ends_of pages) going.0, ends_all told plan size span failed count page.next to pages going.2 (omega arith))
 
--- the scans with one more end
-scans_more : (told : Option (List (List ℕ))) (plan : Plan) (size span from mid end : ℕ) (pages : List ListPage) → Going told plan size span from mid pages →
-    scans_to told plan from (ends_of pages ++ end ∷ []) ≡ scans_to told plan from (ends_of pages) + scans told plan mid end
-unfolding Going scans_to
-scans_more told plan size span from mid end [] going = (let e : scans told plan from end + 0 ≡ 0 + scans told plan from end = omega arith in e) ∙ ap (λ (n : ℕ). 0 + scans told plan n end) going
-scans_more told plan size span from mid end (page ∷ pages) going = let rest = scans_more told plan size span page.next mid end pages going.2 in omega arith
+-- what is read with one more end
+based_more : (told : Option (List (List ℕ))) (plan : Plan) (size span from mid end : ℕ) (pages : List ListPage) → Going told plan size span from mid pages →
+    based_to told plan from (ends_of pages ++ end ∷ []) ≡ based_to told plan from (ends_of pages) + based_reads told plan mid end
+unfolding Going based_to
+based_more told plan size span from mid end [] going = (let e : based_reads told plan from end + 0 ≡ 0 + based_reads told plan from end = omega arith in e) ∙ ap (λ (n : ℕ). 0 + based_reads told plan n end) going
+based_more told plan size span from mid end (page ∷ pages) going = let rest = based_more told plan size span page.next mid end pages going.2 in omega arith
 
 -- no page
-pub spends_first : (told : Option (List (List ℕ))) (plan : Plan) (from b : ℕ) (s : Seen) → Spends b b s s (scans_to told plan from (ends_of []) * most_scanned plan)
-spends_first told plan from b s = spends_none b (scans_to told plan from (ends_of []) * most_scanned plan) s
+pub reads_first : (told : Option (List (List ℕ))) (plan : Plan) (from : ℕ) (seen : Seen) → OnlyReads seen seen (based_to told plan from (ends_of []))
+unfolding based_to
+reads_first told plan from seen = reads_none seen
 
--- what the pages made spend, and one more, which was made or not
-pub spends_more : (told : Option (List (List ℕ))) (plan : Plan) (size span from mid end b c a : ℕ) (pages : List ListPage) (old now new : Seen) → Going told plan size span from mid pages →
-    Spends b c old now (scans_to told plan from (ends_of pages) * most_scanned plan) → ReadsRange told plan mid end 4095 c a now new → Spends b a old new (scans_to told plan from (ends_of pages ++ end ∷ []) * most_scanned plan)
-spends_more told plan size span from mid end b c a pages old now new going first second =
-    let few : second.count * most_scanned plan ≤ scans told plan mid end * most_scanned plan = mul-le-mul_right (most_scanned plan) (within_scans told plan mid end second.count second.few) in
-    let all : scans_to told plan from (ends_of pages ++ end ∷ []) * most_scanned plan ≡ scans_to told plan from (ends_of pages) * most_scanned plan + scans told plan mid end * most_scanned plan
-    = ap (λ (n : ℕ). n * most_scanned plan) (scans_more told plan size span from mid end pages going) ∙ add-mul (scans_to told plan from (ends_of pages)) (scans told plan mid end) (most_scanned plan) in
-    spends_up b a (scans_to told plan from (ends_of pages) * most_scanned plan + second.count * most_scanned plan) (scans_to told plan from (ends_of pages ++ end ∷ []) * most_scanned plan) old new
-    (spends_join b c a (scans_to told plan from (ends_of pages) * most_scanned plan) (second.count * most_scanned plan) old now new first second.spends) (omega arith)
+-- what the pages made read, and one more, which was made or not
+pub reads_more : (first then : List Image) (plan : Plan) (size span from mid end : ℕ) (pages : List ListPage) (old now new : Seen) → then ≡ first → Going (told_all first) plan size span from mid pages →
+    OnlyReads old now (based_to (told_all first) plan from (ends_of pages)) → OnlyReads now new (based_reads (told_all then) plan mid end) → OnlyReads old new (based_to (told_all first) plan from (ends_of pages ++ end ∷ []))
+reads_more first then plan size span from mid end pages old now new same going before more =
+    let P : List Image → Type 0 = λ attached. OnlyReads now new (based_reads (told_all attached) plan mid end) in
+    let sum = based_more (told_all first) plan size span from mid end pages going in
+    reads_up old new (reads_join old now new before (subst P same more)) (omega arith)
 
 -- where pages end, with one more
 pub ends_with : (pages : List ListPage) (page : ListPage) → ends_of (pages ++ page ∷ []) ≡ ends_of pages ++ page.next ∷ []
 ends_with pages page = map-append (λ (one : ListPage). one.next) pages (page ∷ [])
 
 -- what all of them read
-reads_of : (told : Option (List (List ℕ))) (plan : Plan) (size span : ℕ) (failed : Bool) (count from b a : ℕ) (ends : List ℕ) (old new : Seen) → b ≤ table_reads plan → ArePageEnds told plan size span failed count from ends →
-    Spends b a old new (scans_to told plan from ends * most_scanned plan) → ReadsPages told plan size span failed count from old new
-reads_of told plan size span failed count from b a ends old new most are spends = record { ends = ends; are = are; reads = reads_up old new spends.reads (omega arith) }
+wide_to : (told : Option (List (List ℕ))) (plan : Plan) (from : ℕ) (ends : List ℕ) → plan.each ≡ true → wide_reads_to told plan from ends ≡ based_to told plan from ends
+unfolding wide_reads_to
+wide_to told plan from ends each = ap (λ (b : Bool). cond b (based_to told plan from ends) (table_reads plan + scans_to told plan from ends * most_scanned plan)) each
+
+reads_of : (told : Option (List (List ℕ))) (plan : Plan) (size span : ℕ) (failed : Bool) (count from : ℕ) (ends : List ℕ) (old new : Seen) → plan.each ≡ true → ArePageEnds told plan size span failed count from ends → OnlyReads old new (based_to told plan from ends) →
+    ReadsWide told plan size span failed count from old new
+reads_of told plan size span failed count from ends old new each are reads =
+    let P : ℕ → Type 0 = λ n. OnlyReads old new n in
+    record { ends = ends; are = are; reads = subst P (sym (wide_to told plan from ends each)) reads }
 
 -- the pages made
-pub reads_made : (told : Option (List (List ℕ))) (plan : Plan) (size span : ℕ) (failed : Bool) (count from to b a : ℕ) (pages : List ListPage) (old new : Seen) → b ≤ table_reads plan → Going told plan size span from to pages → length pages ≤ count →
-    Spends b a old new (scans_to told plan from (ends_of pages) * most_scanned plan) → ReadsPages told plan size span failed count from old new
-reads_made told plan size span failed count from to b a pages old new most going few spends =
-    reads_of told plan size span failed count from b a (ends_of pages) old new most (ends_all told plan size span failed count from to pages going few) spends
+pub wide_made : (told : Option (List (List ℕ))) (plan : Plan) (size span : ℕ) (failed : Bool) (count from to : ℕ) (pages : List ListPage) (old new : Seen) → plan.each ≡ true → Going told plan size span from to pages → length pages ≤ count →
+    OnlyReads old new (based_to told plan from (ends_of pages)) → ReadsWide told plan size span failed count from old new
+wide_made told plan size span failed count from to pages old new each going few reads = reads_of told plan size span failed count from (ends_of pages) old new each (ends_all told plan size span failed count from to pages going few) reads
 
 -- those and one more
-pub reads_more : (told : Option (List (List ℕ))) (plan : Plan) (size span : ℕ) (failed : Bool) (count from mid b c a : ℕ) (pages : List ListPage) (page : ListPage) (old now new : Seen) → b ≤ table_reads plan → Going told plan size span from mid pages → length pages < count →
-    IsPageFrom told plan mid size span page → Spends b c old now (scans_to told plan from (ends_of pages) * most_scanned plan) → ReadsRange told plan mid page.next 4095 c a now new → ReadsPages told plan size span failed count from old new
-reads_more told plan size span failed count from mid b c a pages page old now new most going few is_page first second =
-    reads_of told plan size span failed count from b a (ends_of pages ++ page.next ∷ []) old new most (ends_more told plan size span failed count from mid page.next pages going (made_end told plan size span failed mid page [] is_page) few)
-    (spends_more told plan size span from mid page.next b c a pages old now new going first second)
+pub wide_more : (told : Option (List (List ℕ))) (plan : Plan) (size span : ℕ) (failed : Bool) (count from mid : ℕ) (pages : List ListPage) (page : ListPage) (old new : Seen) → plan.each ≡ true → Going told plan size span from mid pages → length pages < count → IsPageFrom told plan mid size span page →
+    OnlyReads old new (based_to told plan from (ends_of pages ++ page.next ∷ [])) → ReadsWide told plan size span failed count from old new
+wide_more told plan size span failed count from mid pages page old new each going few is_page reads =
+    reads_of told plan size span failed count from (ends_of pages ++ page.next ∷ []) old new each (ends_more told plan size span failed count from mid page.next pages going (made_end told plan size span failed mid page [] is_page) few) reads
 
 -- and one that could not be made
-pub reads_ended : (told : Option (List (List ℕ))) (plan : Plan) (size span : ℕ) (failed : Bool) (count from mid b c a : ℕ) (pages : List ListPage) (old now new : Seen) → b ≤ table_reads plan → Going told plan size span from mid pages → length pages < count → failed ≡ true →
-    Spends b c old now (scans_to told plan from (ends_of pages) * most_scanned plan) → ReadsRange told plan mid (stop_of (total_of plan) mid span) 4095 c a now new → ReadsPages told plan size span failed count from old new
-reads_ended told plan size span failed count from mid b c a pages old now new most going few fails first second =
-    reads_of told plan size span failed count from b a (ends_of pages ++ stop_of (total_of plan) mid span ∷ []) old new most
-    (ends_more told plan size span failed count from mid (stop_of (total_of plan) mid span) pages going (inl (fails, refl, refl)) few)
-    (spends_more told plan size span from mid (stop_of (total_of plan) mid span) b c a pages old now new going first second)
+pub wide_ended : (told : Option (List (List ℕ))) (plan : Plan) (size span : ℕ) (failed : Bool) (count from mid : ℕ) (pages : List ListPage) (old new : Seen) → plan.each ≡ true → Going told plan size span from mid pages → length pages < count → failed ≡ true →
+    OnlyReads old new (based_to told plan from (ends_of pages ++ stop_of (wide_total plan) mid span ∷ [])) → ReadsWide told plan size span failed count from old new
+wide_ended told plan size span failed count from mid pages old new each going few fails reads =
+    reads_of told plan size span failed count from (ends_of pages ++ stop_of (wide_total plan) mid span ∷ []) old new each (ends_more told plan size span failed count from mid (stop_of (wide_total plan) mid span) pages going (inl (fails, refl, refl)) few) reads

@@ -1,20 +1,22 @@
-//! Pages of the parameter sets of a plan that pass.
+//! Pages of the parameter sets of a plan that pass, also where each image has an offset of its own.
 //!
-//! A [`page`] has the sets of a range of ranks that have a whole row and meet the landmark test and the
-//! parity test on the images. [`pages`] gives page after page.
-//!
-//! A page is walked head by head; `head_walk` gathers the sets of each, and tests them. The tables of rows are made where
-//! the first head needs them and kept for all pages of a call.
-//!
-//! `plan_jobs` prints pages for `list`. The sets of a plan stand in `Sets` of `search_plan`, a page by
-//! its ranks in `Page` of `search_terms`, and pages with what is read for them in `specs/Pages`.
+//! Where the images of a plan share an offset, a page is one of `common_pages`. Otherwise it is made part after part: the sets
+//! of a head over images with one list of bases are a range of the ranks of a plan over the padded images, and their page is
+//! one of `common_pages` over these. Parts of which the marks leave no set are passed over, and nothing is read for them.
 #![tactic(auto)]
 
+mod based_page;
+mod laws;
+mod lines;
+mod marked;
 mod page_parts;
 mod paging;
-mod walking;
+mod part_page;
+mod part_walk;
+mod shared_page;
 
-pub use head_walk::{Line, Lines};
-pub use page_parts::{CursorFault, ListPage, PageFault, PageList};
+pub use common_pages::{CursorFault, PageFault};
+pub use laws::{passing_sets_are_hopeful, whole_lists_take_the_landmark_test};
+pub use lines::{Line, Lines};
+pub use page_parts::{ListPage, PageList};
 pub use paging::{page, pages};
-pub use set_product::{product_rank, product_set, product_total};

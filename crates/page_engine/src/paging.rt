@@ -1,30 +1,30 @@
-//! Pages of the sets that pass.
-ghost use Rattle.std.specs.Prelude.{◌≡◌, ◌-◌, ◌<◌, ◌≤◌, ◌^◌, All, IfErr, IfOk, IfSome, IsErrOf, length};
+//! Pages of any plan.
+ghost use Rattle.std.specs.Prelude.{◌≡◌, ◌<◌, ◌≤◌, ◌^◌, true, IfErr, IfOk, IsErrOf};
 ghost use Rattle.std.specs.Result.{is_err};
 ghost use Rattle.outside.specs.Attached.{told_all};
 ghost use Rattle.outside.specs.Seen.{OnlyReads};
 ghost use Rattle.search_terms.specs.Page.{stop_of};
-ghost use Rattle.search_plan.specs.Plans.{IsPlan, AgreeWith};
-ghost use Rattle.search_plan.specs.Sets.{total_of};
-ghost use Rattle.page_engine.specs.Pages.{ArePagesFrom, EndsOrFull, EndsPage, IsPageOf, page_reads, ReadsPages, tested_to};
-ghost use Rattle.head_walk.specs.Walk.{HoldsSet, IsKept, left_after, left_reads, ReadsRange};
-ghost use Rattle.page_engine.specs.declared.page_parts.PageFault.TheVariants.{Cursor, Many};
+ghost use Rattle.search_plan.specs.Plans.{AgreeWith, IsPlan};
+ghost use Rattle.wide_product.specs.Sets.{wide_total};
+ghost use Rattle.common_pages.specs.declared.page_parts.PageFault.TheVariants.{Cursor, Many};
+ghost use Rattle.page_engine.specs.Pages.{ArePagesFrom, EndsBased, IsPageFrom, tested_to};
+ghost use Rattle.page_engine.specs.Reads.{ReadsWide, wide_reads};
 
-use crate::page_parts::{CursorFault, ListPage, PageFault, PageList};
-use crate::walking::gather_range;
-use head_walk::{Gathered, KeptTables, Lines, Paging, Waiting, finish};
+use crate::based_page::based_page;
+use crate::page_parts::{ListPage, PageList};
+use crate::shared_page::{shared_page, shared_pages};
+use common_pages::PageFault;
+use head_walk::Paging;
 use outside::Images;
 use row_scan::Gate;
 use search_plan::Plan;
-use set_product::product_total;
 use std::alloc::Global;
 use std::thread::Threads;
 
-/// The page of a plan from a rank on: the first `size` of the sets that pass and whose ranks are
-/// below `from + span`, and the rank from which the next page goes on. Where some head of the plan needs a table of
-/// rows, at most the tested rows of the chunk that has most are read, once for each offset and of each image. The sets
-/// that are still hopeful are scanned, up to 4,096 at a time, in one pass over the images; where none of their
-/// rows has to be tested, nothing is read for them. In a scan pieces of the sets may run side by side: each passes the gate.
+/// The page of a plan from a rank on: the first `size` of the sets that pass and whose ranks are below `from + span`, and the
+/// rank from which the next page goes on. Where the images share an offset, no more is read than for a page of `common_pages`;
+/// otherwise, for each head with each list of bases of which a rank is looked at, no more than for such a page of its ranks alone.
+/// In a scan pieces of the sets may run side by side: each passes the gate.
 pub fn page<R: Threads + Sync, I: Images, G: Gate + Sync>(
     rt: &R,
     alloc: Global,
@@ -38,20 +38,14 @@ pub fn page<R: Threads + Sync, I: Images, G: Gate + Sync>(
     requires plan { IsPlan plan.now }
     requires lengths { AgreeWith plan.now (I.seen images.old).attached }
     requires size { 1 ≤ size }
-    ensures page { IfOk result (λ p. IfSome (told_all (I.seen images.old).attached) (λ bytes. IsPageOf bytes plan.now from size span p)) }
-    ensures sets { IfOk result (λ p. All (HoldsSet plan.now) p.lines) }
-    ensures total { IfOk result (λ p. p.total ≡ total_of plan.now) }
-    ensures many { 2 ^ 64 ≤ total_of plan.now → IsErrOf result Many }
-    ensures cursor { total_of plan.now < 2 ^ 64 → total_of plan.now < from → IsErrOf result (Cursor (record { from = from; total = total_of plan.now })) }
+    ensures page { IfOk result (IsPageFrom (told_all (I.seen images.old).attached) plan.now from size span) }
+    ensures many { 2 ^ 64 ≤ wide_total plan.now → IsErrOf result Many }
+    ensures cursor { wide_total plan.now < 2 ^ 64 → wide_total plan.now < from → IsErrOf result (Cursor (record { from = from; total = wide_total plan.now })) }
     ensures quiet { IfOk result (λ made. (I.seen images.new).faults ≡ (I.seen images.old).faults) }
-    ensures ends { IfErr result (EndsPage plan.now from (I.seen images.old) (I.seen images.new)) }
+    ensures ends { IfErr result (EndsBased plan.now from (I.seen images.old) (I.seen images.new)) }
     ensures reads { OnlyReads (I.seen images.old) (I.seen images.new)
-        (page_reads (told_all (I.seen images.old).attached) plan.now from (tested_to (stop_of (total_of plan.now) from span) result)) }
-    ensures forward { IfOk result (λ p. from ≤ p.next) }
-    ensures within { IfOk result (λ p. p.next ≤ stop_of (total_of plan.now) from span) }
-    ensures ended { IfOk result (λ p. EndsOrFull size from (stop_of (total_of plan.now) from span) (length p.lines) p.next) }
+        (wide_reads (told_all (I.seen images.old).attached) plan.now from (tested_to (stop_of (wide_total plan.now) from span) result)) }
 {
-    let mut kept = KeptTables::new(alloc);
     let paging = Paging {
         rt,
         alloc,
@@ -59,59 +53,16 @@ pub fn page<R: Threads + Sync, I: Images, G: Gate + Sync>(
         size,
         gate,
     };
-    next_page(&paging, images, &mut kept, from, span)
-}
-
-/// The page of a plan from a rank on, with the tables that were made for earlier pages.
-fn next_page<R: Threads + Sync, I: Images, G: Gate + Sync>(
-    paging: &Paging<R, G>,
-    images: &mut I,
-    kept: &mut KeptTables,
-    from: u64,
-    span: u64,
-) -> Result<ListPage, PageFault>
-    requires plan { IsPlan paging.now.plan.now }
-    requires lengths { AgreeWith paging.now.plan.now (I.seen images.old).attached }
-    requires size { 1 ≤ paging.now.size }
-    requires kept { All (IsKept (told_all (I.seen images.old).attached) paging.now.plan.now) kept.old }
-    ensures page { IfOk result (λ p. IfSome (told_all (I.seen images.old).attached) (λ bytes. IsPageOf bytes paging.now.plan.now from paging.now.size span p)) }
-    ensures sets { IfOk result (λ p. All (HoldsSet paging.now.plan.now) p.lines) }
-    ensures total { IfOk result (λ p. p.total ≡ total_of paging.now.plan.now) }
-    ensures many { 2 ^ 64 ≤ total_of paging.now.plan.now → IsErrOf result Many }
-    ensures cursor { total_of paging.now.plan.now < 2 ^ 64 → total_of paging.now.plan.now < from → IsErrOf result (Cursor (record { from = from; total = total_of paging.now.plan.now })) }
-    ensures quiet { IfOk result (λ made. (I.seen images.new).faults ≡ (I.seen images.old).faults) }
-    ensures ends { IfErr result (EndsPage paging.now.plan.now from (I.seen images.old) (I.seen images.new)) }
-    ensures reads { ReadsRange (told_all (I.seen images.old).attached) paging.now.plan.now from (tested_to (stop_of (total_of paging.now.plan.now) from span) result) 4095
-        (left_reads paging.now.plan.now kept.old) (left_after paging.now.plan.now kept.new result) (I.seen images.old) (I.seen images.new) }
-    ensures kept { All (IsKept (told_all (I.seen images.old).attached) paging.now.plan.now) kept.new }
-    ensures forward { IfOk result (λ p. from ≤ p.next) }
-    ensures within { IfOk result (λ p. p.next ≤ stop_of (total_of paging.now.plan.now) from span) }
-    ensures ended { IfOk result (λ p. EndsOrFull paging.now.size from (stop_of (total_of paging.now.plan.now) from span) (length p.lines) p.next) }
-{
-    let total = product_total(paging.plan).ok_or(PageFault::Many)?;
-    if from > total {
-        return Err(PageFault::Cursor(CursorFault { from, total }));
+    if plan.each {
+        based_page(&paging, images, from, span)
+    } else {
+        shared_page(&paging, images, from, span)
     }
-    let stop = total.min(from.saturating_add(span));
-    let mut page = Gathered {
-        lines: Lines::new(paging.alloc),
-        tested: from,
-        waiting: Waiting::none(paging.alloc),
-    };
-    let next = match gather_range(paging, images, kept, from, stop, &mut page)? {
-        Some(next) => next,
-        None => finish(paging, images, stop, &mut page)?,
-    };
-    Ok(ListPage {
-        lines: page.lines,
-        next,
-        total,
-    })
 }
 
-/// The pages of a plan from a rank on: the page there, then the page where it goes on, until `count`
-/// are made or one goes on at the total. Each has at most `size` lines and goes through at most `span` ranks; `size` and `count`
-/// are 1 at least. The tables of rows are made once for all pages.
+/// The pages of a plan from a rank on: the page there, then the page where it goes on, until `count` are made or one goes on at
+/// the total. Each has at most `size` lines and goes through at most `span` ranks; `size` and `count` are 1 at least. Where the
+/// images share an offset, no more is read than for the pages of `common_pages`; otherwise as much may be read as for each page alone.
 pub fn pages<R: Threads + Sync, I: Images, G: Gate + Sync>(
     rt: &R,
     alloc: Global,
@@ -128,15 +79,12 @@ pub fn pages<R: Threads + Sync, I: Images, G: Gate + Sync>(
     requires size { 1 ≤ size }
     requires count { 1 ≤ count }
     ensures pages { IfOk result (ArePagesFrom (told_all (I.seen images.old).attached) plan.now size span count from) }
-    ensures many { 2 ^ 64 ≤ total_of plan.now → IsErrOf result Many }
-    ensures cursor { total_of plan.now < 2 ^ 64 → total_of plan.now < from → IsErrOf result (Cursor (record { from = from; total = total_of plan.now })) }
+    ensures many { 2 ^ 64 ≤ wide_total plan.now → IsErrOf result Many }
+    ensures cursor { wide_total plan.now < 2 ^ 64 → wide_total plan.now < from → IsErrOf result (Cursor (record { from = from; total = wide_total plan.now })) }
     ensures quiet { IfOk result (λ made. (I.seen images.new).faults ≡ (I.seen images.old).faults) }
-    ensures ends { IfErr result (EndsPage plan.now from (I.seen images.old) (I.seen images.new)) }
-    ensures reads { ReadsPages (told_all (I.seen images.old).attached) plan.now size span (is_err result) count from (I.seen images.old) (I.seen images.new) }
+    ensures ends { IfErr result (EndsBased plan.now from (I.seen images.old) (I.seen images.new)) }
+    ensures reads { ReadsWide (told_all (I.seen images.old).attached) plan.now size span (is_err result) count from (I.seen images.old) (I.seen images.new) }
 {
-    let mut kept = KeptTables::new(alloc);
-    let mut made = PageList::new(alloc);
-    let mut at = from;
     let paging = Paging {
         rt,
         alloc,
@@ -144,8 +92,39 @@ pub fn pages<R: Threads + Sync, I: Images, G: Gate + Sync>(
         size,
         gate,
     };
+    if plan.each {
+        based_pages(&paging, images, from, span, count)
+    } else {
+        shared_pages(&paging, images, from, span, count)
+    }
+}
+
+/// The pages of a plan from a rank on, where each image has an offset of its own.
+fn based_pages<R: Threads + Sync, I: Images, G: Gate + Sync>(
+    paging: &Paging<R, G>,
+    images: &mut I,
+    from: u64,
+    span: u64,
+    count: u64,
+) -> Result<PageList, PageFault>
+    requires plan { IsPlan paging.now.plan.now }
+    requires own { paging.now.plan.now.each ≡ true }
+    requires lengths { AgreeWith paging.now.plan.now (I.seen images.old).attached }
+    requires size { 1 ≤ paging.now.size }
+    requires count { 1 ≤ count }
+    ensures pages { IfOk result (ArePagesFrom (told_all (I.seen images.old).attached) paging.now.plan.now paging.now.size span count from) }
+    ensures many { 2 ^ 64 ≤ wide_total paging.now.plan.now → IsErrOf result Many }
+    ensures cursor { wide_total paging.now.plan.now < 2 ^ 64 → wide_total paging.now.plan.now < from →
+        IsErrOf result (Cursor (record { from = from; total = wide_total paging.now.plan.now })) }
+    ensures quiet { IfOk result (λ made. (I.seen images.new).faults ≡ (I.seen images.old).faults) }
+    ensures ends { IfErr result (EndsBased paging.now.plan.now from (I.seen images.old) (I.seen images.new)) }
+    ensures reads { ReadsWide (told_all (I.seen images.old).attached) paging.now.plan.now paging.now.size span (is_err result) count from
+        (I.seen images.old) (I.seen images.new) }
+{
+    let mut made = PageList::new(paging.alloc);
+    let mut at = from;
     for _ in 0..count {
-        let found = next_page(&paging, images, &mut kept, at, span)?;
+        let found = based_page(paging, images, at, span)?;
         let (next, total) = (found.next, found.total);
         made.push(found).map_err(|_| PageFault::Memory)?;
         if next == total {

@@ -7,9 +7,9 @@ use Rattle.outside.specs.Attached.{told_all}
 use Rattle.outside.specs.Seen.{Seen}
 use Rattle.std.proofs.lemmas.Bool.{cases_lt, eq-eqb, lt-ltb, le-ltb, le-leb}
 use Rattle.std.proofs.lemmas.Bool.Decides.{nat_tests}
-use Rattle.page_engine.specs.declared.page_parts.CursorFault.{CursorFault}
-use Rattle.page_engine.specs.declared.page_parts.PageFault.{PageFault}
-use Rattle.page_engine.specs.declared.page_parts.PageFault.TheVariants.{Many as PageMany, Cursor as PageCursor, ReadFault, Memory as PageMemory}
+use Rattle.common_pages.specs.declared.page_parts.CursorFault.{CursorFault}
+use Rattle.common_pages.specs.declared.page_parts.PageFault.{PageFault}
+use Rattle.common_pages.specs.declared.page_parts.PageFault.TheVariants.{Many as PageMany, Cursor as PageCursor, ReadFault, Memory as PageMemory}
 use Rattle.run_ends.proofs.Printed.{order_allowed, rises, stays}
 use Rattle.run_ends.specs.Stops.{first_of}
 use Rattle.run_ends.specs.declared.stop.Refusal.{Refusal}
@@ -17,9 +17,9 @@ use Rattle.run_ends.specs.declared.stop.Refusal.TheVariants.{Many, Cursor}
 use Rattle.run_ends.specs.declared.stop.Stop.TheVariants.{Refused, ImageFault, OutOfMemory}
 use Rattle.search_terms.specs.Page.{page_ranks}
 use Rattle.search_plan.specs.declared.plan.Plan.{Plan}
-use Rattle.page_engine.specs.Pages.{ReadsPages}
-use Rattle.wide_pages.specs.Pages.{ArePagesFrom, EndsBased, IsPageOf, OnlyCounts}
-use Rattle.wide_pages.specs.Lines.{HoldsBased}
+use Rattle.page_engine.specs.Pages.{ArePagesFrom, EndsBased, IsPageOf}
+use Rattle.page_engine.specs.Reads.{ReadsWide}
+use Rattle.page_engine.specs.Lines.{HoldsBased}
 use Rattle.wide_product.specs.Sets.{based, wide_passes_at, wide_sets, wide_total}
 use Rattle.plan_jobs.proofs.PagesRead.{ends_made, none_read}
 use Rattle.plan_jobs.specs.Faults.{stop_of_page}
@@ -30,8 +30,8 @@ use Rattle.command_words.specs.declared.command.Form.{Form}
 use Rattle.command_words.specs.declared.command.Form.TheVariants.{Json}
 use Rattle.json_lines.specs.Objects.{set_object}
 use Rattle.raid_params.specs.declared.wide.Wide.{Wide}
-use Rattle.wide_pages.specs.declared.lines.Line.{Line}
-use Rattle.wide_pages.specs.declared.page_parts.ListPage.{ListPage}
+use Rattle.page_engine.specs.declared.lines.Line.{Line}
+use Rattle.page_engine.specs.declared.page_parts.ListPage.{ListPage}
 
 -- lines that hold their sets
 lines_of : (form : Form) (plan : Plan) (lines : List Line) → All (HoldsBased plan) lines → flat_map (line_of form plan) (map (λ (held : Line). held.rank) lines) ≡ flat_map (λ (held : Line). line_in form held.rank (based held.geo)) lines
@@ -129,40 +129,40 @@ found_allowed plan from found many cursor = page_allowed plan from (λ high. let
 -- the text of pages that were made
 pub list_found : (asked : Listing) (names : ℕ) (plan : Plan) (old new : Seen) (found : List ListPage) (text : List ℕ) → (2 ^ 64 ≤ wide_total plan → IsErrOf (Ok found) PageMany) →
     (wide_total plan < 2 ^ 64 → wide_total plan < asked.from → IsErrOf (Ok found) (PageCursor (record { from = asked.from; total = wide_total plan }))) →
-    ArePagesFrom (told_all old.attached) plan asked.size asked.span asked.pages asked.from found → OnlyCounts old new → (plan.each ≡ false → ReadsPages (told_all old.attached) plan asked.size asked.span false asked.pages asked.from old new) →
+    ArePagesFrom (told_all old.attached) plan asked.size asked.span asked.pages asked.from found → ReadsWide (told_all old.attached) plan asked.size asked.span false asked.pages asked.from old new →
     new.faults ≡ old.faults → text ≡ flat_map (found_text asked.form) found → AnswersOver (list_over asked) names plan old new (Ok text)
-list_found asked names plan old new found text many cursor are counts reads quiet is =
+list_found asked names plan old new found text many cursor are reads quiet is =
     let none = found_allowed plan asked.from found many cursor in
     record {
       refuses = record { ends = tt; passes = none };
       text = pages_printed (told_all old.attached) plan asked found text are is;
       order = order_allowed (page_refusal plan asked.from) old.sectors_read new.sectors_read None None (Ok text) none;
-      reads = λ shared. record { ends = (reads shared).ends; are = (reads shared).are; few = (reads shared).reads.sectors_read };
+      reads = record { ends = reads.ends; are = reads.are; few = reads.reads.sectors_read };
       faults = stays ImageFault old.faults new.faults (Ok text) quiet (λ e. absurd (cc));
       untaken = λ f. absurd (cc);
       unput = λ f. absurd (cc);
       unread = tt;
-      world = counts.1.world;
-      attached = counts.1.attached;
+      world = reads.reads.world;
+      attached = reads.reads.attached;
     }
 
 -- memory runs out over the text of pages that were made
 pub list_short : (asked : Listing) (names : ℕ) (plan : Plan) (old new : Seen) (found : List ListPage) → (2 ^ 64 ≤ wide_total plan → IsErrOf (Ok found) PageMany) →
     (wide_total plan < 2 ^ 64 → wide_total plan < asked.from → IsErrOf (Ok found) (PageCursor (record { from = asked.from; total = wide_total plan }))) →
-    OnlyCounts old new → (plan.each ≡ false → ReadsPages (told_all old.attached) plan asked.size asked.span false asked.pages asked.from old new) → new.faults ≡ old.faults → AnswersOver (list_over asked) names plan old new (Err OutOfMemory)
-list_short asked names plan old new found many cursor counts reads quiet =
+    ReadsWide (told_all old.attached) plan asked.size asked.span false asked.pages asked.from old new → new.faults ≡ old.faults → AnswersOver (list_over asked) names plan old new (Err OutOfMemory)
+list_short asked names plan old new found many cursor reads quiet =
     let none = found_allowed plan asked.from found many cursor in
     record {
       refuses = record { ends = tt; passes = tt };
       text = tt;
       order = order_allowed (page_refusal plan asked.from) old.sectors_read new.sectors_read None None (Err OutOfMemory) none;
-      reads = λ shared. record { ends = (reads shared).ends; are = ends_made (told_all old.attached) plan asked.size asked.span true asked.pages asked.from (reads shared).ends (reads shared).are; few = (reads shared).reads.sectors_read };
+      reads = record { ends = reads.ends; are = ends_made (told_all old.attached) plan asked.size asked.span true asked.pages asked.from reads.ends reads.are; few = reads.reads.sectors_read };
       faults = stays ImageFault old.faults new.faults (Err OutOfMemory) quiet (λ e. absurd (cc));
       untaken = λ f. absurd (cc);
       unput = λ f. absurd (cc);
       unread = λ h. absurd (h refl);
-      world = counts.1.world;
-      attached = counts.1.attached;
+      world = reads.reads.world;
+      attached = reads.reads.attached;
     }
 
 -- pages that are refused are not looked for
@@ -189,35 +189,35 @@ not_many plan fault many other high = other (let e = many high in cc)
 -- why pages could not be made
 pub list_fault : (asked : Listing) (names : ℕ) (plan : Plan) (old new : Seen) (fault : PageFault) → (2 ^ 64 ≤ wide_total plan → IsErrOf {T = List ListPage} (Err fault) PageMany) →
     (wide_total plan < 2 ^ 64 → wide_total plan < asked.from → IsErrOf {T = List ListPage} (Err fault) (PageCursor (record { from = asked.from; total = wide_total plan }))) → EndsBased plan asked.from old new fault →
-    OnlyCounts old new → (plan.each ≡ false → ReadsPages (told_all old.attached) plan asked.size asked.span true asked.pages asked.from old new) → AnswersOver (list_over asked) names plan old new (Err (stop_of_page fault))
-list_fault asked names plan old new PageMany many cursor ends counts reads = refused_page asked names plan old new Many ends.1 (many_first plan asked.from ends.0)
-list_fault asked names plan old new (PageCursor fault) many cursor ends counts reads =
+    ReadsWide (told_all old.attached) plan asked.size asked.span true asked.pages asked.from old new → AnswersOver (list_over asked) names plan old new (Err (stop_of_page fault))
+list_fault asked names plan old new PageMany many cursor ends reads = refused_page asked names plan old new Many ends.1 (many_first plan asked.from ends.0)
+list_fault asked names plan old new (PageCursor fault) many cursor ends reads =
     let low : wide_total plan < 2 ^ 64 = elim (cases_lt (wide_total plan) (2 ^ 64)) [ inl low ↦ low | inr high ↦ absurd (not_many plan (PageCursor fault) many (λ e. cc) high) ] in
     refused_page asked names plan old new (Cursor (record { from = fault.from; total = fault.total })) ends.2
     (cursor_first plan asked.from low ends.0 ∙ sym (ap (λ (f : CursorFault). Some (Cursor (record { from = f.from; total = f.total }))) ends.1))
-list_fault asked names plan old new ReadFault many cursor ends counts reads = record {
+list_fault asked names plan old new ReadFault many cursor ends reads = record {
   refuses = record { ends = tt; passes = tt };
   text = tt;
   order = order_allowed (page_refusal plan asked.from) old.sectors_read new.sectors_read None None (Err ImageFault)
       (page_allowed plan asked.from (λ high. let e = many high in cc) (λ low past. let e = cursor low past in cc));
-  reads = λ shared. record { ends = (reads shared).ends; are = (reads shared).are; few = (reads shared).reads.sectors_read };
-  faults = rises ImageFault old.faults new.faults ends counts.1.faults;
+  reads = record { ends = reads.ends; are = reads.are; few = reads.reads.sectors_read };
+  faults = rises ImageFault old.faults new.faults ends reads.reads.faults;
   untaken = λ f. absurd (cc);
   unput = λ f. absurd (cc);
   unread = λ h. absurd (h tt);
-  world = counts.1.world;
-  attached = counts.1.attached;
+  world = reads.reads.world;
+  attached = reads.reads.attached;
 }
-list_fault asked names plan old new PageMemory many cursor ends counts reads = record {
+list_fault asked names plan old new PageMemory many cursor ends reads = record {
   refuses = record { ends = tt; passes = tt };
   text = tt;
   order = order_allowed (page_refusal plan asked.from) old.sectors_read new.sectors_read None None (Err OutOfMemory)
       (page_allowed plan asked.from (λ high. let e = many high in cc) (λ low past. let e = cursor low past in cc));
-  reads = λ shared. record { ends = (reads shared).ends; are = (reads shared).are; few = (reads shared).reads.sectors_read };
+  reads = record { ends = reads.ends; are = reads.are; few = reads.reads.sectors_read };
   faults = stays ImageFault old.faults new.faults (Err OutOfMemory) ends (λ e. absurd (cc));
   untaken = λ f. absurd (cc);
   unput = λ f. absurd (cc);
   unread = λ h. absurd (h refl);
-  world = counts.1.world;
-  attached = counts.1.attached;
+  world = reads.reads.world;
+  attached = reads.reads.attached;
 }

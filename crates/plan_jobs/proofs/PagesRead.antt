@@ -1,14 +1,14 @@
 -- What is read for pages is what `list` reads.
 use Rattle.std.proofs.Common.{ℕ, zero, suc, List, [], ◌∷◌, Option, Bool, false, arith, inl, inr}
 use Rattle.search_plan.specs.declared.plan.Plan.{Plan}
-use Rattle.page_engine.specs.Pages.{ArePageEnds, IsPageEnd}
+use Rattle.page_engine.specs.Reads.{ArePageEnds, IsPageEnd}
 use Rattle.plan_jobs.specs.Listing.{ListReads}
 use Rattle.plan_jobs.specs.declared.listing.Listing.{Listing}
 
 -- nothing is read for no page
 pub none_read : (told : Option (List (List ℕ))) (asked : Listing) (plan : Plan) (cut : Bool) (read : ℕ) → ListReads told asked plan cut read read
 unfolding ArePageEnds
-none_read told asked plan cut read shared = record { ends = []; are = tt; few = omega arith }
+none_read told asked plan cut read = record { ends = []; are = tt; few = omega arith }
 
 -- where pages end that were all made, they end too where the work was cut short after them
 end_made : (told : Option (List (List ℕ))) (plan : Plan) (size span : ℕ) (cut : Bool) (from end : ℕ) (later : List ℕ) → IsPageEnd told plan size span false from end later → IsPageEnd told plan size span cut from end later

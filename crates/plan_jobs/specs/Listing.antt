@@ -1,16 +1,15 @@
 -- What `list` refuses and prints.
-use Rattle.std.specs.Prelude.{ℕ, ◌≡◌, Bool, false, zero, suc, ◌+◌, ◌*◌, ◌≤◌, nat_lt, ◌==◌, if◌then◌else◌, List, [], ◌∷◌, ◌++◌, codes, decimal, slice_get}
+use Rattle.std.specs.Prelude.{ℕ, Bool, zero, suc, ◌+◌, ◌≤◌, nat_lt, ◌==◌, if◌then◌else◌, List, [], ◌∷◌, ◌++◌, codes, decimal, slice_get}
 use Rattle.std.specs.List.{flat_map}
 use Rattle.std.specs.Option.{option_map_or}
 use Rattle.std.specs.declared.option.Option.{Option}
 use Rattle.std.specs.declared.option.Option.TheVariants.{None, Some}
 use Rattle.outside.specs.Attached.{told_all}
 use Rattle.search_terms.specs.Page.{page_next, page_ranks}
-use Rattle.page_engine.specs.Pages.{ArePageEnds, scans_to, table_reads}
-use Rattle.head_walk.specs.Counts.{most_scanned}
 use Rattle.search_plan.specs.declared.plan.Plan.{Plan}
 use Rattle.wide_product.specs.Sets.{based, wide_passes_at, wide_sets, wide_total, Based}
-use Rattle.wide_pages.specs.declared.page_parts.ListPage.{ListPage}
+use Rattle.page_engine.specs.Reads.{ArePageEnds, wide_reads_to}
+use Rattle.page_engine.specs.declared.page_parts.ListPage.{ListPage}
 use Rattle.value_text.specs.SetText.{word_with}
 use Rattle.value_text.specs.Spelling.{line, named}
 use Rattle.serde_json.specs.Written.{compact_text}
@@ -68,17 +67,13 @@ listing images plan asked = pages_text asked.form images plan asked.size asked.s
 unfoldable pub found_text : Form → ListPage → List ℕ
 found_text form page = flat_map (λ held. line_in form held.rank (based held.geo)) page.lines ++ next_in form page.next page.total
 
--- what `list` reads over a plan whose images share an offset, by the counts of the sectors read before and after: the tables once
--- for all pages, and the scans of each page, where pages end as the bytes of the images have it; only where the work was cut
--- short may the last be a page that could not be made
-pub record SharedReads (told : Option (List (List ℕ))) (asked : Listing) (plan : Plan) (cut : Bool) (before after : ℕ) : Type 0 where
+-- what `list` reads over a plan, by the counts of the sectors read before and after: no more than may be for pages that end where
+-- those of the plan do, as the bytes of the images have it; only where the work was cut short may the last be a page that could not
+-- be made
+pub record ListReads (told : Option (List (List ℕ))) (asked : Listing) (plan : Plan) (cut : Bool) (before after : ℕ) : Type 0 where
   pub ends : List ℕ
   pub are : ArePageEnds told plan asked.size asked.span cut asked.pages asked.from ends
-  pub few : after ≤ before + (table_reads plan + scans_to told plan asked.from ends * most_scanned plan)
-
--- what it reads over a plan; nothing is said of one whose images have an offset each
-abbrev pub ListReads : Option (List (List ℕ)) → Listing → Plan → Bool → ℕ → ℕ → Type 0
-ListReads told asked plan cut before after = plan.each ≡ false → SharedReads told asked plan cut before after
+  pub few : after ≤ before + wide_reads_to told plan asked.from ends
 
 -- what `list` does over a plan
 abbrev pub list_over : Listing → OverPlan

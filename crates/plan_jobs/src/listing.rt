@@ -12,13 +12,13 @@ use crate::preparing::prepare;
 use command_words::Form;
 use gates::Gate;
 use outside::{Images, MOST_ATTACHED, Memory, Sink, Source};
+use page_engine::{Line, ListPage, PageFault, pages};
 use plan_text::{Text, json_line, json_next};
 use run_ends::{RankFault, Refusal, Stop, add_share, print};
 use search_plan::Plan;
 use std::alloc::Global;
 use std::thread::Threads;
 use value_text::set_line;
-use wide_pages::{Line, ListPage, PageFault, pages};
 
 /// What a listing is asked for.
 #[derive(Clone, Copy)]

@@ -4,9 +4,9 @@ use Rattle.std.proofs.lemmas.Bool.{cases_lt}
 use Rattle.std.proofs.lemmas.Bool.Decides.{nat_tests}
 use Rattle.outside.specs.Attached.{told_all}
 use Rattle.outside.specs.Seen.{Image}
-use Rattle.page_engine.specs.Pages.{IsPageOf}
+use Rattle.common_pages.specs.Pages.{IsPageOf}
 use Rattle.head_walk.specs.declared.parts.Line.{Line}
-use Rattle.page_engine.specs.declared.page_parts.ListPage.{ListPage}
+use Rattle.common_pages.specs.declared.page_parts.ListPage.{ListPage}
 use Rattle.std.specs.List.{list_any}
 use Rattle.std.specs.Option.{option_map_or}
 use Rattle.raid_params.specs.declared.types.Geometry.{Geometry}

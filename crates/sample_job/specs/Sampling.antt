@@ -16,7 +16,7 @@ use Rattle.search_terms.specs.Page.{page_next, page_ranks}
 use Rattle.search_plan.specs.Sets.{passes_at, rank_of, total_of}
 use Rattle.search_plan.specs.declared.plan.Plan.{Plan}
 use Rattle.plan_text.specs.Spelling.{line}
-use Rattle.page_engine.specs.declared.page_parts.ListPage.{ListPage}
+use Rattle.common_pages.specs.declared.page_parts.ListPage.{ListPage}
 use Rattle.command_words.specs.Commands.{plain_survey}
 use Rattle.survey_engine.specs.declared.ask.Ask.{Ask}
 use Rattle.survey_job.specs.Surveying.{ask_of, survey_plan}

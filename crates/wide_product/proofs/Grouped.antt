@@ -81,7 +81,7 @@ past_group plan head (o ∷ offsets) first rank rest past =
     ∙ ap (λ (n : ℕ). ending_after rank (numbered plan n rest)) (let e : first + length (lists plan head) + length offsets * length (lists plan head) ≡ first + suc (length offsets) * length (lists plan head) = omega arith in e)
 
 -- two lists of bases that are the same are equal
-same_are_equal : (a b : List ℕ) → same_bases a b ≡ true → a ≡ b
+pub same_are_equal : (a b : List ℕ) → same_bases a b ≡ true → a ≡ b
 unfolding same_bases
 same_are_equal [] [] e = refl
 same_are_equal [] (y ∷ b) e = absurd (search rules)
@@ -91,7 +91,7 @@ same_are_equal (x ∷ a) (y ∷ b) e =
     ap₂ (λ (n : ℕ) (l : List ℕ). n ∷ l) (eqb-true x y parts.0) (same_are_equal a b parts.1)
 
 -- a set has what the head has beside its offset
-abbrev same_start : Geometry → Head → Bool
+abbrev pub same_start : Geometry → Head → Bool
 same_start geo head =
     (level_place geo.head.level == level_place head.level && geo.head.members == head.members)
     && ((pattern_place geo.head.pattern == pattern_place head.pattern && syndrome_place geo.head.syndrome == syndrome_place head.syndrome) && geo.head.chunk == head.chunk)
@@ -123,7 +123,7 @@ chosen true p xs = refl
 chosen {A} false p xs = position_never (λ (x : A). false) xs (λ x. refl)
 
 -- the place of a set among those of a head with each list of bases
-based_place : (plan : Plan) (head : Head) (set : Based) → set.0.head.offset ≡ greatest_base set.1 →
+pub based_place : (plan : Plan) (head : Head) (set : Based) → set.0.head.offset ≡ greatest_base set.1 →
     position (is_same_based set) (based_in plan head) ≡ joined (length (lists plan head)) (cond (same_start set.0 head) (position (same_bases set.1) (bases_of plan)) None) (position (same_slots set.0.slots.items) (lists plan head))
 based_place plan head set greatest =
     position_map (is_same_based set) (based_set head) (pairs (bases_of plan) (lists plan head))

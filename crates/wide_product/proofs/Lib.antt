@@ -7,3 +7,5 @@ pub mod GroupAt
 pub mod PartAt
 pub mod Products
 pub mod MovedPlan
+pub mod Undo
+pub mod Aligned

@@ -3,3 +3,4 @@ pub mod Sets
 pub mod Groups
 pub mod Parts
 pub mod Moved
+pub mod Laws

@@ -3,6 +3,7 @@ use Rattle.std.specs.Prelude.{ℕ, ◌≡◌, ◌+◌, ◌≤◌, ◌<◌, ◌^�
 use Rattle.std.specs.declared.option.Option.{Option}
 use Rattle.std.specs.declared.option.Option.TheVariants.{Some}
 use Rattle.padded_images.specs.Plans.{padded_plan}
+use Rattle.raid_params.specs.declared.types.Head.{Head}
 use Rattle.search_plan.specs.Plans.{IsPlan}
 use Rattle.search_plan.specs.Sets.{passes_at, sets_of, total_of}
 use Rattle.search_plan.specs.declared.plan.Plan.{Plan}
@@ -11,11 +12,15 @@ use Rattle.wide_product.specs.Sets.{padded_bytes, wide_passes_at}
 use Rattle.wide_product.specs.declared.moved.MovedPart.{MovedPart}
 use Rattle.wide_product.specs.declared.parts.Part.{Part}
 
--- the padded plan, with the chunk and the offset of the part alone
-abbrev pub moved_plan : Plan → Part → Plan
-moved_plan plan part = record (padded_plan part.bases.items plan) {
-  bounds = record plan.bounds { chunks = record { items = part.head.chunk ∷ [] }; offsets = record { items = part.head.offset ∷ [] } };
+-- the plan over images that are padded by these bases, with the chunk and the offset of a head alone
+abbrev pub moved_to : Plan → Head → List ℕ → Plan
+moved_to plan head bases = record (padded_plan bases plan) {
+  bounds = record plan.bounds { chunks = record { items = head.chunk ∷ [] }; offsets = record { items = head.offset ∷ [] } };
 }
+
+-- that of a part
+abbrev pub moved_plan : Plan → Part → Plan
+moved_plan plan part = moved_to plan part.head part.bases.items
 
 -- a range of the ranks of that plan has the sets of the part, and just those pass that do so with their bases
 pub record IsMoved (plan : Plan) (part : Part) (moved : MovedPart) : Type 0 where

@@ -10,10 +10,12 @@
 
 mod base_lists;
 mod groups;
+mod laws;
 mod moved;
 mod parts;
 mod product;
 
+pub use laws::{parts_make_the_product, ranks_and_sets_undo};
 pub use moved::MovedPart;
 pub use parts::{Part, part_at};
 pub use product::{product_rank, product_set, product_total};

@@ -1,7 +1,7 @@
 use Rattle.std.proofs.Common.{◌≡◌, ◌-◌, ◌^◌, List, IfSome, sym, ap, ◌∙◌, subst}
 use Rattle.outside.specs.Attached.{told_all}
 use Rattle.outside.specs.Seen.{Image}
-use Rattle.page_engine.specs.Pages.{IsPageOf}
+use Rattle.common_pages.specs.Pages.{IsPageOf}
 use Rattle.run_ends.specs.Stops.{many_refusal}
 use Rattle.survey_engine.specs.declared.ask.Ask.{Ask}
 use Rattle.survey_job.specs.Surveying.{survey_plan}

@@ -1,0 +1,20 @@
+//! Pages of the parameter sets of a plan that pass.
+//!
+//! A [`page`] has the sets of a range of ranks that have a whole row and meet the landmark test and the
+//! parity test on the images. [`pages`] gives page after page.
+//!
+//! A page is walked head by head; `head_walk` gathers the sets of each, and tests them. The tables of rows are made where
+//! the first head needs them and kept for all pages of a call.
+//!
+//! `plan_jobs` prints pages for `list`. The sets of a plan stand in `Sets` of `search_plan`, a page by
+//! its ranks in `Page` of `search_terms`, and pages with what is read for them in `specs/Pages`.
+#![tactic(auto)]
+
+mod page_parts;
+mod paging;
+mod walking;
+
+pub use head_walk::{Line, Lines};
+pub use page_parts::{CursorFault, ListPage, PageFault, PageList};
+pub use paging::{page, pages};
+pub use set_product::{product_rank, product_set, product_total};

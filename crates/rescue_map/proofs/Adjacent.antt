@@ -1,5 +1,5 @@
 -- Volume sectors that lie beside each other.
-use Rattle.std.proofs.Common.{ℕ, zero, suc, inl, inr, ◌⊎◌, ◌≡◌, ◌+◌, ◌-◌, ◌*◌, ◌/◌, ◌%◌, ◌<◌, ◌≤◌, IsTrue, Bool, true, false, cond, List, [], length, get_or, map, refl, sym, ap, ◌∙◌, subst, arith, Option, Some, None, All}
+use Rattle.std.proofs.Common.{ℕ, zero, suc, inl, inr, ◌⊎◌, ◌≡◌, ◌+◌, ◌-◌, ◌*◌, ◌/◌, ◌%◌, ◌<◌, ◌≤◌, Bool, true, false, cond, List, [], length, get_or, refl, sym, ap, ◌∙◌, subst, arith, Option, Some, None}
 use Rattle.std.specs.Option.{is_none, is_some}
 use Rattle.std.proofs.lemmas.Bool.{cases_lt}
 use Rattle.std.proofs.Common.{take, drop}
@@ -7,15 +7,15 @@ use Rattle.std.proofs.lemmas.List.{get_or-map, length-drop, length-take}
 use Rattle.std.proofs.lemmas.Nat.{div-add-mod', div-mul-add, mod-mul-add}
 use borrow.Rule.Slice.PartMut.{put_mid}
 use Rattle.outside.specs.Seen.{OnlyReads, Seen}
+use Rattle.member_regions.specs.Members.{held}
 use Rattle.raid_params.specs.Size.{data_blocks}
-use Rattle.raid_params.specs.Validity.{is_valid_head}
 use Rattle.raid_params.specs.declared.types.Head.{Head}
 use Rattle.raid_params.specs.declared.wide.Wide.{Wide}
-use Rattle.raid_terms.specs.Address.{LiesAt, home_item, home_row, home_sector, home_slot}
+use Rattle.raid_terms.specs.Address.{LiesAt, home_row, home_sector}
 use Rattle.raid_terms.specs.Parity.{member_byte}
 use Rattle.raid_terms.specs.Role.{HasRole, Item}
 use Rattle.row_parity.proofs.Regions.{mid_before, mid_inside}
-use Rattle.rescue_map.specs.Damaged.{damaged, damaged_at, is_lost, is_unknown, known_slot}
+use Rattle.rescue_map.specs.Damaged.{damaged, damaged_at, is_unknown, known_slot}
 use Rattle.rescue_map.specs.Salvaged.{column_at, filled_byte, reads_for, reads_for_all, salvaged_sector, AreKnown, IsRead}
 use Rattle.rescue_map.proofs.Blocks.{reads_one, reads_parts, reads_some}
 use Rattle.rescue_map.proofs.Found.{copied_found, filled_copied, known_home, known_not_lost}
@@ -108,8 +108,8 @@ run_found images sections set slot sector v j x byte held lies inside below here
 -- one sector is read for each
 one_for : (sections : List Section) (set : Wide) (v : ℕ) → is_unknown sections set v ≡ false → reads_for sections set v ≡ 1
 one_for sections set v known =
-    ap (λ (b : Bool). cond b 0 (cond (is_unknown sections set v) (length set.geo.slots.items) 1)) (known_not_lost sections set v known)
-    ∙ ap (λ (b : Bool). cond b (length set.geo.slots.items) 1) known
+    ap (λ (b : Bool). cond b 0 (cond (is_unknown sections set v) (held (damaged_at sections set v).slots.items) 1)) (known_not_lost sections set v known)
+    ∙ ap (λ (b : Bool). cond b (held (damaged_at sections set v).slots.items) 1) known
 
 pub reads_run : (sections : List Section) (set : Wide) (v n : ℕ) → AreKnown sections set v n → reads_for_all sections set v n ≡ n
 unfolding reads_for_all
@@ -147,3 +147,20 @@ sector_reads old new sections set v m some reads = reads_some old new sections s
 
 pub part_long : (block : List ℕ) (j n : ℕ) → 512 * (j + n) ≤ length block → length (take (512 * (j + n) - 512 * j) (drop (512 * j) block)) ≡ 512 * n
 part_long block j n fits = omega (arith, length-take (512 * (j + n) - 512 * j) (drop (512 * j) block), length-drop (512 * j) block)
+
+-- more sectors of a piece were read themselves, and stay
+pub over_more : (sections : List Section) (set : Wide) (first start n m : ℕ) (piece old rows : List ℕ) → AreKnown sections set (first + (start + n)) m →
+    ((j x : ℕ) → j < n → x < 512 → get_or piece (512 * j + x) 0
+    ≡ filled_byte sections set (first + (start + j)) (column_at (length set.geo.slots.items) rows (512 * length set.geo.slots.items * (start + j)) x) (get_or old (512 * j + x) 0)) →
+    ((p : ℕ) → 512 * n ≤ p → get_or piece p 0 ≡ get_or old p 0) →
+    (j x : ℕ) → j < n + m → x < 512 → get_or piece (512 * j + x) 0
+    ≡ filled_byte sections set (first + (start + j)) (column_at (length set.geo.slots.items) rows (512 * length set.geo.slots.items * (start + j)) x) (get_or old (512 * j + x) 0)
+over_more sections set first start n m piece old rows known done rest = λ j x below inside.
+    elim (cases_lt j n) [
+      | inl less ↦ done j x less inside
+      | inr more ↦
+          let at : first + (start + n) + (j - n) ≡ first + (start + j) = omega arith in
+          let here : is_unknown sections set (first + (start + j)) ≡ false = subst (λ (t : ℕ). is_unknown sections set t ≡ false) at (known (j - n) (omega arith)) in
+          rest (512 * j + x) (omega arith)
+          ∙ sym (filled_copied sections set (first + (start + j)) (get_or old (512 * j + x) 0) (column_at (length set.geo.slots.items) rows (512 * length set.geo.slots.items * (start + j)) x) here)
+    ]

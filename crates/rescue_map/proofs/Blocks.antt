@@ -117,7 +117,7 @@ sectors_join : (images : List (List ℕ)) (sections : List Section) (set : Wide)
 unfolding salvaged_sectors
 sectors_join images sections set first n m k next e f = flat_split (salvaged_sector images sections set) first n m k next e f
 
-sectors_long : (images : List (List ℕ)) (sections : List Section) (set : Wide) (first n : ℕ) → length (salvaged_sectors images sections set first n) ≡ 512 * n
+pub sectors_long : (images : List (List ℕ)) (sections : List Section) (set : Wide) (first n : ℕ) → length (salvaged_sectors images sections set first n) ≡ 512 * n
 unfolding salvaged_sectors
 sectors_long images sections set first zero = refl
 sectors_long images sections set first (suc n) =

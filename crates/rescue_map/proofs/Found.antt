@@ -3,7 +3,7 @@ use Rattle.std.proofs.Common.{ℕ, inl, inr, ◌≡◌, ◌+◌, ◌*◌, ◌/�
 use Rattle.std.specs.Option.{is_none, is_some}
 use Rattle.std.proofs.Common.{take, drop, All, IsSomeAnd, slice_get}
 use Rattle.outside.specs.Seen.{Image, OnlyReads, Seen}
-use Rattle.member_regions.specs.Members.{Reaches}
+use Rattle.member_regions.specs.Members.{held, Reaches}
 use Rattle.std.proofs.lemmas.List.{get_or-drop, get_or-map, get_or-replicate, get_or-take, length-map}
 use Rattle.std.proofs.lemmas.List.FromFn.{get_or-map-range_with_len, length-map-range_with_len}
 use Rattle.std.proofs.lemmas.Grind.{same_number_lists}
@@ -270,21 +270,22 @@ one_read : (held : Option ℕ) (bytes : ℕ) → is_some held ≡ true → bytes
 one_read None bytes some long = absurd (cc)
 one_read (Some i) bytes some long = ap (λ (n : ℕ). n / 512) long
 
-pub reads_copied : (old new : Seen) (sections : List Section) (set : Wide) (v bytes : ℕ) (held : Option ℕ) → is_some held ≡ true → bytes ≡ 512 → is_unknown sections set v ≡ false →
-    OnlyReads old new (cond (is_none held) 0 (bytes / 512)) → OnlyReads old new (reads_for sections set v)
-reads_copied old new sections set v bytes held some long known reads =
+pub reads_copied : (old new : Seen) (sections : List Section) (set : Wide) (v bytes : ℕ) (slot : Option ℕ) → is_some slot ≡ true → bytes ≡ 512 → is_unknown sections set v ≡ false →
+    OnlyReads old new (cond (is_none slot) 0 (bytes / 512)) → OnlyReads old new (reads_for sections set v)
+reads_copied old new sections set v bytes slot some long known reads =
     let one : reads_for sections set v ≡ 1 =
-    ap (λ (b : Bool). cond b 0 (cond (is_unknown sections set v) (length set.geo.slots.items) 1)) (known_not_lost sections set v known)
-    ∙ ap (λ (b : Bool). cond b (length set.geo.slots.items) 1) known in
-    subst (λ (n : ℕ). OnlyReads old new n) (one_read held bytes some long ∙ sym one) reads
+    ap (λ (b : Bool). cond b 0 (cond (is_unknown sections set v) (held (damaged_at sections set v).slots.items) 1)) (known_not_lost sections set v known)
+    ∙ ap (λ (b : Bool). cond b (held (damaged_at sections set v).slots.items) 1) known in
+    subst (λ (n : ℕ). OnlyReads old new n) (one_read slot bytes some long ∙ sym one) reads
 
-pub reads_solved : (old new : Seen) (sections : List Section) (set : Wide) (v n : ℕ) → n ≡ length set.geo.slots.items → is_unknown sections set v ≡ true → is_beyond sections set v ≡ false →
-    OnlyReads old new n → OnlyReads old new (reads_for sections set v)
-reads_solved old new sections set v n many gone few reads =
-    let all : reads_for sections set v ≡ length set.geo.slots.items =
-    ap (λ (b : Bool). cond b 0 (cond (is_unknown sections set v) (length set.geo.slots.items) 1)) (solved_not_lost sections set v few)
-    ∙ ap (λ (b : Bool). cond b (length set.geo.slots.items) 1) gone in
-    subst (λ (n : ℕ). OnlyReads old new n) (many ∙ sym all) reads
+pub reads_solved : (old new : Seen) (sections : List Section) (set : Wide) (v slot sector n : ℕ) (row : Geometry) → row ≡ damaged sections set sector → LiesAt set.geo.head slot sector v → n ≡ held row.slots.items →
+    is_unknown sections set v ≡ true → is_beyond sections set v ≡ false → OnlyReads old new n → OnlyReads old new (reads_for sections set v)
+reads_solved old new sections set v slot sector n row is lies many gone few reads =
+    let same : row ≡ damaged_at sections set v = is ∙ ap (damaged sections set) lies.place in
+    let all : reads_for sections set v ≡ held (damaged_at sections set v).slots.items =
+    ap (λ (b : Bool). cond b 0 (cond (is_unknown sections set v) (held (damaged_at sections set v).slots.items) 1)) (solved_not_lost sections set v few)
+    ∙ ap (λ (b : Bool). cond b (held (damaged_at sections set v).slots.items) 1) gone in
+    subst (λ (n : ℕ). OnlyReads old new n) (many ∙ ap (λ (g : Geometry). held g.slots.items) same ∙ sym all) reads
 
 nearer : (attached : List Image) (n m : ℕ) (slot : Option ℕ) → m ≤ n → Reaches attached n slot → Reaches attached m slot
 nearer attached n m None le far = tt

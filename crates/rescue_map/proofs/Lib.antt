@@ -8,3 +8,4 @@ pub mod Blocks
 pub mod Padding
 pub mod LawsShown
 pub mod Adjacent
+pub mod ReadAhead

@@ -1,9 +1,11 @@
 -- The volume of damaged members, and what is read for it.
-use Rattle.std.specs.Prelude.{ℕ, ◌≡◌, ◌+◌, ◌*◌, ◌<◌, ◌≤◌, ◌^◌, if◌then◌else◌, List, length, map, replicate, false, slice_index, slice_index_or, All}
+use Rattle.std.specs.Prelude.{ℕ, ◌≡◌, ◌+◌, ◌-◌, ◌*◌, ◌/◌, ◌<◌, ◌≤◌, ◌^◌, if◌then◌else◌, List, length, map, replicate, false, slice_index, slice_index_or, min, All, IfSome, IsSomeAnd}
 use Rattle.std.specs.List.{flat_map, range_with_len, sum}
 use Rattle.std.specs.declared.option.Option.{Option}
 use Rattle.std.specs.declared.option.Option.TheVariants.{None}
 use Rattle.outside.specs.Seen.{Image}
+use Rattle.member_regions.specs.Members.{held}
+use Rattle.member_regions.specs.declared.regions.TheConstants.{BLOCK}
 use Rattle.raid_params.specs.Size.{volume_sectors}
 use Rattle.raid_params.specs.Wide.{wide_fault}
 use Rattle.raid_params.specs.declared.wide.Wide.{Wide}
@@ -32,12 +34,18 @@ salvaged images sections set end = salvaged_sectors images sections set 0 (volum
 abbrev pub reads_for : List Section → Wide → ℕ → ℕ
 reads_for sections set v =
     if is_lost sections set v then 0
-    else if is_unknown sections set v then length set.geo.slots.items
+    else if is_unknown sections set v then held (damaged_at sections set v).slots.items
     else 1
 
 -- for n volume sectors from a sector on
 unfoldable pub reads_for_all : List Section → Wide → ℕ → ℕ → ℕ
 reads_for_all sections set first n = sum (map (reads_for sections set) (range_with_len first n))
+
+-- no more sectors were read than those for what the sink is known to have gained, and for one block more: of a volume of so many
+-- sectors, counted from `from` to `to`
+abbrev pub IsReadAhead : List Section → Wide → ℕ → ℕ → ℕ → Option (List ℕ) → Option (List ℕ) → Type 0
+IsReadAhead sections set sectors from to old new =
+    IfSome old (λ before. IsSomeAnd new (λ after. to ≤ from + reads_for_all sections set 0 (min sectors ((length after - length before) / 512 + BLOCK))))
 
 -- a byte of volume sector v, by what was read for it: the byte that it was itself, or the known bytes of its column
 unfoldable pub filled_byte : List Section → Wide → ℕ → List ℕ → ℕ → ℕ

@@ -106,8 +106,35 @@ pub(crate) fn is_beyond(geo: &Geometry) -> bool
     count_empty(&geo.slots) > geo.head.level.redundancy() as usize
 }
 
-/// How many volume sectors from number `sector` on, `most` at most, lie beside each other on one member and are known: none
-/// where one among those of its chunk is not.
+/// How many member sectors of a slot from number `first` on are known before the first one that is not, `most` at most. It is
+/// found by bisection.
+fn known_front(set: &Wide, rescue: &Rescue, first: u64, most: u64, held: Option<u8>) -> u64
+    requires some { 1 ≤ most }
+    requires near { set.now.geo.head.offset + (first + most) < 2 ^ 55 }
+    ensures most { result ≤ most }
+    ensures known { (t : ℕ) → first ≤ t → t < first + result → known_slot_of rescue.now set.now t held ≡ held }
+{
+    if are_known(set, rescue, first, most, held) {
+        return most;
+    }
+    if !are_known(set, rescue, first, 1, held) {
+        return 0;
+    }
+    let mut known = 1;
+    let mut beyond = most;
+    while known + 1 < beyond {
+        let half = known + (beyond - known) / 2;
+        if are_known(set, rescue, first, half, held) {
+            known = half;
+        } else {
+            beyond = half;
+        }
+    }
+    known
+}
+
+/// How many volume sectors from number `sector` on, `most` at most, lie beside each other on one member and are known, before
+/// the first one that is not.
 pub(crate) fn known_run(damage: &Damage, sector: u64, most: u64) -> u64
     requires set { IsTestable damage.now.set.now.geo }
     requires near { damage.now.end < 2 ^ 55 }
@@ -121,10 +148,10 @@ pub(crate) fn known_run(damage: &Damage, sector: u64, most: u64) -> u64
     let Some(home) = locate(head, damage.end, sector) else {
         return 0;
     };
-    let run = most.min(head.chunk - sector % head.chunk);
     let held = damage.set.geo.slots[home.slot as usize];
-    if held.is_some() && are_known(damage.set, damage.rescue, home.sector, run, held) {
-        return run;
+    if held.is_some() {
+        let run = most.min(head.chunk - sector % head.chunk);
+        return known_front(damage.set, damage.rescue, home.sector, run, held);
     }
     0
 }

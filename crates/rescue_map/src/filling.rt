@@ -5,7 +5,7 @@ ghost use Rattle.raid_params.specs.Size.{volume_sectors as volume_sectors_of};
 ghost use Rattle.raid_terms.specs.Parity.{column_of};
 ghost use Rattle.rescue_map.specs.Salvaged.{column_at, filled_byte, IsFilled};
 
-use crate::damaged::{Damage, damaged, is_beyond};
+use crate::damaged::{Damage, damaged, is_beyond, known_run};
 use address_map::locate;
 use gates::{Gate, OpenGate};
 use outside::SECTOR;
@@ -16,6 +16,9 @@ use std::thread::Threads;
 
 /// The bytes of a piece: 64 sectors.
 const PIECE: usize = 64 * SECTOR;
+
+/// As many cells of rows from which sectors are to be found as make threads worth their cost.
+const MANY: usize = 1024;
 
 /// What works on pieces.
 #[derive(Drop)]
@@ -54,7 +57,7 @@ fn fill_sector(damage: &Damage, sector: u64, row: &[u8], to: &mut [u8])
 }
 
 /// Finishes the sectors of a piece, the first of which is number `start` of those from `first` on. `rows` has a row of
-/// sectors, one a member, for each of these.
+/// sectors, one a member, for each of these. Sectors that were read themselves are passed over together.
 pub(crate) fn fill_piece(damage: &Damage, first: u64, start: usize, piece: &mut [u8], rows: &[u8])
     requires set { IsTestable damage.now.set.now.geo }
     requires near { damage.now.end < 2 ^ 55 }
@@ -68,11 +71,20 @@ pub(crate) fn fill_piece(damage: &Damage, first: u64, start: usize, piece: &mut 
         (slice_index piece.old (512 * j + x)) }
 {
     let stride = SECTOR * damage.set.geo.slots.len();
-    for j in 0..piece.len() / SECTOR {
-        let at = stride * (start + j);
-        let row = &rows[at..at + stride];
-        let to = &mut piece[SECTOR * j..SECTOR * j + SECTOR];
-        fill_sector(damage, first + (start + j) as u64, row, to);
+    let count = piece.len() / SECTOR;
+    let mut j = 0;
+    while j < count {
+        let sector = first + (start + j) as u64;
+        let known = known_run(damage, sector, (count - j) as u64) as usize;
+        if known == 0 {
+            let at = stride * (start + j);
+            let row = &rows[at..at + stride];
+            let to = &mut piece[SECTOR * j..SECTOR * j + SECTOR];
+            fill_sector(damage, sector, row, to);
+            j += 1;
+        } else {
+            j += known;
+        }
     }
 }
 
@@ -112,7 +124,24 @@ fn fill_pieces<R: Threads + Sync, G: Gate + Sync>(
     );
 }
 
-/// Finishes the sectors of the block that begins at volume sector `first`. The pieces of the first block pass the gate.
+/// Whether so many of `count` sectors of the volume from number `first` on are to be found that threads are worth their cost.
+fn are_many(damage: &Damage, first: u64, count: usize) -> bool
+    requires set { IsTestable damage.now.set.now.geo }
+    requires near { damage.now.end < 2 ^ 55 }
+    requires within { first + count ≤ volume_sectors_of damage.now.set.now.geo.head damage.now.end }
+{
+    let mut unknown = 0;
+    let mut at = 0;
+    while at < count {
+        let run = known_run(damage, first + at as u64, (count - at) as u64) as usize;
+        unknown += usize::from(run == 0);
+        at += run.max(1);
+    }
+    MANY <= unknown.saturating_mul(damage.set.geo.slots.len())
+}
+
+/// Finishes the sectors of the block that begins at volume sector `first`, in pieces that may run side by side where many of
+/// them are to be found. The first block is always finished in pieces, which pass the gate.
 pub(crate) fn fill_block<R: Threads + Sync, G: Gate + Sync>(
     threads: &Threading<R, G>,
     damage: &Damage,
@@ -130,7 +159,9 @@ pub(crate) fn fill_block<R: Threads + Sync, G: Gate + Sync>(
 {
     if first == 0 {
         fill_pieces(threads.rt, threads.gate, damage, first, block, rows);
-    } else {
+    } else if are_many(damage, first, block.len() / SECTOR) {
         fill_pieces(threads.rt, &OpenGate, damage, first, block, rows);
+    } else {
+        fill_piece(damage, first, 0, block, rows);
     }
 }

@@ -1,9 +1,10 @@
 //! What is read of the images for sectors of the volume.
-ghost use Rattle.std.specs.Prelude.{ℕ, ◌-◌, ◌%◌, IfOk, ◌≡◌, ◌+◌, ◌*◌, ◌^◌, ◌<◌, ◌≤◌, ◌/◌, length, slice_index, slice_index_or, All, IfSome, OnOk, None};
+ghost use Rattle.std.specs.Prelude.{if◌then◌else◌, ℕ, ◌-◌, ◌%◌, IfOk, ◌≡◌, ◌+◌, ◌*◌, ◌^◌, ◌<◌, ◌≤◌, ◌/◌, length, slice_index, slice_index_or, All, IfSome, OnOk, None};
 ghost use Rattle.outside.specs.Attached.{told_all};
 ghost use Rattle.outside.specs.Causes.{HasCause};
 ghost use Rattle.outside.specs.Seen.{OnlyReads};
-ghost use Rattle.member_regions.specs.Members.{IsTestable, Reaches};
+ghost use Rattle.std.specs.Option.{is_none};
+ghost use Rattle.member_regions.specs.Members.{held as held_of, IsTestable, Reaches};
 ghost use Rattle.raid_params.specs.Size.{volume_sectors as volume_sectors_of};
 ghost use Rattle.raid_terms.specs.Parity.{column_of, member_byte};
 ghost use Rattle.rescue_map.specs.Salvaged.{filled_byte, reads_for, reads_for_all, salvaged_sector, AreKnown, IsRead, HoldCells};
@@ -28,7 +29,7 @@ fn read_cell<I: Images>(
     ensures told { OnOk result (IfSome (told_all (I.seen images.old).attached)
         (λ bytes. (x : ℕ) → x < 512 → slice_index to.new x ≡ member_byte bytes offset sector x held)) }
     ensures long { length to.new ≡ 512 }
-    ensures reads { OnlyReads (I.seen images.old) (I.seen images.new) 1 }
+    ensures reads { OnlyReads (I.seen images.old) (I.seen images.new) (if is_none held then 0 else 1) }
     ensures cause { HasCause (I.seen images.old).faults (I.seen images.new).faults result }
 {
     if held.is_none() {
@@ -51,7 +52,7 @@ fn read_row<I: Images>(
     ensures told { OnOk result (IfSome (told_all (I.seen images.old).attached)
         (λ bytes. HoldCells bytes geo.now.slots.items geo.now.head.offset sector (length geo.now.slots.items) row.new)) }
     ensures long { length row.new ≡ length row.old }
-    ensures reads { OnlyReads (I.seen images.old) (I.seen images.new) (length geo.now.slots.items) }
+    ensures reads { OnlyReads (I.seen images.old) (I.seen images.new) (held_of geo.now.slots.items) }
     ensures cause { HasCause (I.seen images.old).faults (I.seen images.new).faults result }
 {
     for (slot, held) in geo.slots.iter().enumerate() {

@@ -11,7 +11,7 @@ ghost use Rattle.member_regions.specs.declared.regions.TheConstants.{BLOCK as BL
 ghost use Rattle.padded_images.specs.Padded.{padded_images};
 ghost use Rattle.raid_params.specs.Size.{volume_sectors as volume_sectors_of};
 ghost use Rattle.virtual_volume.specs.Served.{Faults, IsFault, IsServed};
-ghost use Rattle.rescue_map.specs.Salvaged.{reads_for_all, salvaged as salvaged_of, salvaged_sectors, IsSalvaged};
+ghost use Rattle.rescue_map.specs.Salvaged.{reads_for_all, salvaged as salvaged_of, salvaged_sectors, IsReadAhead, IsSalvaged};
 
 use crate::damaged::Damage;
 use crate::filling::{Threading, fill_block};
@@ -105,6 +105,8 @@ fn write_blocks<R: Threads + Sync, I: Images, K: Sink, G: Gate + Sync>(
     ensures whole { IsErrOf result VolumeFault.ReadFault → IfSome (told_all (I.seen images.old).attached)
         (λ bytes. AppendsSectors (K.gained sink.old) (K.gained sink.new) (salvaged_sectors bytes damage.now.rescue.now damage.now.set.now 0 sectors)) }
     ensures reads { OnlyReads (I.seen images.old) (I.seen images.new) (reads_for_all damage.now.rescue.now damage.now.set.now 0 sectors) }
+    ensures ahead { IfSome (told_all (I.seen images.old).attached)
+        (λ bytes. IsReadAhead damage.now.rescue.now damage.now.set.now sectors (I.seen images.old).sectors_read (I.seen images.new).sectors_read (K.gained sink.old) (K.gained sink.new)) }
     ensures later { K.faults sink.old ≤ K.faults sink.new }
     ensures faults { Faults (I.seen images.old).faults (I.seen images.new).faults (K.faults sink.old) (K.faults sink.new) result }
     ensures ends { IfErr result IsFault }
@@ -138,6 +140,8 @@ fn salvage_over<R: Threads + Sync, I: Images, K: Sink, G: Gate + Sync>(
         (K.gained sink.new ≡ K.gained sink.old) × (I.seen images.new ≡ I.seen images.old) }
     ensures reads { OnlyReads (I.seen images.old) (I.seen images.new)
         (reads_for_all damage.now.rescue.now damage.now.set.now 0 (volume_sectors_of damage.now.set.now.geo.head damage.now.end)) }
+    ensures ahead { IfSome (told_all (I.seen images.old).attached)
+        (λ bytes. IsReadAhead damage.now.rescue.now damage.now.set.now (volume_sectors_of damage.now.set.now.geo.head damage.now.end) (I.seen images.old).sectors_read (I.seen images.new).sectors_read (K.gained sink.old) (K.gained sink.new)) }
     ensures later { K.faults sink.old ≤ K.faults sink.new }
     ensures faults { Faults (I.seen images.old).faults (I.seen images.new).faults (K.faults sink.old) (K.faults sink.new) result }
 {
@@ -168,6 +172,8 @@ fn salvage_padded<R: Threads + Sync, I: Images, K: Sink, G: Gate + Sync>(
         (K.gained sink.new ≡ K.gained sink.old) × (I.seen images.new ≡ I.seen images.old) }
     ensures reads { OnlyReads (I.seen images.old) (I.seen images.new)
         (reads_for_all damage.now.rescue.now damage.now.set.now 0 (volume_sectors_of damage.now.set.now.geo.head damage.now.end)) }
+    ensures ahead { IfSome (told_all (padded_images damage.now.set.now.bases.items (I.seen images.old).attached))
+        (λ bytes. IsReadAhead damage.now.rescue.now damage.now.set.now (volume_sectors_of damage.now.set.now.geo.head damage.now.end) (I.seen images.old).sectors_read (I.seen images.new).sectors_read (K.gained sink.old) (K.gained sink.new)) }
     ensures later { K.faults sink.old ≤ K.faults sink.new }
     ensures faults { Faults (I.seen images.old).faults (I.seen images.new).faults (K.faults sink.old) (K.faults sink.new) result }
 {
@@ -180,12 +186,12 @@ fn salvage_padded<R: Threads + Sync, I: Images, K: Sink, G: Gate + Sync>(
 ///
 /// A sector whose home is good is read itself; another one is found by the good cells of its row, where no more of them are
 /// missing than the level survives; another one is lost, and is zeros. So the bytes depend on good sectors alone. The sectors
-/// of a block are found in pieces of 64 that may run side by side; those of the first block pass the gate first, each with its
-/// number. The bytes do not depend on how pieces fall to threads.
+/// of a block of 256 are found in pieces of 64 that may run side by side, where many of them are to be found; those of the first
+/// block always are, and pass the gate first, each with its number. The bytes do not depend on how pieces fall to threads.
 ///
 /// Memory may run out only before anything is read or written. After that only a fault of the images or of the sink ends the
 /// work: then a prefix of the volume was written, of whole sectors where the images failed. One sector at most is read for
-/// each sector that is there, one of each member for each that is found, and none for one that is lost.
+/// each sector that is there, the good cells of its row for each that is found, and none for one that is lost.
 pub fn salvage<R: Threads + Sync, I: Images, K: Sink, G: Gate + Sync>(
     rt: &R,
     alloc: Global,
@@ -204,6 +210,10 @@ pub fn salvage<R: Threads + Sync, I: Images, K: Sink, G: Gate + Sync>(
     ensures memory { IsErrOf result VolumeFault.Memory →
         (K.gained sink.new ≡ K.gained sink.old) × (I.seen images.new ≡ I.seen images.old) }
     ensures reads { OnlyReads (I.seen images.old) (I.seen images.new) (reads_for_all rescue.now set.now 0 (volume_sectors_of set.now.geo.head end)) }
+
+    // No more is read than for what the sink gained, and for one block more, also where it failed.
+    ensures ahead { IfSome (told_all (padded_images set.now.bases.items (I.seen images.old).attached))
+        (λ bytes. IsReadAhead rescue.now set.now (volume_sectors_of set.now.geo.head end) (I.seen images.old).sectors_read (I.seen images.new).sectors_read (K.gained sink.old) (K.gained sink.new)) }
     ensures later { K.faults sink.old ≤ K.faults sink.new }
     ensures faults { Faults (I.seen images.old).faults (I.seen images.new).faults (K.faults sink.old) (K.faults sink.new) result }
 {

@@ -1,5 +1,5 @@
 -- How `salvage` ends.
-use Rattle.std.proofs.Common.{◌≡◌, ◌≤◌, ◌+◌, ℕ, Bool, true, false, List, None, Some, Option, Result, Ok, Err, IfSome, IsErrOf, MatchResult, refl, sym, ap, ◌∙◌, subst, arith}
+use Rattle.std.proofs.Common.{◌≡◌, ◌≤◌, ◌+◌, ℕ, Bool, true, false, List, None, Some, Option, Result, Ok, Err, IfOk, IfSome, IsErrOf, MatchResult, refl, sym, ap, ◌∙◌, subst, arith}
 use Rattle.std.specs.Io.KnownBytes.{IsAtEnd}
 use Rattle.std.specs.Option.{option_map}
 use Rattle.outside.specs.Seen.{Image, Seen}
@@ -10,11 +10,12 @@ use Rattle.rescue_map.proofs.Padding.{salvaged_testable}
 use Rattle.rescue_map.proofs.Passed.{damage_of}
 use Rattle.rescue_map.specs.Damaged.{IsDamaged}
 use Rattle.rescue_map.specs.LostText.{lost_text}
-use Rattle.rescue_map.specs.Salvaged.{reads_for_all, salvaged}
+use Rattle.rescue_map.specs.Salvaged.{reads_for_all, salvaged, IsReadAhead}
 use Rattle.rescue_text.specs.RescueText.{rescue_sections}
 use Rattle.rescue_text.specs.declared.fault.RescueFault.{RescueFault}
 use Rattle.rescue_text.specs.declared.section.Section.{Section}
 use Rattle.run_ends.proofs.Printed.{ends_unput, keeps_itself, no_raise, raises_same, stays}
+use Rattle.run_ends.specs.Agreement.{end_of}
 use Rattle.run_ends.specs.Counts.{Raises}
 use Rattle.run_ends.specs.Jobs.{Answers, Does, Ends, Job, Takes, around, named}
 use Rattle.run_ends.specs.Source.{TakesFew}
@@ -164,3 +165,34 @@ does_nothing {T} {U} set lost end names seen old new out stop is takes faults = 
     none stop is fault other e =
         let f = e in let g : stop ≡ fault = cc in
         let P : Stop → Type 0 = λ s. IsUnready set end names seen.attached old.known s in other (subst P g is)
+
+-- how far the reading is ahead, by what the source said
+pub ahead_ready : {A : Type 0} (set : Wide) (end : Option ℕ) (names : ℕ) (attached : List Image) (left : Option (List ℕ)) (ready : Ready) (bytes : Option A) (from to : ℕ) (a b : Option (List ℕ)) → IsReady set end names attached left ready →
+    IfSome bytes (λ images. IsReadAhead ready.rescue set (volume_sectors set.geo.head ready.end) from to a b) →
+    IfSome left (λ text. IfOk (rescue_sections names text) (λ sections. IfSome bytes (λ images. IsReadAhead sections set (volume_sectors set.geo.head (end_of end attached)) from to a b)))
+ahead_ready {A} set end names attached left ready bytes from to a b is ahead = by left is.sections
+  where
+    by : (l : Option (List ℕ)) → IfSome l (λ text. rescue_sections names text ≡ Ok ready.rescue) →
+        IfSome l (λ text. IfOk (rescue_sections names text) (λ sections. IfSome bytes (λ images. IsReadAhead sections set (volume_sectors set.geo.head (end_of end attached)) from to a b)))
+    by None h = tt
+    by (Some text) h =
+        subst (λ (r : Result (List Section) RescueFault). IfOk r (λ sections. IfSome bytes (λ images. IsReadAhead sections set (volume_sectors set.geo.head (end_of end attached)) from to a b))) (sym h)
+        (subst (λ (e : ℕ). IfSome bytes (λ images. IsReadAhead ready.rescue set (volume_sectors set.geo.head e) from to a b)) is.end_is ahead)
+
+-- and where nothing was read or put
+pub ahead_idle : {A : Type 0} (set : Wide) (names : ℕ) (left : Option (List ℕ)) (bytes : Option A) (sectors from : ℕ) (a : Option (List ℕ)) →
+    IfSome left (λ text. IfOk (rescue_sections names text) (λ sections. IfSome bytes (λ images. IsReadAhead sections set sectors from from a a)))
+ahead_idle {A} set names left bytes sectors from a = by left
+  where
+    none : (sections : List Section) (b : Option A) (o : Option (List ℕ)) → IfSome b (λ images. IsReadAhead sections set sectors from from o o)
+    none sections None o = tt
+    none sections (Some images) None = tt
+    none sections (Some images) (Some xs) = omega arith
+
+    ok : (r : Result (List Section) RescueFault) → IfOk r (λ sections. IfSome bytes (λ images. IsReadAhead sections set sectors from from a a))
+    ok (Ok sections) = none sections bytes a
+    ok (Err fault) = tt
+
+    by : (l : Option (List ℕ)) → IfSome l (λ text. IfOk (rescue_sections names text) (λ sections. IfSome bytes (λ images. IsReadAhead sections set sectors from from a a)))
+    by None = tt
+    by (Some text) = ok (rescue_sections names text)

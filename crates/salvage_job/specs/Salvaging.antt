@@ -63,8 +63,8 @@ salvage_output set true end attached (Ok sections) = Some (lost_text sections se
 salvage_output set false end attached (Ok sections) = option_map (λ images. salvaged images sections set (end_of end attached)) (told_for set attached)
 salvage_output set lost end attached (Err fault) = None
 
--- the most sectors that are read: none for the text of what is lost; for the volume one for each sector that is there, one of
--- each member for each that is found, and none for one that is lost
+-- the most sectors that are read: none for the text of what is lost; for the volume one for each sector that is there, the
+-- known cells of its row for each that is found, and none for one that is lost
 abbrev pub salvage_reads : Wide → Bool → Option ℕ → List Image → Result (List Section) RescueFault → ℕ
 salvage_reads set true end attached (Ok sections) = 0
 salvage_reads set false end attached (Ok sections) = reads_for_all sections set 0 (volume_sectors set.geo.head (end_of end attached))

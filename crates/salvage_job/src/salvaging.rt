@@ -1,11 +1,12 @@
 //! The command `salvage`.
-ghost use Rattle.std.specs.Prelude.{◌≡◌, ◌<◌, ◌≤◌, ◌^◌, ◌∷◌, All, Err, IfErr, IfOk, IfSome, IsTrue, MatchResult, None, Ok, OnOk, Some, length, min};
+ghost use Rattle.std.specs.Prelude.{◌≡◌, ◌<◌, ◌≤◌, ◌^◌, ◌∷◌, All, Err, IfErr, IfOk, IfSome, IsTrue, MatchResult, None, Ok, OnOk, Some, false, length, min};
 ghost use Rattle.std.specs.Io.KnownBytes.{IsAtEnd};
 ghost use Rattle.outside.specs.Streams.{Stream};
+ghost use Rattle.raid_params.specs.Size.{volume_sectors};
 ghost use Rattle.raid_params.specs.Wide.{wide_fault};
 ghost use Rattle.rescue_map.specs.Damaged.{IsDamaged};
 ghost use Rattle.rescue_map.specs.LostText.{lost_text as lost_text_of};
-ghost use Rattle.rescue_map.specs.Salvaged.{IsSalvaged};
+ghost use Rattle.rescue_map.specs.Salvaged.{IsReadAhead, IsSalvaged};
 ghost use Rattle.rescue_text.specs.RescueText.{rescue_sections};
 ghost use Rattle.run_ends.specs.Agreement.{end_of as end_of_images};
 ghost use Rattle.run_ends.specs.Counts.{Raises};
@@ -14,6 +15,7 @@ ghost use Rattle.run_ends.specs.Source.{TakesFew};
 ghost use Rattle.salvage_job.specs.Salvaging.{EndsEarly, IsReady, IsUnreadable, IsUnready, IsUnrescued, images_refusal, rule_refusal, salvage_job};
 ghost use Rattle.set_jobs.specs.Faults.{stop_of_volume};
 ghost use Rattle.set_jobs.specs.Mapping.{long_refused};
+ghost use Rattle.set_jobs.specs.Writing.{told_for};
 
 use gates::Gate;
 use outside::{Images, MOST_ATTACHED, Sink, Source};
@@ -65,6 +67,11 @@ pub fn salvage<R: Threads + Sync, S: Source, I: Images, K: Sink, G: Gate + Sync>
         (stream (K.gained out.old) (K.faults out.old)) (stream (K.gained out.new) (K.faults out.new)) result }
     ensures early { EndsEarly (images_refusal set.now end names (I.seen images.old).attached)
         (stream (S.left source.old) (S.faults source.old)) (stream (S.left source.new) (S.faults source.new)) result }
+
+    // No more is read than for what the output gained, and for one block of the volume more, also where it failed.
+    ensures ahead { lost ≡ false → IfSome (S.left source.old) (λ text. IfOk (rescue_sections names text) (λ sections. IfSome (told_for set.now (I.seen images.old).attached)
+        (λ bytes. IsReadAhead sections set.now (volume_sectors set.now.geo.head (end_of_images end (I.seen images.old).attached))
+        (I.seen images.old).sectors_read (I.seen images.new).sectors_read (K.gained out.old) (K.gained out.new)))) }
     ensures untouched { IsTrue lost → I.seen images.new ≡ I.seen images.old }
     ensures kept { (I.seen images.new).attached ≡ (I.seen images.old).attached }
 {

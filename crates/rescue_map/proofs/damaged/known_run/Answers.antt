@@ -1,4 +1,4 @@
-use Rattle.std.proofs.Common.{ℕ, ◌≡◌, ◌∙◌, ◌+◌, ◌-◌, ◌*◌, ◌%◌, ◌<◌, ◌≤◌, List, Option, length, get_or, None, true, ap, sym, subst, rules, arith}
+use Rattle.std.proofs.Common.{ℕ, ◌≡◌, ◌∙◌, ◌+◌, ◌-◌, List, Option, length, get_or, None, true, ap, sym, arith}
 use Rattle.std.specs.Option.{is_some}
 use Rattle.std.proofs.lemmas.Nat.{mod_below}
 use Rattle.address_map.proofs.Heads.{some_chunk}
@@ -16,8 +16,8 @@ bounds-deref-home c =
     let same : length c.deref.result.now ≡ length set.geo.slots.items = ap (λ (l : List (Option ℕ)). length l) c.deref.ensures.0 in
     omega arith
 
-pub are_known-requires-clause-near : goal.are_known-requires-clause-near
-are_known-requires-clause-near c =
+pub known_front-requires-clause-near : goal.known_front-requires-clause-near
+known_front-requires-clause-near c =
     let damage = c.args.damage.now in
     let set = damage.set.now in
     let valid = testable_head set.geo c.requires.set in
@@ -31,13 +31,14 @@ are_known-requires-clause-near c =
     (later_lies set.geo.head c.in-Some.home.slot c.in-Some.home.sector c.args.sector (n - 1) c.in-Some.ensures.lies (omega arith)) (omega arith) in
     omega arith
 
-pub returns-then-are_known-clause-known : goal.returns-then-are_known-clause-known
-returns-then-are_known-clause-known c = λ i less.
+pub returns-then-is_some-clause-known : goal.returns-then-is_some-clause-known
+returns-then-is_some-clause-known c = λ i less.
     let damage = c.args.damage.now in
     let set = damage.set.now in
     let home = c.in-Some.home in
     let valid = testable_head set.geo c.requires.set in
     let size = c.min-run.ensures in
+    let most = c.known_front.ensures.most in
     let below = mod_below c.args.sector set.geo.head.chunk (some_chunk set.geo.head valid) in
     let held = get_or c.deref.result.now home.slot None in
     let here : held ≡ get_or set.geo.slots.items home.slot None = ap (λ (l : List (Option ℕ)). get_or l home.slot None) c.deref.ensures.0 in
@@ -45,4 +46,4 @@ returns-then-are_known-clause-known c = λ i less.
     let slot = slot_in set.geo.head home.slot home.sector c.args.sector valid c.in-Some.ensures.lies in
     let many = testable_slots set.geo c.requires.set in
     later_known damage.rescue.now set home.slot home.sector c.args.sector i held c.in-Some.ensures.lies (omega arith) (omega arith) here some
-    (c.are_known.ensures c.if-are_known.true (home.sector + i) (omega arith) (omega arith))
+    (c.known_front.ensures.known (home.sector + i) (omega arith) (omega arith))

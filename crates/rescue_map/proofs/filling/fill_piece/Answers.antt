@@ -2,6 +2,7 @@ use Rattle.std.proofs.Common.{ℕ, ◌≡◌, ◌∙◌, ◌+◌, ◌*◌, ◌/�
 use Rattle.row_parity.proofs.Regions.{mid_after, region_inside}
 use Rattle.raid_terms.specs.Parity.{column_of}
 use Rattle.rescue_map.specs.Salvaged.{column_at, filled_byte}
+use Rattle.rescue_map.proofs.Adjacent.{over_more}
 use Rattle.rescue_map.proofs.Found.{column_part, part_byte, sector_more}
 use Rattle.rescue_map.proofs.Passed.{damage_of, volume_short}
 use Rattle.rescue_map.proofs.filling.fill_piece.Goals as goal
@@ -24,22 +25,15 @@ slice_bounds-row-end c =
     let fits = c.requires.rows in
     search rules
 
-pub overflow_add-start : goal.overflow_add-start
-overflow_add-start c =
+pub overflow_add-sector-in-loop-j : goal.overflow_add-sector-in-loop-j
+overflow_add-sector-in-loop-j c =
     let damage = c.args.damage.now in
     let short = volume_short damage.set.now damage.end (damage_of damage.set.now damage.end c.requires.set c.requires.near) in
     let within = c.requires.within in
     omega arith
 
-pub overflow_add-first : goal.overflow_add-first
-overflow_add-first c =
-    let damage = c.args.damage.now in
-    let short = volume_short damage.set.now damage.end (damage_of damage.set.now damage.end c.requires.set c.requires.near) in
-    let within = c.requires.within in
-    omega arith
-
-pub loop-j-preserved : goal.loop-j-preserved
-loop-j-preserved c =
+pub loop-j-preserved-then-known-eq0 : goal.loop-j-preserved-then-known-eq0
+loop-j-preserved-then-known-eq0 c =
     let damage = c.args.damage.now in
     let set = damage.set.now in
     let n = length set.geo.slots.items in
@@ -65,7 +59,21 @@ loop-j-preserved c =
     ∙ ap (λ (b : ℕ). filled_byte damage.rescue.now set (c.args.first + at) (column_at n rows (512 * n * at) x) b) (byte x below) in
     record {
       stride = same;
+      within = omega arith;
       long = omega arith;
       done = sector_more F _ c.loop-j.j piece c.fill_sector.new.to long (omega arith) c.loop-j.invariant.done here;
       rest = λ p low. mid_after (512 * c.loop-j.j) (512 * c.loop-j.j + 512 - 512 * c.loop-j.j) p piece c.fill_sector.new.to (omega arith) (omega arith) (omega arith) ∙ c.loop-j.invariant.rest p (omega arith);
+    }
+
+pub loop-j-preserved : goal.loop-j-preserved
+loop-j-preserved c =
+    let damage = c.args.damage.now in
+    let most = c.known_run-known.ensures.most in record {
+      stride = c.loop-j.invariant.stride;
+      within = omega arith;
+      long = c.loop-j.invariant.long;
+      done =
+          over_more damage.rescue.now damage.set.now c.args.first c.args.start c.loop-j.j c.known_run-known.result c.loop-j.piece c.args.piece.now c.args.rows.now
+          c.known_run-known.ensures.known c.loop-j.invariant.done c.loop-j.invariant.rest;
+      rest = λ p low. c.loop-j.invariant.rest p (omega arith);
     }

@@ -1,8 +1,7 @@
-use Rattle.std.proofs.Common.{ℕ, ◌≡◌, ◌∙◌, ◌+◌, ◌-◌, ◌*◌, ◌<◌, ◌≤◌, IfSome, length, subst, refl, rules, arith}
+use Rattle.std.proofs.Common.{ℕ, ◌≡◌, ◌∙◌, ◌+◌, ◌-◌, ◌<◌, IfSome, rules, arith}
 use Rattle.outside.specs.Attached.{told_all}
-use Rattle.outside.specs.Seen.{OnlyReads}
 use Rattle.member_regions.proofs.IfTold.{if_both}
-use Rattle.rescue_map.specs.Salvaged.{reads_for_all, IsRead}
+use Rattle.rescue_map.specs.Salvaged.{IsRead}
 use Rattle.rescue_map.proofs.Blocks.{reads_blocks, reads_some}
 use Rattle.rescue_map.proofs.reading.read_block.Goals as goal
 

@@ -1,4 +1,4 @@
-use Rattle.std.proofs.Common.{ℕ, ◌≡◌, ◌∙◌, ◌+◌, ◌-◌, ◌*◌, ◌/◌, ◌<◌, ◌≤◌, ◌^◌, List, take, drop, length, get_or, ap, sym, refl, subst, rules, arith}
+use Rattle.std.proofs.Common.{ℕ, ◌≡◌, ◌∙◌, ◌+◌, ◌-◌, ◌*◌, ◌/◌, ◌<◌, take, drop, length, get_or, ap, refl, rules, arith}
 use Rattle.outside.specs.Attached.{told_all}
 use Rattle.member_regions.proofs.IfTold.{if_told}
 use Rattle.raid_terms.specs.Parity.{column_of}

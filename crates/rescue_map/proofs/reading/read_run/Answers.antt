@@ -1,4 +1,4 @@
-use Rattle.std.proofs.Common.{ℕ, ◌≡◌, ◌∙◌, ◌+◌, ◌-◌, ◌*◌, ◌/◌, ◌%◌, ◌<◌, ◌≤◌, List, Option, length, get_or, None, false, ap, sym, subst, rules, arith}
+use Rattle.std.proofs.Common.{ℕ, ◌≡◌, ◌+◌, ◌-◌, ◌*◌, ◌/◌, ◌<◌, ◌≤◌, List, Option, length, get_or, None, false, ap, sym, subst, rules, arith}
 use Rattle.std.specs.Option.{is_none}
 use Rattle.outside.specs.Attached.{told_all}
 use Rattle.address_map.proofs.Lies.{slot_in}

@@ -5,7 +5,7 @@ use Rattle.raid_params.specs.declared.types.Head.{Head}
 use Rattle.raid_terms.specs.Parity.{column_of, member_byte}
 use Rattle.member_regions.proofs.IfTold.{if_any}
 use Rattle.member_regions.proofs.Sets.{testable_head, testable_slots}
-use Rattle.member_regions.specs.Members.{Reaches}
+use Rattle.member_regions.specs.Members.{held, Reaches}
 use Rattle.rescue_map.specs.Salvaged.{filled_byte, salvaged_sector, HoldCells}
 use Rattle.rescue_map.proofs.Found.{beyond_home, copied_found, known_home, lost_found, lost_is, ok_told, reads_copied, reads_solved, row_reaches, solved_found, unknown_home}
 use Rattle.rescue_map.proofs.Rows.{home_before, home_in, row_head, row_slots}
@@ -148,5 +148,5 @@ returns-clause-reads g c =
     let none : is_some (get_or row.slots.items home.slot None) ≡ false = ap (λ (l : List (Option ℕ)). is_some (get_or l home.slot None)) (sym c.deref.ensures.0) ∙ sym c.is_some.ensures ∙ c.if-is_some.false in
     let gone = unknown_home damage.rescue.now set c.args.sector home.slot home.sector row c.damaged-geo.ensures c.in-Some.ensures.lies none in
     let few = sym (beyond_home damage.rescue.now set c.args.sector home.slot home.sector row c.is_beyond.result c.damaged-geo.ensures c.in-Some.ensures.lies c.is_beyond.ensures) ∙ c.if-is_beyond.false in
-    reads_solved (g.I.Images.seen c.args.images.now) (g.I.Images.seen c.read_row.new.images) damage.rescue.now set c.args.sector (length row.slots.items)
-    (row_slots damage.rescue.now set home.sector row c.damaged-geo.ensures) gone few c.read_row.ensures.reads
+    reads_solved (g.I.Images.seen c.args.images.now) (g.I.Images.seen c.read_row.new.images) damage.rescue.now set c.args.sector home.slot home.sector (held row.slots.items) row
+    c.damaged-geo.ensures c.in-Some.ensures.lies refl gone few c.read_row.ensures.reads

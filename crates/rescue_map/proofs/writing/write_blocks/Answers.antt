@@ -7,6 +7,7 @@ use Rattle.virtual_volume.proofs.Fronts.{puts_err}
 use Rattle.member_regions.proofs.IfTold.{if_any, if_both, if_told}
 use Rattle.rescue_map.specs.Salvaged.{salvaged_sectors}
 use Rattle.rescue_map.proofs.Blocks.{part_count, reads_next, reads_some, reads_start, sectors_cut, sectors_first, sectors_on, sectors_start}
+use Rattle.rescue_map.proofs.ReadAhead.{ahead_at_end, ahead_at_error}
 use Rattle.rescue_map.proofs.writing.write_blocks.Goals as goal
 
 pub loop-first-init : goal.loop-first-init
@@ -92,3 +93,20 @@ loop-first-preserved g c =
       block_long = (let short = length-take (512 * count) c.loop-first.block in omega (arith, c.write_block.ensures.block_long));
       rows_long = c.write_block.ensures.rows_long ∙ c.loop-first.invariant.rows_long;
     }
+
+pub returns-in_err-write_block-clause-ahead : goal.returns-in_err-write_block-clause-ahead
+returns-in_err-write_block-clause-ahead g c =
+    let damage = c.args.damage.now in
+    let count = c.min-count.result in
+    let size = c.min-count.ensures in
+    let same = part_count c.loop-first.block count (let long = c.loop-first.invariant.block_long in let room = c.requires.block in omega arith) in
+    ahead_at_error (told_all (g.I.Images.seen c.args.images.now).attached) damage.rescue.now damage.set.now (g.I.Images.seen c.args.images.now) (g.I.Images.seen c.loop-first.images) (g.I.Images.seen c.write_block.new.images)
+    c.args.sectors c.loop-first.first count (length (take (512 * count) c.loop-first.block) / 512)
+    (g.K.Sink.gained c.args.sink.now) (g.K.Sink.gained c.loop-first.sink) (g.K.Sink.gained c.write_block.new.sink) same (omega arith) (omega arith)
+    c.loop-first.invariant.reads c.write_block.ensures.reads c.loop-first.invariant.put (rw (← c.loop-first.invariant.reads.attached) c.in_err-write_block.ensures.put)
+
+pub returns-clause-ahead : goal.returns-clause-ahead
+returns-clause-ahead g c =
+    let damage = c.args.damage.now in
+    ahead_at_end (told_all (g.I.Images.seen c.args.images.now).attached) damage.rescue.now damage.set.now (g.I.Images.seen c.args.images.now) (g.I.Images.seen c.loop-first.images) c.args.sectors c.loop-first.first
+    (g.K.Sink.gained c.args.sink.now) (g.K.Sink.gained c.loop-first.sink) c.loop-first.invariant.within c.loop-first.invariant.reads c.loop-first.invariant.put

@@ -1,7 +1,8 @@
 -- What the job of `mirrors` prints and refuses, by the page.
-use Rattle.std.proofs.Common.{ℕ, ◌≡◌, ◌+◌, ◌*◌, ◌<◌, ◌≤◌, ◌^◌, min, max, Bool, false, cond, nat_eq, nat_lt, List, [], ◌∷◌, ◌++◌, length, map, codes, suc, refl, sym, ap, ap₂, ◌∙◌, subst, arith, inl, inr, IsTrue, Option, Some, None, Result, Ok, Err, IfOk, IfErr, IfSome, IsErrOf, OnOk, All}
+use Rattle.std.proofs.Common.{ℕ, ◌≡◌, ◌+◌, ◌*◌, ◌<◌, ◌≤◌, ◌^◌, min, max, Bool, true, false, cond, nat_eq, nat_lt, List, [], ◌∷◌, ◌++◌, length, map, codes, suc, refl, sym, ap, ap₂, ◌∙◌, subst, arith, inl, inr, IsTrue, Option, Some, None, Result, Ok, Err, IfOk, IfErr, IfSome, IsErrOf, OnOk, All}
 use Rattle.std.specs.List.{AllByRecursion, flat_map, sum_by}
 use Rattle.std.specs.Option.{option_map, option_map_or}
+use Rattle.std.specs.Result.{IsErrAnd}
 use Rattle.std.proofs.lemmas.Bool.{cases_lt, le-leb, le-ltb, lt-leb, lt-ltb}
 use Rattle.std.proofs.lemmas.Bool.Decides.{nat_tests}
 use Rattle.std.proofs.lemmas.List.Elements.{All-cons, All-nil, recursion_from_All}
@@ -33,7 +34,7 @@ use Rattle.run_ends.proofs.Limits.{all_reach, no_limits}
 use Rattle.run_ends.proofs.Printed.{no_raise, rises, stays}
 use Rattle.run_ends.specs.Agreement.{end_of, limits_fault}
 use Rattle.run_ends.specs.Counts.{Raises}
-use Rattle.run_ends.specs.Jobs.{Answers, MayHaveRead, Orders, Refuses, around, named}
+use Rattle.run_ends.specs.Jobs.{Answers, MayHaveRead, Orders, Refuses, around, is_cut, named}
 use Rattle.run_ends.specs.Printing.{share_line}
 use Rattle.run_ends.specs.Stops.{first_of}
 use Rattle.run_ends.specs.declared.agreement.Disagreement.{Disagreement}
@@ -41,7 +42,7 @@ use Rattle.run_ends.specs.declared.stop.Refusal.{Refusal}
 use Rattle.run_ends.specs.declared.stop.Refusal.TheVariants.{Cursor, Images, Many}
 use Rattle.run_ends.specs.declared.stop.Stop.{Stop}
 use Rattle.run_ends.specs.declared.stop.Stop.TheVariants.{ImageFault, OutFault, OutOfMemory, Refused, SourceFault}
-use Rattle.near_jobs.specs.Mirroring.{AreMirrorWords, EndsMirrors, ask_of, members_for, mirrors_job, mirrors_output, mirrors_reads, mirrors_refusal, mirrors_text, product_refusal, range_reads, rank_line}
+use Rattle.near_jobs.specs.Mirroring.{AreMirrorWords, EndsMirrors, ask_of, members_for, mirrors_job, mirrors_output, mirrors_reads, mirrors_refusal, mirrors_text, page_reads, product_refusal, rank_line}
 use Rattle.near_jobs.specs.declared.mirroring.MirrorWords.{MirrorWords}
 
 -- the lines of sets by their ranks
@@ -188,15 +189,15 @@ pub mirrors_answers : (asked : MirrorWords) (names : ℕ) (old new : Seen) (sour
     ask ≡ ask_of asked names (end_of asked.end old.attached) →
     IfOk answer (λ text. IfSome (told_all old.attached) (λ bytes. text ≡ mirrors_text bytes (length old.attached) ask asked.from asked.size asked.span)) →
     Refuses (product_refusal (length old.attached) ask asked.from) answer → Orders (product_refusal (length old.attached) ask asked.from) old.sectors_read new.sectors_read None None answer → IfErr answer (EndsMirrors old new) →
-    OnlyReads old new (range_reads (length old.attached) ask asked.from asked.span) → OnOk answer (new.faults ≡ old.faults) →
+    OnlyReads old new (page_reads (told_all old.attached) (length old.attached) ask asked.from asked.size asked.span (is_cut answer)) → OnOk answer (new.faults ≡ old.faults) →
     Answers (mirrors_job asked) (named names old.attached) (around old source) (around new source) answer
 mirrors_answers asked names old new source ask answer none count is text refuses order ends reads quiet =
     let same : product_refusal (length old.attached) ask asked.from ≡ mirrors_refusal asked names old.attached
     = ap (λ (a : NearAsk). product_refusal (length old.attached) a asked.from) is ∙ sym (by_product asked names old.attached none) in
     let few = (no_limits asked.end names old.attached none).few in
     let all : names ≡ length old.attached = omega arith in
-    let range : range_reads (length old.attached) ask asked.from asked.span ≡ mirrors_reads asked old.attached
-    = ap (λ (a : NearAsk). range_reads (length old.attached) a asked.from asked.span) (is ∙ ap (λ (n : ℕ). ask_of asked n (end_of asked.end old.attached)) all) in
+    let range : page_reads (told_all old.attached) (length old.attached) ask asked.from asked.size asked.span (is_cut answer) ≡ mirrors_reads asked old.attached (is_cut answer)
+    = ap (λ (a : NearAsk). page_reads (told_all old.attached) (length old.attached) a asked.from asked.size asked.span (is_cut answer)) (is ∙ ap (λ (n : ℕ). ask_of asked n (end_of asked.end old.attached)) all) in
     let within = subst (λ (n : ℕ). OnlyReads old new n) range reads in
     record {
       refuses = λ said says. subst (λ (r : Option Refusal). Refuses r answer) same refuses;
@@ -206,7 +207,7 @@ mirrors_answers asked names old new source ask answer none count is text refuses
       reads = λ said says. within.sectors_read;
       takes = refl;
       causes = record {
-        images = images_raise old new (range_reads (length old.attached) ask asked.from asked.span) answer reads quiet ends;
+        images = images_raise old new (page_reads (told_all old.attached) (length old.attached) ask asked.from asked.size asked.span (is_cut answer)) answer reads quiet ends;
         source = no_raise SourceFault source.faults answer (no_source old new answer ends);
         unput = no_out old new answer ends;
         unread = unread_by old new answer ends;
@@ -215,12 +216,33 @@ mirrors_answers asked names old new source ask answer none count is text refuses
       world = reads.world;
     }
 
--- no more is read than for the whole range
-tested_within : (stop : ℕ) (result : Result NearPage NearFault) → IfOk result (λ page. page.next ≤ stop) → tested_to stop result ≤ stop
-tested_within stop (Ok page) within = within
-tested_within stop (Err fault) within = omega arith
+-- what was read for a page that was made
+made_read : (old new : Seen) (images : ℕ) (ask : NearAsk) (from span : ℕ) (result : Result NearPage NearFault) (page : NearPage) → result ≡ Ok page →
+    OnlyReads old new (images * near_cost images ask from (tested_to (stop_of (near_total images ask) from span) result)) → OnlyReads old new (images * near_cost images ask from page.next)
+made_read old new images ask from span result page is reads =
+    subst (λ (r : Result NearPage NearFault). OnlyReads old new (images * near_cost images ask from (tested_to (stop_of (near_total images ask) from span) r))) is reads
 
-pub range_read : (old new : Seen) (images : ℕ) (ask : NearAsk) (from span : ℕ) (result : Result NearPage NearFault) → IfOk result (λ page. page.next ≤ stop_of (near_total images ask) from span) →
-    OnlyReads old new (images * near_cost images ask from (tested_to (stop_of (near_total images ask) from span) result)) → OnlyReads old new (range_reads images ask from span)
-range_read old new images ask from span result within reads =
-    reads_up old new reads (cost_up images ask from (tested_to (stop_of (near_total images ask) from span) result) (stop_of (near_total images ask) from span) (tested_within (stop_of (near_total images ask) from span) result within))
+-- no more is read than up to where the next page begins
+pub page_read : (told : Option (List (List ℕ))) (old new : Seen) (images : ℕ) (ask : NearAsk) (from size span : ℕ) (result : Result NearPage NearFault) (page : NearPage) → result ≡ Ok page →
+    IfSome told (λ bytes. IsNearPage bytes images ask from size span page) → page.next ≤ stop_of (near_total images ask) from span →
+    OnlyReads old new (images * near_cost images ask from (tested_to (stop_of (near_total images ask) from span) result)) → OnlyReads old new (page_reads told images ask from size span false)
+page_read None old new images ask from size span result page made is within reads =
+    reads_up old new (made_read old new images ask from span result page made reads) (cost_up images ask from page.next (stop_of (near_total images ask) from span) within)
+page_read (Some bytes) old new images ask from size span result page made is within reads =
+    subst (λ (to : ℕ). OnlyReads old new (images * near_cost images ask from to)) is.goes_on (made_read old new images ask from span result page made reads)
+
+-- nor than for the whole range
+pub range_read : (old new : Seen) (images : ℕ) (ask : NearAsk) (from span : ℕ) (result : Result NearPage NearFault) (page : NearPage) → result ≡ Ok page → page.next ≤ stop_of (near_total images ask) from span →
+    OnlyReads old new (images * near_cost images ask from (tested_to (stop_of (near_total images ask) from span) result)) →
+    OnlyReads old new (images * near_cost images ask from (stop_of (near_total images ask) from span))
+range_read old new images ask from span result page made within reads =
+    reads_up old new (made_read old new images ask from span result page made reads) (cost_up images ask from page.next (stop_of (near_total images ask) from span) within)
+
+-- where memory ran out the work was cut short
+pub cut_read : {T : Type 0} (old new : Seen) (most : Bool → ℕ) (result : Result T Stop) → IsErrAnd result (λ stop. stop ≡ OutOfMemory) → OnlyReads old new (most true) → OnlyReads old new (most (is_cut result))
+cut_read old new most (Ok text) is reads = absurd is
+cut_read old new most (Err (Refused refusal)) is reads = absurd (cc)
+cut_read old new most (Err ImageFault) is reads = reads
+cut_read old new most (Err OutOfMemory) is reads = reads
+cut_read old new most (Err SourceFault) is reads = absurd (cc)
+cut_read old new most (Err OutFault) is reads = absurd (cc)

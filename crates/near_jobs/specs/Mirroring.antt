@@ -1,5 +1,5 @@
 -- What `mirrors` refuses and prints.
-use Rattle.std.specs.Prelude.{ℕ, ◌≡◌, ◌≤◌, ◌<◌, ◌*◌, ◌^◌, false, max, nat_eq, nat_le, nat_lt, if◌then◌else◌, IfSome, IsTrue, List, [], ◌∷◌, ◌++◌, length, codes, unwrap_or, slice_get, All}
+use Rattle.std.specs.Prelude.{ℕ, ◌≡◌, ◌≤◌, ◌<◌, ◌+◌, ◌*◌, ◌^◌, Bool, false, max, nat_eq, nat_le, nat_lt, if◌then◌else◌, IfSome, IsTrue, List, [], ◌∷◌, ◌++◌, length, codes, unwrap_or, slice_get, All}
 use Rattle.std.specs.List.{flat_map}
 use Rattle.std.specs.Option.{option_map, option_map_or}
 use Rattle.std.specs.declared.option.Option.{Option}
@@ -16,7 +16,7 @@ use Rattle.near_search.specs.Product.{near_product, near_total, passes_at}
 use Rattle.near_search.specs.Walk.{near_cost}
 use Rattle.near_search.specs.declared.ask.NearAsk.{NearAsk}
 use Rattle.run_ends.specs.Agreement.{end_of, limits_fault}
-use Rattle.run_ends.specs.Jobs.{Job, textless}
+use Rattle.run_ends.specs.Jobs.{Job}
 use Rattle.run_ends.specs.Printing.{share_line}
 use Rattle.run_ends.specs.Stops.{first_of}
 use Rattle.run_ends.specs.declared.stop.Refusal.{Refusal}
@@ -81,17 +81,33 @@ unfoldable pub mirrors_output : MirrorWords → ℕ → List Image → Option (L
 mirrors_output asked names attached told =
     option_map (λ bytes. mirrors_text bytes (length attached) (ask_of asked names (end_of asked.end attached)) asked.from asked.size asked.span) told
 
--- the most sectors that are read for a page: each image at most once for each head of which a rank is in its range
-abbrev pub range_reads : ℕ → NearAsk → ℕ → ℕ → ℕ
-range_reads images ask from span = images * near_cost images ask from (stop_of (near_total images ask) from span)
+-- the rank up to which sets are tested for a page: where the next one begins, or the end of the range where the work was cut short, or
+-- the bytes of the images are not known
+abbrev pub tested_end : Option (List (List ℕ)) → ℕ → NearAsk → ℕ → ℕ → ℕ → Bool → ℕ
+tested_end told images ask from size span cut =
+    if cut then stop_of (near_total images ask) from span
+    else option_map_or (λ bytes. page_next (passes_at bytes images ask) (near_total images ask) from size span) told (stop_of (near_total images ask) from span)
 
-abbrev pub mirrors_reads : MirrorWords → List Image → ℕ
-mirrors_reads asked attached = range_reads (length attached) (ask_of asked (length attached) (end_of asked.end attached)) asked.from asked.span
+-- the most sectors that are read for it: each image at most once for each head of which a rank is tested
+abbrev pub page_reads : Option (List (List ℕ)) → ℕ → NearAsk → ℕ → ℕ → ℕ → Bool → ℕ
+page_reads told images ask from size span cut = images * near_cost images ask from (tested_end told images ask from size span cut)
 
--- `mirrors`
+abbrev pub mirrors_reads : MirrorWords → List Image → Bool → ℕ
+mirrors_reads asked attached cut =
+    page_reads (told_all attached) (length attached) (ask_of asked (length attached) (end_of asked.end attached)) asked.from asked.size asked.span cut
+
+-- `mirrors`: it takes no text, and puts nothing before its page is whole
 abbrev pub mirrors_job : MirrorWords → Job
-mirrors_job asked =
-    textless false (λ given. mirrors_refusal asked given.names given.attached) (λ given. mirrors_output asked given.names given.attached (told_all given.attached)) (λ given. mirrors_reads asked given.attached)
+mirrors_job asked = record {
+  Said = Unit {0};
+  Says = λ left said. Unit {0};
+  most = None;
+  streams = false;
+  apart = false;
+  refused = λ said given. mirrors_refusal asked given.names given.attached;
+  printed = λ said given. mirrors_output asked given.names given.attached (told_all given.attached);
+  MayRead = λ said given cut before after. after ≤ before + mirrors_reads asked given.attached cut;
+}
 
 -- why there is no page: it is refused, and nothing was touched; the images failed; or memory ran out, and no fault was counted
 abbrev pub EndsMirrors : Seen → Seen → Stop → Type 0

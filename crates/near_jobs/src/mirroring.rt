@@ -6,9 +6,9 @@ ghost use Rattle.outside.specs.Seen.{OnlyReads};
 ghost use Rattle.outside.specs.Streams.{Stream};
 ghost use Rattle.near_mirror.specs.Words.{near_line as near_line_of};
 ghost use Rattle.near_search.specs.Asks.{HasImages, IsNearAsk};
-ghost use Rattle.run_ends.specs.Jobs.{Answers, Does, Orders, Refuses, around, named, stream};
+ghost use Rattle.run_ends.specs.Jobs.{Answers, Does, Orders, Refuses, around, is_cut, named, stream};
 ghost use Rattle.run_ends.specs.Printing.{share_line};
-ghost use Rattle.near_jobs.specs.Mirroring.{AreMirrorWords, EndsMirrors, ask_of as ask_of_words, members_for, mirrors_job, mirrors_text, product_refusal, range_reads};
+ghost use Rattle.near_jobs.specs.Mirroring.{AreMirrorWords, EndsMirrors, ask_of as ask_of_words, members_for, mirrors_job, mirrors_text, page_reads, product_refusal};
 
 use arrayvec::ArrayVec;
 use near_mirror::near_line;
@@ -105,7 +105,8 @@ fn page_lines<I: Images>(
     ensures refuses { Refuses (product_refusal (length (I.seen images.old).attached) ask.now from) result }
     ensures order { Orders (product_refusal (length (I.seen images.old).attached) ask.now from) (I.seen images.old).sectors_read (I.seen images.new).sectors_read None None result }
     ensures early { IfErr result (EndsMirrors (I.seen images.old) (I.seen images.new)) }
-    ensures reads { OnlyReads (I.seen images.old) (I.seen images.new) (range_reads (length (I.seen images.old).attached) ask.now from span) }
+    ensures reads { OnlyReads (I.seen images.old) (I.seen images.new)
+        (page_reads (told_all (I.seen images.old).attached) (length (I.seen images.old).attached) ask.now from size span (is_cut result)) }
     ensures quiet { OnOk result ((I.seen images.new).faults ≡ (I.seen images.old).faults) }
 {
     match near_page(alloc, images, ask, from, size, span) {

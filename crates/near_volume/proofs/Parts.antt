@@ -1,5 +1,5 @@
 -- Sectors of the volume, part by part.
-use Rattle.std.proofs.Common.{◌≡◌, ℕ, zero, suc, ◌+◌, ◌-◌, ◌*◌, ◌≤◌, List, [], ◌++◌, length, take, Option, None, Some, IfSome, Result, Ok, Err, refl, sym, ap, ◌∙◌, subst, arith, length-append}
+use Rattle.std.proofs.Common.{◌≡◌, ℕ, zero, suc, ◌+◌, ◌-◌, ◌*◌, ◌≤◌, List, [], ◌++◌, length, take, Option, None, Some, IfSome, Result, Ok, Err, refl, sym, ap, ap₂, ◌∙◌, subst, arith, length-append}
 use Rattle.std.specs.Io.KnownBytes.{Appends}
 use Rattle.std.specs.Prelude.{MatchResult}
 use Rattle.std.specs.Result.{IsErrAnd}
@@ -11,10 +11,12 @@ use Rattle.near_mirror.specs.declared.types.NearSet.{NearSet}
 use Rattle.virtual_volume.specs.Gained.{IsAhead}
 use Rattle.virtual_volume.proofs.Fronts.{appends_join, appends_none, front_after, front_more, sectors_are}
 use Rattle.virtual_volume.proofs.Ranges.{flat_more, flat_split}
+use Rattle.std.proofs.lemmas.Slice.{take-put_mid}
+use borrow.Rule.Slice.PartMut.{put_mid}
 use Rattle.near_volume.specs.Sectors.{near_sector, near_volume, sectors_of}
 use Rattle.near_volume.proofs.Runs.{copy_long}
 
-sectors_none : (images : List (List ℕ)) (set : NearSet) (first : ℕ) → sectors_of images set first 0 ≡ []
+pub sectors_none : (images : List (List ℕ)) (set : NearSet) (first : ℕ) → sectors_of images set first 0 ≡ []
 unfolding sectors_of
 sectors_none images set first = refl
 
@@ -96,3 +98,12 @@ pub puts_as : {T E F : Type 0} (Q : E → F → Type 0) (old new : Option (List 
 puts_as Q old new bytes (Ok x) m is p = rw is p
 puts_as Q old new bytes (Err x) (Ok v) is p = absurd is
 puts_as Q old new bytes (Err x) (Err e) is p = p
+
+-- a run that was read after what was read before it
+pub run_on : (images : List (List ℕ)) (set : NearSet) (first done run k : ℕ) (to part : List ℕ) → 512 * done ≤ length to → length part ≡ 512 * run →
+    take (512 * done) to ≡ sectors_of images set first done → part ≡ sectors_of images set (first + done) run →
+    take (512 * (done + run)) (put_mid (512 * done) k to part) ≡ sectors_of images set first (done + run)
+run_on images set first done run k to part within long before now =
+    take-put_mid (512 * done) k to part (512 * (done + run)) (omega arith) within
+    ∙ ap₂ (λ (a b : List ℕ). a ++ b) before now
+    ∙ sym (sectors_join images set first done run (done + run) (first + done) refl refl)

@@ -9,4 +9,4 @@ mod writing;
 
 // The tests stand in `volume_rows`.
 
-pub use writing::write_near;
+pub use writing::{read_near, write_near};

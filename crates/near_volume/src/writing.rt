@@ -54,8 +54,39 @@ fn read_run<I: Images>(
     }
 }
 
-/// Writes `count` sectors of the volume from number `first` on, which lie in one chunk.
-fn write_run<I: Images, K: Sink>(
+/// Fills `to` with the sectors of the volume from number `first` on, chunk by chunk, each from its first copy where that
+/// slot holds an image, and else from its second. It takes no memory, and reads as many sectors as it fills.
+#[tactic(auto, using(crate::proofs::Mirrors::mirrored_mirror, crate::proofs::Mirrors::mirror_chunk))]
+pub fn read_near<I: Images>(
+    images: &mut I,
+    set: &NearSet,
+    end: u64,
+    first: u64,
+    to: &mut [u8],
+) -> Result<(), Failed>
+    requires set { IsMirrored set.now end (I.seen images.old).attached }
+    requires whole { length to.old % 512 ≡ 0 }
+    requires inside { first + length to.old / 512 ≤ near_sectors set.now.head end }
+    ensures told { OnOk result (IfSome (told_all (I.seen images.old).attached)
+        (λ bytes. to.new ≡ sectors_of bytes set.now first (length to.old / 512))) }
+    ensures long { length to.new ≡ length to.old }
+    ensures reads { OnlyReads (I.seen images.old) (I.seen images.new) (length to.old / 512) }
+    ensures cause { HasCause (I.seen images.old).faults (I.seen images.new).faults result }
+{
+    let chunk = set.head.chunk;
+    let count = (to.len() / SECTOR) as u64;
+    let mut done = 0;
+    while done < count {
+        let run = (chunk - (first + done) % chunk).min(count - done);
+        let part = &mut to[SECTOR * done as usize..SECTOR * (done + run) as usize];
+        read_run(images, set, end, first + done, part)?;
+        done += run;
+    }
+    Ok(())
+}
+
+/// Writes `count` sectors of the volume from number `first` on.
+fn write_block<I: Images, K: Sink>(
     images: &mut I,
     sink: &mut K,
     room: &mut [u8],
@@ -64,14 +95,10 @@ fn write_run<I: Images, K: Sink>(
     first: u64,
     count: usize,
 ) -> Result<(), VolumeFault>
-    requires set { IsMirror set.now }
-    requires near { end < 2 ^ 55 }
-    requires held { All (Reaches (I.seen images.old).attached end) set.now.slots.items }
+    requires set { IsMirrored set.now end (I.seen images.old).attached }
     requires room { length room.old ≡ BLOCK_BYTES }
-    requires some { 1 ≤ count }
     requires fits { count ≤ BLOCK }
-    requires chunk { first % set.now.head.chunk + count ≤ set.now.head.chunk }
-    requires inside { first < near_sectors set.now.head end }
+    requires inside { first + count ≤ near_sectors set.now.head end }
     ensures put { IfSome (told_all (I.seen images.old).attached)
         (λ bytes. Puts (K.gained sink.old) (K.gained sink.new) result (sectors_of bytes set.now first count)) }
     ensures unput { IsErrOf result VolumeFault.ReadFault → K.gained sink.new ≡ K.gained sink.old }
@@ -81,13 +108,12 @@ fn write_run<I: Images, K: Sink>(
     ensures ends { IfErr result IsFault }
     ensures room { length room.new ≡ length room.old }
 {
-    let run = &mut room[..SECTOR * count];
-    read_run(images, set, end, first, run).map_err(|_| VolumeFault::ReadFault)?;
-    sink.put(run).map_err(|_| VolumeFault::WriteFault)
+    let block = &mut room[..SECTOR * count];
+    read_near(images, set, end, first, block).map_err(|_| VolumeFault::ReadFault)?;
+    sink.put(block).map_err(|_| VolumeFault::WriteFault)
 }
 
-/// Writes the first `sectors` sectors of the volume, in runs of one chunk that fit into a block.
-#[tactic(auto, using(crate::proofs::Mirrors::mirror_chunk))]
+/// Writes the first `sectors` sectors of the volume, a block at a time.
 fn write_sectors<I: Images, K: Sink>(
     images: &mut I,
     sink: &mut K,
@@ -96,9 +122,7 @@ fn write_sectors<I: Images, K: Sink>(
     end: u64,
     sectors: u64,
 ) -> Result<(), VolumeFault>
-    requires set { IsMirror set.now }
-    requires near { end < 2 ^ 55 }
-    requires held { All (Reaches (I.seen images.old).attached end) set.now.slots.items }
+    requires set { IsMirrored set.now end (I.seen images.old).attached }
     requires room { length room.old ≡ BLOCK_BYTES }
     requires inside { sectors ≤ near_sectors set.now.head end }
     ensures put { IfSome (told_all (I.seen images.old).attached)
@@ -112,13 +136,10 @@ fn write_sectors<I: Images, K: Sink>(
     ensures faults { Faults (I.seen images.old).faults (I.seen images.new).faults (K.faults sink.old) (K.faults sink.new) result }
     ensures ends { IfErr result IsFault }
 {
-    let chunk = set.head.chunk;
     let mut first = 0;
     while first < sectors {
-        let count = (chunk - first % chunk)
-            .min(BLOCK as u64)
-            .min(sectors - first);
-        write_run(images, sink, room, set, end, first, count as usize)?;
+        let count = (sectors - first).min(BLOCK as u64);
+        write_block(images, sink, room, set, end, first, count as usize)?;
         first += count;
     }
     Ok(())

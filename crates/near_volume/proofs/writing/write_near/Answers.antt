@@ -4,12 +4,8 @@ use Rattle.outside.specs.Streams.{AppendsSectors, Puts}
 use Rattle.virtual_volume.proofs.Fronts.{puts_front, puts_written}
 use Rattle.member_regions.proofs.IfTold.{if_told}
 use Rattle.near_volume.specs.Sectors.{near_volume, sectors_of}
-use Rattle.near_volume.proofs.Mirrors.{mirrored_held}
 use Rattle.near_volume.proofs.Parts.{sectors_whole}
 use Rattle.near_volume.proofs.writing.write_near.Goals as goal
-
-pub write_sectors-requires-clause-held : goal.write_sectors-requires-clause-held
-write_sectors-requires-clause-held g c = mirrored_held c.args.set.now c.args.end (g.I.Images.seen c.args.images.now).attached c.requires.set
 
 pub returns-clause-written : goal.returns-clause-written
 returns-clause-written g c =

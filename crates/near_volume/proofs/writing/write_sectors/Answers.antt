@@ -24,23 +24,26 @@ loop-first-init g c = record {
   room = refl;
 }
 
-pub returns-in_err-write_run-clause-put : goal.returns-in_err-write_run-clause-put
-returns-in_err-write_run-clause-put g c =
+pub write_block-requires-clause-set : goal.write_block-requires-clause-set
+write_block-requires-clause-set g c = rw c.loop-first.invariant.reads.attached c.requires.set
+
+pub returns-in_err-write_block-clause-put : goal.returns-in_err-write_block-clause-put
+returns-in_err-write_block-clause-put g c =
     let few : c.loop-first.first + c.min-count.result ≤ c.args.sectors = omega arith in
     if_both (told_all (g.I.Images.seen c.args.images.now).attached)
     (λ bytes. Appends (g.K.Sink.gained c.args.sink.now) (g.K.Sink.gained c.loop-first.sink) (sectors_of bytes c.args.set.now 0 c.loop-first.first))
-    (λ bytes. AppendsFront (g.K.Sink.gained c.loop-first.sink) (g.K.Sink.gained c.write_run.new.sink) (sectors_of bytes c.args.set.now c.loop-first.first c.min-count.result))
-    (λ bytes. Puts (g.K.Sink.gained c.args.sink.now) (g.K.Sink.gained c.write_run.new.sink) c.from_residual.result (sectors_of bytes c.args.set.now 0 c.args.sectors))
+    (λ bytes. AppendsFront (g.K.Sink.gained c.loop-first.sink) (g.K.Sink.gained c.write_block.new.sink) (sectors_of bytes c.args.set.now c.loop-first.first c.min-count.result))
+    (λ bytes. Puts (g.K.Sink.gained c.args.sink.now) (g.K.Sink.gained c.write_block.new.sink) c.from_residual.result (sectors_of bytes c.args.set.now 0 c.args.sectors))
     (λ bytes p q.
-    puts_err (g.K.Sink.gained c.args.sink.now) (g.K.Sink.gained c.write_run.new.sink) (sectors_of bytes c.args.set.now 0 c.args.sectors) c.from_residual.result c.from_residual.ensures.0
-    (sectors_cut bytes c.args.set.now c.loop-first.first c.min-count.result c.args.sectors (g.K.Sink.gained c.args.sink.now) (g.K.Sink.gained c.loop-first.sink) (g.K.Sink.gained c.write_run.new.sink) few p q))
+    puts_err (g.K.Sink.gained c.args.sink.now) (g.K.Sink.gained c.write_block.new.sink) (sectors_of bytes c.args.set.now 0 c.args.sectors) c.from_residual.result c.from_residual.ensures.0
+    (sectors_cut bytes c.args.set.now c.loop-first.first c.min-count.result c.args.sectors (g.K.Sink.gained c.args.sink.now) (g.K.Sink.gained c.loop-first.sink) (g.K.Sink.gained c.write_block.new.sink) few p q))
     c.loop-first.invariant.put
-    (rw (← c.loop-first.invariant.reads.attached) c.in_err-write_run.ensures.put)
+    (rw (← c.loop-first.invariant.reads.attached) c.in_err-write_block.ensures.put)
 
-pub returns-in_err-write_run-clause-whole : goal.returns-in_err-write_run-clause-whole
-returns-in_err-write_run-clause-whole g c = λ is.
+pub returns-in_err-write_block-clause-whole : goal.returns-in_err-write_block-clause-whole
+returns-in_err-write_block-clause-whole g c = λ is.
     let few : c.loop-first.first ≤ c.args.sectors = omega arith in
-    let still : g.K.Sink.gained c.write_run.new.sink ≡ g.K.Sink.gained c.loop-first.sink = c.in_err-write_run.ensures.unput (search rules) in
+    let still : g.K.Sink.gained c.write_block.new.sink ≡ g.K.Sink.gained c.loop-first.sink = c.in_err-write_block.ensures.unput (search rules) in
     subst (λ (gained : Option (List ℕ)). IfSome (told_all (g.I.Images.seen c.args.images.now).attached)
     (λ bytes. AppendsSectors (g.K.Sink.gained c.args.sink.now) gained (sectors_of bytes c.args.set.now 0 c.args.sectors))) (sym still)
     (if_told (told_all (g.I.Images.seen c.args.images.now).attached)
@@ -49,30 +52,30 @@ returns-in_err-write_run-clause-whole g c = λ is.
     (λ bytes p. sectors_first bytes c.args.set.now c.loop-first.first c.args.sectors (g.K.Sink.gained c.args.sink.now) (g.K.Sink.gained c.loop-first.sink) few p)
     c.loop-first.invariant.put)
 
-pub returns-in_err-write_run-clause-ahead : goal.returns-in_err-write_run-clause-ahead
-returns-in_err-write_run-clause-ahead g c =
-    ahead_at_error (told_all (g.I.Images.seen c.args.images.now).attached) (g.I.Images.seen c.args.images.now) (g.I.Images.seen c.loop-first.images) (g.I.Images.seen c.write_run.new.images) c.args.set.now
-    BLOCK c.loop-first.first c.min-count.result (g.K.Sink.gained c.args.sink.now) (g.K.Sink.gained c.loop-first.sink) (g.K.Sink.gained c.write_run.new.sink)
-    (omega arith) c.loop-first.invariant.reads c.write_run.ensures.reads c.loop-first.invariant.put (rw (← c.loop-first.invariant.reads.attached) c.in_err-write_run.ensures.put)
+pub returns-in_err-write_block-clause-ahead : goal.returns-in_err-write_block-clause-ahead
+returns-in_err-write_block-clause-ahead g c =
+    ahead_at_error (told_all (g.I.Images.seen c.args.images.now).attached) (g.I.Images.seen c.args.images.now) (g.I.Images.seen c.loop-first.images) (g.I.Images.seen c.write_block.new.images) c.args.set.now
+    BLOCK c.loop-first.first c.min-count.result (g.K.Sink.gained c.args.sink.now) (g.K.Sink.gained c.loop-first.sink) (g.K.Sink.gained c.write_block.new.sink)
+    (omega arith) c.loop-first.invariant.reads c.write_block.ensures.reads c.loop-first.invariant.put (rw (← c.loop-first.invariant.reads.attached) c.in_err-write_block.ensures.put)
 
 pub loop-first-preserved : goal.loop-first-preserved
 loop-first-preserved g c = record {
   put =
       if_both (told_all (g.I.Images.seen c.args.images.now).attached)
       (λ bytes. Appends (g.K.Sink.gained c.args.sink.now) (g.K.Sink.gained c.loop-first.sink) (sectors_of bytes c.args.set.now 0 c.loop-first.first))
-      (λ bytes. Appends (g.K.Sink.gained c.loop-first.sink) (g.K.Sink.gained c.write_run.new.sink) (sectors_of bytes c.args.set.now c.loop-first.first c.min-count.result))
-      (λ bytes. Appends (g.K.Sink.gained c.args.sink.now) (g.K.Sink.gained c.write_run.new.sink) (sectors_of bytes c.args.set.now 0 (c.loop-first.first + c.min-count.result)))
+      (λ bytes. Appends (g.K.Sink.gained c.loop-first.sink) (g.K.Sink.gained c.write_block.new.sink) (sectors_of bytes c.args.set.now c.loop-first.first c.min-count.result))
+      (λ bytes. Appends (g.K.Sink.gained c.args.sink.now) (g.K.Sink.gained c.write_block.new.sink) (sectors_of bytes c.args.set.now 0 (c.loop-first.first + c.min-count.result)))
       (λ bytes p q.
-      sectors_on bytes c.args.set.now c.loop-first.first c.min-count.result (g.K.Sink.gained c.args.sink.now) (g.K.Sink.gained c.loop-first.sink) (g.K.Sink.gained c.write_run.new.sink) p q)
+      sectors_on bytes c.args.set.now c.loop-first.first c.min-count.result (g.K.Sink.gained c.args.sink.now) (g.K.Sink.gained c.loop-first.sink) (g.K.Sink.gained c.write_block.new.sink) p q)
       c.loop-first.invariant.put
-      (rw (← c.loop-first.invariant.reads.attached) c.in_ok-write_run.ensures.put);
+      (rw (← c.loop-first.invariant.reads.attached) c.in_ok-write_block.ensures.put);
   reads =
-      reads_join (g.I.Images.seen c.args.images.now) (g.I.Images.seen c.loop-first.images) (g.I.Images.seen c.write_run.new.images) c.loop-first.invariant.reads c.write_run.ensures.reads;
-  images_stay = (let still : (g.I.Images.seen c.write_run.new.images).faults ≡ (g.I.Images.seen c.loop-first.images).faults = search rules in still ∙ c.loop-first.invariant.images_stay);
-  sink_stays = (let still : g.K.Sink.faults c.write_run.new.sink ≡ g.K.Sink.faults c.loop-first.sink = search rules in still ∙ c.loop-first.invariant.sink_stays);
-  later = omega (arith, c.write_run.ensures.later);
+      reads_join (g.I.Images.seen c.args.images.now) (g.I.Images.seen c.loop-first.images) (g.I.Images.seen c.write_block.new.images) c.loop-first.invariant.reads c.write_block.ensures.reads;
+  images_stay = (let still : (g.I.Images.seen c.write_block.new.images).faults ≡ (g.I.Images.seen c.loop-first.images).faults = search rules in still ∙ c.loop-first.invariant.images_stay);
+  sink_stays = (let still : g.K.Sink.faults c.write_block.new.sink ≡ g.K.Sink.faults c.loop-first.sink = search rules in still ∙ c.loop-first.invariant.sink_stays);
+  later = omega (arith, c.write_block.ensures.later);
   within = omega arith;
-  room = c.write_run.ensures.room ∙ c.loop-first.invariant.room;
+  room = c.write_block.ensures.room ∙ c.loop-first.invariant.room;
 }
 
 pub returns-clause-ahead : goal.returns-clause-ahead

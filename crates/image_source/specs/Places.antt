@@ -1,5 +1,5 @@
 -- Where a file is read, by what its type says of places and bytes.
-use Rattle.std.specs.Prelude.{ℕ, ◌≡◌, List, IfSome, Some}
+use Rattle.std.specs.Prelude.{ℕ, ◌≡◌, ◌/◌, List, IfSome, Some, length}
 use Rattle.std.specs.declared.option.Option.{Option}
 use Rattle.std.specs.Io.KnownBytes.{Keeps, Consumes}
 
@@ -7,3 +7,7 @@ use Rattle.std.specs.Io.KnownBytes.{Keeps, Consumes}
 abbrev pub ReadsAt : {F : Type 0} → (F → Option ℕ) → (F → Option (List ℕ)) → (F → Option (List ℕ)) → F → F → ℕ → List ℕ → Type 0
 ReadsAt {F} place held left old new at bytes =
     IfSome (place old) (λ _. (moved : F) × (place moved ≡ Some at) × Keeps (held old) (held moved) × Consumes (left moved) (left new) bytes)
+
+-- so many whole sectors lie before the end of what it holds, where that is known
+abbrev pub EndsAt : {F : Type 0} → (F → Option ℕ) → (F → Option (List ℕ)) → F → ℕ → Type 0
+EndsAt place held file sectors = IfSome (place file) (λ _. IfSome (held file) (λ bytes. sectors ≡ length bytes / 512))

@@ -1,0 +1,42 @@
+//! A device of whole sectors that is only read, as a server of blocks sees it.
+//!
+//! It stands on `outside` alone: a device counts the faults of what it stands on, as the objects of `outside` do.
+#![tactic(auto)]
+
+ghost use Rattle.std.specs.Prelude.{◌≡◌, ◌<◌, ◌≤◌, ◌+◌, ◌*◌, ◌/◌, ◌%◌, ℕ, List, length, slice_range, OnOk, IfSome};
+ghost use Rattle.std.specs.declared.option.Option.{Option};
+ghost use Rattle.outside.specs.Causes.{HasCause};
+ghost use Rattle.block_device.specs.Content.{IsContent};
+
+use outside::Failed;
+
+/// A device of whole sectors of 512 bytes that is only read.
+pub trait BlockDevice {
+    /// Its bytes, where they are known.
+    ghost content: { Self → Option (List ℕ) };
+
+    /// Its length in sectors.
+    ghost size: { Self → ℕ };
+
+    /// The count of faults of what it stands on. It never falls.
+    ghost faults: { Self → ℕ };
+
+    /// Its length in sectors.
+    fn sectors(&self) -> u64
+        ensures { result ≡ size self.now };
+
+    /// Fills `to` with the device's bytes from a sector on.
+    ///
+    /// `to` is a whole number of sectors, not 0, that lie within the device. It fails only where the count of
+    /// faults rose, and then `to` holds unknown bytes.
+    fn read(&mut self, first: u64, to: &mut [u8]) -> Result<(), Failed>
+        requires whole { length to.old % 512 ≡ 0 }
+        requires some { 0 < length to.old }
+        requires inside { first + length to.old / 512 ≤ size self.old }
+        ensures told { OnOk result (IfSome (content self.old) (λ bytes. to.new ≡ slice_range bytes (512 * first) (512 * first + length to.old))) }
+        ensures kept { (content self.new ≡ content self.old) × (size self.new ≡ size self.old) }
+        ensures cause { HasCause (faults self.old) (faults self.new) result };
+
+    /// Its known bytes are 512 for each of its sectors.
+    ghost whole: { (s : Self) → IsContent (content s) (size s) };
+}

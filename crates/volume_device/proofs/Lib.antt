@@ -1,0 +1,6 @@
+pub mod Blocks
+pub mod Chunks
+pub mod Copies
+pub mod Rows
+pub mod Costs
+pub mod Told

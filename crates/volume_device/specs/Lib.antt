@@ -1,0 +1,4 @@
+pub mod Sectors
+pub mod Kept
+pub mod Cost
+pub mod Lengths

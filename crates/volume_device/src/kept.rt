@@ -1,0 +1,99 @@
+//! Sectors of all members, kept in memory.
+ghost use Rattle.std.specs.Prelude.{ℕ, List, ◌≡◌, ◌+◌, ◌*◌, ◌%◌, ◌/◌, ◌^◌, ◌<◌, ◌≤◌, All, IfOk, OnOk, length, true};
+ghost use Rattle.outside.specs.Causes.{HasCause};
+ghost use Rattle.outside.specs.Seen.{OnlyReads};
+ghost use Rattle.raid_params.specs.Size.{data_blocks};
+ghost use Rattle.raid_params.specs.declared.types.Geometry.{Geometry as Set};
+ghost use Rattle.member_regions.specs.Members.{IsTestable, Reaches};
+ghost use Rattle.member_regions.specs.Regions.{IsRoomFor, KeepsRoom};
+ghost use Rattle.lost_members.specs.Needs.{HoldData};
+ghost use Rattle.volume_device.specs.Kept.{IsKept, is_among};
+ghost use Rattle.volume_device.specs.Sectors.{AreData, run_of};
+
+use lost_members::Members;
+use outside::{Failed, Images, Memory, SECTOR};
+use raid_params::Geometry;
+use std::alloc::Global;
+
+/// Sectors of all members, side by side in regions, with the lost data among them found. They stay until others are
+/// asked for.
+#[derive(Drop)]
+pub(crate) struct Kept {
+    regions: Members,
+    /// The first member sector.
+    first: u64,
+    /// How many there are.
+    count: usize,
+}
+
+impl Kept {
+    /// Room for `sectors` sectors of each of `members` members, of which none is kept.
+    pub(crate) fn new(alloc: Global, members: usize, sectors: usize) -> Result<Kept, Memory>
+        ensures room { IfOk result (λ kept. IsRoomFor members sectors kept.regions) }
+        ensures none { IfOk result (λ kept. (kept.first ≡ 0) × (kept.count ≡ 0)) }
+    {
+        let regions = Members::new(alloc, members, sectors)?;
+        Ok(Kept {
+            regions,
+            first: 0,
+            count: 0,
+        })
+    }
+
+    /// Whether `count` member sectors from `first` on are kept.
+    pub(crate) fn has(&self, first: u64, count: usize) -> bool
+        requires near { first + count < 2 ^ 55 }
+        requires kept { self.now.first + self.now.count < 2 ^ 55 }
+        ensures { result ≡ is_among self.now.first self.now.count first count }
+    {
+        self.first <= first && first + count as u64 <= self.first + self.count as u64
+    }
+
+    /// Has `count` member sectors from `first` on kept: reads of the members what the data are found by, and finds the lost
+    /// data, unless they are kept.
+    pub(crate) fn fill<I: Images>(
+        &mut self,
+        images: &mut I,
+        geo: &Geometry,
+        first: u64,
+        count: usize,
+    ) -> Result<(), Failed>
+        requires set { IsTestable geo.now }
+        requires room { IsRoomFor (length geo.now.slots.items) count self.old.regions }
+        requires held { All (Reaches (I.seen images.old).attached (geo.now.head.offset + (first + count))) geo.now.slots.items }
+        requires near { geo.now.head.offset + (first + count) < 2 ^ 55 }
+        requires some { 1 ≤ count }
+        requires kept { IsKept (I.seen images.old).attached geo.now self.old.regions self.old.first self.old.count }
+        ensures among { OnOk result (is_among self.new.first self.new.count first count ≡ true) }
+        ensures kept { IsKept (I.seen images.old).attached geo.now self.new.regions self.new.first self.new.count }
+        ensures room { KeepsRoom self.old.regions self.new.regions }
+        ensures still { is_among self.old.first self.old.count first count ≡ true →
+            (self.new ≡ self.old) × (I.seen images.new ≡ I.seen images.old) }
+        ensures reads { OnlyReads (I.seen images.old) (I.seen images.new) (data_blocks geo.now.head * count) }
+        ensures cause { HasCause (I.seen images.old).faults (I.seen images.new).faults result }
+    {
+        if self.has(first, count) {
+            return Ok(());
+        }
+        self.count = 0;
+        self.regions.read_needed(geo, images, first, count)?;
+        self.regions.solve_data(geo, first, count);
+        self.first = first;
+        self.count = count;
+        Ok(())
+    }
+
+    /// Copies kept sectors of the member of a slot, from member sector `sector` on.
+    pub(crate) fn copy(&self, slot: usize, sector: u64, to: &mut [u8])
+        requires room { IsRoomFor (slot + 1) self.now.count self.now.regions }
+        requires kept { self.now.first + self.now.count < 2 ^ 55 }
+        requires whole { length to.old % 512 ≡ 0 }
+        requires among { is_among self.now.first self.now.count sector (length to.old / 512) ≡ true }
+        ensures { (images : List (List ℕ)) (geo : Set) → slot < length geo.slots.items →
+            HoldData images geo self.now.regions.stride self.now.first self.now.count self.now.regions.bytes →
+            AreData geo slot sector (length to.old / 512) → to.new ≡ run_of images geo slot sector (length to.old / 512) }
+    {
+        let at = (sector - self.first) as usize;
+        to.copy_from_slice(self.regions.region(slot, at, to.len() / SECTOR));
+    }
+}

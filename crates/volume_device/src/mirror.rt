@@ -1,0 +1,65 @@
+//! The volume of a mirror of two copies as a device.
+ghost use Rattle.std.specs.Prelude.{◌≡◌, ◌+◌, ◌*◌, ◌%◌, ◌/◌, ◌<◌, ◌≤◌, IfSome, OnOk, length, slice_range};
+ghost use Rattle.outside.specs.Attached.{told_all};
+ghost use Rattle.outside.specs.Causes.{HasCause};
+ghost use Rattle.outside.specs.Seen.{OnlyReads};
+ghost use Rattle.near_mirror.specs.Copies.{near_sectors};
+ghost use Rattle.near_volume.specs.Mirrored.{IsMirrored};
+ghost use Rattle.volume_device.specs.Lengths.{mirror_told, mirror_whole};
+
+use block_device::BlockDevice;
+use near_mirror::NearSet;
+use near_volume::read_near;
+use outside::{Failed, Images};
+
+/// The volume of a mirror over attached images, as a device. It takes no memory.
+#[derive(Drop)]
+pub struct MirrorDevice<'a, I: Images> {
+    images: &'a mut I,
+    set: &'a NearSet,
+    end: u64,
+    ghost mirrored: { IsMirrored set.now end (I.seen images.now).attached },
+}
+
+impl<'a, I: Images> MirrorDevice<'a, I> {
+    /// The volume of a mirror over the attached images. Only whole rows before the image sector `end` count. Nothing is read.
+    pub fn new(images: &'a mut I, set: &'a NearSet, end: u64) -> MirrorDevice<'a, I>
+        requires set { IsMirrored set.now end (I.seen images.old).attached }
+        ensures same_reference { result.images.ghost_name ≡ images.entry.ghost_name }
+        ensures within { result.images.now ≡ images.old }
+        ensures volume { (result.set.now ≡ set.now) × (result.end ≡ end) }
+    {
+        MirrorDevice { images, set, end }
+    }
+}
+
+impl<'a, I: Images> BlockDevice for MirrorDevice<'a, I> {
+    ghost content = { λ d. mirror_told (told_all (I.seen d.images.now).attached) d.set.now d.end };
+
+    ghost size = { λ d. near_sectors d.set.now.head d.end };
+
+    ghost faults = { λ d. (I.seen d.images.now).faults };
+
+    ghost whole = { λ d. mirror_whole (told_all (I.seen d.images.now).attached) d.set.now d.end };
+
+    fn sectors(&self) -> u64 {
+        self.set.head.volume_sectors(self.end)
+    }
+
+    fn read(&mut self, first: u64, to: &mut [u8]) -> Result<(), Failed>
+        requires whole { length to.old % 512 ≡ 0 }
+        requires some { 0 < length to.old }
+        requires inside { first + length to.old / 512 ≤ near_sectors self.old.set.now.head self.old.end }
+        ensures told { OnOk result (IfSome (mirror_told (told_all (I.seen self.old.images.now).attached) self.old.set.now self.old.end)
+            (λ bytes. to.new ≡ slice_range bytes (512 * first) (512 * first + length to.old))) }
+        ensures kept { (mirror_told (told_all (I.seen self.new.images.now).attached) self.new.set.now self.new.end
+            ≡ mirror_told (told_all (I.seen self.old.images.now).attached) self.old.set.now self.old.end)
+            × (near_sectors self.new.set.now.head self.new.end ≡ near_sectors self.old.set.now.head self.old.end) }
+        ensures cause { HasCause (I.seen self.old.images.now).faults (I.seen self.new.images.now).faults result }
+
+        // Nothing but the counts of the images changes, and no more is read than was asked for.
+        ensures reads { OnlyReads (I.seen self.old.images.now) (I.seen self.new.images.now) (length to.old / 512) }
+    {
+        read_near(self.images, self.set, self.end, first, to)
+    }
+}

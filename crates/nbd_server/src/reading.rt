@@ -1,0 +1,76 @@
+//! Reading what a request asks for.
+ghost use Rattle.std.specs.Prelude.{ℕ, ◌≡◌, ◌+◌, ◌-◌, ◌*◌, ◌<◌, ◌≤◌, ◌^◌, ◌%◌, ◌++◌, true, length, slice_range, IfOk, IfSome, OnOk};
+ghost use Rattle.outside.specs.Causes.{HasCause};
+ghost use Rattle.nbd_text.specs.Requests.{is_read, simple_reply as simple_reply_of};
+
+use block_device::BlockDevice;
+use nbd_text::numbers::*;
+use nbd_text::{Request, simple_reply};
+use outside::{Failed, Memory, SECTOR};
+use std::alloc::Global;
+
+/// Room for the sectors of the longest read, which may begin and end inside a sector, and for a sector before them, in whose last
+/// bytes the head of the reply stands.
+pub(crate) const ROOM: usize = SECTOR + MOST_BLOCK as usize + SECTOR;
+
+/// Room for `count` bytes.
+pub(crate) fn room_for(alloc: Global, count: usize) -> Result<Vec<u8>, Memory>
+    ensures { IfOk result (λ room. length room.items ≡ count) }
+{
+    let room = vec![in alloc; 0u8; count].map_err(|_| Memory)?;
+    Ok(room)
+}
+
+/// Reads bytes of a device, so that the first of them stands at `SECTOR + offset % SECTOR` in the room.
+fn read_bytes<D: BlockDevice>(
+    device: &mut D,
+    room: &mut [u8],
+    offset: u64,
+    count: usize,
+) -> Result<(), Failed>
+    requires room { length room.old ≡ ROOM }
+    requires some { 0 < count }
+    requires few { count ≤ MOST_BLOCK }
+    requires within { offset + count ≤ 512 * D.size device.old }
+    ensures told { OnOk result (IfSome (D.content device.old) (λ content.
+        slice_range room.new (512 + offset % 512) (512 + offset % 512 + count) ≡ slice_range content offset (offset + count))) }
+    ensures kept { (D.content device.new ≡ D.content device.old) × (D.size device.new ≡ D.size device.old) }
+    ensures cause { HasCause (D.faults device.old) (D.faults device.new) result }
+{
+    let shift = (offset % SECTOR as u64) as usize;
+    let sectors = (shift + count).div_ceil(SECTOR);
+    device.read(
+        offset / SECTOR as u64,
+        &mut room[SECTOR..SECTOR + SECTOR * sectors],
+    )
+}
+
+/// Copies a head in front of the bytes that stand at `at`.
+fn put_head(room: &mut [u8], at: usize, head: &[u8])
+    requires head { length head.now ≤ at }
+    requires room { at ≤ length room.old }
+    ensures { (count : ℕ) → at + count ≤ length room.old → slice_range room.new (at - length head.now) (at + count) ≡ head.now ++ slice_range room.old at (at + count) }
+{
+    room[at - head.len()..at].copy_from_slice(head);
+}
+
+/// Reads what a request asks for, and gives where the reply begins in the room.
+pub(crate) fn read_request<D: BlockDevice>(
+    device: &mut D,
+    room: &mut [u8],
+    request: &Request,
+) -> Result<usize, Failed>
+    requires room { length room.old ≡ ROOM }
+    requires small { 512 * D.size device.old < 2 ^ 63 }
+    requires read { is_read (512 * D.size device.old) request.now ≡ true }
+    ensures within { IfOk result (λ start. start + (16 + request.now.length) ≤ ROOM) }
+    ensures told { IfOk result (λ start. IfSome (D.content device.old) (λ content.
+        slice_range room.new start (start + (16 + request.now.length)) ≡ simple_reply_of 0 request.now.handle ++ slice_range content request.now.offset (request.now.offset + request.now.length))) }
+    ensures kept { (D.content device.new ≡ D.content device.old) × (D.size device.new ≡ D.size device.old) }
+    ensures cause { HasCause (D.faults device.old) (D.faults device.new) result }
+{
+    read_bytes(device, room, request.offset, request.length as usize)?;
+    let at = SECTOR + (request.offset % SECTOR as u64) as usize;
+    put_head(room, at, &simple_reply(0, request.handle));
+    Ok(at - REPLY_HEAD)
+}

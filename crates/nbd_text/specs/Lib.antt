@@ -1,0 +1,4 @@
+pub mod Fields
+pub mod Options
+pub mod Requests
+pub mod Dialogue

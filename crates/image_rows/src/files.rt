@@ -127,9 +127,9 @@ fn is_fault(rt: &HostRuntime, name: &str) -> bool {
     }
 }
 
-// A folder and devices are no images, nor is what is not there. /dev/zero gives bytes without end.
+// A folder and character devices are no images, nor is what is not there. /dev/zero gives bytes without end.
 #[test]
-fn regular_files_alone_are_images(rt: HostRuntime) {
+fn folders_and_character_devices_are_no_images(rt: HostRuntime) {
     for name in [".", "/dev/null", "/dev/zero", "missing.img"] {
         assert!(rt; is_fault(&rt, name), "{name}");
     }

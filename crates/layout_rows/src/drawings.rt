@@ -1,5 +1,6 @@
-//! The first four rows of arrays of four members, as docs/LAYOUTS.md draws them, and the names of layouts. The drawings
-//! are written out by hand there, and not made by a crate.
+//! The first four rows of arrays of four members and the rows of mirrors, as docs/LAYOUTS.md draws them, and the names of
+//! layouts. The drawings are written out by hand there, and not made by a crate.
+use near_mirror::NearHead;
 use raid_layouts::{SlotRole, md_name, role};
 use raid_params::{Head, Level, Pattern, Syndrome};
 
@@ -76,6 +77,50 @@ fn is_drawn(level: Level, pattern: Pattern, syndrome: Syndrome, drawing: &Drawin
         }
     }
     true
+}
+
+// The most cells of a drawing of a mirror.
+const CELLS: usize = 16;
+
+// What stands for a chunk of the volume in a drawing.
+fn digit(chunk: u64) -> u8 {
+    if chunk < 10 { b'0' + chunk as u8 } else { b'?' }
+}
+
+// Whether the cells of a mirror of so many members and rows, of one sector a chunk, are those of the drawing: in each the number of
+// its chunk, or a dash where the cell is no part of the volume.
+fn is_near_drawn(members: u8, rows: u64, drawing: &[u8]) -> bool {
+    let head = NearHead {
+        members,
+        chunk: 1,
+        offset: 0,
+    };
+    if !head.is_valid() || rows > CELLS as u64 {
+        return false;
+    }
+    let mut cells = [b'-'; CELLS];
+    for chunk in 0..CELLS as u64 {
+        if let Some(copies) = head.copies(rows, chunk) {
+            for place in [copies.first, copies.second] {
+                let row = (place.sector as usize).min(CELLS);
+                if let Some(cell) = cells.get_mut(row * members as usize + place.slot as usize) {
+                    *cell = digit(chunk);
+                }
+            }
+        }
+    }
+    cells.starts_with(drawing) && drawing.len() as u64 == rows * members as u64
+}
+
+#[test]
+fn rows_of_mirrors(rt: HostRuntime) {
+    assert!(rt; is_near_drawn(4, 3, b"001122334455"), "four members");
+    assert!(rt; is_near_drawn(3, 4, b"001122334455"), "three members");
+    assert!(rt; is_near_drawn(3, 3, b"00112233-"), "an odd number of cells");
+    assert!(rt;
+        !is_near_drawn(3, 3, b"001122334"),
+        "the last cell is no part"
+    );
 }
 
 #[test]

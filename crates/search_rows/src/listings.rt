@@ -4,9 +4,9 @@ ghost use Rattle.search_plan.specs.Plans.{IsPlan};
 
 use crate::objects::{agree, four_images, three_images};
 use crate::plans::{four_with_each_order, three_of_two, two_levels};
+use common_pages::{ListPage, PageList, page, pages};
 use image_source::MemImages;
 use outside::Images;
-use page_engine::{ListPage, PageList, page, pages};
 use row_scan::OpenGate;
 use search_plan::Plan;
 use std::process::Abort;

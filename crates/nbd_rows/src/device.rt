@@ -1,0 +1,45 @@
+//! A device in memory.
+ghost use Rattle.std.specs.Prelude.{◌≡◌, ◌/◌, Some, length};
+ghost use Rattle.outside.specs.Seen.{whole_sectors};
+ghost use Rattle.nbd_rows.specs.Whole.{whole_length};
+
+use block_device::BlockDevice;
+use outside::{Failed, SECTOR};
+
+/// The whole sectors of these bytes, as a device of which one read fails.
+#[derive(Drop)]
+pub struct MemDevice {
+    /// Its bytes, and fewer than a sector after them.
+    pub bytes: Vec<u8>,
+    /// The number of the read that fails, counted from 1, or 0.
+    pub failing: u64,
+    /// The number of reads so far.
+    pub reads: u64,
+    /// The number of reads that failed.
+    pub faults: u64,
+}
+
+impl BlockDevice for MemDevice {
+    ghost content = { λ d. Some (whole_sectors d.bytes.items) };
+
+    ghost size = { λ d. length d.bytes.items / 512 };
+
+    ghost faults = { λ d. d.faults };
+
+    ghost whole = { λ d. whole_length d.bytes.items };
+
+    fn sectors(&self) -> u64 {
+        (self.bytes.len() / SECTOR) as u64
+    }
+
+    fn read(&mut self, first: u64, to: &mut [u8]) -> Result<(), Failed> {
+        self.reads = self.reads.saturating_add(1);
+        if self.reads == self.failing {
+            self.faults = self.faults.saturating_add(1);
+            return Err(Failed);
+        }
+        let start = SECTOR * first as usize;
+        to.copy_from_slice(&self.bytes[start..start + to.len()]);
+        Ok(())
+    }
+}

@@ -1,0 +1,158 @@
+"""What landmarks and heads say of the array: offsets, how many data disks, which level, where file systems begin."""
+
+import collections
+import dataclasses
+import re
+
+from . import images as seen
+from .plans import counted
+
+SECTOR = 512
+# Of mdadm, and of controllers that keep nothing before the data.
+USUAL_OFFSETS = [0, 2048, 262144, 264192]
+MORE_OFFSETS = [16, 272, 1024, 4096, 6144, 8192, 10240, 16384, 18432, 32768, 34816, 65536, 67584, 131072, 133120]
+
+
+@dataclasses.dataclass(frozen=True)
+class Hint:
+    """A value for something that is searched, and what it was taken from."""
+
+    what: str
+    value: int
+    why: str
+
+    def line(self):
+        """What is said of it."""
+        return f"hint: {self.what} {self.value}, from {self.why}"
+
+
+def rules_of(plan):
+    """The marks by group and rule, each list in order of sector."""
+    found = collections.defaultdict(list)
+    for group in plan.groups:
+        for mark in group.marks:
+            found[group, mark.kind, mark.rule].append(mark)
+    return found
+
+
+def offsets(plan, heads):
+    """Offsets: where the first mark of each rule stands, less its distance; those that several images show come first."""
+    shown, why = collections.defaultdict(set), {}
+    for (group, kind, _), marks in rules_of(plan).items():
+        if kind in ("agf", "agi"):
+            continue
+        first = marks[0]
+        if first.sector >= first.nearest:
+            value = first.sector - first.nearest
+            shown[value].update(mark.image for mark in marks if mark.sector == first.sector)
+            why.setdefault(value, f"mark {kind} of image {first.image} at sector {first.sector}, less {first.nearest}")
+    for head in heads:
+        shown[head.sector].add(head.image)
+        why.setdefault(head.sector, f"what looks like the head of {head.kind} on image {head.image}")
+    order = sorted(shown, key=lambda value: (-len(shown[value]), value))
+    return [Hint("offset", value, f"{why[value]}; on {counted(len(shown[value]), 'image')}") for value in order]
+
+
+def ratios(marks):
+    """How many data chunks a row has, by marks of one group whose distances and sectors are both known."""
+    steps = [mark for mark in marks if mark.step]
+    sectors = sorted({mark.sector for mark in steps})
+    if len(sectors) > 1:
+        groups = steps[0].numbers[1]
+        yield steps[0].step * (min(len(sectors), groups) - 1) / (sectors[-1] - sectors[0])
+        for before, after in zip(sectors, sectors[1:]):
+            yield steps[0].step / (after - before)
+    places = sorted({(max(mark.numbers) if mark.kind == "boot" and place else mark.nearest, mark.sector)
+                     for place, mark in enumerate(marks) if mark.kind != "record" and not mark.step and mark.kind not in ("agf", "agi")})
+    for near in places:
+        for far in places:
+            if far[1] - near[1] > 64 and far[0] > near[0]:
+                yield (far[0] - near[0]) / (far[1] - near[1])
+
+
+def data_disks(plan, most):
+    """The number of data disks, by the distances of landmarks on the images."""
+    votes, why = collections.Counter(), {}
+    for group in plan.groups:
+        for ratio in ratios(group.marks):
+            near = round(ratio)
+            if 1 <= near <= most and abs(ratio - near) <= 0.2 * near:
+                votes[near] += 1
+                why.setdefault(near, f"the distances of the marks of {group.name()}")
+    return [Hint("data disks", value, why[value]) for value, _ in votes.most_common(3)]
+
+
+def level(plan, heads):
+    """The level, by how many images show a mark or a head at one sector: one at level 0, two at 5, three at 6."""
+    shown = collections.defaultdict(set)
+    for mark in plan.marks():
+        shown[mark.kind, mark.rule, mark.sector].add(mark.image)
+    for head in heads:
+        shown[head.kind, "", head.sector].add(head.image)
+    most = max(map(len, shown.values()), default=0)
+    if not 1 <= most <= 3:
+        return []
+    return [Hint("level", {1: 0, 2: 5, 3: 6}[most], f"a sector of one kind that {counted(most, 'image')} show{'s' * (most == 1)} at one place")]
+
+
+PE_START = re.compile(rb"pe_start = (\d+)")
+EXTENT = re.compile(rb"extent_size = (\d+)")
+STRIPE = re.compile(rb'"pv\d+", (\d+)')
+
+
+def lvm_origins(plan, images):
+    """Where logical volumes begin, in sectors after their physical volume, by the text behind each label of LVM2."""
+    found = {}
+    for mark in plan.marks():
+        if mark.kind != "lvm":
+            continue
+        with open(images[mark.image].name, "rb") as file:
+            file.seek(max(0, mark.sector - mark.nearest) * SECTOR)
+            text = file.read(2 << 20)
+        start, extent = PE_START.search(text), EXTENT.search(text)
+        if start and extent:
+            for stripe in STRIPE.finditer(text):
+                found.setdefault(int(start[1]) + int(stripe[1]) * int(extent[1]), f"the text of LVM2 on image {mark.image}")
+            found.setdefault(int(start[1]), f"pe_start on image {mark.image}")
+    return [Hint("origin", value, why) for value, why in sorted(found.items())]
+
+
+def table_origins(images, starts):
+    """Where partitions begin, by the MBRs that stand at one of these sectors of an image."""
+    found = {}
+    for image in images:
+        places = {head.sector for head in image.heads if head.kind == "mbr"} & starts
+        for place in sorted(places):
+            with open(image.name, "rb") as file:
+                file.seek(place * SECTOR)
+                for it in seen.read_mbr(file.read(SECTOR), 1 << 32) or ():
+                    if it.kind != "ee":
+                        found.setdefault(it.first, f"an MBR on image {image.number} at sector {place}")
+    return [Hint("origin", value, why) for value, why in sorted(found.items())]
+
+
+def logical(plan, images):
+    """Blocks of 4,096 bytes, where the protective MBR stands eight sectors before a header of a partition table."""
+    for mark in plan.marks():
+        if mark.kind == "gpt" and mark.nearest == 1 and mark.sector >= 8:
+            with open(images[mark.image].name, "rb") as file:
+                file.seek((mark.sector - 8) * SECTOR)
+                far = seen.read_mbr(file.read(SECTOR), 1 << 33)
+                file.seek((mark.sector - 1) * SECTOR)
+                near = seen.read_mbr(file.read(SECTOR), 1 << 33)
+            if far and not near:
+                return [Hint("logical", 4096, f"an MBR eight sectors before a table's header on image {mark.image}")]
+    return []
+
+
+def bad_sectors(images):
+    """How many sectors of the images their maps call unread."""
+    total = 0
+    for image in images:
+        if not image.map:
+            continue
+        with open(image.map, encoding="utf-8") as file:
+            rows = [line.split() for line in file if line.strip() and not line.startswith("#")][1:]
+        total += sum(-(-int(row[1], 0) // SECTOR) + 1 for row in rows if len(row) == 3 and row[2] != "+")
+    return [Hint("badrows", total, "the maps")] if total else []
+

@@ -1,0 +1,228 @@
+"""Hunts: searches over some of the images, with the hints that their landmarks give, and the shapes that are tried."""
+
+import dataclasses
+
+from . import hints, plans, surveys, trials
+
+SECTOR = 512
+MOST_WINDOW = 524288
+# A first mark so far behind the first of all is mostly a stray one: its offset is tried with more offsets alone.
+FAR = 8192
+
+
+@dataclasses.dataclass
+class Pairs:
+    """The mirrors of a RAID 10: for each image of the hunt the one that holds the same, or None where that is missing."""
+
+    partners: tuple
+    offsets: tuple
+
+
+class Hunt:
+    """A search over these images. With `pairs` its sets are those of a RAID 0 of one image of each pair."""
+
+    def __init__(self, options, commands, images, pairs=None):
+        self.options, self.commands, self.images, self.pairs = options, commands, images, pairs
+        self.surveys = surveys.Surveys(commands, images)
+        self.tried, self.allows, self.passed_over, self.repeated = set(), {}, 0, False
+        self.hints = []
+        self.names = [image.name for image in images]
+        self.end = min(min(image.sectors for image in images), options.first // SECTOR)
+        self.window = min(self.end, MOST_WINDOW)
+
+    def prepare(self):
+        """The first survey, and what it and the heads on the images say."""
+        self.base = surveys.Request(()).having(kinds=surveys.KINDS, offsets=0, end=self.end, origins="0,2048")
+        plan = self.surveys.plan(self.base)
+        said = hints.logical(self.told(plan), self.numbered())
+        if said:
+            self.base = self.base.having(logical=4096)
+            plan = self.surveys.plan(self.base)
+        self.first_plan, plan = plan, self.told(plan)
+        heads = sorted((head for image in self.images for head in image.heads), key=lambda head: head.sector)
+        self.offset_hints = self.pairs_offsets() or self.own_offsets() + hints.offsets(plan, heads)
+        starts = {hint.value for hint in self.offset_hints} | set(hints.USUAL_OFFSETS)
+        origins = hints.lvm_origins(plan, self.numbered()) + hints.table_origins(self.images, starts)
+        self.level_hints, self.data_hints = hints.level(plan, heads), hints.data_disks(plan, len(self.images) + 2)
+        self.bad = hints.bad_sectors(self.images)
+        ends = self.own_end()
+        self.hints = said + ends + self.offset_hints[:8] + self.data_hints + self.level_hints + origins[:16] + self.bad
+        asked = {0, 2048} | {hint.value for hint in origins} | self.deeper(origins)
+        self.base = self.base.having(origins=plans.listed(sorted(asked)[:64]), offsets=plans.listed(self.offsets()))
+        if ends:
+            self.end = ends[0].value
+            self.window = min(self.window, self.end)
+            self.base = self.base.having(end=self.end)
+        if self.window < self.end:
+            self.base = self.base.having(window=self.window)
+        return plan
+
+    def own_end(self):
+        """The end of the partitions that hold the members, where each image has a table of its own."""
+        ends = [max((it.first + it.count for it in image.partitions), default=0) for image in self.images if image.own]
+        if len(ends) < len(self.images) or min(ends) >= self.end or min(ends) == 0:
+            return []
+        return [hints.Hint("end", min(ends), "the partitions of the images' own tables")]
+
+    def deeper(self, origins):
+        """Where logical volumes begin in a physical one that does not begin at 0."""
+        first = {hint.value for hint in origins if "MBR" in hint.why} | set(self.first_plan.numbers("origins"))
+        inner = {hint.value for hint in origins if "LVM2" in hint.why or "pe_start" in hint.why}
+        return {one + other for one in first for other in inner}
+
+    def numbered(self):
+        """The images by their numbers."""
+        return {image.number: image for image in self.images}
+
+    def told(self, plan):
+        """The plan with the numbers that the images have among all, as people are told of them."""
+        def again(mark):
+            return dataclasses.replace(mark, image=self.images[mark.image].number)
+        groups = (dataclasses.replace(group, marks=tuple(map(again, group.marks))) for group in plan.groups)
+        return dataclasses.replace(plan, groups=tuple(groups))
+
+    def pairs_offsets(self):
+        """The offsets at which the mirrors agree."""
+        return [hints.Hint("offset", value, "the mirrors") for value in self.pairs.offsets] if self.pairs else []
+
+    def own_offsets(self):
+        """Where the partitions of the images' own tables begin."""
+        found = {}
+        for image in self.images:
+            for it in image.partitions[:4] if image.own else ():
+                found.setdefault(it.first, hints.Hint("offset", it.first, f"the start of a partition of image {image.number}"))
+        return list(found.values())
+
+    def offsets(self):
+        """The offsets that are tried from the start: those of the hints, and the usual ones."""
+        values = [hint.value for hint in self.offset_hints]
+        if not self.pairs:
+            values = [value for value in values if value <= min(values) + FAR][:8]
+            starts = {it.first for image in self.images if image.own for it in image.partitions[:2]}
+            values += [*hints.USUAL_OFFSETS, *(start + usual for start in starts for usual in hints.USUAL_OFFSETS)]
+        return sorted({value for value in values if value < self.end})[:64] or [0]
+
+    def hinted(self):
+        """What the hints say: the number of data disks with each level, those levels first that are hints themselves."""
+        count, found = len(self.images), []
+        levels = [str(hint.value) for hint in self.level_hints]
+        for level in levels + [it for it in "560" if it not in levels]:
+            for data in (hint.value for hint in self.data_hints):
+                lost = {"0": 0, "5": 1, "6": 2}[level]
+                members = data + lost
+                if 0 <= members - count <= lost:
+                    found.append(trials.Shape(level, members, members - count))
+                elif count - 2 <= members < count:
+                    found.append(trials.Shape(level, members, 0, count - members))
+        return found
+
+    def tiers(self):
+        """What is searched, in order, in three parts: by the hints of level and data disks, what parity tells of, the rest."""
+        if self.pairs:
+            return [[trials.Shape("0", len(self.images))], [], []]
+        count, hinted = len(self.images), self.hinted()
+        first = [shape for shape in hinted if self.level_hints and shape.levels == str(self.level_hints[0].value)]
+        second = [trials.Shape("5,6", count), *(shape for shape in hinted if shape.parity)]
+        third = [trials.Shape("0", count), trials.Shape("5,6", count + 1, 1), *hinted, trials.Shape("6", count + 2, 2)]
+        third += [trials.Shape("5,6", count - 1, 0, 1), trials.Shape("0", count - 1, 0, 1)]
+        seen, tiers = set(), []
+        for tier in (first, second, third):
+            kept = [it for it in map(self.allowed, tier) if it]
+            tiers.append([it for it in dict.fromkeys(kept) if it not in seen])
+            seen.update(kept)
+        return tiers
+
+    def shapes(self):
+        """All that is searched, in order."""
+        return [shape for tier in self.tiers() for shape in tier]
+
+    def allowed(self, shape):
+        """The shape with the levels alone that are asked for; None where it makes no sense."""
+        least = {"0": 2, "5": 3, "6": 4}
+        levels = [level for level in shape.levels.split(",") if level in self.options.levels and shape.members >= least[level]]
+        if not levels or (self.options.members and shape.members not in self.options.members) or shape.members > 24:
+            return None
+        return dataclasses.replace(shape, levels=",".join(levels))
+
+    def request(self, shape):
+        """What is asked for with nothing loosened."""
+        values = {"levels": shape.levels, "members": shape.members}
+        values |= {"missing": shape.missing} if shape.missing else {}
+        values |= {"foreign": shape.foreign} if shape.foreign else {}
+        return self.base.having(**values)
+
+    def cures(self, shape):
+        """What may be loosened for a shape, in order."""
+        found = trials.cures(self.first_plan, self.request(shape), self.bad[0].value if self.bad else 0, self.unlike_offsets(),
+                             [hint.value for hint in self.offset_hints])
+        if not shape.parity:
+            found = [cure for cure in found if cure.family not in ("window", "badrows")]
+        if not self.first_plan.groups:
+            found = [cure for cure in found if cure.family != "origins"]
+        if not any(group.kind == "ntfs" for group in self.first_plan.groups):
+            found = [cure for cure in found if not cure.name.startswith("file records")]
+        return [cure for cure in found if not (shape.foreign and cure.name.endswith("its own"))]
+
+    def unlike_offsets(self):
+        """Offsets of which each image may have another one: the first two of the hints, and the first with one 2,048 sectors away."""
+        values = [hint.value for hint in self.offset_hints[:2]]
+        found = [sorted(values)] if len(values) == 2 else []
+        for first in values[:1]:
+            found += [[first, first + 2048]] + ([[first - 2048, first]] if first >= 2048 else [])
+        return [it for k, it in enumerate(found) if it not in found[:k] and max(it) < self.end]
+
+    def listing(self, shape, request, last=False):
+        """What a trial lists; None where it is the same as an earlier one, or where nothing would rule sets out."""
+        plan, self.repeated = self.surveys.plan(request), True
+        groups = [group for group in plan.groups if group.marks]
+        if not (groups or last or shape.parity and not self.first_plan.groups):
+            return None
+        if not groups and not last:
+            plan = plan.having(levels=shape.telling)
+        text = plan.text()
+        if text in self.tried:
+            return None
+        self.tried.add(text)
+        if not last and not self.may_list(plan, shape):
+            self.passed_over, self.repeated = self.passed_over + 1, False
+            return None
+        self.tell(request)
+        return trials.list_plan(self.commands, self.names, plan, self.options.time, self.options.jobs)
+
+    def may_list(self, plan, shape):
+        """Landmarks alone allow a set, and so does parity alone; each is asked once for all trials that agree in it."""
+        alone = [plan.having(window=1, badrows=1)] if plan.groups else []
+        alone += [plan.without([group.place for group in plan.groups])] if shape.parity and plan.version == 1 else []
+        return all(self.has_set(it.text()) for it in alone)
+
+    def has_set(self, text):
+        """Some set of a plan passes, or its time was up before that was known."""
+        if text not in self.allows:
+            answer = trials.list_span(self.commands, self.names, text, 0, trials.LAST, self.options.time, 1)
+            self.allows[text] = answer.status is None or bool(trials.read_page(answer.out)[0])
+        return self.allows[text]
+
+    def tell(self, request):
+        """Shows the commands of a trial."""
+        words = [request.words(self.names), *request.filters(self.surveys.seen(request)),
+                 ["reraid", "list", f"size={trials.MOST_LINES}", "--", *self.names]]
+        from .commands import quoted
+        self.commands.tell(" | ".join(quoted(it) for it in words))
+
+    def word(self, text):
+        """A set of this hunt as one of all images."""
+        word = plans.read_word(text)
+        if not self.pairs:
+            return word
+        numbers = []
+        for slot in word.slots:
+            partner = self.pairs.partners[slot]
+            numbers += [str(self.images[slot].number), "-" if partner is None else str(partner)]
+        return plans.read_word(f"near2:{word.chunk}:{word.offset}:{','.join(numbers)}")
+
+    def asking(self, candidate):
+        """The plan, the images and the set with which `check` is asked of a candidate: with all groups, whatever was left out."""
+        if candidate.listed is None or candidate.trial.request is None:
+            return None, None, None
+        request = dataclasses.replace(candidate.trial.request, out=())
+        return self.surveys.plan(request).text(), self.names, candidate.listed.text

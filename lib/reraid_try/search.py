@@ -1,0 +1,201 @@
+"""The way from the images to the table: looks, surveys, trials, tests."""
+
+import dataclasses
+
+from . import candidates, commands, diagnosis, hunts, plans, surveys, trials
+from . import images as seen
+from .trials import Shape, Trial
+
+SECTOR = 512
+SMALL_WINDOW = 8192
+NO_LANDMARKS = ("no landmarks",)
+
+
+class Search:
+    """One run: what is seen, what is tried, and the candidates."""
+
+    def __init__(self, options, commands, report, room):
+        self.options, self.commands, self.report, self.room = options, commands, report, room
+        self.tested, self.known = [], set()
+        self.number = 0
+
+    def run(self):
+        """Does all of it; it says whether there are candidates."""
+        self.look()
+        self.tests = candidates.Tests(self.options, self.commands, self.report, self.room, self.images)
+        self.hunt = hunts.Hunt(self.options, self.commands, self.images)
+        self.survey(self.hunt)
+        self.try_all()
+        return bool(self.tested)
+
+    def look(self):
+        """The images, a line each."""
+        self.images = seen.look_at_all(self.options.images, self.options.first)
+        for image in self.images:
+            fields = {name: value for name, value in dataclasses.asdict(image).items() if name != "heads"}
+            self.report.say("image", image.line(), **fields)
+        total = sum(min(image.sectors * SECTOR, self.options.first) for image in self.images)
+        self.report.total = total
+        part = "all" if total == sum(image.sectors * SECTOR for image in self.images) else "the first part"
+        self.report.say("reads", f"reads {part} of the images: {total >> 20} MiB", bytes=total)
+
+    def survey(self, hunt):
+        """The landmarks and the hints of a hunt."""
+        plan = hunt.prepare()
+        for group in plan.groups:
+            first, last = group.marks[0] if group.marks else None, group.marks[-1] if group.marks else None
+            where = f", from sector {first.sector} of image {first.image} to {last.sector} of image {last.image}" if first else ""
+            self.report.say("group", f"{group.name()}{where}", group=group.place, kind=group.kind, marks=len(group.marks))
+        if not plan.groups:
+            self.report.say("group", "no landmarks: parity alone rules sets out")
+        for hint in hunt.hints:
+            self.report.say("hint", hint.line(), what=hint.what, value=hint.value, why=hint.why)
+
+    def try_all(self):
+        """All trials, in order, until the volume of a candidate says enough for itself."""
+        if not self.first_trials() and not self.further_trials() and self.best() < 1:
+            self.without_landmarks()
+        if self.hunt.passed_over:
+            self.report.say("passed over", f"{self.hunt.passed_over} trials were passed over: landmarks alone, or parity alone, allow no set there",
+                            trials=self.hunt.passed_over)
+
+    def first_trials(self):
+        """What the hints say, with up to two things loosened; and then what parity tells of and the rest, with up to one."""
+        if self.wants("10") and self.mirrors(0):
+            return True
+        hinted, told, rest = self.hunt.tiers()
+        if any(self.stage(self.hunt, hinted, count) for count in (0, 1)) or self.best() > 1:
+            return True
+        if self.stage(self.hunt, hinted, 2) or self.best() > 1:
+            return True
+        if self.stage(self.hunt, told, 0) or (self.wants("10") and self.mirrors(1)) or self.stage(self.hunt, rest, 0):
+            return True
+        return self.best() > 1 or self.stage(self.hunt, told + rest, 1) or self.best() > 1
+
+    def further_trials(self):
+        """With two and three things loosened."""
+        shapes = self.hunt.shapes()
+        for count, some in ((2, shapes), (3, shapes[:2])):
+            if self.best() > 0 or self.stage(self.hunt, some, count):
+                return True
+        return False
+
+    def without_landmarks(self):
+        """What is left where nothing was found: all sets that parity allows; and then how near the nearest ones come."""
+        for shape in self.hunt.shapes():
+            if self.attempt(self.hunt, shape, NO_LANDMARKS, self.bare(self.hunt, shape), True):
+                return
+        if self.best() < 1:
+            diagnosis.Diagnosis(self.hunt, self.report).show()
+
+    def wants(self, level):
+        """This level is to be tried."""
+        return level in self.options.levels
+
+    def best(self):
+        """How much speaks for the best candidate so far."""
+        return max((it.verdict.score for it in self.tested), default=0)
+
+    def bare(self, hunt, shape):
+        """A request with all groups left out."""
+        return dataclasses.replace(hunt.request(shape), out=tuple(group.place for group in hunt.first_plan.groups))
+
+    def stage(self, hunt, shapes, count):
+        """The trials of some shapes with so many things loosened; it says whether the search is at its end."""
+        for shape in shapes:
+            for names, request in trials.loosened(hunt.request(shape), hunt.cures(shape), count):
+                if self.attempt(hunt, shape, names, request):
+                    return True
+        return False
+
+    def attempt(self, hunt, shape, names, request, last=False):
+        """One trial; it says whether a candidate is clean and whole."""
+        self.report.doing = f"{shape.line()}: {' and '.join(names) or 'nothing loosened'}: "
+        self.report.bar.show(self.report.doing)
+        try:
+            listing = hunt.listing(shape, request, last)
+        except surveys.Failed as error:
+            self.report.say("failed", f"  {error}", why=str(error))
+            return False
+        if listing is None:
+            if self.options.x and not hunt.repeated:
+                self.report.say("passed over", f"passed over: {shape.line()}: {' and '.join(names) or 'nothing loosened'}", loosened=list(names),
+                                shape=shape.line())
+            return False
+        trial = self.told(shape, names, request, listing)
+        return self.take(hunt, trial, [(rank, plans.read_word(word), hunt.word(word)) for rank, word in listing.sets])
+
+    def take(self, hunt, trial, sets):
+        """Tests the new sets of a trial; it says whether one of them is clean and whole."""
+        fresh = []
+        for rank, listed, word in sets:
+            if word.text not in self.known:
+                self.known.add(word.text)
+                fresh.append(candidates.Candidate(word, rank, trial, hunt, listed=listed))
+        if not fresh:
+            return False
+        tested = self.tests.test(fresh)
+        told = hunt is not self.hunt or trial.loosened != NO_LANDMARKS
+        self.tested += [it for it in tested if told or it.verdict.findings or it.word.level in trial.shape.telling]
+        for it in tested:
+            if it.verdict.score > 1:
+                self.report.say("sound", f"  {it.word.text}: {it.verdict.text()}", set=it.word.text, said=it.verdict.text())
+        return any(it.verdict.score == 3 for it in tested)
+
+    def mirror_words(self, members, missing, window, size):
+        """The command that lists the sets of a RAID 10. With an even number of members the copies do not tell the chunk, so one is enough."""
+        words = ["reraid", "mirrors", f"members={members}", f"offsets={plans.listed(self.hunt.offsets())}", f"end={self.hunt.end}"]
+        words += ["missing=1"] if missing else []
+        words += ["chunks=8"] if members % 2 == 0 else []
+        return [*words, f"window={window}", f"size={size}", "--", *self.hunt.names]
+
+    def mirrors(self, missing):
+        """RAID 10 by its copies: the pairs, and then the RAID 0 of one image of each. What fails in a small window fails in a large one."""
+        members = len(self.images) + missing
+        if members < 2 or (self.options.members and members not in self.options.members):
+            return False
+        small, large = min(self.hunt.window, SMALL_WINDOW), self.mirror_words(members, missing, self.hunt.window, trials.MOST_LINES)
+        answer = self.commands.run(self.mirror_words(members, missing, small, 1), seconds=self.options.time)
+        self.commands.tell(commands.quoted(large))
+        if trials.read_page(answer.out)[0]:
+            answer = self.commands.run(large, seconds=self.options.time)
+        sets, following = trials.read_page(answer.out)
+        note = "its time was up before all were looked at" if answer.status is None else ""
+        trial = self.told(Shape("10", members, missing), (), None, trials.Listing(sets, following or 0, not note, note))
+        if not sets:
+            return False
+        if members % 2 or members == 2:
+            return self.take(self.hunt, trial, [(rank, None, plans.read_word(word)) for rank, word in sets])
+        return any([self.paired(pairing, offsets) for pairing, offsets in list(self.pairings(sets).items())[:8]])
+
+    def told(self, shape, names, request, listing):
+        """A trial, with what it listed, after it is printed."""
+        self.number += 1
+        trial = Trial(shape, names, request, self.number)
+        self.report.say("trial", f"trial {self.number}: {trial.line()}: {listing.line()}", number=self.number, shape=shape.line(),
+                        loosened=list(names), listed=len(listing.sets), total=listing.total, note=listing.note)
+        return trial
+
+    def pairings(self, sets):
+        """The ways in which the images are paired, with the offsets of each."""
+        found = {}
+        for _, text in sets:
+            word = plans.read_word(text)
+            pairs = zip(word.slots[::2], word.slots[1::2])
+            key = frozenset(tuple(sorted((one, other), key=lambda it: (it is None, it))) for one, other in pairs)
+            found.setdefault(key, set()).add(word.offset)
+        return found
+
+    def paired(self, pairing, offsets):
+        """The RAID 0 of one image of each pair, as a hunt of its own."""
+        pairs = sorted(pairing)
+        images = [self.images[one] for one, _ in pairs]
+        hunt = hunts.Hunt(self.options, self.commands, images, hunts.Pairs(tuple(other for _, other in pairs), tuple(sorted(offsets))))
+        said = " ".join("image {} alone".format(one) if other is None else f"{one}={other}" for one, other in pairs)
+        self.report.say("pairs", f"  pairs {said}: a RAID 0 of {len(pairs)} disks", pairs=[list(pair) for pair in pairs])
+        self.survey(hunt)
+        for count in range(3):
+            if self.stage(hunt, hunt.shapes(), count):
+                return True
+        shape = hunt.shapes()[0]
+        return self.attempt(hunt, shape, NO_LANDMARKS, self.bare(hunt, shape), True)

@@ -1,0 +1,224 @@
+"""Trials: which sets are listed, with what loosened, in a stated order."""
+
+import concurrent.futures
+import dataclasses
+import itertools
+import re
+
+from . import hints, plans
+
+MOST_LINES = 20000
+SPAN = 4_000_000
+LAST = 18446744073709551615
+# Each list of offsets is read for itself, so little of the members is tested.
+EACH_WINDOW = 8192
+
+
+@dataclasses.dataclass(frozen=True)
+class Shape:
+    """Which members are searched: the levels, how many members, how many of them are missing, how many images are foreign."""
+
+    levels: str
+    members: int
+    missing: int = 0
+    foreign: int = 0
+    why: str = ""
+
+    def line(self):
+        """What is said of it."""
+        said = [f"levels {self.levels}", f"{self.members} members"]
+        said += [f"{self.missing} missing"] if self.missing else []
+        said += [f"{self.foreign} foreign"] if self.foreign else []
+        return ", ".join(said)
+
+    @property
+    def telling(self):
+        """The levels at which parity tells something."""
+        return ",".join(level for level in self.levels.split(",") if {"0": False, "5": self.missing < 1, "6": self.missing < 2}[level])
+
+    @property
+    def parity(self):
+        """Parity tells something at one of the levels."""
+        return bool(self.telling)
+
+
+@dataclasses.dataclass(frozen=True)
+class Cure:
+    """Something that is loosened: how it is called, which others it does not go with, and what it makes of a request."""
+
+    name: str
+    family: str
+    change: object
+
+    def of(self, request):
+        """The request with this loosened."""
+        return self.change(request)
+
+
+@dataclasses.dataclass(frozen=True)
+class Trial:
+    """A listing: what is searched, and what was loosened."""
+
+    shape: Shape
+    loosened: tuple
+    request: object
+    number: int = 0
+
+    def line(self):
+        """What is said of it."""
+        return f"{self.shape.line()}: " + (" and ".join(self.loosened) or "nothing loosened")
+
+
+@dataclasses.dataclass
+class Listing:
+    """What a trial listed: its ranks and sets, how many sets the plan has, whether all of them were looked at."""
+
+    sets: list
+    total: int
+    whole: bool
+    note: str = ""
+
+    def line(self):
+        """What is said of it."""
+        told = plans.counted(len(self.sets), "set")
+        return f"{told} of {self.total}" + (f" ({self.note})" if self.note else "")
+
+
+def read_page(text):
+    """The ranks and sets of a page, and where the next one begins."""
+    found, following = [], None
+    for line in text.splitlines():
+        if match := plans.SET.match(line):
+            found.append((int(match[1]), match[2]))
+        elif line.startswith("next "):
+            following = int(line.split()[1])
+    return found, following
+
+
+def total_of(commands, names, text):
+    """How many sets a plan has; what was refused, as a text, where it is none."""
+    answer = commands.run(["reraid", "list", f"from={LAST}", "--", *names], text)
+    match = re.search(r"is past (\d+)", answer.error)
+    return int(match[1]) if match else answer.error.strip()
+
+
+def list_span(commands, names, text, first, span, seconds, most=MOST_LINES):
+    """One page of a plan."""
+    words = ["reraid", "list", f"from={first}", f"span={span}", f"size={most}", "--", *names]
+    return commands.run(words, text, seconds)
+
+
+def list_plan(commands, names, plan, seconds, jobs):
+    """The sets of a plan that pass, by spans side by side where there are many."""
+    text = plan.text()
+    total = total_of(commands, names, text)
+    if not isinstance(total, int):
+        return Listing([], 0, False, total)
+    if total == 0:
+        return Listing([], 0, True)
+    span = max(SPAN, -(-total // (16 * jobs)))
+    starts = range(0, total, span)
+    found, whole = [], True
+    with concurrent.futures.ThreadPoolExecutor(jobs if len(starts) > 1 else 1) as pool:
+        tasks = [pool.submit(list_span, commands, names, text, first, span, seconds) for first in starts]
+        for first, task in zip(starts, tasks):
+            answer = task.result()
+            sets, following = read_page(answer.out)
+            found += sets
+            whole = whole and answer.good and following is not None and following >= min(total, first + span)
+            if not whole:
+                break
+        for task in tasks:
+            task.cancel()
+    note = "" if whole else f"more than {len(found)} pass" if len(found) >= MOST_LINES else "its time was up before all were looked at"
+    return Listing(found, total, whole, note)
+
+
+def with_out(place):
+    """The cure that leaves a group out."""
+    return lambda request: dataclasses.replace(request, out=tuple(sorted({*request.out, place})))
+
+
+def group_cures(plan):
+    """Each group left out, small ones first; then each large one alone."""
+    order = sorted(plan.groups, key=lambda group: (len(group.marks), group.place))
+    found = [Cure(f"without {group.name()}", f"group {group.place}", with_out(group.place)) for group in order]
+    if len(order) > 2:
+        for group in reversed(order[-2:]):
+            rest = tuple(sorted(it.place for it in plan.groups if it is not group))
+            found.append(Cure(f"{group.name()} alone", "group", lambda request, rest=rest: dataclasses.replace(request, out=rest)))
+    return found
+
+
+def half_window(plan):
+    """Half of the window; from the greatest offset that leaves as much."""
+    def change(request):
+        window = min(int(request.get("window", plan.end)), plan.end)
+        return request.having(window=max(1, window // 2))
+    return change
+
+
+def before_superblock(plan):
+    """An end before what md, or a controller, keeps at the end of the disks."""
+    last = min(plan.lengths)
+    end = last - 65536 - 384 if last > 1 << 22 else last // 128 * 128 - 384
+    return lambda request: request.having(end=max(1, min(end, int(request.get("end")))), window=max(1, min(end, int(request.get("window", end)))))
+
+
+def more_offsets(hinted):
+    """Each of the usual offsets of mdadm, and all of the hints."""
+    def change(request):
+        asked = {int(it) for it in request.get("offsets").split(",")} | set(hints.MORE_OFFSETS) | set(hinted[:24])
+        return request.having(offsets=plans.listed(sorted(it for it in asked if it < int(request.get("end")))[:64]))
+    return change
+
+
+def more_origins(request):
+    """Where partitions of old tools begin, and the first extents of LVM2."""
+    asked = {int(it) for it in request.get("origins").split(",")} | {63, 128, 256, 1024} | {2048 + 8192 * k for k in range(24)}
+    return request.having(origins=plans.listed(sorted(asked)[:64]))
+
+
+def offsets_each(offsets):
+    """An offset for each image, out of few."""
+    def change(request):
+        window = min(int(request.get("window", request.get("end"))), EACH_WINDOW)
+        return request.having(mode="each", offsets=plans.listed(offsets), window=window)
+    return change
+
+
+def misfits(request):
+    """Eight misfits in each group."""
+    return request.having(misfits=8)
+
+
+def cures(plan, request, bad_rows, unlike, hinted):
+    """What may be loosened, in the order in which it is tried."""
+    found = [Cure("half the window", "window", half_window(plan)), Cure("an end before a superblock", "end", before_superblock(plan))]
+    found.append(Cure("file records of number 0 left out", "records", lambda it: dataclasses.replace(it, records=True)))
+    found += group_cures(plan)
+    found.append(Cure("8 misfits", "records", misfits))
+    rows = bad_rows or max(128, int(request.get("window", plan.end)) // 64)
+    found.append(Cure(f"badrows {rows}", "badrows", lambda it: it.having(badrows=rows)))
+    found.append(Cure("more offsets", "offsets", more_offsets(hinted)))
+    found.append(Cure("more origins", "origins", more_origins))
+    for offsets in unlike:
+        found.append(Cure(f"offsets {plans.listed(offsets)}, each image its own", "offsets", offsets_each(offsets)))
+    return found
+
+
+def goes_with(chosen):
+    """These cures can stand together."""
+    families = [cure.family for cure in chosen]
+    return len(set(families)) == len(families) and not ("group" in families and any(it.startswith("group ") for it in families))
+
+
+def loosened(request, cure_list, count):
+    """The requests with so many things loosened at once, in order."""
+    slow = [cure.name for cure in cure_list if cure.name.endswith("its own")]
+    for chosen in sorted(itertools.combinations(cure_list, count), key=lambda chosen: any(cure.name in slow for cure in chosen)):
+        if goes_with(chosen):
+            changed = request
+            for cure in chosen:
+                changed = cure.of(changed)
+            yield tuple(cure.name for cure in chosen), changed

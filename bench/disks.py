@@ -76,6 +76,14 @@ def item_slots(pattern, row, members, parity):
     return [slot for slot in ((first + step) % wide for step in range(wide)) if slot not in taken]
 
 
+def exponents(pattern, row, members, order):
+    """To which power of 2 each data item of a row is weighed in Q, by its slot."""
+    taken, items = parity_slots(pattern, row, members, 2), list(item_slots(pattern, row, members, 2))
+    walk = [slot for slot in ((taken[1] + 1 + step) % members for step in range(members)) if slot in items]
+    by = {"after-q": walk.index, "by-data": items.index, "by-slot": int}[order]
+    return {slot: by(slot) for slot in items}
+
+
 def row_of(items, row, members, pattern, order):
     """The blocks of a row by their slots. With one slot more than items there is P, with two P and Q."""
     parity = members - len(items)
@@ -84,9 +92,8 @@ def row_of(items, row, members, pattern, order):
     if parity:
         blocks[taken[0]] = added(items)
     if parity == 2:
-        walk = [slot for slot in ((taken[1] + 1 + step) % members for step in range(members)) if slot in data]
-        by = {"after-q": walk.index, "by-data": list(data).index, "by-slot": int}[order]
-        blocks[taken[1]] = added([weighed(block, by(slot)) for slot, block in data.items()])
+        by = exponents(pattern, row, members, order)
+        blocks[taken[1]] = added([weighed(block, by[slot]) for slot, block in data.items()])
     return [blocks[slot] for slot in range(members)]
 
 

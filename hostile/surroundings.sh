@@ -179,6 +179,14 @@ expect "a link" 0 "" listing list -- link b c
 expect "a name of 255 bytes" 0 "" listing list -- "$long" b c
 expect "images of 1000, 511 and 0 bytes" 4 "reraid: images: length 0 given 1 planned 2" "" list -- thousand short empty
 expect "an image without a sector" 7 "reraid: set rule 8 value 0" "" write set=$set -- empty empty empty
+if device=$(losetup --find --show --read-only a 2>/dev/null); then
+    expect "a block device" 0 "" listing list -- "$device" b c
+    through "a block device, of a volume" 0 "" volume '<plan >out 2>err' write set=$set -- "$device" b c
+    losetup --detach "$device"
+    expect "a block device without a medium" 7 "reraid: set rule 8 value 0" "" write set=$set -- "$device" b c
+else
+    echo "left out: there is no loop device to be had"
+fi
 expect "one name twice" 0 "" - list -- a a c
 expect "the name --" 10 "$fault" "" list -- -- b c
 

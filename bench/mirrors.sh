@@ -1,5 +1,5 @@
 #!/bin/sh
-# Times `mirrors` and `mirrorwrite` over arrays of near=2 of random bytes, beside cat, best of three runs each.
+# Times `mirrors` and `mirrorwrite` over arrays of near=2 of random bytes, beside cat, best of three runs each, and of thirty of mirrorwrite.
 # All 40,320 orders of eight images, chunk and offset known, over windows of 4,096 sectors; the 9,580,032,000 sets of twelve images, five
 # chunks and four offsets; the volume of eight members with none and with one missing.
 # Usage: bench/mirrors.sh [MEGABYTES] [FOLDER]
@@ -12,13 +12,14 @@ python3 "$bench/disks.py" near2 128 volume a b c d e f g h
 head -c 12M volume >short
 python3 "$bench/disks.py" near2 128 short 0 1 2 3 4 5 6 7 8 9 10 11
 
-# against NAME CAT COMMAND..: a run beside cat of these files
+# against NAME CAT COMMAND..: a run beside cat of these files, best of $runs
+runs=3
 against() {
     name=$1
     files=$2
     shift 2
-    awk -v n="$name" -v c="$(best 3 /dev/null cat $files)" -v t="$(best 3 /dev/null "$@")" 'BEGIN {
-        printf "%s: cat %.3f s, reraid %.3f s, ratio 1:%.1f\n", n, c / 1e9, t / 1e9, t / c
+    awk -v n="$name" -v c="$(best "$runs" /dev/null cat $files)" -v t="$(best "$runs" /dev/null "$@")" 'BEGIN {
+        printf "%s: cat %.3f s, reraid %.3f s, ratio 1:%.2f\n", n, c / 1e9, t / 1e9, t / c
     }'
 }
 
@@ -35,5 +36,6 @@ awk -v t="$(best 3 /dev/null "$program" mirrors chunks=32,64,128,256,512 offsets
 }'
 "$program" mirrorwrite set=near2:128:2048:0,1,2,3,4,5,6,7 -- a b c d e f g h | cmp -n "$((megabytes * 4194304))" - volume ||
     { echo "the volume differs" >&2; exit 1; }
+runs=30
 against "mirrorwrite, nothing missing" "a c e g" "$program" mirrorwrite set=near2:128:2048:0,1,2,3,4,5,6,7 -- a b c d e f g h
 against "mirrorwrite, one missing" "b c e g" "$program" mirrorwrite set=near2:128:2048:-,0,1,2,3,4,5,6 -- b c d e f g h

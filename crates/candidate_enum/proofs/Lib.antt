@@ -4,5 +4,7 @@ pub mod Leaves
 pub mod Children
 pub mod Moves
 pub mod Turns
+pub mod Counting
+pub mod Keeping
 pub mod Looks
 pub mod Ranks

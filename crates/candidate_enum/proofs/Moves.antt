@@ -138,10 +138,10 @@ all_passed q p j rank f e =
     )
 
 -- up to the parent
-pub popped : (q : Question) (old p : List (Option ℕ)) (rank : ℕ) (y : Option ℕ) → IsDone q old rank → old ≡ p ++ y ∷ [] →
+popped_at : (q : Question) (old p : List (Option ℕ)) (rank : ℕ) (y : Option ℕ) → IsDone q old rank → old ≡ p ++ y ∷ [] →
     (left_after q old rank ≡ left_children q p (index_of q.space.images y + 1) rank) × IsParent q p (index_of q.space.images y + 1) rank × IsPlace q.space.images y
 unfolding left_children left_after
-popped q old p rank y d e =
+popped_at q old p rank y d e =
     let P : List (Option ℕ) → Type 0 = λ t. IsDone q t rank in
     let g = subst P e d in
     let long : length (p ++ y ∷ []) ≡ length p + 1 = length-append p (y ∷ []) in
@@ -158,6 +158,18 @@ popped q old p rank y d e =
       record { short = omega arith; start = (parts.0, distinct); filling = omega arith; at = omega arith; parents = admitted_less q p y g.parents },
       parts.1,
     )
+
+-- what is then left, and where the walk stands
+pub record IsPopped (q : Question) (p : List (Option ℕ)) (rank : ℕ) (y : Option ℕ) (was : Left) : Type 0 where
+  pub same : was ≡ left_children q p (index_of q.space.images y + 1) rank
+  pub parent : IsParent q p (index_of q.space.images y + 1) rank
+  pub place : IsPlace q.space.images y
+
+pub popped : (q : Question) (old p : List (Option ℕ)) (was rank : ℕ) (y : Option ℕ) → IsDone q old was → old ≡ p ++ y ∷ [] → rank ≡ was → IsPopped q p rank y (left_after q old was)
+popped q old p was rank y d e f =
+    let h = popped_at q old p was y d e in
+    let P : ℕ → Type 0 = λ r. IsPopped q p r y (left_after q old was) in
+    subst P (sym f) (record { same = h.0; parent = h.1; place = h.2 })
 
 -- the end of the walk
 pub at_end : (q : Question) (p : List (Option ℕ)) (rank : ℕ) → IsSearch q.space q.from q.stop → IsDone q p rank → p ≡ [] → left_after q p rank ≡ nothing_left

@@ -1,7 +1,7 @@
 -- What a turn of a walk does, and where a walk begins.
-use Rattle.std.proofs.Common.{ℕ, zero, ◌≡◌, ◌<◌, ◌≤◌, ◌+◌, ◌-◌, ◌^◌, min, max, List, [], ◌∷◌, ◌++◌, length, reverse, filter, refl, sym, ap, ap₂, ◌∙◌, arith, suc, Bool, true, false, cond, Option, Some, None, slice_get, subst, add-zero, add_comm}
+use Rattle.std.proofs.Common.{ℕ, zero, ◌≡◌, ◌<◌, ◌≤◌, ◌+◌, ◌-◌, ◌^◌, min, max, List, [], ◌∷◌, ◌++◌, length, reverse, filter, refl, sym, ap, ap₂, ◌∙◌, arith, suc, Bool, true, false, cond, Option, Some, None, slice_get, subst, inl, inr, rules, add-zero, add_comm}
 use Rattle.raid_params.specs.declared.limits.TheConstants.{MOST}
-use Rattle.std.proofs.lemmas.Bool.{ltb-false}
+use Rattle.std.proofs.lemmas.Bool.{ltb-false, cases_Bool}
 use Rattle.search_terms.specs.SlotLists.{is_kept, all_lists}
 use Rattle.raid_params.specs.Slots.{is_distinct}
 use Rattle.slot_math.specs.Space.{lists_of, begins}
@@ -12,7 +12,8 @@ use Rattle.slot_math.proofs.Completions.{begun}
 use Rattle.slot_math.proofs.Fronts.{goes_on_last, ends_of_nothing}
 use Rattle.candidate_enum.specs.Survivors.{Question, leaf_of, survivors}
 use Rattle.candidate_enum.specs.Tests.{meets, tests}
-use Rattle.candidate_enum.specs.Left.{Left, base_of, base_back, index_of, overlaps, children_before, children_tests, after_back, leaves_from, left_at, left_after, left_children, IsSearch, IsDone, IsParent, StandsAt, IsTurn}
+use Rattle.candidate_enum.specs.Left.{Left, base_of, base_back, index_of, overlaps, children_before, children_tests, after_back, leaves_from, left_at, left_after, left_children, IsSearch, IsDone, IsParent, StandsAt, MayStand, IsMet, IsTurn, left_from, nothing_left}
+use Rattle.candidate_enum.specs.declared.walk.Walk.{Walk}
 use Rattle.candidate_enum.specs.declared.leaf.Leaf.{Leaf}
 use Rattle.candidate_enum.proofs.Bases.{block_of}
 use Rattle.candidate_enum.proofs.Meets.{meets_is}
@@ -34,12 +35,11 @@ begins_some q p rank s =
     omega arith
 
 -- a prefix that is refused
-pub refused : (q : Question) (p : List (Option ℕ)) (rank count : ℕ) → IsSearch q.space q.from q.stop → StandsAt q p rank → q.admits p ≡ false →
-    count ≡ length (filter (begins p) (lists_of q.space)) →
+pub refused : (q : Question) (p : List (Option ℕ)) (rank count : ℕ) → IsSearch q.space q.from q.stop → StandsAt q p rank → q.admits p ≡ false → count ≡ length (ends q.space p) →
     IsTurn (left_at q p rank) None (left_after q p (rank + count)) × IsDone q p (rank + count)
 unfolding left_at left_after
 refused q p rank count w s refusal c =
-    let same : count ≡ length (ends q.space p) = c ∙ begun q.space p s.short s.start.0 in
+    let same : count ≡ length (ends q.space p) = c in
     let at : rank ≡ base_of q.space p = s.at in (
       record {
         leaves = ap (leaves_from q) s.at ∙ leaves_refused q p s.start.0 s.short refusal
@@ -111,11 +111,11 @@ pub turn_to : (old : Left) (leaf : Option Leaf) (mid new : Left) → IsTurn old 
 turn_to old leaf mid new t e = let P : Left → Type 0 = λ x. IsTurn old leaf x in subst P e t
 
 -- where a walk begins
-pub first_leaves : (q : Question) (p : List (Option ℕ)) → p ≡ [] → (left_at q p 0).leaves ≡ survivors q
+first_leaves : (q : Question) (p : List (Option ℕ)) → p ≡ [] → (left_at q p 0).leaves ≡ survivors q
 unfolding left_at
 first_leaves q p e = leaves_start q
 
-pub first_allowance : (q : Question) (p : List (Option ℕ)) → p ≡ [] → (left_at q p 0).allowance ≡ tests q q.space.members []
+first_allowance : (q : Question) (p : List (Option ℕ)) → p ≡ [] → (left_at q p 0).allowance ≡ tests q q.space.members []
 unfolding left_at after_back
 first_allowance q p e =
     ap (λ (t : List (Option ℕ)). tests q (q.space.members - length t) t + after_back q (reverse t)) e
@@ -127,13 +127,13 @@ unmet_tests q zero e = rw e refl
 unmet_tests q (suc places) e = rw e refl
 
 -- with no rank in the range nothing is tested
-pub no_tests : (q : Question) (total : ℕ) → IsSearch q.space q.from q.stop → total ≡ length (lists_of q.space) → overlaps q.from q.stop 0 total ≡ false → 0 ≡ tests q q.space.members []
+no_tests : (q : Question) (total : ℕ) → IsSearch q.space q.from q.stop → total ≡ length (lists_of q.space) → overlaps q.from q.stop 0 total ≡ false → 0 ≡ tests q q.space.members []
 unfolding base_back
 no_tests q total w e o =
     let none : meets q [] ≡ false = meets_is q [] w tt (omega arith) ∙ ap (overlaps q.from q.stop 0) (ap length (ends_of_nothing q.space) ∙ sym e) ∙ o in
     sym (unmet_tests q q.space.members none)
 
-pub first_stands : (q : Question) (p : List (Option ℕ)) (total : ℕ) → p ≡ [] → total ≡ length (lists_of q.space) → overlaps q.from q.stop 0 total ≡ true → StandsAt q p 0
+first_stands : (q : Question) (p : List (Option ℕ)) (total : ℕ) → p ≡ [] → total ≡ length (lists_of q.space) → overlaps q.from q.stop 0 total ≡ true → StandsAt q p 0
 unfolding base_back is_distinct
 first_stands q p total none e o =
     let P : List (Option ℕ) → Type 0 = λ t. StandsAt q t 0 in
@@ -148,17 +148,47 @@ first_stands q p total none e o =
 pub total_sum : (s : Space) (total : ℕ) → s.images ≤ MOST → s.members ≤ MOST → total ≡ length (lists_of s) → 0 + total ≤ (MOST + 1) ^ MOST
 total_sum s total n m e = let f : length (lists_of s) ≤ (MOST + 1) ^ MOST = total_fits s n m in omega arith
 
-pub first_nothing : (q : Question) (total : ℕ) → IsSearch q.space q.from q.stop → total ≡ length (lists_of q.space) → overlaps q.from q.stop 0 total ≡ false → [] ≡ survivors q
+first_nothing : (q : Question) (total : ℕ) → IsSearch q.space q.from q.stop → total ≡ length (lists_of q.space) → overlaps q.from q.stop 0 total ≡ false → [] ≡ survivors q
 first_nothing q total w e o =
     let out : min q.stop (0 + total) ≤ max q.from 0 = ltb-false (max q.from 0) (min q.stop (0 + total)) o in
     let ranks : q.stop ≤ length (lists_of q.space) = w.ranks in
     let m : q.stop ≤ q.from = omega arith in
     sym (none_left q q.from q.stop m)
 
+pub record IsBegun (q : Question) (walk : Walk) : Type 0 where
+  pub leaves : (left_from q walk).leaves ≡ survivors q
+  pub allowance : (left_from q walk).allowance ≡ tests q q.space.members []
+  pub stands : MayStand q walk
+
+pub begun_walk : (q : Question) (walk : Walk) (total : ℕ) (met : Bool) → IsSearch q.space q.from q.stop → total ≡ length (lists_of q.space) → met ≡ overlaps q.from q.stop 0 total →
+    walk.slots.items ≡ [] → walk.rank ≡ 0 → walk.going ≡ met → IsBegun q walk
+begun_walk q walk total met w e m none zero_rank going = elim (cases_Bool walk.going) [
+  | inl t ↦ (let o : overlaps q.from q.stop 0 total ≡ true = sym m ∙ sym going ∙ t in
+      record {
+        leaves = ap (λ (b : Bool). (cond b (left_at q walk.slots.items walk.rank) nothing_left).leaves) t
+            ∙ ap (λ (r : ℕ). (left_at q walk.slots.items r).leaves) zero_rank ∙ first_leaves q walk.slots.items none;
+        allowance = ap (λ (b : Bool). (cond b (left_at q walk.slots.items walk.rank) nothing_left).allowance) t
+            ∙ ap (λ (r : ℕ). (left_at q walk.slots.items r).allowance) zero_rank ∙ first_allowance q walk.slots.items none;
+        stands = λ _. subst (λ (r : ℕ). StandsAt q walk.slots.items r) (sym zero_rank) (first_stands q walk.slots.items total none e o);
+      })
+  | inr f ↦ (let o : overlaps q.from q.stop 0 total ≡ false = sym m ∙ sym going ∙ f in
+      record {
+        leaves = ap (λ (b : Bool). (cond b (left_at q walk.slots.items walk.rank) nothing_left).leaves) f ∙ first_nothing q total w e o;
+        allowance = ap (λ (b : Bool). (cond b (left_at q walk.slots.items walk.rank) nothing_left).allowance) f ∙ no_tests q total w e o;
+        stands = λ t. absurd (search rules);
+      })
+]
+
+-- a walk that goes on, and one at its end
+pub goes_on : (q : Question) (walk : Walk) → walk.going ≡ true → left_from q walk ≡ left_at q walk.slots.items walk.rank
+goes_on q walk t = ap (λ (b : Bool). cond b (left_at q walk.slots.items walk.rank) nothing_left) t
+
+pub is_over : (q : Question) (walk : Walk) → walk.going ≡ false → left_from q walk ≡ nothing_left
+is_over q walk f = ap (λ (b : Bool). cond b (left_at q walk.slots.items walk.rank) nothing_left) f
+
 -- ranks are counted in 128 bits
-pub done_fits : (q : Question) (p : List (Option ℕ)) (rank count : ℕ) → IsSearch q.space q.from q.stop → StandsAt q p rank → count ≡ length (filter (begins p) (lists_of q.space)) → rank + count ≤ (MOST + 1) ^ MOST
+pub done_fits : (q : Question) (p : List (Option ℕ)) (rank count : ℕ) → IsSearch q.space q.from q.stop → StandsAt q p rank → count ≡ length (ends q.space p) → rank + count ≤ (MOST + 1) ^ MOST
 done_fits q p rank count w s c =
-    let same : count ≡ length (ends q.space p) = c ∙ begun q.space p s.short s.start.0 in
     let at : rank ≡ base_of q.space p = s.at in
     let within : base_of q.space p + length (ends q.space p) ≤ length (lists_of q.space) = (block_of q.space p s.start.0 s.short).within in
     let total : length (lists_of q.space) ≤ (MOST + 1) ^ MOST = total_fits q.space w.images w.members in
@@ -180,3 +210,24 @@ pub rank_below : (q : Question) (p : List (Option ℕ)) (rank : ℕ) → StandsA
 rank_below q p rank s =
     let some : max q.from rank < min q.stop (rank + length (ends q.space p)) = some_overlap q.from q.stop rank (length (ends q.space p)) s.meeting in
     omega arith
+
+-- a list that is met
+pub met_below : (q : Question) (p : List (Option ℕ)) (rank : ℕ) → IsMet q p rank → rank < q.stop
+met_below q p rank m = rank_below q p rank m.stands
+
+pub met_done : (q : Question) (p : List (Option ℕ)) (rank : ℕ) → IsSearch q.space q.from q.stop → IsMet q p rank → IsDone q p (rank + 1)
+met_done q p rank w m = (met q p rank w m.stands m.admitted m.long).1
+
+pub met_turn : (q : Question) (p : List (Option ℕ)) (rank : ℕ) (leaf : Leaf) (new : Left) → IsSearch q.space q.from q.stop → IsMet q p rank → leaf.rank ≡ rank → leaf.slots.items ≡ p →
+    left_after q p (rank + 1) ≡ new → IsTurn (left_at q p rank) (Some leaf) new
+met_turn q p rank leaf new w m r s e =
+    let P : Leaf → Type 0 = λ l. IsTurn (left_at q p rank) (Some l) new in
+    let same : leaf_of leaf.rank leaf.slots.items ≡ leaf_of rank p = ap₂ leaf_of r s in
+    subst P (sym same) (turn_to (left_at q p rank) (Some (leaf_of rank p)) (left_after q p (rank + 1)) new (met q p rank w m.stands m.admitted m.long).0 e)
+
+-- a turn that meets none
+pub same_leaves : (q : Question) (old : Walk) (new : Left) → old.going ≡ true → IsTurn (left_at q old.slots.items old.rank) None new → (left_from q old).leaves ≡ new.leaves
+same_leaves q old new t turn = ap (λ (l : Left). l.leaves) (goes_on q old t) ∙ turn.leaves
+
+pub one_less : (q : Question) (old : Walk) (new : Left) → old.going ≡ true → IsTurn (left_at q old.slots.items old.rank) None new → (left_from q old).allowance ≡ new.allowance + 1
+one_less q old new t turn = ap (λ (l : Left). l.allowance) (goes_on q old t) ∙ turn.cost

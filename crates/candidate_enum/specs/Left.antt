@@ -1,5 +1,5 @@
 -- What a walk has before it, and where it stands.
-use Rattle.std.specs.Prelude.{ℕ, suc, ◌≡◌, ◌+◌, ◌-◌, ◌<◌, ◌≤◌, min, max, Bool, true, nat_lt, List, [], ◌∷◌, ◌++◌, length, take, drop, reverse, sum_by, Option, Some, None}
+use Rattle.std.specs.Prelude.{ℕ, suc, ◌≡◌, ◌+◌, ◌-◌, ◌<◌, ◌≤◌, min, max, Bool, true, nat_lt, if◌then◌else◌, List, [], ◌∷◌, ◌++◌, length, take, drop, reverse, sum_by, Option, Some, None}
 use Rattle.raid_params.specs.declared.limits.TheConstants.{MOST}
 use Rattle.search_terms.specs.SlotLists.{fillings}
 use Rattle.slot_math.specs.Space.{lists_of}
@@ -8,9 +8,7 @@ use Rattle.slot_math.specs.declared.space.Space.{Space}
 use Rattle.candidate_enum.specs.Survivors.{Question, admitted_leaves}
 use Rattle.candidate_enum.specs.Tests.{tests}
 use Rattle.candidate_enum.specs.declared.leaf.Leaf.{Leaf}
-use Rattle.candidate_enum.specs.declared.place.Place.{Place}
-use Rattle.candidate_enum.specs.declared.place.Child.{Child}
-use Rattle.candidate_enum.specs.declared.place.Child.TheVariants.{At, Nowhere}
+use Rattle.candidate_enum.specs.declared.walk.Walk.{Walk}
 
 -- the leaves that a walk still gives, and how many tests it may still take
 pub record Left : Type 0 where
@@ -62,10 +60,9 @@ left_after q p rank = record { leaves = leaves_from q rank; allowance = after_ba
 unfoldable pub left_children : Question → List (Option ℕ) → ℕ → ℕ → Left
 left_children q p j rank = record { leaves = leaves_from q rank; allowance = children_tests q p j + after_back q (reverse p) }
 
--- a walk at a place, or at its end
-abbrev pub left_from : Question → Option Place → Left
-left_from q None = nothing_left
-left_from q (Some place) = left_at q place.slots.items place.rank
+-- a walk at a prefix, or at its end
+abbrev pub left_from : Question → Walk → Left
+left_from q walk = if walk.going then left_at q walk.slots.items walk.rank else nothing_left
 
 -- a space that is not too large, and a range of its ranks
 pub record IsSearch (s : Space) (from stop : ℕ) : Type 0 where
@@ -105,10 +102,15 @@ pub record StandsAt (q : Question) (p : List (Option ℕ)) (rank : ℕ) : Type 0
   pub parents : Admitted q p (length p)
   pub meeting : overlaps q.from q.stop rank (length (ends q.space p)) ≡ true
 
--- a walk that has come to a place, or to its end
-abbrev pub MayStand : Question → Option Place → Type 0
-MayStand q None = Unit {0}
-MayStand q (Some place) = StandsAt q place.slots.items place.rank
+-- a walk stands at a whole list that is admitted
+pub record IsMet (q : Question) (p : List (Option ℕ)) (rank : ℕ) : Type 0 where
+  pub stands : StandsAt q p rank
+  pub long : length p ≡ q.space.members
+  pub admitted : q.admits p ≡ true
+
+-- a walk that has come to a prefix, or to its end
+abbrev pub MayStand : Question → Walk → Type 0
+MayStand q walk = walk.going ≡ true → StandsAt q walk.slots.items walk.rank
 
 abbrev pub leaf_list : Option Leaf → List Leaf
 leaf_list None = []
@@ -119,7 +121,17 @@ pub record IsTurn (old : Left) (leaf : Option Leaf) (new : Left) : Type 0 where
   pub leaves : old.leaves ≡ leaf_list leaf ++ new.leaves
   pub cost : old.allowance ≡ new.allowance + 1
 
--- what was found among the prefixes of one place more than p, from filling j on
-abbrev pub IsChild : Question → List (Option ℕ) → ℕ → ℕ → Child → Type 0
-IsChild q p j rank (At y at) = (left_children q p j rank ≡ left_at q (p ++ y ∷ []) at) × StandsAt q (p ++ y ∷ []) at
-IsChild q p j rank (Nowhere at) = (left_children q p j rank ≡ left_after q p at) × IsDone q p at
+-- how far a look among the prefixes of one place more than p has come: what was left at first is left from filling j on
+pub record Looked (q : Question) (p : List (Option ℕ)) (old : Left) (j at : ℕ) : Type 0 where
+  pub same : old ≡ left_children q p j at
+  pub parent : IsParent q p j at
+
+-- a look has found a prefix
+pub record IsFound (q : Question) (old : Left) (p : List (Option ℕ)) (at : ℕ) : Type 0 where
+  pub same : old ≡ left_at q p at
+  pub stands : StandsAt q p at
+
+-- a look has found none: the walk is done with the prefix
+pub record IsPassed (q : Question) (old : Left) (p : List (Option ℕ)) (at : ℕ) : Type 0 where
+  pub same : old ≡ left_after q p at
+  pub done : IsDone q p at

@@ -2,19 +2,23 @@
 //!
 //! A [`Family`] means a space of slot lists and a test of prefixes. [`Survivors`] gives the lists
 //! of a range of ranks whose every prefix passes that test, in order of rank. It goes from one
-//! untested prefix to the next by counts, keeps no list of ranks, and takes no memory.
+//! untested prefix to the next by counts, which stand in a table of the space, changes its prefix in
+//! place, keeps no list of ranks, and takes no memory.
 //!
 //! `page_engine` walks the slot lists of a head with it. What survives stands in
 //! `specs/Survivors`, how many tests a walk may take in `specs/Tests`, and where it stands in
-//! `specs/Left`. The laws: the leaves by their ranks, and that each leaf holds the list of its rank.
+//! `specs/Left`; what it keeps of its prefix in `specs/Kept`, and the table in `specs/Counts`. The
+//! laws: the leaves by their ranks, and that each leaf holds the list of its rank.
 #![tactic(auto)]
 
+mod counts;
 mod family;
+mod going;
 mod laws;
 mod leaf;
-mod place;
 mod search;
 mod survivors;
+mod walk;
 
 pub use family::Family;
 pub use laws::{survivors_are_lists, survivors_by_rank};

@@ -4,12 +4,15 @@ ghost use Rattle.std.specs.Iterator.{YieldsFirst, item_count};
 ghost use Rattle.slot_math.specs.Space.{lists_of};
 ghost use Rattle.candidate_enum.specs.Survivors.{question, survivors};
 ghost use Rattle.candidate_enum.specs.Tests.{tests};
-ghost use Rattle.candidate_enum.specs.Left.{Left, IsTurn, IsSearch, MayStand, left_from, nothing_left};
+ghost use Rattle.candidate_enum.specs.Counts.{IsTable};
+ghost use Rattle.candidate_enum.specs.Kept.{IsKept};
+ghost use Rattle.candidate_enum.specs.Left.{Left, IsSearch, MayStand, left_from, nothing_left};
 
+use crate::counts::counts_of;
 use crate::family::Family;
 use crate::leaf::Leaf;
-use crate::place::Place;
 use crate::search::Search;
+use crate::walk::Walk;
 use raid_params::MOST;
 use std::marker::Model;
 use std::sync::ledger::Ledger;
@@ -21,15 +24,15 @@ use step_count::Steps;
 #[derive(Drop)]
 pub struct Survivors<'a, F: Family> {
     search: Search<'a, F>,
-    place: Option<Place>,
+    walk: Walk,
 }
 
 impl<'a, F: Family> Model for Survivors<'a, F> {
     ghost Value = { Left };
 
-    ghost view = { λ s. left_from (question s.search.space (F.admits s.search.family.now) s.search.from s.search.stop) s.place };
+    ghost view = { λ s. left_from (question s.search.space (F.admits s.search.family.now) s.search.from s.search.stop) s.walk };
 
-    ghost invariant = { λ s. (s.search.space ≡ F.space_of s.search.family.now) × IsSearch s.search.space s.search.from s.search.stop × MayStand (question s.search.space (F.admits s.search.family.now) s.search.from s.search.stop) s.place };
+    ghost invariant = { λ s. (s.search.space ≡ F.space_of s.search.family.now) × IsSearch s.search.space s.search.from s.search.stop × IsTable s.search.space s.search.counts × IsKept s.walk.slots.items s.walk.free s.walk.empty × MayStand (question s.search.space (F.admits s.search.family.now) s.search.from s.search.stop) s.walk };
 }
 
 impl<'a, F: Family> Survivors<'a, F> {
@@ -47,25 +50,12 @@ impl<'a, F: Family> Survivors<'a, F> {
         let search = Search {
             family,
             space,
+            counts: counts_of(&space),
             from,
             stop,
         };
-        let place = search.first_place();
-        Survivors { search, place }
-    }
-
-    /// One test, or none where the walk is at its end.
-    fn go_on(&mut self) -> Option<Option<Leaf>>
-        ensures { MatchOption result ((self.old ≡ nothing_left) × (self.new ≡ nothing_left)) (λ leaf. IsTurn self.old leaf self.new) }
-    {
-        match self.place.take() {
-            None => None,
-            Some(place) => {
-                let turn = self.search.take_turn(place);
-                self.place = turn.place;
-                Some(turn.leaf)
-            }
-        }
+        let walk = search.first_walk();
+        Survivors { search, walk }
     }
 
     /// The next leaf, or None exactly where none is left. It counts a step for each test of a
@@ -76,13 +66,11 @@ impl<'a, F: Family> Survivors<'a, F> {
         ensures cost { (steps.new - steps.old) + self.new.allowance ≡ self.old.allowance }
         ensures counts { steps.old ≤ steps.new }
     {
-        while let Some(leaf) = self.go_on() {
-            steps.tick();
-            if leaf.is_some() {
-                return leaf;
-            }
+        if !self.search.to_leaf_counted(&mut self.walk, steps) {
+            return None;
         }
-        None
+        steps.tick();
+        Some(self.search.take_leaf(&mut self.walk))
     }
 }
 
@@ -94,11 +82,9 @@ impl<'a, F: Family> Iterator for Survivors<'a, F> {
     ghost remaining = { item_count (λ s. s.leaves) };
 
     fn next(&mut self) -> Option<Leaf> {
-        while let Some(leaf) = self.go_on() {
-            if leaf.is_some() {
-                return leaf;
-            }
+        if !self.search.to_leaf(&mut self.walk) {
+            return None;
         }
-        None
+        Some(self.search.take_leaf(&mut self.walk))
     }
 }

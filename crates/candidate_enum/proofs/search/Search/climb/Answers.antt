@@ -1,17 +1,49 @@
-use Rattle.std.proofs.Common.{sym, subst, ℕ}
+use Rattle.std.proofs.Common.{sym, ◌∙◌}
+use Rattle.raid_params.specs.declared.limits.TheConstants.{MOST}
 use Rattle.candidate_enum.specs.Survivors.{question}
-use Rattle.candidate_enum.specs.Left.{IsParent}
+use Rattle.candidate_enum.proofs.Keeping.{more_images}
 use Rattle.candidate_enum.proofs.Moves.{popped}
+use Rattle.candidate_enum.proofs.Turns.{goes_on}
 use Rattle.candidate_enum.proofs.search.Search.climb.Goals as goal
 
-pub next_filling-next-requires-clause-place : goal.next_filling-next-requires-clause-place
-next_filling-next-requires-clause-place g c =
-    let q = question c.args.self.now.space (g.F.Family.admits c.args.self.now.family.now) c.args.self.now.from c.args.self.now.stop in
-    (popped q c.loop-last.slots.items c.pop.new.self.items c.loop-last.at c.in-Some.last c.loop-last.invariant.done c.in-Some.ensures.items).2
+pub pop-requires-clause-images : goal.pop-requires-clause-images
+pop-requires-clause-images g c = more_images c.args.self.now.space.images MOST c.loop-last.walk.slots.items c.requires.search.images c.loop-last.invariant.done.start.0
 
-pub next_child-requires-clause-parent : goal.next_child-requires-clause-parent
-next_child-requires-clause-parent g c =
+pub next_after-requires-clause-place : goal.next_after-requires-clause-place
+next_after-requires-clause-place g c =
     let q = question c.args.self.now.space (g.F.Family.admits c.args.self.now.family.now) c.args.self.now.from c.args.self.now.stop in
-    let P : ℕ → Type 0 = λ j. IsParent q c.pop.new.self.items j c.loop-last.at in
-    subst P (sym c.next_filling-next.ensures)
-    (popped q c.loop-last.slots.items c.pop.new.self.items c.loop-last.at c.in-Some.last c.loop-last.invariant.done c.in-Some.ensures.items).1
+    let old = c.loop-last.walk.slots.items in
+    let new = c.pop.new.self in
+    let h = popped q old new.slots.items c.loop-last.walk.rank new.rank c.in-Some.last c.loop-last.invariant.done c.in-Some.ensures.slots c.pop.ensures.rank in
+    h.place
+
+pub next_after-requires-clause-parent : goal.next_after-requires-clause-parent
+next_after-requires-clause-parent g c =
+    let q = question c.args.self.now.space (g.F.Family.admits c.args.self.now.family.now) c.args.self.now.from c.args.self.now.stop in
+    let old = c.loop-last.walk.slots.items in
+    let new = c.pop.new.self in
+    let h = popped q old new.slots.items c.loop-last.walk.rank new.rank c.in-Some.last c.loop-last.invariant.done c.in-Some.ensures.slots c.pop.ensures.rank in
+    h.parent
+
+pub returns-then-next_after-clause-left : goal.returns-then-next_after-clause-left
+returns-then-next_after-clause-left g c =
+    let q = question c.args.self.now.space (g.F.Family.admits c.args.self.now.family.now) c.args.self.now.from c.args.self.now.stop in
+    let old = c.loop-last.walk.slots.items in
+    let new = c.pop.new.self in
+    let h = popped q old new.slots.items c.loop-last.walk.rank new.rank c.in-Some.last c.loop-last.invariant.done c.in-Some.ensures.slots c.pop.ensures.rank in
+    let f = c.next_after.ensures.found c.if-next_after.true in
+    c.loop-last.invariant.same ∙ h.same ∙ f.same ∙ sym (goes_on q c.next_after.new.walk (c.next_after.ensures.going ∙ c.pop.ensures.going ∙ c.loop-last.invariant.going))
+
+pub loop-last-preserved : goal.loop-last-preserved
+loop-last-preserved g c =
+    let q = question c.args.self.now.space (g.F.Family.admits c.args.self.now.family.now) c.args.self.now.from c.args.self.now.stop in
+    let old = c.loop-last.walk.slots.items in
+    let new = c.pop.new.self in
+    let h = popped q old new.slots.items c.loop-last.walk.rank new.rank c.in-Some.last c.loop-last.invariant.done c.in-Some.ensures.slots c.pop.ensures.rank in
+    let f = c.next_after.ensures.passed c.if-next_after.false in
+    record {
+      same = c.loop-last.invariant.same ∙ h.same ∙ f.same;
+      done = f.done;
+      kept = c.next_after.ensures.kept;
+      going = c.next_after.ensures.going ∙ c.pop.ensures.going ∙ c.loop-last.invariant.going;
+    }

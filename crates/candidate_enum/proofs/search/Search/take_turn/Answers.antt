@@ -1,39 +1,72 @@
-use Rattle.std.proofs.Common.{sym, ◌∙◌, subst, ◌≤◌, ◌<◌, ◌+◌, ◌^◌, ◌≡◌, length, arith}
+use Rattle.std.proofs.Common.{sym, ◌∙◌, subst, ◌≤◌, ◌<◌, ◌+◌, ◌^◌, ◌≡◌, length, arith, None}
 use Rattle.raid_params.specs.declared.limits.TheConstants.{MOST}
 use Rattle.std.specs.List.{filter}
 use Rattle.slot_math.specs.Space.{begins, lists_of}
 use Rattle.slot_math.specs.declared.space.Space.{Space}
 use Rattle.candidate_enum.specs.Survivors.{question}
-use Rattle.candidate_enum.proofs.Turns.{refused, met, deeper, begins_some, done_fits}
+use Rattle.candidate_enum.specs.Left.{left_at, left_after, left_children, left_from}
+use Rattle.candidate_enum.proofs.Looks.{here_within, standing_count}
+use Rattle.candidate_enum.proofs.Turns.{refused, deeper, begins_some, done_fits, turn_to}
 use Rattle.candidate_enum.proofs.search.Search.take_turn.Goals as goal
 
 pub may_pass-requires : goal.may_pass-requires
 may_pass-requires g c =
     let q = question c.args.self.now.space (g.F.Family.admits c.args.self.now.family.now) c.args.self.now.from c.args.self.now.stop in
-    let P : Space → Type 0 = λ s. 0 < length (filter (begins c.args.place.slots.items) (lists_of s)) in
-    subst P c.requires.family (begins_some q c.args.place.slots.items c.args.place.rank c.requires.stands)
+    let P : Space → Type 0 = λ s. 0 < length (filter (begins c.args.walk.now.slots.items) (lists_of s)) in
+    subst P c.requires.family (begins_some q c.args.walk.now.slots.items c.args.walk.now.rank c.requires.stands)
 
-pub overflow_add-next : goal.overflow_add-next
-overflow_add-next g c =
+pub ways-requires-clause-within : goal.ways-requires-clause-within
+ways-requires-clause-within g c =
     let q = question c.args.self.now.space (g.F.Family.admits c.args.self.now.family.now) c.args.self.now.from c.args.self.now.stop in
-    let fits : c.args.place.rank + c.completions.result ≤ (MOST + 1) ^ MOST = done_fits q c.args.place.slots.items c.args.place.rank c.completions.result c.requires.search c.requires.stands c.completions.ensures in
+    here_within q c.args.walk.now.slots.items c.args.walk.now.free c.args.walk.now.empty c.len-count.result c.requires.kept c.requires.stands.short c.len-count.ensures.value
+
+pub overflow_add-walk : goal.overflow_add-walk
+overflow_add-walk g c =
+    let q = question c.args.self.now.space (g.F.Family.admits c.args.self.now.family.now) c.args.self.now.from c.args.self.now.stop in
+    let p = c.args.walk.now.slots.items in
+    let rank = c.args.walk.now.rank in
+    let n = standing_count q p rank c.args.walk.now.free c.args.walk.now.empty c.len-count.result c.ways.result c.requires.kept c.requires.stands c.len-count.ensures.value c.ways.ensures in
+    let fits : rank + c.ways.result ≤ (MOST + 1) ^ MOST = done_fits q p rank c.ways.result c.requires.search c.requires.stands n in
     omega arith
 
 pub climb-requires-clause-done : goal.climb-requires-clause-done
 climb-requires-clause-done g c =
     let q = question c.args.self.now.space (g.F.Family.admits c.args.self.now.family.now) c.args.self.now.from c.args.self.now.stop in
-    (refused q c.args.place.slots.items c.args.place.rank c.completions.result c.requires.search c.requires.stands (sym c.may_pass.ensures ∙ c.if-not-may_pass.true) c.completions.ensures).1
+    let p = c.args.walk.now.slots.items in
+    let rank = c.args.walk.now.rank in
+    let n = standing_count q p rank c.args.walk.now.free c.args.walk.now.empty c.len-count.result c.ways.result c.requires.kept c.requires.stands c.len-count.ensures.value c.ways.ensures in
+    (refused q p rank c.ways.result c.requires.search c.requires.stands (sym c.may_pass.ensures ∙ c.if-not-may_pass.true) n).1
+
+pub returns-then-not-may_pass-clause-passed : goal.returns-then-not-may_pass-clause-passed
+returns-then-not-may_pass-clause-passed g c = λ _.
+    let q = question c.args.self.now.space (g.F.Family.admits c.args.self.now.family.now) c.args.self.now.from c.args.self.now.stop in
+    let p = c.args.walk.now.slots.items in
+    let rank = c.args.walk.now.rank in
+    let n = standing_count q p rank c.args.walk.now.free c.args.walk.now.empty c.len-count.result c.ways.result c.requires.kept c.requires.stands c.len-count.ensures.value c.ways.ensures in
+    turn_to (left_at q p rank) None (left_after q p (rank + c.ways.result)) (left_from q c.climb.new.walk)
+    (refused q p rank c.ways.result c.requires.search c.requires.stands (sym c.may_pass.ensures ∙ c.if-not-may_pass.true) n).0 c.climb.ensures.left
 
 pub descend-requires-clause-parent : goal.descend-requires-clause-parent
 descend-requires-clause-parent g c =
     let q = question c.args.self.now.space (g.F.Family.admits c.args.self.now.family.now) c.args.self.now.from c.args.self.now.stop in
-    let short : length c.args.place.slots.items < c.args.self.now.space.members = (let n = c.len.ensures.value in let lt = c.if-len-self.true in omega arith) in
-    (deeper q c.args.place.slots.items c.args.place.rank c.requires.search c.requires.stands (sym c.may_pass.ensures ∙ c.if-not-may_pass.false) short).1
+    let p = c.args.walk.now.slots.items in
+    let rank = c.args.walk.now.rank in
+    let short : length p < c.args.self.now.space.members = (let n = c.len-count.ensures.value in let lt = c.if-count-members.true in omega arith) in
+    (deeper q p rank c.requires.search c.requires.stands (sym c.may_pass.ensures ∙ c.if-not-may_pass.false) short).1
 
-pub climb-requires-2-clause-done : goal.climb-requires-2-clause-done
-climb-requires-2-clause-done g c =
+pub returns-then-count-members-clause-passed : goal.returns-then-count-members-clause-passed
+returns-then-count-members-clause-passed g c = λ _.
     let q = question c.args.self.now.space (g.F.Family.admits c.args.self.now.family.now) c.args.self.now.from c.args.self.now.stop in
-    let n : c.len.result ≡ length c.args.place.slots.items = c.len.ensures.value in
-    let ge : c.args.self.now.space.members ≤ c.len.result = c.if-len-self.false in
-    let most : length c.args.place.slots.items ≤ c.args.self.now.space.members = c.requires.stands.short in
-    (met q c.args.place.slots.items c.args.place.rank c.requires.search c.requires.stands (sym c.may_pass.ensures ∙ c.if-not-may_pass.false) (omega arith)).1
+    let p = c.args.walk.now.slots.items in
+    let rank = c.args.walk.now.rank in
+    let short : length p < c.args.self.now.space.members = (let n = c.len-count.ensures.value in let lt = c.if-count-members.true in omega arith) in
+    turn_to (left_at q p rank) None (left_children q p 0 rank) (left_from q c.descend.new.walk)
+    (deeper q p rank c.requires.search c.requires.stands (sym c.may_pass.ensures ∙ c.if-not-may_pass.false) short).0 c.descend.ensures.left
+
+pub returns-clause-met : goal.returns-clause-met
+returns-clause-met g c = λ _.
+    let p = c.args.walk.now.slots.items in
+    let n : c.len-count.result ≡ length p = c.len-count.ensures.value in
+    let ge : c.args.self.now.space.members ≤ c.len-count.result = c.if-count-members.false in
+    let most : length p ≤ c.args.self.now.space.members = c.requires.stands.short in
+    record { stands = c.requires.stands; long = omega arith; admitted = sym c.may_pass.ensures ∙ c.if-not-may_pass.false }

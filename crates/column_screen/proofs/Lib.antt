@@ -1,0 +1,10 @@
+pub mod Counting
+pub mod Screened
+pub mod SlotSums
+pub mod RowTests
+pub mod Sectors
+pub mod Ordered
+pub mod Taking
+pub mod Table
+pub mod Keeping
+pub mod Verdict

@@ -57,7 +57,7 @@ EndsPage plan from old new Memory = new.faults ≡ old.faults
 unfoldable pub scans : Option (List (List ℕ)) → Plan → ℕ → ℕ → ℕ
 scans told plan from to = min (open_ranks told plan from to) ((hopeful_ranks told plan from to + 4095) / 4096)
 
--- for those of all offsets
+-- for the tables and samples of all offsets
 unfoldable pub table_reads : Plan → ℕ
 table_reads plan = sum_by (offset_reads plan) plan.bounds.offsets.items
 

@@ -34,7 +34,7 @@ each_number p h a zero = refl
 each_number p h a (suc n) = ap₂ (λ (x y : Bool). x && y) (h a) (each_number p h (a + 1) n)
 
 -- a test that holds of each prefix
-each_prefix : (admits : List (Option ℕ) → Bool) (slots : List (Option ℕ)) → ((k : ℕ) → admits (take k slots) ≡ true) → all_admitted admits slots ≡ true
+pub each_prefix : (admits : List (Option ℕ) → Bool) (slots : List (Option ℕ)) → ((k : ℕ) → admits (take k slots) ≡ true) → all_admitted admits slots ≡ true
 unfolding all_admitted
 each_prefix admits slots h = each_number (λ k. admits (take k slots)) h 0 (length slots + 1)
 

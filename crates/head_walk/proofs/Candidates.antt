@@ -1,5 +1,5 @@
 -- Candidates that pass without a test, and pages in which one waits.
-use Rattle.std.proofs.Common.{drop, ℕ, zero, suc, ◌≡◌, ◌⊎◌, ◌<◌, ◌≤◌, ◌+◌, ◌-◌, Bool, true, false, ◌||◌, ◌&&◌, nat_le, List, [], ◌∷◌, ◌++◌, length, map, get_or, take, refl, sym, ap, ◌∙◌, subst, arith, Option, Some, None, Result, Ok, Err, IfOk, IfSome, IsErr, All, slice_get, inl, inr}
+use Rattle.std.proofs.Common.{drop, ℕ, zero, suc, ◌≡◌, ◌⊎◌, ◌<◌, ◌≤◌, ◌+◌, Bool, true, false, ◌||◌, ◌&&◌, nat_le, List, [], ◌∷◌, ◌++◌, length, map, get_or, take, refl, sym, ap, ◌∙◌, subst, arith, Option, Some, None, Result, Ok, Err, IfOk, IfSome, IsErr, All, slice_get, inl, inr}
 use Rattle.std.specs.Option.{is_some, option_map_or}
 use Rattle.std.specs.List.{list_all, range_with_len, slice_index}
 use Rattle.std.proofs.lemmas.Bool.{and_parts, cases_Bool, cases_lt, le-leb, leb-true}

@@ -1,5 +1,5 @@
--- Tables of rows that are kept.
-use Rattle.std.proofs.Common.{ℕ, zero, suc, ◌≡◌, ◌<◌, ◌≤◌, ◌+◌, ◌-◌, ◌*◌, ◌||◌, ◌==◌, Bool, true, false, if◌then◌else◌, cond, List, [], ◌∷◌, ◌++◌, length, length-append, get_or, refl, sym, ap, ap₂, ◌∙◌, arith, Option, Some, None, IfSome, IsSomeAnd, Result, Ok, Err, IsErr, All, Contains, slice_get, inl, inr, subst}
+-- What is kept of offsets.
+use Rattle.std.proofs.Common.{ℕ, zero, suc, ◌≡◌, ◌<◌, ◌≤◌, ◌+◌, ◌*◌, min, ◌||◌, ◌==◌, Bool, true, false, if◌then◌else◌, cond, List, [], ◌∷◌, ◌++◌, length, length-append, get_or, refl, sym, ap, ap₂, ◌∙◌, arith, Option, Some, None, IfSome, Result, Ok, Err, IsErr, All, Contains, slice_get, inl, inr, subst}
 use Rattle.std.specs.List.{list_any, position, position_from, slice_index, slice_index_or, sum_by}
 use Rattle.std.proofs.lemmas.Bool.{cases_Bool, cases_lt, eq-eqb, eqb-true}
 use Rattle.std.proofs.Math.Seq.{get_or-append_seam}
@@ -14,13 +14,18 @@ use Rattle.outside.specs.Seen.{OnlyReads, Seen}
 use Rattle.raid_params.specs.declared.types.Head.{Head}
 use Rattle.search_terms.specs.Product.{heads}
 use Rattle.search_plan.specs.declared.plan.Plan.{Plan}
-use Rattle.slot_math.proofs.Nested.{get_high}
-use Rattle.prune_filters.specs.Rows.{needs_table}
+use Rattle.column_screen.specs.declared.samples.TheConstants.{SAMPLES}
+use Rattle.prune_filters.specs.Rows.{needs_samples, needs_table}
 use Rattle.prune_filters.specs.Early.{AreEarlyTables, HasEarlyTable, IsEarlyTable}
 use Rattle.prune_filters.specs.Xors.{most_tested, RowTable}
-use Rattle.head_walk.specs.Counts.{asks_tables, offset_reads}
-use Rattle.head_walk.specs.Walk.{left_after, left_reads, IsKept, Spends, StandsFor}
+use Rattle.head_walk.specs.Counts.{asks_samples, asks_tables, offset_reads}
+use Rattle.head_walk.specs.Walk.{has_entry, left_after, left_reads, needs_entry, IsKept, Spends}
 use Rattle.head_walk.specs.declared.row_tables.OffsetTables.{OffsetTables}
+
+-- one of two is enough
+pub or_true : (a b : Bool) → b ≡ true → (a || b) ≡ true
+or_true true b e = refl
+or_true false b e = e
 
 -- nothing is found where nothing passes
 none_from : {X : Type 0} (t : X → Bool) (i : ℕ) (xs : List X) → position_from t i xs ≡ None → list_any t xs ≡ false
@@ -47,53 +52,41 @@ found_is chunks chunk place e =
     let found = position-Some (λ (one : ℕ). one == chunk) chunks place 0 e in
     (found.0, eqb-true (get_or chunks place 0) chunk found.1)
 
--- tables that were found
-pub found_stands : (offset : ℕ) (kept : List OffsetTables) (place : ℕ) → position (λ one. one.offset == offset) kept ≡ Some place → StandsFor offset place kept
-found_stands offset [] place e = absurd (cc)
-found_stands offset (first ∷ kept) place e =
-    let found = position-Some (λ one. one.offset == offset) (first ∷ kept) place first e in
-    let P : Option OffsetTables → Type 0 = λ o. IsSomeAnd o (λ k. k.offset ≡ offset) in
-    subst P (sym (slice_get-get_or (first ∷ kept) place first found.0)) (eqb-true (get_or (first ∷ kept) place first).offset offset found.1)
+-- what was found
+pub found_entry : (offset : ℕ) (kept : List OffsetTables) (place : ℕ) (one : OffsetTables) → position (λ k. k.offset == offset) kept ≡ Some place → one ≡ get_or kept place one →
+    (at : ℕ) × (slice_get kept at ≡ Some one) × (one.offset ≡ offset)
+found_entry offset kept place one e is =
+    let found = position-Some (λ (k : OffsetTables). k.offset == offset) kept place one e in (
+      place,
+      slice_get-get_or kept place one found.0 ∙ ap (λ (k : OffsetTables). let o : Option OffsetTables = Some k in o) (sym is),
+      ap (λ (k : OffsetTables). k.offset) is ∙ eqb-true (get_or kept place one).offset offset found.1,
+    )
 
--- tables that were made
-pub made_stands : (offset : ℕ) (old new : List OffsetTables) (one : OffsetTables) (place : ℕ) → new ≡ old ++ one ∷ [] → place ≡ length old → one.offset ≡ offset → StandsFor offset place new
-made_stands offset old new one place is at same =
-    let P : Option OffsetTables → Type 0 = λ o. IsSomeAnd o (λ k. k.offset ≡ offset) in
-    let found : slice_get new place ≡ Some one = ap (λ (l : List OffsetTables). slice_get l place) is ∙ get_high old (one ∷ []) place (omega arith) ∙ ap (slice_get (one ∷ [])) (let e : place - length old ≡ 0 = omega arith in e) in
-    subst P (sym found) same
+-- something was
+pub is_there : (offset : ℕ) (kept : List OffsetTables) → has_entry offset kept ≡ true → position (λ (k : OffsetTables). k.offset == offset) kept ≡ None → ⊥
+is_there offset kept has none = let bad : true ≡ false = sym has ∙ none_found (λ (k : OffsetTables). k.offset == offset) kept none in (cc)
 
--- tables that stand at a place stand within the list
-pub stands_within : (offset : ℕ) (kept : List OffsetTables) (place : ℕ) → StandsFor offset place kept → place < length kept
-stands_within offset kept place stands = by (slice_get kept place) refl stands
-  where
-    by : (o : Option OffsetTables) → slice_get kept place ≡ o → IsSomeAnd o (λ k. k.offset ≡ offset) → place < length kept
-    by None e s = absurd s
-    by (Some one) e s = slice_get_within kept place one e
+-- what was kept last is there
+pub kept_last : (old new : List OffsetTables) (one : OffsetTables) (offset : ℕ) → new ≡ old ++ one ∷ [] → one.offset ≡ offset → has_entry offset new ≡ true
+kept_last old new one offset is same =
+    ap (λ (l : List OffsetTables). list_any (λ (k : OffsetTables). k.offset == offset) l) is
+    ∙ list_any-append (λ (k : OffsetTables). k.offset == offset) old (one ∷ [])
+    ∙ or_true (list_any (λ (k : OffsetTables). k.offset == offset) old) (list_any (λ (k : OffsetTables). k.offset == offset) (one ∷ []))
+    (ap (λ (b : Bool). b || false) (eq-eqb one.offset offset same))
 
 -- each of those that are kept
 pub kept_at : (told : Option (List (List ℕ))) (plan : Plan) (kept : List OffsetTables) (place : ℕ) (one : OffsetTables) → All (IsKept told plan) kept → slice_get kept place ≡ Some one → IsKept told plan one
 kept_at told plan kept place one all e = subst (IsKept told plan) (get_or_from_slice_get kept place one one e) (all place one (slice_get_within kept place one e))
 
--- the table of the head
-abbrev pub IsAt : Plan → Head → List OffsetTables → ℕ → RowTable → Type 0
-IsAt plan head kept place table = (one : OffsetTables) → slice_get kept place ≡ Some one →
-    (c : ℕ) × (c < length plan.bounds.chunks.items) × (slice_index plan.bounds.chunks.items c ≡ head.chunk) × ((none : RowTable) → table ≡ slice_index_or one.tables.items c none)
-
--- it is the table that the head asks for
-pub kept_xors : (told : Option (List (List ℕ))) (plan : Plan) (head : Head) (kept : List OffsetTables) (place : ℕ) (table : RowTable) → All (IsKept told plan) kept → StandsFor head.offset place kept →
-    IsAt plan head kept place table → IfSome told (λ bytes. HasEarlyTable bytes plan head (Some table))
-kept_xors None plan head kept place table all stands is = tt
-kept_xors (Some bytes) plan head kept place table all stands is = λ needs. by (slice_get kept place) refl stands
-  where
-    by : (o : Option OffsetTables) → slice_get kept place ≡ o → IsSomeAnd o (λ k. k.offset ≡ head.offset) → IsEarlyTable bytes plan head.chunk head.offset table
-    by None e s = absurd s
-    by (Some one) e s =
-        let here : AreEarlyTables bytes plan plan.bounds.chunks.items one.offset one.tables.items = (kept_at (Some bytes) plan kept place one all e).tables in
-        let found = is one e in
-        let Q : ℕ → Type 0 = λ n. IsEarlyTable bytes plan n head.offset table in
-        let R : ℕ → Type 0 = λ n. IsEarlyTable bytes plan (slice_index plan.bounds.chunks.items found.0) n table in
-        let S : RowTable → Type 0 = λ t. IsEarlyTable bytes plan (slice_index plan.bounds.chunks.items found.0) one.offset t in
-        subst Q found.2 (subst R s (subst S (sym (found.3 table)) (here.each found.0 table found.1)))
+-- the table of the head, among those for each chunk
+pub table_of : (bytes : List (List ℕ)) (plan : Plan) (head : Head) (entry : OffsetTables) (place : ℕ) (table : RowTable) → entry.offset ≡ head.offset → place < length plan.bounds.chunks.items →
+    slice_index plan.bounds.chunks.items place ≡ head.chunk → table ≡ slice_index_or entry.tables.items place table →
+    AreEarlyTables bytes plan plan.bounds.chunks.items entry.offset entry.tables.items → IsEarlyTable bytes plan head.chunk head.offset table
+table_of bytes plan head entry place table same low chunk is are =
+    let Q : ℕ → Type 0 = λ n. IsEarlyTable bytes plan n head.offset table in
+    let R : ℕ → Type 0 = λ n. IsEarlyTable bytes plan (slice_index plan.bounds.chunks.items place) n table in
+    let S : RowTable → Type 0 = λ t. IsEarlyTable bytes plan (slice_index plan.bounds.chunks.items place) entry.offset t in
+    subst Q chunk (subst R same (subst S (sym is) (are.each place table low)))
 
 -- a head that needs no table
 pub no_table : (told : Option (List (List ℕ))) (plan : Plan) (head : Head) → needs_table plan head ≡ false → IfSome told (λ bytes. HasEarlyTable bytes plan head None)
@@ -122,11 +115,6 @@ fewer : (a b : Bool) (n : ℕ) → (if (a || b) then 0 else n) ≤ (if a then 0 
 fewer true b n = omega arith
 fewer false true n = omega arith
 fewer false false n = omega arith
-
--- one of two is enough
-or_true : (a b : Bool) → b ≡ true → (a || b) ≡ true
-or_true true b e = refl
-or_true false b e = e
 
 -- what is left to read for an offset
 left_of : Plan → List OffsetTables → ℕ → ℕ
@@ -178,15 +166,44 @@ kept_more told plan old new one grown all here = subst (λ (l : List OffsetTable
           subst (IsKept told plan) (sym last) here)
     ]
 
--- what is read for the tables of an offset, where a head needs one
-pub reads_offset : (plan : Plan) (head : Head) (chunks : List ℕ) (old new : Seen) → Contains (heads plan.bounds) head → needs_table plan head ≡ true → chunks ≡ plan.bounds.chunks.items →
-    OnlyReads old new (length plan.lengths.items * most_tested plan chunks head.offset) → OnlyReads old new (offset_reads plan head.offset)
-unfolding offset_reads asks_tables
-reads_offset plan head chunks old new (k, lt, e) needs is read =
-    let there : list_any (needs_table plan) (heads plan.bounds) ≡ true = list_any_at (needs_table plan) (heads plan.bounds) k head lt (ap (needs_table plan) e ∙ needs) in
-    let P : Bool → Type 0 = λ b. OnlyReads old new (if b then (length plan.lengths.items * most_tested plan plan.bounds.chunks.items head.offset) else 0) in
-    let Q : List ℕ → Type 0 = λ l. OnlyReads old new (length plan.lengths.items * most_tested plan l head.offset) in
-    subst P (sym there) (subst Q is read)
+-- some head of the plan needs a table where one does, or is asked samples
+pub asks_table : (plan : Plan) (head : Head) → Contains (heads plan.bounds) head → needs_table plan head ≡ true → asks_tables plan ≡ true
+unfolding asks_tables
+asks_table plan head (k, lt, e) needs = list_any_at (needs_table plan) (heads plan.bounds) k head lt (ap (needs_table plan) e ∙ needs)
+
+pub asks_sample : (plan : Plan) (head : Head) → Contains (heads plan.bounds) head → needs_samples plan head ≡ true → asks_samples plan ≡ true
+unfolding asks_samples
+asks_sample plan head (k, lt, e) needs = list_any_at (needs_samples plan) (heads plan.bounds) k head lt (ap (needs_samples plan) e ∙ needs)
+
+pub asks_entry : (plan : Plan) (head : Head) → Contains (heads plan.bounds) head → needs_entry plan head ≡ true → (asks_tables plan || asks_samples plan) ≡ true
+asks_entry plan head listed needs =
+    elim (cases_Bool (needs_table plan head)) [
+      | inl table ↦ ap (λ (b : Bool). b || asks_samples plan) (asks_table plan head listed table)
+      | inr none ↦ or_true (asks_tables plan) (asks_samples plan) (asks_sample plan head listed (sym (ap (λ (b : Bool). b || needs_samples plan head) none) ∙ needs))
+    ]
+
+pub or_second : (a b : Bool) → a ≡ false → (a || b) ≡ true → b ≡ true
+or_second a b none some = sym (ap (λ (c : Bool). c || b) none) ∙ some
+
+-- what is read for the tables of an offset, and for its samples alone
+pub reads_tables : (plan : Plan) (offset : ℕ) (chunks : List ℕ) (old new : Seen) → asks_tables plan ≡ true → chunks ≡ plan.bounds.chunks.items →
+    OnlyReads old new (length plan.lengths.items * most_tested plan chunks offset) → OnlyReads old new (offset_reads plan offset)
+unfolding offset_reads
+reads_tables plan offset chunks old new asks is read =
+    let P : Bool → Type 0 = λ b. OnlyReads old new (if b then (length plan.lengths.items * most_tested plan plan.bounds.chunks.items offset)
+    else (if asks_samples plan then (length plan.lengths.items * min SAMPLES (most_tested plan plan.bounds.chunks.items offset)) else 0)) in
+    let Q : List ℕ → Type 0 = λ l. OnlyReads old new (length plan.lengths.items * most_tested plan l offset) in
+    subst P (sym asks) (subst Q is read)
+
+pub reads_samples : (plan : Plan) (offset rows : ℕ) (chunks : List ℕ) (old new : Seen) → asks_tables plan ≡ false → asks_samples plan ≡ true → chunks ≡ plan.bounds.chunks.items → rows ≡ most_tested plan chunks offset →
+    OnlyReads old new (length plan.lengths.items * min SAMPLES rows) → OnlyReads old new (offset_reads plan offset)
+unfolding offset_reads
+reads_samples plan offset rows chunks old new unasked asks is count read =
+    let P : Bool → Bool → Type 0 = λ b c. OnlyReads old new (if b then (length plan.lengths.items * most_tested plan plan.bounds.chunks.items offset)
+    else (if c then (length plan.lengths.items * min SAMPLES (most_tested plan plan.bounds.chunks.items offset)) else 0)) in
+    let Q : ℕ → Type 0 = λ n. OnlyReads old new (length plan.lengths.items * min SAMPLES n) in
+    let there : OnlyReads old new (length plan.lengths.items * min SAMPLES (most_tested plan plan.bounds.chunks.items offset)) = subst Q (count ∙ ap (λ (l : List ℕ). most_tested plan l offset) is) read in
+    subst (λ (b : Bool). P b (asks_samples plan)) (sym unasked) (subst (P false) (sym asks) there)
 
 -- what is spent where tables are made
 pub spends_made : (before after w : ℕ) (old new : Seen) → after + w ≤ before → OnlyReads old new w → Spends before after old new 0

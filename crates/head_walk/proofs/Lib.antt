@@ -12,3 +12,5 @@ pub mod OneHead
 pub mod Leafwise
 pub mod Admitted
 pub mod Kept
+pub mod Shapes
+pub mod Screening

@@ -1,5 +1,5 @@
 -- What is read for tables and for scans.
-use Rattle.std.proofs.Common.{ℕ, ◌+◌, ◌-◌, ◌*◌, ◌≤◌, List, sym, subst, arith, Option}
+use Rattle.std.proofs.Common.{ℕ, ◌+◌, ◌*◌, ◌≤◌, List, sym, subst, arith, Option}
 use Rattle.std.proofs.Math.Nat.{add-mul}
 use Rattle.outside.proofs.Reading.{reads_join, reads_none, reads_up}
 use Rattle.outside.specs.Seen.{OnlyReads, Seen}

@@ -1,16 +1,21 @@
 -- How many sets of a range of ranks are hopeful, and what is read for them.
-use Rattle.std.specs.Prelude.{ℕ, ◌*◌, ◌-◌, Bool, true, false, not, ◌&&◌, ◌||◌, if◌then◌else◌, List, length, count_by, slice_get}
+use Rattle.std.specs.Prelude.{ℕ, ◌*◌, ◌-◌, min, Bool, true, false, not, ◌&&◌, ◌||◌, if◌then◌else◌, List, length, count_by, slice_get}
 use Rattle.std.specs.List.{list_any, range_with_len}
 use Rattle.std.specs.Option.{option_map_or}
 use Rattle.std.specs.declared.option.Option.{Option}
 use Rattle.std.specs.declared.option.Option.TheVariants.{None, Some}
+use Rattle.raid_params.specs.Validity.{is_valid_head}
 use Rattle.raid_params.specs.declared.types.Geometry.{Geometry}
+use Rattle.raid_params.specs.declared.types.Level.{Level}
+use Rattle.raid_params.specs.declared.types.Pattern.{Pattern}
+use Rattle.raid_params.specs.declared.types.Syndrome.{Syndrome}
 use Rattle.search_terms.specs.Product.{heads}
 use Rattle.candidate_enum.specs.Survivors.{all_admitted}
+use Rattle.column_screen.specs.declared.samples.TheConstants.{SAMPLES}
 use Rattle.row_scan.specs.Scan.{is_unbreakable}
 use Rattle.row_scan.specs.Windows.{scan_reads}
 use Rattle.prune_filters.specs.Hopeful.{is_hopeful}
-use Rattle.prune_filters.specs.Rows.{needs_table, rows_decide}
+use Rattle.prune_filters.specs.Rows.{needs_samples, needs_table, rows_decide}
 use Rattle.prune_filters.specs.Xors.{most_tested}
 use Rattle.search_plan.specs.Sets.{sets_of}
 use Rattle.search_plan.specs.declared.plan.Plan.{Plan}
@@ -44,6 +49,20 @@ most_scanned plan = scan_reads (length plan.lengths.items) plan.end plan.limits.
 unfoldable pub asks_tables : Plan → Bool
 asks_tables plan = list_any (needs_table plan) (heads plan.bounds)
 
--- for the tables of an offset: the tested rows of the chunk that has most, of each image, where some head needs a table
+-- a head of this shape that makes sense needs one, whatever its chunk and offset
+abbrev pub shape_asks : Plan → Level → ℕ → Pattern → Syndrome → Bool
+shape_asks plan level members pattern syndrome =
+    is_valid_head (record { level = level; members = members; pattern = pattern; syndrome = syndrome; chunk = 1; offset = 0 })
+    && needs_table plan (record { level = level; members = members; pattern = pattern; syndrome = syndrome; chunk = 1; offset = 0 })
+
+-- samples of the rows are asked for some head of the plan
+unfoldable pub asks_samples : Plan → Bool
+asks_samples plan = list_any (needs_samples plan) (heads plan.bounds)
+
+-- for an offset: the tested rows of the chunk that has most, of each image, where some head needs a table, and otherwise as many
+-- of them as there may be samples, where samples are asked for some head
 unfoldable pub offset_reads : Plan → ℕ → ℕ
-offset_reads plan offset = if asks_tables plan then length plan.lengths.items * most_tested plan plan.bounds.chunks.items offset else 0
+offset_reads plan offset =
+    if asks_tables plan then length plan.lengths.items * most_tested plan plan.bounds.chunks.items offset
+    else if asks_samples plan then length plan.lengths.items * min SAMPLES (most_tested plan plan.bounds.chunks.items offset)
+    else 0

@@ -2,6 +2,8 @@
 use Rattle.std.specs.Prelude.{◌≡◌}
 use Rattle.outside.specs.Causes.{Rose}
 use Rattle.outside.specs.Seen.{Seen}
+use Rattle.column_screen.specs.declared.reading.SampleFault.{SampleFault}
+use Rattle.column_screen.specs.declared.reading.SampleFault.TheVariants.{ReadFault as SampleReadFault, Memory as SampleMemory}
 use Rattle.row_scan.specs.declared.one_set.ScanFault.{ScanFault}
 use Rattle.row_scan.specs.declared.one_set.ScanFault.TheVariants.{ReadFault as ScanReadFault, Memory as ScanMemory}
 use Rattle.xor_tables.specs.declared.xor_table.TableFault.{TableFault}
@@ -23,3 +25,8 @@ scan_ended ScanMemory = Memory
 abbrev pub table_ended : TableFault → WalkFault
 table_ended TableReadFault = ReadFault
 table_ended TableMemory = Memory
+
+-- where the reading of samples ended so
+abbrev pub samples_ended : SampleFault → WalkFault
+samples_ended SampleReadFault = ReadFault
+samples_ended SampleMemory = Memory

@@ -1,11 +1,11 @@
 -- A walk over the slot lists of a head that are admitted, and the page that it makes.
-use Rattle.std.specs.Prelude.{ℕ, Result, Ok, Err, ◌≡◌, ◌+◌, ◌-◌, ◌*◌, ◌<◌, ◌≤◌, ◌^◌, ◌==◌, ◌⊎◌, Bool, true, false, if◌then◌else◌, IfSome, IsSomeAnd, MatchOption, List, [], ◌∷◌, ◌++◌, length, map, slice_get, sum_by, All, Contains}
+use Rattle.std.specs.Prelude.{ℕ, Result, Ok, Err, ◌≡◌, ◌+◌, ◌-◌, ◌*◌, ◌<◌, ◌≤◌, ◌^◌, ◌==◌, ◌⊎◌, Bool, true, false, not, ◌&&◌, ◌||◌, if◌then◌else◌, IfSome, MatchOption, List, [], ◌∷◌, ◌++◌, length, map, slice_get, sum_by, All, Contains}
 use Rattle.std.specs.List.{list_any, slice_index, slice_index_or}
-use Rattle.std.specs.Option.{is_some}
+use Rattle.std.specs.Option.{is_some, option_map_or}
 use Rattle.std.specs.declared.option.Option.{Option}
 use Rattle.std.specs.declared.option.Option.TheVariants.{None, Some}
 use Rattle.raid_params.specs.Size.{rows}
-use Rattle.raid_params.specs.Validity.{is_valid_head}
+use Rattle.raid_params.specs.Validity.{is_shaped, is_valid_head}
 use Rattle.raid_params.specs.declared.types.Bounds.{Bounds}
 use Rattle.raid_params.specs.declared.types.Geometry.{Geometry}
 use Rattle.raid_params.specs.declared.types.Head.{Head}
@@ -20,9 +20,14 @@ use Rattle.slot_math.specs.declared.space.Space.{Space}
 use Rattle.slot_math.specs.Space.{lists_of}
 use Rattle.candidate_enum.specs.Survivors.{all_admitted}
 use Rattle.outside.specs.Seen.{Image, OnlyReads, Seen}
-use Rattle.head_walk.specs.Counts.{hopeful_ranks, is_decided, is_hopeful_at, most_scanned, offset_reads, open_ranks}
+use Rattle.head_walk.specs.Counts.{asks_tables, hopeful_ranks, is_decided, is_hopeful_at, most_scanned, offset_reads, open_ranks}
 use Rattle.prune_filters.specs.Early.{AreEarlyTables}
-use Rattle.prune_filters.specs.Xors.{RowTable}
+use Rattle.prune_filters.specs.Hopeful.{is_hopeful_by}
+use Rattle.prune_filters.specs.Rows.{needs_samples, needs_table}
+use Rattle.prune_filters.specs.Xors.{most_tested, RowTable}
+use Rattle.column_screen.specs.Samples.{AreSamples}
+use Rattle.column_screen.specs.Screens.{is_screened, screening_of, set_of, Screening}
+use Rattle.column_screen.specs.declared.samples.Sample.{Sample}
 use Rattle.row_scan.specs.Tallies.{has_passed}
 use Rattle.row_scan.specs.Verdicts.{verdicts_of}
 use Rattle.row_scan.specs.declared.tally.Tally.{Tally}
@@ -71,6 +76,28 @@ pub record Asked : Type 0 where
   pub space : Space
   pub xors : Option RowTable
 
+-- and of one that asks samples of its offset too
+pub record Screened : Type 0 where
+  pub asked : Asked
+  pub samples : List Sample
+
+-- a prefix is admitted: it is hopeful by the tables, and no whole slot list of which the samples settle that it fails
+abbrev pub is_admitted : Screened → List (Option ℕ) → Bool
+is_admitted s prefix = is_hopeful_by s.asked.xors s.asked.plan s.asked.head prefix
+    && not ((length prefix == s.asked.head.members) && is_screened s.samples s.asked.plan (set_of s.asked.head prefix))
+
+-- the samples of a screen, which has none where there is no screen
+abbrev pub samples_of : Option Screening → List Sample
+samples_of screen = option_map_or (λ s. s.kept.list) screen []
+
+-- a screen is that of a plan and a head, by samples of all images
+abbrev pub IsScreenOf : Plan → Head → Screening → Type 0
+IsScreenOf plan head screen = (screen ≡ screening_of screen.kept plan head) × (screen.kept.images ≡ length plan.lengths.items)
+
+-- each slot list of a space makes a set of a sensible shape with a head
+abbrev pub AreShaped : Plan → Head → Space → Type 0
+AreShaped plan head space = (slots : List (Option ℕ)) → Contains (lists_of space) slots → is_shaped (set_of head slots) (length plan.lengths.items) ≡ true
+
 -- they are those of a head that makes sense
 pub record IsAsked (plan : Plan) (head : Head) (space : Space) : Type 0 where
   pub is_plan : IsPlan plan
@@ -79,16 +106,27 @@ pub record IsAsked (plan : Plan) (head : Head) (space : Space) : Type 0 where
   pub members : space.members ≡ head.members
   pub level : Contains plan.bounds.levels.items head.level
 
--- tables of rows that are kept, a table for each chunk of the plan, over the bytes of the images where they are known
+-- where some head needs a table, there is one for each chunk of the plan
+abbrev pub HasTables : Plan → OffsetTables → Type 0
+HasTables plan kept = asks_tables plan ≡ true → length kept.tables.items ≡ length plan.bounds.chunks.items
+
+-- what is kept of an offset, over the bytes of the images where they are known: a table of rows for each chunk of the plan, where
+-- some head needs one, and samples
 pub record IsKept (told : Option (List (List ℕ))) (plan : Plan) (kept : OffsetTables) : Type 0 where
-  pub long : length kept.tables.items ≡ length plan.bounds.chunks.items
-  pub tables : IfSome told (λ bytes. AreEarlyTables bytes plan plan.bounds.chunks.items kept.offset kept.tables.items)
+  pub long : HasTables plan kept
+  pub tables : asks_tables plan ≡ true → IfSome told (λ bytes. AreEarlyTables bytes plan plan.bounds.chunks.items kept.offset kept.tables.items)
+  pub images : kept.samples.images ≡ length plan.lengths.items
+  pub samples : IfSome told (λ bytes. AreSamples bytes (length plan.lengths.items) kept.offset (most_tested plan plan.bounds.chunks.items kept.offset) kept.samples.list)
 
--- those of an offset stand at this place
-abbrev pub StandsFor : ℕ → ℕ → List OffsetTables → Type 0
-StandsFor offset place kept = IsSomeAnd (slice_get kept place) (λ one. one.offset ≡ offset)
+-- a head needs what is kept of an offset: a table, or samples
+abbrev pub needs_entry : Plan → Head → Bool
+needs_entry plan head = needs_table plan head || needs_samples plan head
 
--- the most sectors that are read yet for tables: for those of the offsets that have none so far
+-- something is kept of an offset
+abbrev pub has_entry : ℕ → List OffsetTables → Bool
+has_entry offset kept = list_any (λ one. one.offset == offset) kept
+
+-- the most sectors that are read yet for tables and samples: for those of the offsets of which nothing is kept so far
 unfoldable pub left_reads : Plan → List OffsetTables → ℕ
 left_reads plan kept = sum_by (λ offset. if list_any (λ one. one.offset == offset) kept then 0 else offset_reads plan offset) plan.bounds.offsets.items
 

@@ -1,14 +1,16 @@
 //! The slot lists of a head of which each prefix may still pass.
-ghost use Rattle.std.specs.Prelude.{◌≡◌, IfOk, IsSome, true};
-ghost use Rattle.std.specs.Option.{option_map};
+ghost use Rattle.std.specs.Prelude.{◌≡◌, ◌==◌, ◌&&◌, [], IfOk, IfSome, IsSome, IsTrue, false, length, true};
+ghost use Rattle.std.specs.Option.{option_map, option_map_or};
+ghost use Rattle.raid_params.specs.Validity.{is_shaped, is_valid_head};
 ghost use Rattle.search_plan.specs.Plans.{IsPlan};
-ghost use Rattle.prune_filters.specs.Hopeful.{is_hopeful_by};
 ghost use Rattle.prune_filters.specs.Rows.{needs_table as head_needs_table};
-ghost use Rattle.head_walk.specs.Walk.{IsHeadOf};
+ghost use Rattle.column_screen.specs.Screens.{screening_of, set_of, settles as samples_settle};
+ghost use Rattle.head_walk.specs.Walk.{is_admitted, IsHeadOf};
 
 use candidate_enum::Family;
+use column_screen::{Samples, Screen};
 use outside::Memory;
-use prune_filters::{EarlyTable, MarkTable, early_may_pass};
+use prune_filters::{EarlyTable, HeadRows, MarkTable, early_may_pass};
 use raid_params::{Head, Slots};
 use search_plan::Plan;
 use set_product::HeadSets;
@@ -17,65 +19,88 @@ use std::alloc::Global;
 use std::marker::Model;
 
 /// The slot lists of a head. A prefix is admitted where each group of marks may still hold, and no more
-/// rows are known to be unsound than may be.
+/// rows are known to be unsound than may be; a whole slot list also only where samples do not settle that it fails.
 #[derive(Drop)]
 pub(crate) struct Hopeful<'a> {
-    plan: &'a Plan,
-    head: Head,
     space: Space,
     marks: MarkTable,
-    xors: Option<&'a EarlyTable>,
+    rows: HeadRows<'a>,
+    screen: Option<Screen<'a>>,
 }
 
 impl<'a> Model for Hopeful<'a> {
-    ghost use Rattle.std.specs.Prelude.{◌≡◌, true, IsSome};
-    ghost use Rattle.std.specs.Option.{option_map};
-    ghost use Rattle.prune_filters.specs.Rows.{needs_table};
+    ghost use Rattle.std.specs.Prelude.{IfSome};
     ghost use Rattle.prune_filters.specs.Tables.{IsMarkTable};
-    ghost use Rattle.head_walk.specs.Walk.{Asked, IsAsked};
+    ghost use Rattle.head_walk.specs.Walk.{AreShaped, IsAsked, IsScreenOf, samples_of, Screened};
 
-    ghost Value = { Asked };
+    ghost Value = { Screened };
 
-    ghost view = { λ s. record { plan = s.plan.now; head = s.head; space = s.space; xors = option_map (λ table. table.now) s.xors } };
+    ghost view = { λ s. record { asked = record { plan = s.rows.plan; head = s.rows.head; space = s.space; xors = s.rows.xors }; samples = samples_of s.screen } };
 
-    ghost invariant = { λ s. IsAsked s.plan.now s.head s.space × IsMarkTable s.plan.now s.head s.marks × (needs_table s.plan.now s.head ≡ true → IsSome s.xors) };
+    ghost invariant = { λ s. IsAsked s.rows.plan s.rows.head s.space × IsMarkTable s.rows.plan s.rows.head s.marks
+        × IfSome s.screen (IsScreenOf s.rows.plan s.rows.head) × AreShaped s.rows.plan s.rows.head s.space };
 }
 
 impl<'a> Hopeful<'a> {
-    /// Those of a head of the plan, with the table of rows of its chunk and offset where it needs one. Memory is
-    /// taken for the table of the plan's marks.
+    /// Those of a head of the plan, with the table of rows of its chunk and offset where it needs one, and with samples of
+    /// its offset where they are asked for it. Memory is taken for the table of the plan's marks.
     pub(crate) fn new(
         alloc: Global,
         plan: &'a Plan,
         sets: &HeadSets,
         xors: Option<&'a EarlyTable>,
+        samples: Option<&'a Samples>,
     ) -> Result<Hopeful<'a>, Memory>
         requires plan { IsPlan plan.now }
         requires head { IsHeadOf plan.now sets.now }
         requires xors { head_needs_table plan.now sets.now.head ≡ true → IsSome xors }
-        ensures { IfOk result (λ asked. asked ≡ record { plan = plan.now; head = sets.now.head; space = sets.now.space; xors = option_map (λ table. table.now) xors.entry }) }
+        requires images { IfSome samples (λ s. s.now.images ≡ length plan.now.lengths.items) }
+        ensures asked { IfOk result (λ family. family.asked ≡ record { plan = plan.now; head = sets.now.head; space = sets.now.space; xors = option_map (λ table. table.now) xors.entry }) }
+        ensures samples { IfOk result (λ family. family.samples ≡ option_map_or (λ s. s.now.list) samples.entry []) }
     {
         let marks = MarkTable::build(alloc, plan, &sets.head)?;
         Ok(Hopeful {
-            plan,
-            head: sets.head,
             space: sets.space,
             marks,
-            xors,
+            rows: HeadRows::new(plan, &sets.head, xors),
+            screen: screen_of(samples, plan, &sets.head),
         })
     }
 }
 
-impl<'a> Family for Hopeful<'a> {
-    ghost space_of = { λ asked. asked.space };
+/// The screen of a head's sets by these samples, if there are some.
+fn screen_of<'a>(samples: Option<&'a Samples>, plan: &Plan, head: &Head) -> Option<Screen<'a>>
+    requires { IsTrue (is_valid_head head.now) }
+    ensures { result ≡ option_map (λ s. screening_of s.now plan.now head.now) samples.entry }
+{
+    match samples {
+        Some(samples) => Some(Screen::new(samples, plan, head)),
+        None => None,
+    }
+}
 
-    ghost admits = { λ asked prefix. is_hopeful_by asked.xors asked.plan asked.head prefix };
+/// Whether a screen settles the set of a prefix, which it does not where the prefix is no whole slot list.
+fn is_settled(screen: &Option<Screen>, members: u8, prefix: &[Option<u8>]) -> bool
+    requires { IfSome screen.now (λ s. length prefix.now ≡ members → is_shaped (set_of s.head prefix.now) s.kept.images ≡ true) }
+    ensures { result ≡ option_map_or (λ s. (length prefix.now == members) && samples_settle s prefix.now) screen.now false }
+{
+    match screen {
+        Some(screen) => prefix.len() == members as usize && screen.settles(prefix),
+        None => false,
+    }
+}
+
+impl<'a> Family for Hopeful<'a> {
+    ghost space_of = { λ family. family.asked.space };
+
+    ghost admits = { is_admitted };
 
     fn space(&self) -> Space {
         self.space
     }
 
     fn may_pass(&self, prefix: &Slots) -> bool {
-        early_may_pass(&self.marks, self.xors, self.plan, &self.head, prefix)
+        early_may_pass(&self.marks, &self.rows, prefix)
+            && !is_settled(&self.screen, self.rows.head().members, prefix)
     }
 }

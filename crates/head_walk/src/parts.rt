@@ -1,8 +1,9 @@
 //! What a page is made of and with, and why it may not be made.
 ghost use Rattle.std.specs.Prelude.{◌≡◌};
-ghost use Rattle.head_walk.specs.Faults.{scan_ended, table_ended};
+ghost use Rattle.head_walk.specs.Faults.{samples_ended, scan_ended, table_ended};
 ghost use Rattle.head_walk.specs.declared.parts.WalkFault.TheVariants.{Memory as OutOfMemory};
 
+use column_screen::SampleFault;
 use outside::{ListOf, Memory};
 use prune_filters::TableFault;
 use raid_params::Geometry;
@@ -75,6 +76,17 @@ impl From<TableFault> for WalkFault {
         match fault {
             TableFault::ReadFault => WalkFault::ReadFault,
             TableFault::Memory => WalkFault::Memory,
+        }
+    }
+}
+
+impl From<SampleFault> for WalkFault {
+    ghost from_gives = { λ sample fault. fault ≡ samples_ended sample };
+
+    fn from(fault: SampleFault) -> WalkFault {
+        match fault {
+            SampleFault::ReadFault => WalkFault::ReadFault,
+            SampleFault::Memory => WalkFault::Memory,
         }
     }
 }

@@ -1,37 +1,51 @@
-//! The tables of rows that a walk has made.
-ghost use Rattle.std.specs.Prelude.{◌≡◌, ◌<◌, ◌==◌, All, Contains, IfErr, IfOk, ℕ, Some, length, position, slice_get, slice_index, slice_index_or, true};
+//! What a walk keeps of each offset: tables of rows, and samples.
+ghost use Rattle.std.specs.Prelude.{◌≡◌, ◌==◌, ◌<◌, ◌≤◌, ◌^◌, ◌||◌, All, Contains, IfErr, IfOk, IfSome, IsSome, ℕ, List, None, OnOk, Some, false, length, position, slice_get, slice_index, true};
+ghost use Rattle.std.specs.Option.{option_map};
 ghost use Rattle.outside.specs.Attached.{told_all};
-ghost use Rattle.prune_filters.specs.Rows.{needs_table as head_needs_table};
-ghost use Rattle.prune_filters.specs.Xors.{RowTable};
+ghost use Rattle.outside.specs.Seen.{OnlyReads};
+ghost use Rattle.prune_filters.specs.Early.{AreEarlyTables, HasEarlyTable};
+ghost use Rattle.prune_filters.specs.Rows.{needs_samples as head_needs_samples, needs_table as head_needs_table};
 ghost use Rattle.search_plan.specs.Plans.{IsPlan, AgreeWith};
+ghost use Rattle.head_walk.specs.Counts.{asks_samples, asks_tables as plan_asks_tables, offset_reads};
 ghost use Rattle.head_walk.specs.Faults.{EndsTest};
-ghost use Rattle.head_walk.specs.declared.row_tables.OffsetTables.{OffsetTables as OffsetTablesOf};
-ghost use Rattle.head_walk.specs.Walk.{IsHeadOf, IsKept, left_after, left_reads, Spends, StandsFor};
+ghost use Rattle.head_walk.specs.Walk.{has_entry, HasTables, IsHeadOf, IsKept, left_after, left_reads, needs_entry, Spends};
 
+use crate::asking::asks_tables;
 use crate::parts::WalkFault;
+use column_screen::Samples;
 use outside::{Images, ListOf};
-use prune_filters::EarlyTable;
+use prune_filters::{EarlyTable, most_rows, needs_samples, needs_table};
+use raid_params::Head;
 use search_plan::Plan;
 use set_product::HeadSets;
 use std::alloc::Global;
 
-/// The tables of rows of an offset: one for each chunk of the plan, in their order.
+/// What is kept of an offset.
 #[derive(Drop)]
 pub struct OffsetTables {
     /// The offset.
     pub offset: u64,
-    /// The tables.
+    /// The tables of rows, one for each chunk of the plan, in their order; none where no head of the plan needs one.
     pub tables: Vec<EarlyTable>,
+    /// Samples of the rows.
+    pub samples: Samples,
 }
 
-/// The tables made so far.
+/// What is kept so far.
 pub type KeptTables = ListOf<OffsetTables>;
 
-/// The place of the tables of an offset, if they were made.
+/// The place of what is kept of an offset, if something is.
 fn kept_place(kept: &[OffsetTables], offset: u64) -> Option<usize>
     ensures { result ≡ position (λ one. one.offset == offset) kept.now }
 {
     kept.iter().position(|one| one.offset == offset)
+}
+
+/// Whether something is kept of an offset.
+pub(crate) fn is_kept(kept: &KeptTables, offset: u64) -> bool
+    ensures { result ≡ has_entry offset kept.now }
+{
+    kept.as_slice().iter().any(|one| one.offset == offset)
 }
 
 /// The place of a chunk among some.
@@ -46,49 +60,161 @@ fn chunk_place(chunks: &[u64], chunk: u64) -> usize
     }
 }
 
-/// The place of the tables of the offset of a head that needs one. They are made where they were not yet.
-pub(crate) fn table_place<I: Images>(
+/// Keeps of the offset of a head what it needs, if it needs something: tables of rows for all chunks of the plan where some
+/// head of the plan needs one, and samples. Each image is read once for an offset.
+pub(crate) fn keep_needed<I: Images>(
     alloc: Global,
     images: &mut I,
     plan: &Plan,
     sets: &HeadSets,
     kept: &mut KeptTables,
-) -> Result<usize, WalkFault>
+) -> Result<(), WalkFault>
     requires plan { IsPlan plan.now }
     requires lengths { AgreeWith plan.now (I.seen images.old).attached }
     requires head { IsHeadOf plan.now sets.now }
-    requires needs { head_needs_table plan.now sets.now.head ≡ true }
+    requires begins { sets.now.head.offset ≤ plan.now.end }
     requires kept { All (IsKept (told_all (I.seen images.old).attached) plan.now) kept.old }
-    ensures place { IfOk result (λ place. StandsFor sets.now.head.offset place kept.new) }
+    ensures has { OnOk result (needs_entry plan.now sets.now.head ≡ true → has_entry sets.now.head.offset kept.new ≡ true) }
     ensures kept { All (IsKept (told_all (I.seen images.old).attached) plan.now) kept.new }
-    ensures quiet { IfOk result (λ place. (I.seen images.new).faults ≡ (I.seen images.old).faults) }
+    ensures quiet { OnOk result ((I.seen images.new).faults ≡ (I.seen images.old).faults) }
     ensures ends { IfErr result (EndsTest (I.seen images.old) (I.seen images.new)) }
     ensures reads { Spends (left_reads plan.now kept.old) (left_after plan.now kept.new result) (I.seen images.old) (I.seen images.new) 0 }
 {
     let offset = sets.head.offset;
-    if let Some(place) = kept_place(kept.as_slice(), offset) {
-        return Ok(place);
+    if !needs_table(plan, &sets.head) && !needs_samples(plan, &sets.head) {
+        return Ok(());
     }
-    let tables = EarlyTable::build_each(alloc, images, plan, &plan.bounds.chunks, offset)?;
-    let place = kept.as_slice().len();
-    kept.push(OffsetTables { offset, tables })?;
-    Ok(place)
+    if is_kept(kept, offset) {
+        return Ok(());
+    }
+    let entry = entry_of(alloc, images, plan, offset)?;
+    kept.push(entry)?;
+    Ok(())
 }
 
-/// The table of a head, with those of its offset at this place.
-pub(crate) fn table_at<'a>(
-    kept: &'a KeptTables,
-    place: usize,
+/// What is to be kept of an offset, where some head of the plan needs a table or samples.
+fn entry_of<I: Images>(
+    alloc: Global,
+    images: &mut I,
+    plan: &Plan,
+    offset: u64,
+) -> Result<OffsetTables, WalkFault>
+    requires plan { IsPlan plan.now }
+    requires lengths { AgreeWith plan.now (I.seen images.old).attached }
+    requires asks { (plan_asks_tables plan.now || asks_samples plan.now) ≡ true }
+    requires near { offset < 2 ^ 55 }
+    requires begins { offset ≤ plan.now.end }
+    ensures offset { IfOk result (λ entry. entry.offset ≡ offset) }
+    ensures kept { IfOk result (IsKept (told_all (I.seen images.old).attached) plan.now) }
+    ensures quiet { IfOk result (λ entry. (I.seen images.new).faults ≡ (I.seen images.old).faults) }
+    ensures ends { IfErr result (EndsTest (I.seen images.old) (I.seen images.new)) }
+    ensures reads { OnlyReads (I.seen images.old) (I.seen images.new) (offset_reads plan.now offset) }
+{
+    if asks_tables(plan) {
+        return tabled_entry(alloc, images, plan, offset);
+    }
+    sampled_entry(alloc, images, plan, offset)
+}
+
+/// Tables of rows, with samples of the rows that are read for them.
+fn tabled_entry<I: Images>(
+    alloc: Global,
+    images: &mut I,
+    plan: &Plan,
+    offset: u64,
+) -> Result<OffsetTables, WalkFault>
+    requires plan { IsPlan plan.now }
+    requires lengths { AgreeWith plan.now (I.seen images.old).attached }
+    requires asks { plan_asks_tables plan.now ≡ true }
+    requires near { offset < 2 ^ 55 }
+    ensures offset { IfOk result (λ entry. entry.offset ≡ offset) }
+    ensures kept { IfOk result (IsKept (told_all (I.seen images.old).attached) plan.now) }
+    ensures quiet { IfOk result (λ entry. (I.seen images.new).faults ≡ (I.seen images.old).faults) }
+    ensures ends { IfErr result (EndsTest (I.seen images.old) (I.seen images.new)) }
+    ensures reads { OnlyReads (I.seen images.old) (I.seen images.new) (offset_reads plan.now offset) }
+{
+    let chunks = plan.bounds.chunks.as_slice();
+    let mut samples = Samples::new(alloc, plan.lengths.len())?;
+    let tables = EarlyTable::build_each(alloc, images, plan, chunks, offset, &mut samples)?;
+    Ok(OffsetTables {
+        offset,
+        tables,
+        samples,
+    })
+}
+
+/// Samples alone.
+fn sampled_entry<I: Images>(
+    alloc: Global,
+    images: &mut I,
+    plan: &Plan,
+    offset: u64,
+) -> Result<OffsetTables, WalkFault>
+    requires plan { IsPlan plan.now }
+    requires lengths { AgreeWith plan.now (I.seen images.old).attached }
+    requires unasked { plan_asks_tables plan.now ≡ false }
+    requires asks { asks_samples plan.now ≡ true }
+    requires begins { offset ≤ plan.now.end }
+    ensures offset { IfOk result (λ entry. entry.offset ≡ offset) }
+    ensures kept { IfOk result (IsKept (told_all (I.seen images.old).attached) plan.now) }
+    ensures quiet { IfOk result (λ entry. (I.seen images.new).faults ≡ (I.seen images.old).faults) }
+    ensures ends { IfErr result (EndsTest (I.seen images.old) (I.seen images.new)) }
+    ensures reads { OnlyReads (I.seen images.old) (I.seen images.new) (offset_reads plan.now offset) }
+{
+    let rows = most_rows(plan, plan.bounds.chunks.as_slice(), offset);
+    let samples = Samples::read(alloc, images, plan, rows, offset)?;
+    Ok(OffsetTables {
+        offset,
+        tables: Vec::new(alloc),
+        samples,
+    })
+}
+
+/// What is kept of an offset.
+pub(crate) fn entry_at(kept: &KeptTables, offset: u64) -> &OffsetTables
+    requires { has_entry offset kept.now ≡ true }
+    ensures { (place : ℕ) × (slice_get kept.now place ≡ Some result.now) × (result.now.offset ≡ offset) }
+{
+    match kept_place(kept.as_slice(), offset) {
+        Some(place) => &kept.as_slice()[place],
+        None => unreachable!(),
+    }
+}
+
+/// The table of rows of a head, if it needs one.
+pub(crate) fn table_for<'a>(
+    entry: &'a OffsetTables,
     plan: &Plan,
     sets: &HeadSets,
-) -> &'a EarlyTable
-    requires place { place < length kept.now }
-    requires long { (one : OffsetTablesOf) → slice_get kept.now place ≡ Some one → length one.tables.items ≡ length plan.now.bounds.chunks.items }
+) -> Option<&'a EarlyTable>
     requires head { IsHeadOf plan.now sets.now }
-    ensures { (one : OffsetTablesOf) → slice_get kept.now place ≡ Some one →
-        (c : ℕ) × (c < length plan.now.bounds.chunks.items) × (slice_index plan.now.bounds.chunks.items c ≡ sets.now.head.chunk) × ((none : RowTable) → result.now ≡ slice_index_or one.tables.items c none) }
+    requires long { HasTables plan.now entry.now }
+    requires offset { entry.now.offset ≡ sets.now.head.offset }
+    ensures some { head_needs_table plan.now sets.now.head ≡ true → IsSome result }
+    ensures table { (bytes : List (List ℕ)) → (plan_asks_tables plan.now ≡ true → AreEarlyTables bytes plan.now plan.now.bounds.chunks.items entry.now.offset entry.now.tables.items) →
+        HasEarlyTable bytes plan.now sets.now.head (option_map (λ table. table.now) result) }
 {
+    if !needs_table(plan, &sets.head) {
+        return None;
+    }
     let chunk = chunk_place(&plan.bounds.chunks, sets.head.chunk);
-    let tables = &kept.as_slice()[place].tables;
-    &tables[chunk]
+    let tables: &[EarlyTable] = &entry.tables;
+    Some(&tables[chunk])
+}
+
+/// The samples for a head, if they are asked for it.
+pub(crate) fn samples_for<'a>(
+    entry: &'a OffsetTables,
+    plan: &Plan,
+    head: &Head,
+) -> Option<&'a Samples>
+    ensures some { head_needs_samples plan.now head.now ≡ true → IsSome result }
+    ensures none { head_needs_samples plan.now head.now ≡ false → result ≡ None }
+    ensures is { IfSome result (λ samples. samples.now ≡ entry.now.samples) }
+{
+    if needs_samples(plan, head) {
+        Some(&entry.samples)
+    } else {
+        None
+    }
 }

@@ -1,18 +1,22 @@
 //! A walk over the sets of a head.
-ghost use Rattle.std.specs.Prelude.{◌≡◌, ◌<◌, All, IfErr, IfOk};
+ghost use Rattle.std.specs.Prelude.{◌≡◌, ◌<◌, ℕ, List, Option, All, IfErr, IfOk, true};
 ghost use Rattle.outside.specs.Attached.{told_all};
+ghost use Rattle.search_plan.specs.Plans.{IsPlan};
 ghost use Rattle.head_walk.specs.Faults.{EndsTest};
-ghost use Rattle.head_walk.specs.Walk.{CanPage, Gathers, IsHeadOf, IsKept, IsPart, left_after, left_reads, ReadsRange, spared_by, StandsAt, tested_by};
+ghost use Rattle.head_walk.specs.Walk.{AdmitsHopeful, CanPage, Gathers, has_entry, is_admitted, IsHeadOf, IsKept, IsPart, left_after, left_reads, needs_entry, NonePass, ReadsRange, spared_by, StandsAt, tested_by};
 
 use crate::gathering::{Gathered, gather_admitted};
 use crate::hopeful::Hopeful;
 use crate::parts::{Paging, WalkFault};
-use crate::row_tables::{KeptTables, table_at, table_place};
+use crate::row_tables::{KeptTables, entry_at, is_kept, keep_needed, samples_for, table_for};
 use address_map::rows;
-use outside::Images;
-use prune_filters::needs_table;
+use candidate_enum::Survivors;
+use outside::{Images, Memory};
+use prune_filters::{needs_samples, needs_table};
 use row_scan::Gate;
+use search_plan::Plan;
 use set_product::HeadSets;
+use std::alloc::Global;
 use std::thread::Threads;
 
 /// Gathers the sets of a head of ranks from `from` up to `stop`, as long as the page is not full; gives the rank after its last
@@ -41,12 +45,60 @@ pub fn gather_head<R: Threads + Sync, I: Images, G: Gate + Sync>(
     if from == stop || rows(&sets.head, paging.plan.end) == 0 {
         return Ok(None);
     }
-    if !needs_table(paging.plan, &sets.head) {
-        let family = Hopeful::new(paging.alloc, paging.plan, sets, None)?;
-        return gather_admitted(paging, images, sets, &family, from, stop, page);
+    if is_ruled_out(paging.alloc, paging.plan, kept, sets, from, stop)? {
+        return Ok(None);
     }
-    let place = table_place(paging.alloc, images, paging.plan, sets, kept)?;
-    let table = table_at(kept, place, paging.plan, sets);
-    let family = Hopeful::new(paging.alloc, paging.plan, sets, Some(table))?;
+    keep_needed(paging.alloc, images, paging.plan, sets, kept)?;
+    let family = family_of(paging.alloc, paging.plan, sets, kept)?;
     gather_admitted(paging, images, sets, &family, from, stop, page)
+}
+
+/// Whether samples would be read for a head although the marks leave none of its slot lists of these ranks. Then no set of
+/// them passes.
+fn is_ruled_out(
+    alloc: Global,
+    plan: &Plan,
+    kept: &KeptTables,
+    sets: &HeadSets,
+    from: u64,
+    stop: u64,
+) -> Result<bool, Memory>
+    requires plan { IsPlan plan.now }
+    requires head { IsHeadOf plan.now sets.now }
+    requires part { IsPart sets.now from stop }
+    ensures { IfOk result (λ out. out ≡ true → (told : Option (List (List ℕ))) → NonePass told plan.now from stop) }
+{
+    if plan.groups.as_slice().is_empty() || is_kept(kept, sets.head.offset) {
+        return Ok(false);
+    }
+    if needs_table(plan, &sets.head) || !needs_samples(plan, &sets.head) {
+        return Ok(false);
+    }
+    let family = Hopeful::new(alloc, plan, sets, None, None)?;
+    let mut walk = Survivors::start(&family, from - sets.first, stop - sets.first);
+    Ok(walk.next().is_none())
+}
+
+/// The slot lists of a head that may pass, by what is kept of its offset.
+fn family_of<'a>(
+    alloc: Global,
+    plan: &'a Plan,
+    sets: &HeadSets,
+    kept: &'a KeptTables,
+) -> Result<Hopeful<'a>, Memory>
+    requires plan { IsPlan plan.now }
+    requires head { IsHeadOf plan.now sets.now }
+    requires kept { (told : Option (List (List ℕ))) × All (IsKept told plan.now) kept.now }
+    requires has { needs_entry plan.now sets.now.head ≡ true → has_entry sets.now.head.offset kept.now ≡ true }
+    ensures space { IfOk result (λ family. family.asked.space ≡ sets.now.space) }
+    ensures admits { IfOk result (λ family. (told : Option (List (List ℕ))) → All (IsKept told plan.now) kept.now →
+        AdmitsHopeful told plan.now sets.now.head (is_admitted family)) }
+{
+    if !needs_table(plan, &sets.head) && !needs_samples(plan, &sets.head) {
+        return Hopeful::new(alloc, plan, sets, None, None);
+    }
+    let entry = entry_at(kept, sets.head.offset);
+    let table = table_for(entry, plan, sets);
+    let samples = samples_for(entry, plan, &sets.head);
+    Hopeful::new(alloc, plan, sets, table, samples)
 }

@@ -33,6 +33,9 @@ pub fn groups_may_hold(table: &MarkTable, plan: &Plan, head: &Head, prefix: &[Op
     requires prefix { IsPrefixOf (length plan.now.lengths.items) head.now.members prefix.now }
     ensures { result ≡ all_may_hold plan.now head.now prefix.now }
 {
+    if plan.groups.as_slice().is_empty() {
+        return true;
+    }
     let standing = standing_images(prefix);
     let beginning = Beginning {
         plan,

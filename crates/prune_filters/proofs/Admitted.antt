@@ -1,5 +1,5 @@
 -- A prefix is hopeful by a table of rows exactly where it is over the bytes of the images.
-use Rattle.std.proofs.Common.{◌≡◌, ℕ, List, ap, Bool, ◌&&◌, nat_le, IsTrue, Option}
+use Rattle.std.proofs.Common.{◌≡◌, ℕ, List, ap, Bool, true, false, ◌&&◌, refl, nat_le, IsTrue, Option}
 use Rattle.std.specs.List.{Contains}
 use Rattle.raid_params.specs.Size.{rows}
 use Rattle.raid_params.specs.Validity.{is_valid_head}
@@ -22,3 +22,16 @@ pub admitted_early : (bytes : List (List ℕ)) (plan : Plan) (head : Head) (earl
     Contains plan.bounds.levels.items head.level → HasEarlyTable bytes plan head early → IsPrefix plan head prefix → is_hopeful_by early plan head prefix ≡ is_hopeful bytes plan head prefix
 admitted_early bytes plan head early prefix is_plan valid there are is =
     ap (λ (b : Bool). nat_le 1 (rows head plan.end) && (groups_may_hold plan head prefix && b)) (rows_told_early bytes plan head early prefix is_plan valid there are is)
+
+-- where what does not ask the marks is asked first
+pub moved_then : (a b c : Bool) → (a && c) ≡ true → b ≡ (a && (b && c))
+moved_then true true true e = refl
+moved_then true false true e = refl
+moved_then true b false e = absurd (cc)
+moved_then false b c e = absurd (cc)
+
+pub moved_else : (a b c : Bool) → (a && c) ≡ false → false ≡ (a && (b && c))
+moved_else true b true e = absurd (cc)
+moved_else true true false e = refl
+moved_else true false false e = refl
+moved_else false b c e = refl

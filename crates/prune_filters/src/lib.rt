@@ -8,8 +8,9 @@
 //! and [`rows_decide`] for which it answers the parity test of their sets already.
 //!
 //! Where images do not belong together, the first rows show it: an [`EarlyTable`] is made in one reading for all
-//! chunks of an offset, which ends where further rows could tell nothing more of the levels of the plan, and
-//! [`early_may_pass`] answers by it as [`prefix_may_pass`] does by the whole table.
+//! chunks of an offset, which ends where further rows could tell nothing more of the levels of the plan. By it
+//! [`HeadRows`] holds, once for a head, what breaks where an image stands in a slot, and [`early_may_pass`] answers by
+//! them as [`prefix_may_pass`] does by the whole table.
 //!
 //! What is hopeful stands in `specs/Hopeful`, over `specs/Marks` of `mark_tables` and `specs/Rows` of `xor_tables`;
 //! what the tables hold, in the `specs/` of these two, which this crate passes on with their names. The laws: each prefix of a set that passes is hopeful, whatever
@@ -25,4 +26,6 @@ pub use laws::{
 };
 pub use mark_tables::MarkTable;
 pub use prefix::{early_may_pass, prefix_may_pass};
-pub use xor_tables::{EarlyTable, TableFault, XorTable, needs_table, rows_decide};
+pub use xor_tables::{
+    EarlyTable, HeadRows, TableFault, XorTable, most_rows, needs_samples, needs_table, rows_decide,
+};

@@ -3,6 +3,8 @@ pub mod Columns
 pub mod Broken
 pub mod Sectors
 pub mod Ordered
+pub mod Placed
+pub mod Sampled
 pub mod Turns
 pub mod Decided
 pub mod Told

@@ -178,7 +178,7 @@ sum_rows images plan head prefix table is count some n known =
         (λ t. ap₂ (λ (n : ℕ) (o : Option ℕ). (t / head.chunk % n == k) && option_map_or (λ j. differ images (others (length plan.lengths.items) j) (head.offset + t)) o false) count (sym e))
 
 -- numbers past the largest are past any limit
-past : (s b : ℕ) → b < 2 ^ 64 - 1 → nat_le (min s (2 ^ 64 - 1)) b ≡ nat_le s b
+pub past : (s b : ℕ) → b < 2 ^ 64 - 1 → nat_le (min s (2 ^ 64 - 1)) b ≡ nat_le s b
 past s b below = grind (arith, nat_tests)
 
 pub not_of : (a b : Bool) → a ≡ true → (not a || b) ≡ b

@@ -1,4 +1,5 @@
 pub mod Rows
 pub mod Xors
 pub mod Early
+pub mod Heads
 pub mod Reading

@@ -1,5 +1,5 @@
 -- What is known of a prefix by the exclusive or of whole images, where every slot list holds every image.
-use Rattle.std.specs.Prelude.{ℕ, ◌+◌, ◌*◌, ◌/◌, min, Bool, true, false, not, ◌==◌, ◌&&◌, ◌||◌, nat_eq, nat_le, List, [], length, map, filter, count_by, slice_index, slice_index_or}
+use Rattle.std.specs.Prelude.{ℕ, ◌+◌, ◌-◌, ◌*◌, ◌/◌, min, Bool, true, false, not, ◌==◌, ◌&&◌, ◌||◌, nat_eq, nat_le, nat_lt, List, [], length, map, filter, count_by, slice_index, slice_index_or}
 use Rattle.std.specs.List.{list_any, range_with_len}
 use Rattle.std.specs.Option.{option_map_or, option_and_then}
 use Rattle.std.specs.declared.option.Option.{Option}
@@ -46,6 +46,11 @@ is_raid5 Raid6 = false
 
 abbrev pub rows_decide : Plan → Head → Bool
 rows_decide plan head = needs_table plan head && is_raid5 head.level
+
+-- samples of the rows are asked where some slot list of the head can break a row: fewer places are empty than the level has
+-- parity; and the rows in which the images differ do not decide
+abbrev pub needs_samples : Plan → Head → Bool
+needs_samples plan head = nat_lt (head.members - length plan.lengths.items) (redundancy head.level) && not (rows_decide plan head)
 
 -- as many of the first rows of sectors are tested
 abbrev pub tested : Plan → Head → ℕ

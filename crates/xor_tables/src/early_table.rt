@@ -1,8 +1,9 @@
 //! The tables of rows of all chunks of an offset, made in one reading that may end early.
-ghost use Rattle.std.specs.Prelude.{◌≡◌, ◌+◌, ◌*◌, ◌<◌, ◌≤◌, ◌^◌, ℕ, List, All, IfErr, IfOk, IfSome, IsTrue, OnOk, length, min};
+ghost use Rattle.std.specs.Prelude.{◌≡◌, ◌+◌, ◌*◌, ◌<◌, ◌≤◌, ◌^◌, ℕ, List, All, IfErr, IfOk, IfSome, IsTrue, OnOk, [], length, min};
 ghost use Rattle.outside.specs.Attached.{told_all};
 ghost use Rattle.outside.specs.Causes.{HasCause};
 ghost use Rattle.outside.specs.Seen.{OnlyReads};
+ghost use Rattle.column_screen.specs.Samples.{AreSamples};
 ghost use Rattle.raid_params.specs.Validity.{is_chunk};
 ghost use Rattle.member_regions.specs.Regions.{IsRoomFor};
 ghost use Rattle.member_regions.specs.declared.regions.TheConstants.{BLOCK};
@@ -16,8 +17,10 @@ ghost use Rattle.xor_tables.specs.declared.xor_table.TableFault.TheVariants.{Mem
 use crate::most_tested::most_rows;
 use crate::row_sums::row_sums;
 use crate::row_tally::RowTally;
+use crate::sampling::take_samples;
 use crate::settling::tables_suffice;
 use crate::xor_table::TableFault;
+use column_screen::Samples;
 use member_regions::{BLOCK, ImageSum, Regions};
 use outside::{Failed, Images};
 use search_plan::{Plan, tested_rows};
@@ -49,21 +52,27 @@ impl EarlyTable {
     /// Counts the rows of an offset in which the images of a plan differ, for each of some chunks. Each image is
     /// read at most once, in the order of its sectors, and memory is taken before the first reading. The reading ends
     /// where each table counts all rows that are tested, or settles what the others could tell: of a level of the
-    /// plan, that more rows are broken than may be. `ReadFault` comes only where the images failed.
+    /// plan, that more rows are broken than may be. From the rows that are read samples are taken, where none are kept yet:
+    /// they are spread over the rows that are tested. `ReadFault` comes only where the images failed.
     pub fn build_each<I: Images>(
         alloc: Global,
         images: &mut I,
         plan: &Plan,
         chunks: &[u64],
         offset: u64,
+        samples: &mut Samples,
     ) -> Result<Vec<EarlyTable>, TableFault>
         requires plan { IsPlan plan.now }
         requires chunks { All (λ chunk. IsTrue (is_chunk chunk)) chunks.now }
         requires offset { offset < 2 ^ 55 }
         requires images { AgreeWith plan.now (I.seen images.old).attached }
+        requires none { samples.old ≡ record { images = length plan.now.lengths.items; list = [] } }
         ensures long { IfOk result (λ tables. length tables.items ≡ length chunks.now) }
         ensures told { IfOk result (λ tables. IfSome (told_all (I.seen images.old).attached)
             (λ bytes. AreEarlyTables bytes plan.now chunks.now offset tables.items)) }
+        ensures images { samples.new.images ≡ length plan.now.lengths.items }
+        ensures samples { OnOk result (IfSome (told_all (I.seen images.old).attached)
+            (λ bytes. AreSamples bytes (length plan.now.lengths.items) offset (most_tested plan.now chunks.now offset) samples.new.list)) }
         ensures reads { OnlyReads (I.seen images.old) (I.seen images.new)
             (length plan.now.lengths.items * most_tested plan.now chunks.now offset) }
         ensures ends { IfErr result (EndsTable (I.seen images.old) (I.seen images.new)) }
@@ -73,9 +82,16 @@ impl EarlyTable {
             |_| TableFault::Memory,
         )?;
         let mut tables = no_rows(alloc, chunks.len())?;
-        read_rows(images, &mut regions, &mut tables, plan, chunks, offset).map_err(
-            |_| TableFault::ReadFault,
-        )?;
+        read_rows(
+            images,
+            &mut regions,
+            &mut tables,
+            samples,
+            plan,
+            chunks,
+            offset,
+        )
+        .map_err(|_| TableFault::ReadFault)?;
         Ok(tables)
     }
 
@@ -127,11 +143,12 @@ fn no_rows(alloc: Global, count: usize) -> Result<Vec<EarlyTable>, TableFault>
     Ok(tables)
 }
 
-/// Counts the rows of an offset for each of some chunks, with room for a block of each image.
+/// Counts the rows of an offset for each of some chunks, with room for a block of each image, and takes samples of them.
 fn read_rows<I: Images>(
     images: &mut I,
     regions: &mut Regions,
     tables: &mut Vec<EarlyTable>,
+    samples: &mut Samples,
     plan: &Plan,
     chunks: &[u64],
     offset: u64,
@@ -145,7 +162,11 @@ fn read_rows<I: Images>(
     requires none { (bytes : List (List ℕ)) (members chunk offset : ℕ) →
         All (CountRows bytes members chunk offset 0) tables.old.items }
     requires few { AreAllFew 0 tables.old.items }
+    requires none_kept { samples.old ≡ record { images = length plan.now.lengths.items; list = [] } }
     ensures long { length tables.new.items ≡ length chunks.now }
+    ensures images { samples.new.images ≡ length plan.now.lengths.items }
+    ensures samples { OnOk result (IfSome (told_all (I.seen images.old).attached)
+        (λ bytes. AreSamples bytes (length plan.now.lengths.items) offset (most_tested plan.now chunks.now offset) samples.new.list)) }
     ensures told { OnOk result (IfSome (told_all (I.seen images.old).attached)
         (λ bytes. AreEarlyTables bytes plan.now chunks.now offset tables.new.items)) }
     ensures reads { OnlyReads (I.seen images.old) (I.seen images.new)
@@ -154,6 +175,7 @@ fn read_rows<I: Images>(
 {
     let rows = most_rows(plan, chunks, offset);
     let mut first = 0;
+    let mut wanted = 0;
     while first < rows {
         if tables_suffice(tables, plan, chunks, offset, first) {
             return Ok(());
@@ -162,6 +184,7 @@ fn read_rows<I: Images>(
         let count = most.min(rows - first) as usize;
         let sums = row_sums(images, regions, plan, offset + first, count)?;
         add_block(tables, &sums, plan, chunks, offset, first, count);
+        wanted = take_samples(samples, regions, &sums, rows, first, count, wanted);
         first += count as u64;
     }
     Ok(())

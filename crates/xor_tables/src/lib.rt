@@ -7,22 +7,30 @@
 //!
 //! An [`XorTable`] counts all tested rows of a chunk and an offset. An [`EarlyTable`] is made together with those of
 //! other chunks of its offset in one reading, which ends where further rows could tell nothing more of the levels of
-//! the plan. By them [`rows_may_hold`] and [`early_rows_may_hold`] tell of a prefix whether more rows are known to be
-//! unsound than may be.
+//! the plan. By them tell [`rows_may_hold`] and, for the prefixes of one head, [`HeadRows`] of a prefix whether more rows
+//! are known to be unsound than may be.
 //!
-//! What is known of a prefix stands in `specs/Rows`, and what the tables hold in `specs/Xors` and `specs/Early`.
+//! From the rows that are read for such tables samples are taken for a screen of columns (`column_screen`): no sector is read
+//! for them alone. [`needs_samples`] says of which heads they are asked.
+//!
+//! What is known of a prefix stands in `specs/Rows`, and what the tables hold in `specs/Xors`, `specs/Early` and `specs/Heads`.
 //! `prune_filters` asks it beside what the marks refuse.
 #![tactic(auto)]
 
+mod breaks;
 mod early_table;
+mod head_rows;
 mod most_tested;
 mod row_counts;
 mod row_sums;
 mod row_tally;
 mod rows;
+mod sampling;
 mod settling;
 mod xor_table;
 
 pub use early_table::EarlyTable;
-pub use rows::{early_rows_may_hold, needs_table, rows_decide, rows_may_hold};
+pub use head_rows::HeadRows;
+pub use most_tested::most_rows;
+pub use rows::{needs_samples, needs_table, rows_decide, rows_may_hold};
 pub use xor_table::{TableFault, XorTable};

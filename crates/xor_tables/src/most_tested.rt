@@ -7,7 +7,7 @@ ghost use Rattle.search_plan.specs.Rows.{tested_with};
 use search_plan::{Plan, tested_rows};
 
 /// The most rows that a plan tests with an offset and one of some chunks.
-pub(crate) fn most_rows(plan: &Plan, chunks: &[u64], offset: u64) -> u64
+pub fn most_rows(plan: &Plan, chunks: &[u64], offset: u64) -> u64
     requires chunks { All (λ chunk. IsTrue (is_chunk chunk)) chunks.now }
     ensures value { result ≡ most_tested plan.now chunks.now offset }
     ensures within { result ≤ plan.now.end - offset }

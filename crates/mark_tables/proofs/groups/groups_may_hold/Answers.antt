@@ -1,4 +1,5 @@
-use Rattle.std.proofs.Common.{◌≡◌, ◌<◌, ◌≤◌, [], List, length, arith, ap, refl, sym, subst, ◌∙◌, get_or, Some}
+use Rattle.std.proofs.Common.{◌≡◌, ℕ, ◌<◌, ◌≤◌, [], ◌∷◌, Bool, true, List, length, arith, ap, refl, sym, subst, ◌∙◌, get_or, Some}
+use Rattle.std.proofs.lemmas.Bool.{eqb-true}
 use Rattle.std.proofs.lemmas.List.{take_all}
 use Rattle.std.proofs.lemmas.List.Folds.{list_all_at}
 use Rattle.std.proofs.lemmas.Option.{slice_get_read}
@@ -13,6 +14,16 @@ use Rattle.raid_params.specs.declared.limits.TheConstants.{MOST}
 use Rattle.mark_tables.proofs.Prefixes.{mapped_at}
 use Rattle.slot_math.proofs.Held.{more_images}
 use Rattle.mark_tables.proofs.groups.groups_may_hold.Goals as goal
+
+pub returns-then-is_empty : goal.returns-then-is_empty
+unfolding groups_may_hold
+returns-then-is_empty c =
+    let none : length c.args.plan.now.groups ≡ 0 = ap length (sym c.as_slice.ensures) ∙ eqb-true (length c.as_slice.result.now) 0 (sym c.is_empty.ensures ∙ c.if-is_empty.true) in
+    no_group (may_hold c.args.plan.now c.args.head.now c.args.prefix.now) c.args.plan.now.groups none
+  where
+    no_group : (f : Group → Bool) (groups : List Group) → length groups ≡ 0 → true ≡ list_all f groups
+    no_group f [] none = refl
+    no_group f (group ∷ groups) none = absurd (omega arith)
 
 pub standing_images-standing-requires : goal.standing_images-standing-requires
 standing_images-standing-requires c = more_images (length c.args.plan.now.lengths.items) MOST c.args.prefix.now c.requires.plan.lengths.most c.requires.prefix.images

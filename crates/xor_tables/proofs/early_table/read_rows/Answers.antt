@@ -1,12 +1,14 @@
-use Rattle.std.proofs.Common.{◌≤◌, ◌+◌, List, IfSome, length, rules, arith, refl, sym, subst, ◌∙◌}
+use Rattle.std.proofs.Common.{◌≤◌, ◌+◌, ℕ, List, IfSome, length, rules, arith, refl, sym, ap, subst, ◌∙◌}
 use Rattle.outside.proofs.Reading.{reads_none, reads_up}
 use Rattle.outside.specs.Attached.{told_all}
 use Rattle.outside.specs.Seen.{Image}
+use Rattle.column_screen.specs.Samples.{AreSamples, Kept}
 use Rattle.member_regions.proofs.IfTold.{if_any, if_both, if_told}
 use Rattle.search_plan.specs.Plans.{AgreeWith}
 use Rattle.xor_tables.specs.Early.{AreEarlyTables, AreKnown, CountFirst}
-use Rattle.xor_tables.specs.Xors.{most_tested, AreSumsOf, RowTable}
+use Rattle.xor_tables.specs.Xors.{most_tested, AreSumsOf, HoldRows, RowTable}
 use Rattle.xor_tables.proofs.Ordered.{plan_near, reads_more, reads_within}
+use Rattle.xor_tables.proofs.Sampled.{begins_below, begins_sampled}
 use Rattle.xor_tables.proofs.Settled.{all_known, first_counts, known_tables}
 use Rattle.xor_tables.proofs.early_table.read_rows.Goals as goal
 
@@ -30,6 +32,9 @@ loop-first-init g c = record {
   within = omega arith;
   room = c.requires.room;
   long = c.requires.tables;
+  images = ap (λ (k : Kept). k.images) c.requires.none_kept;
+  below = begins_below 0 (length c.args.plan.now.lengths.items) c.args.samples.now c.requires.none_kept;
+  samples = begins_sampled (told_all (g.I.Images.seen c.args.images.now).attached) (length c.args.plan.now.lengths.items) c.args.offset c.most_rows-rows.result c.args.samples.now c.requires.none_kept;
 }
 
 pub returns-clause-told : goal.returns-clause-told
@@ -59,6 +64,11 @@ pub loop-first-preserved : goal.loop-first-preserved
 loop-first-preserved g c =
     let now : IfSome (told_all (g.I.Images.seen c.loop-first.images).attached) (λ bytes.
     AreSumsOf bytes (length c.args.plan.now.lengths.items) (c.args.offset + c.loop-first.first) c.min-count.result c.in_ok-sums.sums) = c.in_ok-sums.ensures.told in
+    let held : IfSome (told_all (g.I.Images.seen c.loop-first.images).attached) (λ bytes.
+    HoldRows bytes (length c.args.plan.now.lengths.items) (c.args.offset + c.loop-first.first) c.min-count.result c.row_sums.new.regions) = c.in_ok-sums.ensures.hold in
+    let P : ℕ → Type 0 = λ n. (bytes : List (List ℕ)) (offset : ℕ) → HoldRows bytes n (offset + c.loop-first.first) c.min-count.result c.row_sums.new.regions →
+    AreSamples bytes n offset c.most_rows-rows.result c.loop-first.samples.list → AreSamples bytes n offset c.most_rows-rows.result c.take_samples-wanted.new.samples.list in
+    let grows : P (length c.args.plan.now.lengths.items) = subst P c.loop-first.invariant.images c.take_samples-wanted.ensures.kept in
     record {
       faults = search rules;
       reads = reads_more (g.I.Images.seen c.args.images.now) (g.I.Images.seen c.loop-first.images) (g.I.Images.seen c.row_sums.new.images)
@@ -74,6 +84,15 @@ loop-first-preserved g c =
       within = omega arith;
       room = c.row_sums.ensures.room;
       long = c.add_block.ensures.long ∙ c.loop-first.invariant.long;
+      images = c.take_samples-wanted.ensures.images ∙ c.loop-first.invariant.images;
+      below = c.take_samples-wanted.ensures.below;
+      samples = if_both (told_all (g.I.Images.seen c.args.images.now).attached)
+          (λ bytes. AreSamples bytes (length c.args.plan.now.lengths.items) c.args.offset c.most_rows-rows.result c.loop-first.samples.list)
+          (λ bytes. HoldRows bytes (length c.args.plan.now.lengths.items) (c.args.offset + c.loop-first.first) c.min-count.result c.row_sums.new.regions)
+          (λ bytes. AreSamples bytes (length c.args.plan.now.lengths.items) c.args.offset c.most_rows-rows.result c.take_samples-wanted.new.samples.list)
+          (λ bytes are hold. grows bytes c.args.offset hold are)
+          c.loop-first.invariant.samples
+          (rw (← c.loop-first.invariant.reads.attached) held);
     }
 
 pub overflow_add-offset : goal.overflow_add-offset
@@ -85,6 +104,29 @@ overflow_add-offset g c =
 
 pub add_block-requires-clause-rows : goal.add_block-requires-clause-rows
 add_block-requires-clause-rows g c =
+    let near = plan_near c.args.plan.now c.requires.plan in
+    let within = c.most_rows-rows.ensures.within in
+    omega arith
+
+pub returns-then-tables_suffice-clause-samples : goal.returns-then-tables_suffice-clause-samples
+returns-then-tables_suffice-clause-samples g c =
+    subst (λ (rows : ℕ). IfSome (told_all (g.I.Images.seen c.args.images.now).attached) (λ bytes. AreSamples bytes (length c.args.plan.now.lengths.items) c.args.offset rows c.loop-first.samples.list))
+    c.most_rows-rows.ensures.value c.loop-first.invariant.samples
+
+pub returns-clause-samples : goal.returns-clause-samples
+returns-clause-samples g c =
+    subst (λ (rows : ℕ). IfSome (told_all (g.I.Images.seen c.args.images.now).attached) (λ bytes. AreSamples bytes (length c.args.plan.now.lengths.items) c.args.offset rows c.loop-first.samples.list))
+    c.most_rows-rows.ensures.value c.loop-first.invariant.samples
+
+pub take_samples-wanted-requires-clause-room : goal.take_samples-wanted-requires-clause-room
+take_samples-wanted-requires-clause-room g c =
+    let many = c.row_sums.ensures.room.many in
+    let long = c.row_sums.ensures.room.long in
+    let same = c.loop-first.invariant.images in
+    record { many = omega arith; long = omega arith }
+
+pub take_samples-wanted-requires-clause-rows : goal.take_samples-wanted-requires-clause-rows
+take_samples-wanted-requires-clause-rows g c =
     let near = plan_near c.args.plan.now c.requires.plan in
     let within = c.most_rows-rows.ensures.within in
     omega arith

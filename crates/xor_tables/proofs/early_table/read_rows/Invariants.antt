@@ -1,6 +1,7 @@
 use Rattle.std.proofs.Common.{◌≡◌, ◌≤◌, ◌*◌, ◌-◌, IfSome, length}
 use Rattle.outside.specs.Attached.{told_all}
 use Rattle.outside.specs.Seen.{OnlyReads}
+use Rattle.column_screen.specs.Samples.{AreBelow, AreSamples}
 use Rattle.member_regions.specs.Regions.{IsRoomFor}
 use Rattle.member_regions.specs.declared.regions.TheConstants.{BLOCK}
 use Rattle.xor_tables.specs.Early.{AreAllFew, CountFirst}
@@ -15,6 +16,9 @@ invariant-loop-first g l = record {
   within : l.first ≤ l.rows;
   room : IsRoomFor (length l.plan.lengths.items) BLOCK l.regions;
   long : length l.tables.items ≡ length l.chunks;
+  images : l.samples.images ≡ length l.plan.lengths.items;
+  below : AreBelow l.first l.samples.list;
+  samples : IfSome (told_all (g.I.Images.seen l.fn.images).attached) (λ bytes. AreSamples bytes (length l.plan.lengths.items) l.offset l.rows l.samples.list);
 }
 
 abbrev pub decreases-loop-first : goal.decreases-loop-first

@@ -50,3 +50,13 @@ returns-clause-told g c =
     (λ bytes hold. sums bytes
     (rows_held bytes c.deref.result.now (length c.args.plan.now.lengths.items) c.args.sector c.args.count c.read.new.self (c.deref.ensures.0 ∙ c.all_images-slots.ensures ∙ ap in_order c.len.ensures.value) hold))
     now
+
+pub returns-clause-hold : goal.returns-clause-hold
+returns-clause-hold g c =
+    let now : IfSome (told_all (g.I.Images.seen c.args.images.now).attached) (λ bytes.
+    HoldRead bytes c.deref.result.now c.args.sector c.read.new.self.stride 0 (512 * c.args.count) (length c.deref.result.now) c.read.new.self.bytes) = search rules in
+    if_told (told_all (g.I.Images.seen c.args.images.now).attached)
+    (λ bytes. HoldRead bytes c.deref.result.now c.args.sector c.read.new.self.stride 0 (512 * c.args.count) (length c.deref.result.now) c.read.new.self.bytes)
+    (λ bytes. HoldRows bytes (length c.args.plan.now.lengths.items) c.args.sector c.args.count c.read.new.self)
+    (λ bytes hold. rows_held bytes c.deref.result.now (length c.args.plan.now.lengths.items) c.args.sector c.args.count c.read.new.self (c.deref.ensures.0 ∙ c.all_images-slots.ensures ∙ ap in_order c.len.ensures.value) hold)
+    now

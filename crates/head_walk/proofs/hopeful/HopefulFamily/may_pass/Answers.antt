@@ -1,10 +1,37 @@
-use Rattle.std.proofs.Common.{◌<◌, length, filter, sym, subst}
+use Rattle.std.proofs.Common.{◌≡◌, ◌==◌, ◌<◌, ℕ, Bool, true, false, not, ◌&&◌, List, Option, IfSome, length, filter, sym, ap, ◌∙◌, subst}
+use Rattle.std.specs.Option.{option_map_or}
+use Rattle.raid_params.specs.Validity.{is_shaped}
+use Rattle.raid_params.specs.declared.types.Head.{Head}
 use Rattle.slot_math.specs.Space.{begins, lists_of}
-use Rattle.head_walk.specs.Walk.{Asked}
+use Rattle.column_screen.specs.Screens.{is_screened, set_of, settles}
+use Rattle.prune_filters.specs.Hopeful.{is_hopeful_by}
+use Rattle.head_walk.specs.Walk.{is_admitted, samples_of, Screened}
 use Rattle.head_walk.proofs.Admitted.{is_prefix}
+use Rattle.head_walk.proofs.Screening.{screen_shaped, settled_by}
 use Rattle.head_walk.proofs.hopeful.HopefulFamily.may_pass.Goals as goal
 
 pub early_may_pass-requires-clause-prefix : goal.early_may_pass-requires-clause-prefix
 early_may_pass-requires-clause-prefix c =
-    let Q : Asked → Type 0 = λ asked. 0 < length (filter (begins c.args.prefix.now.items) (lists_of asked.space)) in
-    is_prefix c.self.inside.plan.now c.self.inside.head c.self.inside.space c.args.prefix.now.items c.self.invariant.0 (subst Q (sym c.self.view_is) c.requires)
+    let Q : Screened → Type 0 = λ s. 0 < length (filter (begins c.args.prefix.now.items) (lists_of s.asked.space)) in
+    is_prefix c.self.inside.rows.plan c.self.inside.rows.head c.self.inside.space c.args.prefix.now.items c.self.invariant.0 (subst Q (sym c.self.view_is) c.requires)
+
+pub is_settled-requires : goal.is_settled-requires
+is_settled-requires c =
+    let Q : Screened → Type 0 = λ s. 0 < length (filter (begins c.args.prefix.now.items) (lists_of s.asked.space)) in
+    let P : List (Option ℕ) → Head → Type 0 = λ l h. IfSome c.self.inside.screen (λ s. length l ≡ h.members → is_shaped (set_of s.head l) s.kept.images ≡ true) in
+    let told : P c.args.prefix.now.items c.self.inside.rows.head
+    = screen_shaped c.self.inside.rows.plan c.self.inside.rows.head c.self.inside.space c.self.inside.screen c.args.prefix.now.items c.self.invariant.2 c.self.invariant.3 c.self.invariant.0.members (subst Q (sym c.self.view_is) c.requires) in
+    subst (λ (l : List (Option ℕ)). P l c.head.result.now) (sym c.deref.ensures.0) (subst (P c.args.prefix.now.items) (sym c.head.ensures.is) told)
+
+pub returns-then-early_may_pass : goal.returns-then-early_may_pass
+returns-then-early_may_pass c =
+    let inside : Screened = record { asked = record { plan = c.self.inside.rows.plan; head = c.self.inside.rows.head; space = c.self.inside.space; xors = c.self.inside.rows.xors }; samples = samples_of c.self.inside.screen } in
+    let hopeful : is_hopeful_by c.self.inside.rows.xors c.self.inside.rows.plan c.self.inside.rows.head c.args.prefix.now.items ≡ true = sym c.early_may_pass.ensures.tables ∙ c.if-early_may_pass.true in
+    let settled : c.is_settled.result ≡ ((length c.args.prefix.now.items == c.self.inside.rows.head.members) && is_screened (samples_of c.self.inside.screen) c.self.inside.rows.plan (set_of c.self.inside.rows.head c.args.prefix.now.items))
+    = c.is_settled.ensures
+    ∙ ap (λ (l : List (Option ℕ)). option_map_or (λ s. (length l == c.head.result.now.members) && settles s l) c.self.inside.screen false) c.deref.ensures.0
+    ∙ ap (λ (h : Head). option_map_or (λ s. (length c.args.prefix.now.items == h.members) && settles s c.args.prefix.now.items) c.self.inside.screen false) c.head.ensures.is
+    ∙ settled_by c.self.inside.rows.plan c.self.inside.rows.head c.self.inside.screen c.self.inside.rows.head.members c.args.prefix.now.items c.self.invariant.2 in
+    ap not settled
+    ∙ sym (ap (λ (b : Bool). b && not ((length c.args.prefix.now.items == c.self.inside.rows.head.members) && is_screened (samples_of c.self.inside.screen) c.self.inside.rows.plan (set_of c.self.inside.rows.head c.args.prefix.now.items))) hopeful)
+    ∙ ap (λ (s : Screened). is_admitted s c.args.prefix.now.items) c.self.view_is

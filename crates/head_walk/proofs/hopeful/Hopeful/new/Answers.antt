@@ -1,0 +1,23 @@
+use Rattle.std.proofs.Common.{sym, subst, IfSome}
+use Rattle.column_screen.specs.Screens.{Screening}
+use Rattle.std.specs.declared.option.Option.{Option}
+use Rattle.prune_filters.specs.Heads.{HeadTable}
+use Rattle.prune_filters.specs.Tables.{IsMarkTable}
+use Rattle.head_walk.specs.Walk.{AreShaped, IsAsked, IsScreenOf}
+use Rattle.head_walk.proofs.Screening.{lists_shaped, screen_made}
+use Rattle.head_walk.proofs.hopeful.Hopeful.new.Goals as goal
+
+pub invariant_of-result : goal.invariant_of-result
+invariant_of-result c =
+    let P : HeadTable → Type 0 = λ of. IsAsked of.plan of.head c.args.sets.now.space × IsMarkTable of.plan of.head c.in_ok-marks.marks
+    × IfSome c.screen_of.result (IsScreenOf of.plan of.head) × AreShaped of.plan of.head c.args.sets.now.space in
+    let asked : IsAsked c.args.plan.now c.args.sets.now.head c.args.sets.now.space = record {
+      is_plan = c.requires.plan;
+      valid = c.requires.head.head;
+      images = c.requires.head.images;
+      members = c.requires.head.members;
+      level = c.requires.head.among.level;
+    } in
+    let Q : Option Screening → Type 0 = λ screen. IfSome screen (IsScreenOf c.args.plan.now c.args.sets.now.head) in
+    let screen : Q c.screen_of.result = subst Q (sym c.screen_of.ensures) (screen_made (λ s. s.now) c.args.plan.now c.args.sets.now.head c.args.samples c.requires.images) in
+    subst P (sym c.new.ensures) (asked, c.in_ok-marks.ensures, screen, lists_shaped c.args.plan.now c.args.sets.now c.requires.plan c.requires.head)

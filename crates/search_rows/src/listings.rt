@@ -3,7 +3,10 @@ ghost use Rattle.std.specs.Prelude.{◌≤◌};
 ghost use Rattle.search_plan.specs.Plans.{IsPlan};
 
 use crate::objects::{agree, four_images, three_images};
-use crate::plans::{four_with_each_order, three_of_two, two_levels};
+use crate::plans::{
+    allowing, asking, four_with_each_order, one_of_four_lost, three_of_two, two_headers_of_four,
+    two_levels,
+};
 use common_pages::{ListPage, PageList, page, pages};
 use image_source::MemImages;
 use outside::Images;
@@ -141,5 +144,59 @@ fn refused_sets_are_not_read_again(rt: HostRuntime) -> Result<(), Fail> {
     let (lines, next, sectors) = read_by_page(&rt, images, &plan);
     assert_eq!(rt; (lines, next), (0, 6));
     assert!(rt; sectors <= 6);
+    Ok(())
+}
+
+// Three images of three sectors, each sector of one byte, by image and row.
+fn rows_of<R: AllocGlobal>(rt: &R, bytes: [[u8; 3]; 3]) -> Result<MemImages, Fail> {
+    let (mut a, mut b, mut c) = ([0; 1536], [0; 1536], [0; 1536]);
+    for row in 0..3 {
+        a[512 * row..512 * row + 512].fill(bytes[0][row]);
+        b[512 * row..512 * row + 512].fill(bytes[1][row]);
+        c[512 * row..512 * row + 512].fill(bytes[2][row]);
+    }
+    three_images(rt, [&a, &b, &c])
+}
+
+// The first three members of a level 6 of four, left-symmetric, after Q. Its data are 1 and 2, 4 and 8, 16 and 32, so that P is
+// 3, 12, 48 and Q 5, 20, 80.
+const MEMBERS: [[u8; 3]; 3] = [[5, 4, 32], [1, 8, 48], [2, 12, 80]];
+
+// Of the 24 sets with one lost member the true one has no unsound row, two have one, four two, and the others three. All three rows
+// are samples, so that these settle all that fails.
+#[test]
+fn as_many_rows_as_may_be_unsound(rt: HostRuntime) -> Result<(), Fail> {
+    for (badrows, expected) in [(0, 1), (1, 3), (2, 7), (3, 24)] {
+        let plan = allowing(one_of_four_lost(rt.alloc()), badrows);
+        let (lines, next, _) = read_by_page(&rt, rows_of(&rt, MEMBERS)?, &plan);
+        assert_eq!(rt; (lines, next), (expected, 24));
+    }
+    Ok(())
+}
+
+// Where no set passes, the three rows of the three images are read as samples, and nothing else.
+#[test]
+fn settled_sets_are_not_scanned(rt: HostRuntime) -> Result<(), Fail> {
+    for badrows in 0..3 {
+        let plan = allowing(one_of_four_lost(rt.alloc()), badrows);
+        let images = rows_of(&rt, [[1; 3], [3; 3], [9; 3]])?;
+        assert_eq!(rt; read_by_page(&rt, images, &plan), (0, 24, 9));
+    }
+    Ok(())
+}
+
+// Two headers that both have to lie on volume sector 1: no slot list lets them, and no sample is read. Where one is enough, samples
+// are read of the one sector of each image.
+#[test]
+fn where_marks_leave_nothing_nothing_is_read(rt: HostRuntime) -> Result<(), Fail> {
+    let bytes: [&[u8]; 4] = [&[0x1C; 512], &[0x01; 512], &[0x80; 512], &[0x81; 512]];
+    let plan = asking(two_headers_of_four(rt.alloc())?, 2);
+    assert_eq!(rt;
+        read_by_page(&rt, four_images(&rt, bytes)?, &plan),
+        (0, 24, 0)
+    );
+    let plan = asking(two_headers_of_four(rt.alloc())?, 1);
+    let (_, next, sectors) = read_by_page(&rt, four_images(&rt, bytes)?, &plan);
+    assert!(rt; next == 24 && sectors >= 4);
     Ok(())
 }

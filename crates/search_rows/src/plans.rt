@@ -236,6 +236,48 @@ pub fn four_with_each_order(alloc: Global) -> Plan
     }
 }
 
+// Four members of level 6 over three images of three sectors: one slot is empty.
+pub fn one_of_four_lost(alloc: Global) -> Plan
+    ensures { IsPlan result }
+{
+    Plan {
+        lengths: filled(&[3, 3, 3]),
+        end: 3,
+        bounds: Bounds {
+            levels: filled(&[Level::Raid6]),
+            members: filled(&[4]),
+            patterns: filled(&[Pattern::Ls]),
+            syndromes: filled(&[Syndrome::AfterQ]),
+            chunks: filled(&[1]),
+            offsets: filled(&[0]),
+            missing: 1,
+            foreign: 0,
+        },
+        limits: Limits {
+            badrows: 0,
+            window: 3,
+        },
+        tests: MarkTests {
+            origins: filled(&[0]),
+            misfits: 0,
+            least: 1,
+        },
+        groups: Groups::new(alloc),
+        each: false,
+    }
+}
+
+// The plan, with this number of marks of a group that have to lie where they may.
+pub fn asking(plan: Plan, least: u64) -> Plan
+    requires plan { IsPlan plan }
+    requires few { least < 2 ^ 55 }
+    ensures plan { IsPlan result }
+{
+    let mut more = plan;
+    more.tests.least = least;
+    more
+}
+
 // A header of a partition table that says that it lies on volume sector 1.
 fn header(image: u8) -> Mark
     ensures { result ≡ record { kind = GptMark; image = image; sector = 0; rule = AtDistance 1 } }

@@ -1,0 +1,37 @@
+//! Screens of columns, over images in memory.
+ghost use Rattle.std.specs.Prelude.{◌≡◌};
+
+use crate::objects::{agree, three_images};
+use crate::plans::two_levels;
+use crate::row_counts::three_members;
+use column_screen::{Samples, Screen};
+use std::process::Abort;
+use std::test::Fail;
+
+// Whether samples of two rows settle the set of three members of which each holds one byte. None where they are not read.
+fn settled<R: Abort + AllocGlobal>(rt: &R, bytes: [u8; 3]) -> Result<Option<bool>, Fail> {
+    let plan = two_levels(rt.alloc());
+    let mut images = three_images(
+        rt,
+        [&[bytes[0]; 1024], &[bytes[1]; 1024], &[bytes[2]; 1024]],
+    )?;
+    assert!(rt; agree(&images, &plan));
+    assert!(rt; plan.end >= 2);
+    let geo = three_members(1);
+    assert!(rt; geo.is_shaped(plan.lengths.len() as u8));
+    assert!(rt; geo.head.is_valid());
+    let Ok(samples) = Samples::read(rt.alloc(), &mut images, &plan, 2, 0) else {
+        return Ok(None);
+    };
+    let screen = Screen::new(&samples, &plan, &geo.head);
+    Ok(Some(screen.settles(geo.slots.as_slice())))
+}
+
+// 1 + 3 + 2 cancel bit by bit, 1 + 3 + 7 do not. Zeros tell nothing.
+#[test]
+fn columns_tell(rt: HostRuntime) -> Result<(), Fail> {
+    assert_eq!(rt; settled(&rt, [1, 3, 2])?, Some(false));
+    assert_eq!(rt; settled(&rt, [1, 3, 7])?, Some(true));
+    assert_eq!(rt; settled(&rt, [0, 0, 0])?, Some(false));
+    Ok(())
+}

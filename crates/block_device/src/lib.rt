@@ -6,7 +6,7 @@
 ghost use Rattle.std.specs.Prelude.{◌≡◌, ◌<◌, ◌≤◌, ◌+◌, ◌*◌, ◌/◌, ◌%◌, ℕ, List, length, slice_range, OnOk, IfSome};
 ghost use Rattle.std.specs.declared.option.Option.{Option};
 ghost use Rattle.outside.specs.Causes.{HasCause};
-ghost use Rattle.block_device.specs.Content.{IsContent};
+ghost use Rattle.block_device.specs.Content.{Fixed, IsContent};
 
 use outside::Failed;
 
@@ -20,6 +20,9 @@ pub trait BlockDevice {
 
     /// The count of faults of what it stands on. It never falls.
     ghost faults: { Self → ℕ };
+
+    /// What no reading changes of what it stands on.
+    ghost fixed: { Self → Fixed };
 
     /// Its length in sectors.
     fn sectors(&self) -> u64
@@ -35,6 +38,7 @@ pub trait BlockDevice {
         requires inside { first + length to.old / 512 ≤ size self.old }
         ensures told { OnOk result (IfSome (content self.old) (λ bytes. to.new ≡ slice_range bytes (512 * first) (512 * first + length to.old))) }
         ensures kept { (content self.new ≡ content self.old) × (size self.new ≡ size self.old) }
+        ensures fixed { fixed self.new ≡ fixed self.old }
         ensures cause { HasCause (faults self.old) (faults self.new) result };
 
     /// Its known bytes are 512 for each of its sectors.

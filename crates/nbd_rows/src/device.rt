@@ -1,7 +1,7 @@
 //! A device in memory.
 ghost use Rattle.std.specs.Prelude.{◌≡◌, ◌/◌, Some, length};
 ghost use Rattle.outside.specs.Seen.{whole_sectors};
-ghost use Rattle.nbd_rows.specs.Whole.{whole_length};
+ghost use Rattle.nbd_rows.specs.Whole.{nothing_below, whole_length};
 
 use block_device::BlockDevice;
 use outside::{Failed, SECTOR};
@@ -25,6 +25,8 @@ impl BlockDevice for MemDevice {
     ghost size = { λ d. length d.bytes.items / 512 };
 
     ghost faults = { λ d. d.faults };
+
+    ghost fixed = { λ d. nothing_below };
 
     ghost whole = { λ d. whole_length d.bytes.items };
 

@@ -3,6 +3,7 @@ use Rattle.std.proofs.Common.{◌≡◌, ℕ, suc, ◌+◌, ◌-◌, ◌<◌, �
 use Rattle.std.proofs.lemmas.List.{take_at, drop_at}
 use Rattle.std.specs.declared.option.Option.{Option}
 use Rattle.std.specs.Io.KnownBytes.{Appends, Consumes}
+use Rattle.block_device.specs.Content.{Fixed}
 use Rattle.outside.specs.Streams.{AppendsFront}
 use Rattle.nbd_text.specs.Dialogue.{Said, after_greeting, is_open, message_length, said, turn_of}
 use Rattle.nbd_text.specs.Options.{Turn}
@@ -126,11 +127,12 @@ in_all content old now phase turns more reached still =
     ∙ rw (append-nil reached.put, none) refl
 
 -- what holds before each turn: how far the run has come where the device's bytes are known, and what has not changed
-pub record Going (first known : Option (List ℕ)) (long size : ℕ) (old now : Wire) (source_old source_new sink_old sink_new : ℕ) (phase : Phase) (turns : ℕ) : Type 0 where
+pub record Going (first known : Option (List ℕ)) (long size : ℕ) (base fixed : Fixed) (old now : Wire) (source_old source_new sink_old sink_new : ℕ) (phase : Phase) (turns : ℕ) : Type 0 where
   pub reached : IfSome first (λ content. Reached content old now phase turns)
   pub goes : is_open phase ≡ true
   pub same_content : known ≡ first
   pub same_size : size ≡ long
+  pub same_fixed : fixed ≡ base
   pub later : old.faults ≤ now.faults
   pub source : source_new ≡ source_old
   pub sink : sink_new ≡ sink_old

@@ -35,6 +35,7 @@ fn read_bytes<D: BlockDevice>(
     ensures told { OnOk result (IfSome (D.content device.old) (λ content.
         slice_range room.new (512 + offset % 512) (512 + offset % 512 + count) ≡ slice_range content offset (offset + count))) }
     ensures kept { (D.content device.new ≡ D.content device.old) × (D.size device.new ≡ D.size device.old) }
+    ensures fixed { D.fixed device.new ≡ D.fixed device.old }
     ensures cause { HasCause (D.faults device.old) (D.faults device.new) result }
 {
     let shift = (offset % SECTOR as u64) as usize;
@@ -67,6 +68,7 @@ pub(crate) fn read_request<D: BlockDevice>(
     ensures told { IfOk result (λ start. IfSome (D.content device.old) (λ content.
         slice_range room.new start (start + (16 + request.now.length)) ≡ simple_reply_of 0 request.now.handle ++ slice_range content request.now.offset (request.now.offset + request.now.length))) }
     ensures kept { (D.content device.new ≡ D.content device.old) × (D.size device.new ≡ D.size device.old) }
+    ensures fixed { D.fixed device.new ≡ D.fixed device.old }
     ensures cause { HasCause (D.faults device.old) (D.faults device.new) result }
 {
     read_bytes(device, room, request.offset, request.length as usize)?;

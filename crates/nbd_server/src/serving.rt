@@ -35,6 +35,7 @@ fn talk<D: BlockDevice, S: Source, K: Sink>(
     ensures talks { IfSome (D.content device.old) (λ content. Talks (after_greeting content)
         (wire (S.left source.old) (K.gained out.old) (D.faults device.old)) (wire (S.left source.new) (K.gained out.new) (D.faults device.new)) result) }
     ensures kept { (D.content device.new ≡ D.content device.old) × (D.size device.new ≡ D.size device.old) }
+    ensures fixed { D.fixed device.new ≡ D.fixed device.old }
     ensures later { D.faults device.old ≤ D.faults device.new }
     ensures source { Raises NbdStop.SourceFault (S.faults source.old) (S.faults source.new) result }
     ensures sink { Raises NbdStop.OutFault (K.faults out.old) (K.faults out.new) result }
@@ -69,6 +70,7 @@ pub fn serve<D: BlockDevice, S: Source, K: Sink>(
     ensures serves { IfSome (D.content device.old) (λ content. Serves (dialogue content)
         (wire (S.left source.old) (K.gained out.old) (D.faults device.old)) (wire (S.left source.new) (K.gained out.new) (D.faults device.new)) result) }
     ensures kept { (D.content device.new ≡ D.content device.old) × (D.size device.new ≡ D.size device.old) }
+    ensures fixed { D.fixed device.new ≡ D.fixed device.old }
     ensures later { D.faults device.old ≤ D.faults device.new }
     ensures source { Raises NbdStop.SourceFault (S.faults source.old) (S.faults source.new) result }
     ensures sink { Raises NbdStop.OutFault (K.faults out.old) (K.faults out.new) result }

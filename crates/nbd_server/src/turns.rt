@@ -125,6 +125,7 @@ fn answer_request<D: BlockDevice, K: Sink>(
         (wire left (K.gained out.old) (D.faults device.old)) (wire left (K.gained out.new) (D.faults device.new)) result) }
     ensures only { IfErr result (λ stop. stop ≡ NbdStop.OutFault) }
     ensures kept { (D.content device.new ≡ D.content device.old) × (D.size device.new ≡ D.size device.old) }
+    ensures fixed { D.fixed device.new ≡ D.fixed device.old }
     ensures later { D.faults device.old ≤ D.faults device.new }
     ensures sink { Raises NbdStop.OutFault (K.faults out.old) (K.faults out.new) result }
 {
@@ -153,6 +154,7 @@ fn request_turn<D: BlockDevice, S: Source, K: Sink>(
     ensures turns { IfSome (D.content device.old) (λ content. Turns content Phase.Requests
         (wire (S.left source.old) (K.gained out.old) (D.faults device.old)) (wire (S.left source.new) (K.gained out.new) (D.faults device.new)) result) }
     ensures kept { (D.content device.new ≡ D.content device.old) × (D.size device.new ≡ D.size device.old) }
+    ensures fixed { D.fixed device.new ≡ D.fixed device.old }
     ensures later { D.faults device.old ≤ D.faults device.new }
     ensures source { Raises NbdStop.SourceFault (S.faults source.old) (S.faults source.new) result }
     ensures sink { Raises NbdStop.OutFault (K.faults out.old) (K.faults out.new) result }
@@ -186,6 +188,7 @@ pub(crate) fn turn<D: BlockDevice, S: Source, K: Sink>(
     ensures turns { IfSome (D.content device.old) (λ content. Turns content phase
         (wire (S.left source.old) (K.gained out.old) (D.faults device.old)) (wire (S.left source.new) (K.gained out.new) (D.faults device.new)) result) }
     ensures kept { (D.content device.new ≡ D.content device.old) × (D.size device.new ≡ D.size device.old) }
+    ensures fixed { D.fixed device.new ≡ D.fixed device.old }
     ensures later { D.faults device.old ≤ D.faults device.new }
     ensures source { Raises NbdStop.SourceFault (S.faults source.old) (S.faults source.new) result }
     ensures sink { Raises NbdStop.OutFault (K.faults out.old) (K.faults out.new) result }

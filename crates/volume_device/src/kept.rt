@@ -1,24 +1,26 @@
 //! Sectors of all members, kept in memory.
-ghost use Rattle.std.specs.Prelude.{ℕ, List, ◌≡◌, ◌+◌, ◌*◌, ◌%◌, ◌/◌, ◌^◌, ◌<◌, ◌≤◌, All, IfOk, OnOk, length, true};
+ghost use Rattle.std.specs.Prelude.{ℕ, List, ◌≡◌, ◌+◌, ◌*◌, ◌%◌, ◌/◌, ◌^◌, ◌<◌, ◌≤◌, max, All, IfOk, OnOk, length, true};
 ghost use Rattle.outside.specs.Causes.{HasCause};
 ghost use Rattle.outside.specs.Seen.{OnlyReads};
 ghost use Rattle.raid_params.specs.Size.{data_blocks};
 ghost use Rattle.raid_params.specs.declared.types.Geometry.{Geometry as Set};
 ghost use Rattle.member_regions.specs.Members.{IsTestable, Reaches};
 ghost use Rattle.member_regions.specs.Regions.{IsRoomFor, KeepsRoom};
+ghost use Rattle.member_regions.specs.declared.regions.TheConstants.{BLOCK as BLOCK_SECTORS};
 ghost use Rattle.lost_members.specs.Needs.{HoldData};
 ghost use Rattle.volume_device.specs.Kept.{IsKept, is_among};
 ghost use Rattle.volume_device.specs.Sectors.{AreData, run_of};
 
 use lost_members::Members;
+use member_regions::BLOCK;
 use outside::{Failed, Images, Memory, SECTOR};
 use raid_params::Geometry;
 use std::alloc::Global;
 
-/// Sectors of all members, side by side in regions, with the lost data among them found. They stay until others are
-/// asked for.
+/// The memory of a [`ParityDevice`](crate::ParityDevice): sectors of all members, side by side in regions, with the lost data among them
+/// found. They stay until others are asked for.
 #[derive(Drop)]
-pub(crate) struct Kept {
+pub struct Kept {
     regions: Members,
     /// The first member sector.
     first: u64,
@@ -27,12 +29,13 @@ pub(crate) struct Kept {
 }
 
 impl Kept {
-    /// Room for `sectors` sectors of each of `members` members, of which none is kept.
-    pub(crate) fn new(alloc: Global, members: usize, sectors: usize) -> Result<Kept, Memory>
-        ensures room { IfOk result (λ kept. IsRoomFor members sectors kept.regions) }
+    /// Room for a chunk of each member of a set, or for `BLOCK` sectors where chunks are smaller. None is kept.
+    pub fn new(alloc: Global, geo: &Geometry) -> Result<Kept, Memory>
+        ensures room { IfOk result (λ kept. IsRoomFor (length geo.now.slots.items) (max BLOCK_SECTORS geo.now.head.chunk) kept.regions) }
         ensures none { IfOk result (λ kept. (kept.first ≡ 0) × (kept.count ≡ 0)) }
     {
-        let regions = Members::new(alloc, members, sectors)?;
+        let sectors = geo.head.chunk.max(BLOCK as u64) as usize;
+        let regions = Members::new(alloc, geo.slots.len(), sectors)?;
         Ok(Kept {
             regions,
             first: 0,

@@ -12,5 +12,6 @@ mod parity;
 mod ranges;
 mod runs;
 
+pub use kept::Kept;
 pub use mirror::MirrorDevice;
 pub use parity::ParityDevice;

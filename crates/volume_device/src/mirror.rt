@@ -1,5 +1,6 @@
 //! The volume of a mirror of two copies as a device.
 ghost use Rattle.std.specs.Prelude.{◌≡◌, ◌+◌, ◌*◌, ◌%◌, ◌/◌, ◌<◌, ◌≤◌, IfSome, OnOk, length, slice_range};
+ghost use Rattle.block_device.specs.Content.{fixed_behind};
 ghost use Rattle.outside.specs.Attached.{told_all};
 ghost use Rattle.outside.specs.Causes.{HasCause};
 ghost use Rattle.outside.specs.Seen.{OnlyReads};
@@ -40,6 +41,8 @@ impl<'a, I: Images> BlockDevice for MirrorDevice<'a, I> {
 
     ghost faults = { λ d. (I.seen d.images.now).faults };
 
+    ghost fixed = { λ d. fixed_behind I.seen d.images };
+
     ghost whole = { λ d. mirror_whole (told_all (I.seen d.images.now).attached) d.set.now d.end };
 
     fn sectors(&self) -> u64 {
@@ -55,6 +58,7 @@ impl<'a, I: Images> BlockDevice for MirrorDevice<'a, I> {
         ensures kept { (mirror_told (told_all (I.seen self.new.images.now).attached) self.new.set.now self.new.end
             ≡ mirror_told (told_all (I.seen self.old.images.now).attached) self.old.set.now self.old.end)
             × (near_sectors self.new.set.now.head self.new.end ≡ near_sectors self.old.set.now.head self.old.end) }
+        ensures fixed { fixed_behind I.seen self.new.images ≡ fixed_behind I.seen self.old.images }
         ensures cause { HasCause (I.seen self.old.images.now).faults (I.seen self.new.images.now).faults result }
 
         // Nothing but the counts of the images changes, and no more is read than was asked for.

@@ -1,6 +1,7 @@
 //! The volume of a set of level 0, 4, 5 or 6 as a device.
-ghost use Rattle.std.specs.Prelude.{◌≡◌, ◌+◌, ◌*◌, ◌%◌, ◌/◌, ◌<◌, ◌≤◌, max, IfOk, IfSome, OnOk, length, slice_range};
+ghost use Rattle.std.specs.Prelude.{◌≡◌, ◌+◌, ◌*◌, ◌%◌, ◌/◌, ◌<◌, ◌≤◌, max, IfSome, OnOk, length, slice_range};
 ghost use Rattle.std.proofs.Props.{props};
+ghost use Rattle.block_device.specs.Content.{fixed_behind};
 ghost use Rattle.outside.specs.Attached.{told_all};
 ghost use Rattle.outside.specs.Causes.{HasCause};
 ghost use Rattle.outside.specs.Seen.{OnlyReads};
@@ -16,47 +17,45 @@ use crate::kept::Kept;
 use crate::ranges::read_range;
 use address_map::volume_sectors;
 use block_device::BlockDevice;
-use member_regions::BLOCK;
-use outside::{Failed, Images, Memory};
+use outside::{Failed, Images};
 use raid_params::Geometry;
-use std::alloc::Global;
 
 /// The volume of a set over attached images, as a device.
 ///
-/// Its memory is taken at once, a region for each member. A read takes none.
+/// Its memory is taken before, a region for each member, and lent to it. A read takes none.
 #[derive(Drop)]
 pub struct ParityDevice<'a, I: Images> {
     images: &'a mut I,
     geo: &'a Geometry,
     end: u64,
-    kept: Kept,
+    kept: &'a mut Kept,
     ghost set: { IsServed geo.now end (I.seen images.now).attached },
-    ghost room: { IsRoomFor (length geo.now.slots.items) (max BLOCK_SECTORS geo.now.head.chunk) kept.regions },
-    ghost held: { IsKept (I.seen images.now).attached geo.now kept.regions kept.first kept.count } by { Prim.hlevel props },
+    ghost room: { IsRoomFor (length geo.now.slots.items) (max BLOCK_SECTORS geo.now.head.chunk) kept.now.regions },
+    ghost held: { IsKept (I.seen images.now).attached geo.now kept.now.regions kept.now.first kept.now.count } by { Prim.hlevel props },
 }
 
 impl<'a, I: Images> ParityDevice<'a, I> {
     /// The volume of a set of parameters over the attached images. Only whole rows before the image sector `end` count. Nothing
-    /// is read.
+    /// is read. `kept` is new memory for the set.
     pub fn new(
-        alloc: Global,
         images: &'a mut I,
         geo: &'a Geometry,
         end: u64,
-    ) -> Result<ParityDevice<'a, I>, Memory>
+        kept: &'a mut Kept,
+    ) -> ParityDevice<'a, I>
         requires set { IsServed geo.now end (I.seen images.old).attached }
-        ensures same_reference { IfOk result (λ device. device.images.ghost_name ≡ images.entry.ghost_name) }
-        ensures within { IfOk result (λ device. device.images.now ≡ images.old) }
-        ensures volume { IfOk result (λ device. (device.geo.now ≡ geo.now) × (device.end ≡ end)) }
+        requires room { IsRoomFor (length geo.now.slots.items) (max BLOCK_SECTORS geo.now.head.chunk) kept.old.regions }
+        requires none { (kept.old.first ≡ 0) × (kept.old.count ≡ 0) }
+        ensures same_reference { result.images.ghost_name ≡ images.entry.ghost_name }
+        ensures within { result.images.now ≡ images.old }
+        ensures volume { (result.geo.now ≡ geo.now) × (result.end ≡ end) }
     {
-        let sectors = geo.head.chunk.max(BLOCK as u64) as usize;
-        let kept = Kept::new(alloc, geo.slots.len(), sectors)?;
-        Ok(ParityDevice {
+        ParityDevice {
             images,
             geo,
             end,
             kept,
-        })
+        }
     }
 }
 
@@ -66,6 +65,8 @@ impl<'a, I: Images> BlockDevice for ParityDevice<'a, I> {
     ghost size = { λ d. volume_sectors_of d.geo.now.head d.end };
 
     ghost faults = { λ d. (I.seen d.images.now).faults };
+
+    ghost fixed = { λ d. fixed_behind I.seen d.images };
 
     ghost whole = { λ d. volume_whole (told_all (I.seen d.images.now).attached) d.geo.now d.end };
 
@@ -82,11 +83,12 @@ impl<'a, I: Images> BlockDevice for ParityDevice<'a, I> {
         ensures kept { (volume_told (told_all (I.seen self.new.images.now).attached) self.new.geo.now self.new.end
             ≡ volume_told (told_all (I.seen self.old.images.now).attached) self.old.geo.now self.old.end)
             × (volume_sectors_of self.new.geo.now.head self.new.end ≡ volume_sectors_of self.old.geo.now.head self.old.end) }
+        ensures fixed { fixed_behind I.seen self.new.images ≡ fixed_behind I.seen self.old.images }
         ensures cause { HasCause (I.seen self.old.images.now).faults (I.seen self.new.images.now).faults result }
 
         // Nothing but the counts of the images changes, and no more is read than the sectors cost.
         ensures reads { OnlyReads (I.seen self.old.images.now) (I.seen self.new.images.now) (range_cost self.old.geo.now first (length to.old / 512)) }
     {
-        read_range(self.images, &mut self.kept, self.geo, self.end, first, to)
+        read_range(self.images, self.kept, self.geo, self.end, first, to)
     }
 }

@@ -45,6 +45,13 @@ IsNear attached i = IsSomeAnd (slice_get attached i) (λ image. image.sectors < 
 pub all_near : (attached : List Image) (n : ℕ) → ((k : ℕ) → k < n → IsNear attached k) → slice_get attached n ≡ None → (length attached ≡ n) × All (λ image. image.sectors < 2 ^ 55) attached
 all_near attached n each none = all_such (λ image. image.sectors < 2 ^ 55) attached n each none
 
+-- and each is short enough for an offset of its own
+abbrev pub IsShort : List Image → ℕ → Type 0
+IsShort attached i = IsSomeAnd (slice_get attached i) (λ image. image.sectors < 2 ^ 54)
+
+pub all_short : (attached : List Image) (n : ℕ) → ((k : ℕ) → k < n → IsShort attached k) → slice_get attached n ≡ None → (length attached ≡ n) × All (λ image. image.sectors < 2 ^ 54) attached
+all_short attached n each none = all_such (λ image. image.sectors < 2 ^ 54) attached n each none
+
 -- over them the volume of a set that breaks no rule can be written
 pub long_served : (geo : Geometry) (end n : ℕ) (attached : List Image) → first_fault geo n end ≡ None → geo.head.offset < 2 ^ 55 → end < 2 ^ 55 →
     (length attached ≡ n) × All (λ image. end ≤ image.sectors) attached → IsServed geo end attached

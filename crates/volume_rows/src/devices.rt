@@ -1,15 +1,16 @@
 //! Volumes read as devices, over images in memory: from each sector on, and of each length, one read after the other. What the
 //! images hold was worked out by `bench/disks.py`, a byte for each sector.
-use crate::objects::{NO, are_sectors, images_of, serve, serve_mirror, set_of};
+use crate::objects::{NO, are_sectors, images_of, pad, serve, serve_mirror, set_of};
 use block_device::BlockDevice;
 use image_source::MemImages;
 use near_mirror::{NearSet, read_near};
 use outside::{Images, SECTOR};
+use padded_images::Padded;
 use raid_params::{Geometry, Level, Pattern, Syndrome};
 use std::alloc::Global;
 use std::process::Abort;
 use std::test::Fail;
-use volume_device::{MirrorDevice, ParityDevice};
+use volume_device::{Kept, MirrorDevice, ParityDevice};
 
 /// The sectors of the volumes.
 const VOLUME: [u8; 12] = [1, 2, 3, 4, 5, 6, 7, 8, 9, 10, 11, 12];
@@ -45,7 +46,8 @@ fn set_gives<R: Abort, I: Images>(
     end: u64,
 ) -> Result<(), Fail> {
     serve(rt, images, count, geo, end);
-    let mut device = ParityDevice::new(alloc, images, geo, end)?;
+    let mut kept = Kept::new(alloc, geo)?;
+    let mut device = ParityDevice::new(images, geo, end, &mut kept);
     gives(rt, &mut device, &VOLUME);
     Ok(())
 }
@@ -89,6 +91,30 @@ fn one_parity(rt: HostRuntime) -> Result<(), Fail> {
     ] {
         let geo = set_of(&rt, Level::Raid5, Pattern::Ls, Syndrome::NoQ, 2, held);
         set_gives(&rt, rt.alloc(), &mut images, 3, &geo, 6)?;
+    }
+    Ok(())
+}
+
+// The same, where the data of the first image begin a sector later than those of the others.
+#[test]
+fn with_bases(rt: HostRuntime) -> Result<(), Fail> {
+    let named: [(&str, &[u8]); 3] = [
+        ("a", &[99, 1, 2, 7, 8, 2, 6]),
+        ("b", &[3, 4, 2, 14, 9, 10]),
+        ("c", &[2, 6, 5, 6, 11, 12, 99]),
+    ];
+    let mut images = images_of(&rt, rt.alloc(), &named)?;
+    for held in &[
+        [Some(0), Some(1), Some(2)],
+        [NO, Some(1), Some(2)],
+        [Some(0), NO, Some(2)],
+        [Some(0), Some(1), NO],
+    ] {
+        let mut geo = set_of(&rt, Level::Raid5, Pattern::Ls, Syndrome::NoQ, 2, held);
+        geo.head.offset = 1;
+        pad(&rt, &images, 3);
+        let mut padded = Padded::new(&mut images, &[1, 0, 0]);
+        set_gives(&rt, rt.alloc(), &mut padded, 3, &geo, 7)?;
     }
     Ok(())
 }

@@ -8,6 +8,7 @@ ghost use Rattle.virtual_volume.specs.Served.{IsServed};
 use image_source::{MemImages, MemSink};
 use near_mirror::NearSet;
 use outside::{Failed, Images, SECTOR, Sink};
+use padded_images::BASES_END;
 use raid_params::{Geometry, Head, Level, Pattern, Slots, Syndrome, Wide};
 use std::alloc::Global;
 use std::process::Abort;
@@ -166,6 +167,34 @@ pub fn attached<R: Abort, I: Images>(rt: &R, images: &I, count: u8)
     ensures { (length (I.seen images.now).attached ≡ count) × All (λ a. a.sectors < FAR) (I.seen images.now).attached }
 {
     assert!(rt; are_attached(images, count));
+}
+
+/// Whether `count` images are attached, each short enough for an offset of its own.
+fn are_short<I: Images>(images: &I, count: u8) -> bool
+    ensures { IsTrue result → (length (I.seen images.now).attached ≡ count) × All (λ a. a.sectors < BASES_END) (I.seen images.now).attached }
+{
+    for i in 0..count {
+        if !is_short(images, i as u32) {
+            return false;
+        }
+    }
+    images.length(count as u32).is_none()
+}
+
+fn is_short<I: Images>(images: &I, image: u32) -> bool
+    ensures { IsTrue result → IsSomeAnd (slice_get (I.seen images.now).attached image) (λ a. a.sectors < BASES_END) }
+{
+    match images.length(image) {
+        Some(sectors) => sectors < BASES_END,
+        None => false,
+    }
+}
+
+/// Looks whether `count` images are attached that may be padded.
+pub fn pad<R: Abort, I: Images>(rt: &R, images: &I, count: u8)
+    ensures { (length (I.seen images.now).attached ≡ count) × All (λ a. a.sectors < BASES_END) (I.seen images.now).attached }
+{
+    assert!(rt; are_short(images, count));
 }
 
 /// Looks whether the volume of a set can be written, over `count` images.

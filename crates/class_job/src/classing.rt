@@ -16,6 +16,7 @@ const LIST_BYTES: usize = 4_194_304;
 
 /// Prints the classes of the sets that the source lists, of `images` images whose members end before the image sector `end`.
 /// The text is made before any of it is put, so only a fault of the output leaves a part of it.
+#[inline(never)]
 pub fn classes<S: Source, K: Sink>(
     alloc: Global,
     source: &mut S,

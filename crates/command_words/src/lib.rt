@@ -4,7 +4,8 @@
 //! `--`, and the names of the images. Any other list of words asks for nothing, and the first word
 //! with which no such list goes on is the refused one.
 //!
-//! `reraid_cli` calls [`read_words`] first of all. The operands, their values and their limits stand in
+//! `reraid_cli` calls [`read_words`] first of all, and `reraid_nbd_cli`, whose words have no command in front, [`read_words_after`]. The
+//! operands, their values and their limits stand in
 //! `specs/Operands`, the commands with their defaults and the refused word in `specs/Commands`;
 //! `docs/FORMATS.md` has them for users. A new operand is a line in each table of `table.rt`, and one field of
 //! the command that it belongs to, looked up in `building.rt`. Where a command takes other values under a name
@@ -21,7 +22,7 @@ mod values;
 mod word;
 
 pub use building::plain_survey;
-pub use command::{Command, Form, SurveyWords};
+pub use command::{Command, Form, SurveyWords, Verb};
 pub use laws::words_have_one_reading;
-pub use reading::read_words;
+pub use reading::{read_words, read_words_after};
 pub use word::Word;

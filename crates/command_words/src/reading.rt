@@ -16,6 +16,7 @@ use arrayvec::ArrayVec;
 /// Where they are no such list, the answer is the number of the refused word, counted from 1: with the
 /// words before it some such list begins, and with it none. It is one more than the words are where the
 /// list is only not at its end.
+#[inline(never)]
 #[tactic(auto, using(crate::proofs::WhatWasRead::all_within, crate::proofs::WhatWasRead::all_names))]
 pub fn read_words(words: &[Word]) -> Result<Command, u64>
     ensures reads { Reads words.now result }
@@ -35,8 +36,27 @@ fn read_line(words: &[Word]) -> Result<Command, u64>
     let Some(verb) = read_verb(first) else {
         return Err(1);
     };
-    let operands = read_operands(verb, rest)?;
-    read_names(verb, &operands, rest)
+    read_line_after(verb, rest)
+}
+
+/// Reads the words that follow the word of a command, as `read_words` reads them behind it. It takes no memory.
+///
+/// The numbers of the answer count the command's word too: that of the refused word, and that of the words up to the names.
+#[tactic(auto, using(crate::proofs::WhatWasRead::all_within, crate::proofs::WhatWasRead::all_names))]
+pub fn read_words_after(verb: Verb, words: &[Word]) -> Result<Command, u64>
+    ensures reads { Reads (verb_word verb ∷ words.now) result }
+    ensures within { IfOk result IsWithin }
+    ensures names { IfOk result (EndsInNames (verb_word verb ∷ words.now)) }
+{
+    read_line_after(verb, words)
+}
+
+/// Reads the words after the first one.
+fn read_line_after(verb: Verb, words: &[Word]) -> Result<Command, u64>
+    ensures { Reads (verb_word verb ∷ words.now) result }
+{
+    let operands = read_operands(verb, words)?;
+    read_names(verb, &operands, words)
 }
 
 /// The command that the first word names.
@@ -60,6 +80,7 @@ fn read_verb(word: &Word) -> Option<Verb>
 }
 
 /// Reads the operands, up to `--`.
+#[inline(never)]
 fn read_operands(verb: Verb, words: &[Word]) -> Result<Operands, u64>
     requires { length words.now < 2 ^ 63 }
     ensures { MatchResult result
@@ -87,6 +108,7 @@ fn read_operands(verb: Verb, words: &[Word]) -> Result<Operands, u64>
 }
 
 /// What the operands ask for, where nothing follows their `--` that may not.
+#[inline(never)]
 fn read_names(verb: Verb, operands: &Operands, words: &[Word]) -> Result<Command, u64>
     requires { StandBefore verb operands.now.items words.now }
     ensures { Reads (verb_word verb ∷ words.now) result }

@@ -7,5 +7,5 @@
 mod mirror_writing;
 mod mirroring;
 
-pub use mirror_writing::mirrorwrite;
+pub use mirror_writing::{mirrored_end, mirrorwrite};
 pub use mirroring::{MirrorWords, mirrors};

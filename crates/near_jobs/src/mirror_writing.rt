@@ -19,6 +19,7 @@ use virtual_volume::VolumeFault;
 
 /// Writes the volume of a mirror as it is read. `names` is the number of images; `end` is the image sector after the last one of the
 /// members, or None for the shortest image's.
+#[inline(never)]
 pub fn mirrorwrite<I: Images, K: Sink>(
     alloc: Global,
     images: &mut I,
@@ -59,7 +60,7 @@ fn stop_of(fault: VolumeFault) -> Stop
 
 /// The end of the members of a mirror whose volume can be written.
 #[tactic(auto, using(crate::proofs::Mirrored::images_refused, crate::proofs::Mirrored::rule_refused, crate::proofs::Mirrored::mirror_allowed, crate::proofs::Mirrored::mirrored))]
-fn mirrored_end<I: Images>(
+pub fn mirrored_end<I: Images>(
     images: &I,
     names: usize,
     set: &NearSet,

@@ -48,6 +48,7 @@ pub struct MirrorWords {
 
 /// Prints a page of the mirrors that pass. The text is made before any of it is put, so only a fault of the output leaves a part
 /// of it. `names` is the number of images.
+#[inline(never)]
 pub fn mirrors<I: Images, K: Sink>(
     alloc: Global,
     images: &mut I,

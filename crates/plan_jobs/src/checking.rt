@@ -29,6 +29,7 @@ use wide_product::{product_rank, product_total};
 /// Prints the tests of one set against a plan: its rank, how many tested rows are unsound, where each group
 /// of landmarks holds, and the verdict. A set with bases is tested over the padded images and their plan. `names` is the
 /// number of images.
+#[inline(never)]
 pub fn check<S: Source, I: Images, K: Sink>(
     alloc: Global,
     source: &mut S,

@@ -49,6 +49,7 @@ struct Tools<'a, R, G> {
 /// Prints pages of the sets of a plan that pass. The text is made before any of it is put, so only a fault of the
 /// output leaves a part of it. The source holds the plan's text; `names` is the number of images. Pieces of a scan
 /// may run side by side: each passes the gate.
+#[inline(never)]
 pub fn list<R: Threads + Sync, S: Source, I: Images, K: Sink, G: Gate + Sync>(
     rt: &R,
     alloc: Global,

@@ -46,6 +46,7 @@ pub struct Ready {
 /// The text of what is lost is made before any of it is put, so only a fault of the output leaves a part of it, and no image is
 /// read. The volume is put as it is read: a fault of the images leaves whole sectors of it. The images are looked at before
 /// the source is read, and the rescue text is let go before the first sector is read.
+#[inline(never)]
 pub fn salvage<R: Threads + Sync, S: Source, I: Images, K: Sink, G: Gate + Sync>(
     rt: &R,
     alloc: Global,

@@ -60,6 +60,7 @@ struct Tools<'a, R, G> {
 /// of it is put, so only a fault of the output leaves a part of it. `number` is that from which the array's bytes are
 /// made, `rows` its rows of chunks; `xfs` says whether its volume gets the landmarks of an XFS file system. Pieces of a
 /// scan of the listing may run side by side: each passes the gate.
+#[inline(never)]
 pub fn sample<R: Threads + Sync, K: Sink, G: Gate + Sync>(
     rt: &R,
     alloc: Global,

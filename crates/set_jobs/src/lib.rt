@@ -9,4 +9,4 @@ mod mapping;
 mod writing;
 
 pub use mapping::map;
-pub use writing::{rebuild, write};
+pub use writing::{rebuild, served_end, write};

@@ -25,6 +25,7 @@ use value_text::{Text, add_number};
 /// Prints where a sector of the volume of a set lies. The text is made before any of it is put, so only a
 /// fault of the output leaves a part of it. `names` is the number of images; `end` is the image sector after the
 /// last one of the members, or None for the shortest image's.
+#[inline(never)]
 pub fn map<I: Images, K: Sink>(
     alloc: Global,
     images: &I,

@@ -23,6 +23,7 @@ use virtual_volume::{VolumeFault, write_volume};
 
 /// Writes the volume of a set as it is read. `names` is the number of images; `end` is the image
 /// sector after the last one of the members, or None for the shortest image's.
+#[inline(never)]
 pub fn write<I: Images, K: Sink>(
     alloc: Global,
     images: &mut I,
@@ -53,6 +54,7 @@ pub fn write<I: Images, K: Sink>(
 
 /// Writes the member of an empty slot of a set as the others are read. `names` is the number of images; `end` is the
 /// image sector after the last one of the members, or None for the shortest image's.
+#[inline(never)]
 pub fn rebuild<I: Images, K: Sink>(
     alloc: Global,
     images: &mut I,
@@ -140,9 +142,10 @@ fn stop_of(fault: VolumeFault) -> Stop
     }
 }
 
-/// The end of the members of a set whose volume can be written.
+/// The end of the members of a set whose volume can be written, or shown. `names` is the number of images; `end` is the image
+/// sector after the last one of the members, or None for the shortest image's.
 #[tactic(auto, using(crate::proofs::Written::served))]
-fn served_end<I: Images>(
+pub fn served_end<I: Images>(
     images: &I,
     names: usize,
     set: &Wide,

@@ -22,6 +22,7 @@ use survey_engine::{Ask, SurveyFault};
 
 /// Prints the plan of a survey of the images. The text is made before any of it is put, so only a fault of the output
 /// leaves a part of it. `names` is the number of images.
+#[inline(never)]
 pub fn survey<I: Images, K: Sink>(
     alloc: Global,
     images: &mut I,

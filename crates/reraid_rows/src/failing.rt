@@ -18,7 +18,7 @@ const MANY: u64 = 200;
 
 /// An object that fails.
 #[derive(Clone, Copy)]
-enum Object {
+pub enum Object {
     Images,
     Plan,
     Out,
@@ -49,10 +49,10 @@ struct Run<'a> {
 
 /// A call that fails: the one of this number of an object. A put takes `taken` bytes before it fails.
 #[derive(Clone, Copy)]
-struct Fault {
-    object: Object,
-    call: u64,
-    taken: usize,
+pub struct Fault {
+    pub object: Object,
+    pub call: u64,
+    pub taken: usize,
 }
 
 /// Lists the call to fail.
@@ -73,7 +73,7 @@ fn fail(objects: &mut Objects, fault: Fault) -> Result<(), Memory>
 }
 
 /// Objects for a run of these words with a call that fails.
-fn ready_to_fail(
+pub fn ready_to_fail(
     alloc: Global,
     words: &[Word],
     contents: &[Vec<u8>],

@@ -4,7 +4,7 @@
 //! `listings`, `checks`, `classes`, `landmarks`, `samples`, `surveys`, `volumes`, `bases` and `many_images` have answers,
 //! `refusals`, `refused_words` and `long_images` what is refused, and `defaults` operands that are not given. `failing` has each
 //! call of each object made to fail in turn, `cut` plans whose end is missing, and `plan_limits`, `sector_limits` and
-//! `image_limits` what stands at both sides of each limit. In `side_by_side` pieces of a scan wait for each other. That objects
+//! `image_limits` what stands at both sides of each limit. `served` has runs of `reraid-nbd`, and what its client is answered. In `side_by_side` pieces of a scan wait for each other. That objects
 //! are ready for a run stands in `specs/Ready`.
 #![tactic(auto)]
 
@@ -54,6 +54,8 @@ mod salvages;
 mod samples;
 #[cfg(test)]
 mod sector_limits;
+#[cfg(test)]
+mod served;
 #[cfg(test)]
 mod side_by_side;
 #[cfg(test)]

@@ -23,7 +23,7 @@ const MOST_SECTORS: u64 = 18_014_398_509_481_983;
 /// Images under any names, of which the first is as long as one with an offset of its own may be, and the others are longer by a
 /// sector. No sector can be read.
 #[derive(Drop)]
-struct Long {
+pub struct Long {
     lengths: Vec<u64>,
     faults: u64,
 }
@@ -43,7 +43,7 @@ impl Model for Long {
 
 impl Long {
     /// No images, with room for as many as may be attached.
-    fn new(alloc: Global) -> Result<Long, Memory>
+    pub fn new(alloc: Global) -> Result<Long, Memory>
         ensures { IfOk result (λ m. m ≡ no_files) }
     {
         let lengths = Vec::with_capacity(alloc, MOST_ATTACHED).map_err(|_| Memory)?;

@@ -1,0 +1,102 @@
+-- What a run does.
+use Rattle.std.specs.Prelude.{ℕ, ◌≡◌, ◌<◌, ◌≤◌, ◌^◌, min, List, length, IfSome, IfOk, IfErr, IsErrOf, Result, Ok, Err}
+use Rattle.std.specs.declared.option.Option.{Option}
+use Rattle.std.specs.declared.option.Option.TheVariants.{None, Some}
+use Rattle.command_words.specs.declared.command.Command.{Command}
+use Rattle.command_words.specs.declared.command.Command.TheVariants.{Write, MirrorWrite}
+use Rattle.near_jobs.specs.MirrorWriting.{mirror_output, mirror_reads, mirror_refusal}
+use Rattle.nbd_server.specs.Served.{Serves}
+use Rattle.nbd_server.specs.Turns.{Wire, wire}
+use Rattle.nbd_server.specs.declared.stop.NbdStop.{NbdStop}
+use Rattle.nbd_server.specs.declared.stop.NbdStop.TheVariants.{SourceFault, OutFault}
+use Rattle.nbd_text.specs.Dialogue.{dialogue}
+use Rattle.outside.specs.Attached.{told_all}
+use Rattle.outside.specs.Causes.{Rose}
+use Rattle.outside.specs.Seen.{Seen}
+use Rattle.outside.specs.Streams.{Stream}
+use Rattle.run_ends.specs.Counts.{Raises}
+use Rattle.run_ends.specs.Jobs.{Named}
+use Rattle.run_ends.specs.declared.stop.Refusal.{Refusal}
+use Rattle.run_ends.specs.declared.stop.Refusal.TheVariants.{Word}
+use Rattle.set_jobs.specs.Mapping.{set_refusal}
+use Rattle.set_jobs.specs.Writing.{told_for, volume_reads, write_output}
+use Rattle.reraid_nbd_cli.specs.declared.ends.NbdEnd.{NbdEnd}
+use Rattle.reraid_nbd_cli.specs.declared.ends.NbdEnd.TheVariants.{Refused, ImageFault, Long, Stopped}
+
+-- what a run stands between: the images, the source and the sink
+pub record Place : Type 0 where
+  pub images : Seen
+  pub source : Stream
+  pub out : Stream
+
+abbrev pub place : Seen → Stream → Stream → Place
+place images source out = record { images = images; source = source; out = out }
+
+-- as the server sees it
+abbrev pub wire_of : Place → Wire
+wire_of place = wire place.source.known place.out.known place.images.faults
+
+-- the first refusal: the word, or what the command refuses
+abbrev pub refusal : Result Command ℕ → Named → Option Refusal
+refusal (Err number) given = Some (Word number)
+refusal (Ok (Write set end names)) given = set_refusal set end given.names given.attached
+refusal (Ok (MirrorWrite set end names)) given = mirror_refusal set end given.names given.attached
+refusal (Ok _) given = None
+
+-- the volume that is served, where the images are known: what the command puts
+abbrev pub volume : Result Command ℕ → Named → Option (List ℕ)
+volume (Ok (Write set end names)) given = write_output set end given.attached (told_for set given.attached)
+volume (Ok (MirrorWrite set end names)) given = mirror_output set end given.attached (told_all given.attached)
+volume _ given = None
+
+-- its sectors
+abbrev pub sectors : Result Command ℕ → Named → ℕ
+sectors (Ok (Write set end names)) given = volume_reads set end given.attached
+sectors (Ok (MirrorWrite set end names)) given = mirror_reads set end given.attached
+sectors _ given = 0
+
+-- nothing was taken, put or read
+pub record IsUntouched (old new : Place) : Type 0 where
+  pub source : new.source ≡ old.source
+  pub out : new.out ≡ old.out
+  pub unread : new.images.sectors_read ≡ old.images.sectors_read
+
+-- nothing is refused, the length of the volume can be told, and what was put is what the dialogue over its bytes says for what was taken
+pub record IsServed (refused : Option Refusal) (size : ℕ) (content : Option (List ℕ)) (old new : Place) (result : Result (Unit {0}) NbdStop) : Type 0 where
+  pub allowed : refused ≡ None
+  pub short : size < 2 ^ 54
+  pub serves : IfSome content (λ bytes. Serves (dialogue bytes) (wire_of old) (wire_of new) result)
+
+-- how a run ends, by its first refusal, and by the sectors and the bytes of the volume
+abbrev pub Ends : Option Refusal → ℕ → Option (List ℕ) → Place → Place → Result (Unit {0}) NbdEnd → Type 0
+Ends refused size content old new (Ok done) = IsServed refused size content old new (Ok done)
+Ends refused size content old new (Err (Stopped stop)) = IsServed refused size content old new (Err stop)
+Ends refused size content old new (Err (Long n)) = (refused ≡ None) × (n ≡ size) × (2 ^ 54 ≤ size) × IsUntouched old new × (new.images.faults ≡ old.images.faults)
+Ends refused size content old new (Err (Refused refusal)) = (refused ≡ Some refusal) × IsUntouched old new × (new.images.faults ≡ old.images.faults)
+Ends refused size content old new (Err ImageFault) = IsUntouched old new × Rose old.images.faults new.images.faults
+
+-- each count of faults rose where that fault is the end, and stayed elsewhere; that of the images may rise while they are read. Nothing outside is changed
+pub record Leaves (old new : Place) (result : Result (Unit {0}) NbdEnd) : Type 0 where
+  pub source : Raises (Stopped SourceFault) old.source.faults new.source.faults result
+  pub out : Raises (Stopped OutFault) old.out.faults new.out.faults result
+  pub later : old.images.faults ≤ new.images.faults
+  pub world : new.images.world ≡ old.images.world
+
+-- the volume is shown over images that are attached, and stay so
+pub record Shows (refused : Option Refusal) (size : ℕ) (content : Option (List ℕ)) (old new : Place) (result : Result (Unit {0}) NbdEnd) : Type 0 where
+  pub ends : Ends refused size content old new result
+  pub attaches : IsErrOf result ImageFault → ⊥
+  pub leaves : Leaves old new result
+  pub attached : new.images.attached ≡ old.images.attached
+
+-- all images of the names are attached, or the first 65,536 of them, but where one cannot be
+abbrev pub HasImages : Named → Result (Unit {0}) NbdEnd → Type 0
+HasImages given (Err ImageFault) = length given.attached < min given.names 65536
+HasImages given _ = length given.attached ≡ min given.names 65536
+
+-- a run that is asked for this, over the images that the words name
+pub record Runs (asked : Result Command ℕ) (given : Named) (old new : Place) (result : Result (Unit {0}) NbdEnd) : Type 0 where
+  pub ends : Ends (refusal asked given) (sectors asked given) (volume asked given) old new result
+  pub leaves : Leaves old new result
+  pub images : IfOk asked (λ command. HasImages given result)
+  pub none : IfErr asked (λ number. new.images ≡ old.images)

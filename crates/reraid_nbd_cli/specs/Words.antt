@@ -1,0 +1,25 @@
+-- What the words ask for.
+use Rattle.std.specs.Prelude.{ℕ, ◌≡◌, ◌≤◌, ◌+◌, ◌-◌, ◌⊎◌, max, IfSome, List, ◌∷◌, length, drop, Result, Ok, Err}
+use Rattle.command_words.specs.Commands.{IsCommandLine, IsRefusedWord, names_after, names_of, verb_word}
+use Rattle.command_words.specs.declared.command.Command.{Command}
+use Rattle.command_words.specs.declared.command.Command.TheVariants.{Write as WriteCommand, MirrorWrite as MirrorWriteCommand}
+use Rattle.command_words.specs.declared.command.Verb.TheVariants.{Write, MirrorWrite}
+
+-- The command of `reraid` whose volume is served: `write` where these are its words, else `mirrorwrite`. Or the refused word, counted from 1: the
+-- first with which the words of neither go on, or the one after the last.
+abbrev pub Asks : List (List ℕ) → Result Command ℕ → Type 0
+Asks words (Ok command) =
+    IsCommandLine (verb_word Write ∷ words) command
+    ⊎ ((number : ℕ) × IsRefusedWord (verb_word Write ∷ words) number × IsCommandLine (verb_word MirrorWrite ∷ words) command)
+Asks words (Err number) =
+    (one : ℕ) × (other : ℕ) × IsRefusedWord (verb_word Write ∷ words) one × IsRefusedWord (verb_word MirrorWrite ∷ words) other × (number ≡ max one other - 1)
+
+-- the command puts a volume
+abbrev pub PutsVolume : Command → Type 0
+PutsVolume (WriteCommand set end names) = Unit {0}
+PutsVolume (MirrorWriteCommand set end names) = Unit {0}
+PutsVolume _ = ⊥
+
+-- the names of the images are the last of the words: the command counts its own word with those before them
+abbrev pub AreNamed : List (List ℕ) → Command → Type 0
+AreNamed words command = IfSome (names_of command) (λ names. (1 ≤ names) × (names ≤ length words + 1) × (names_after words ≡ drop (names - 1) words))

@@ -1,0 +1,21 @@
+//! The top call of `reraid-nbd`, which carries the promise of the whole program.
+//!
+//! [`reraid_nbd()`] reads the words, attaches the images that they name, and serves the volume of their set by NBD, until the client ends
+//! the dialogue or the input ends. The words, the refusals and the volume are those of the commands `write` and `mirrorwrite` of
+//! `reraid`; the dialogue is that of `nbd_text`.
+//!
+//! `reraid_nbd` calls it over real files, `nbd_rows` over objects in memory. Start at [`reraid_nbd()`]: its clauses are the promise.
+//! What a run does stands in `specs/Runs`, what the words ask for in `specs/Words`, and each status with its line in `specs/Ends`.
+#![tactic(auto)]
+
+mod asking;
+mod ends;
+mod running;
+mod showing;
+mod top;
+
+pub use command_words::Word;
+pub use ends::NbdEnd;
+pub use nbd_server::NbdStop;
+pub use run_ends::{Notice, Refusal};
+pub use top::reraid_nbd;

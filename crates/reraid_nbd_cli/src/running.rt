@@ -1,0 +1,85 @@
+//! A run, up to why it ends.
+ghost use Rattle.std.specs.Prelude.{◌≡◌, ◌<◌, ◌^◌, [], All, IsTrue, Ok, Result, length, min, ℕ};
+ghost use Rattle.outside.specs.Attached.{AreImagesOf};
+ghost use Rattle.run_ends.specs.Jobs.{named, stream};
+ghost use Rattle.command_words.specs.Commands.{IsWithin, names_after};
+ghost use Rattle.command_words.specs.declared.command.Command.{Command as CommandOf};
+ghost use Rattle.reraid_nbd_cli.specs.Runs.{Runs, Shows, place, refusal, sectors, volume};
+ghost use Rattle.reraid_nbd_cli.specs.Words.{AreNamed, Asks, PutsVolume};
+
+use crate::asking::read_asked;
+use crate::ends::NbdEnd;
+use crate::showing::{show_mirror, show_set};
+use command_words::{Command, Word};
+use outside::{Images, MOST_ATTACHED, Sink, Source};
+use run_ends::{Refusal, attach_front};
+use std::alloc::Global;
+
+/// Does the work in its order: words, images, and the dialogue.
+pub(crate) fn run<S: Source, I: Images, K: Sink>(
+    alloc: Global,
+    words: &[Word],
+    source: &mut S,
+    images: &mut I,
+    out: &mut K,
+) -> Result<(), NbdEnd>
+    requires fresh { (I.seen images.old).attached ≡ [] }
+    requires named { All (λ name. IsTrue ((I.seen images.old).world.may_attach name)) (names_after words.now) }
+    ensures runs { (asked : Result CommandOf ℕ) × Asks words.now asked ×
+        Runs asked (named (length (names_after words.now)) (I.seen images.new).attached)
+        (place (I.seen images.old) (stream (S.left source.old) (S.faults source.old)) (stream (K.gained out.old) (K.faults out.old)))
+        (place (I.seen images.new) (stream (S.left source.new) (S.faults source.new)) (stream (K.gained out.new) (K.faults out.new))) result }
+    ensures attached { AreImagesOf (I.seen images.old).world (names_after words.now) (I.seen images.new).attached }
+{
+    match read_asked(words) {
+        Err(number) => Err(NbdEnd::Refused(Refusal::Word(number))),
+        Ok(command) => {
+            let names = names_of(&command, words);
+            match attach_front(images, names) {
+                Ok(()) => show(alloc, &command, images, names.len(), source, out),
+                Err(_) => Err(NbdEnd::ImageFault),
+            }
+        }
+    }
+}
+
+/// The names of the images: the last of the words.
+fn names_of<'a>(command: &Command, words: &'a [Word]) -> &'a [Word]
+    requires volume { PutsVolume command.now }
+    requires named { AreNamed words.now command.now }
+    ensures { result.now ≡ names_after words.now }
+{
+    match command {
+        Command::Write { names, .. } | Command::MirrorWrite { names, .. } => &words[names - 1..],
+        _ => unreachable!(),
+    }
+}
+
+/// Serves the volume of a command over the attached images, of which `names` are named.
+fn show<S: Source, I: Images, K: Sink>(
+    alloc: Global,
+    command: &Command,
+    images: &mut I,
+    names: usize,
+    source: &mut S,
+    out: &mut K,
+) -> Result<(), NbdEnd>
+    requires attached { length (I.seen images.old).attached ≡ min names MOST_ATTACHED }
+    requires small { All (λ image. image.sectors < 2 ^ 55) (I.seen images.old).attached }
+    requires volume { PutsVolume command.now }
+    requires within { IsWithin command.now }
+    ensures { Shows (refusal (Ok command.now) (named names (I.seen images.old).attached)) (sectors (Ok command.now) (named names (I.seen images.old).attached))
+        (volume (Ok command.now) (named names (I.seen images.old).attached))
+        (place (I.seen images.old) (stream (S.left source.old) (S.faults source.old)) (stream (K.gained out.old) (K.faults out.old)))
+        (place (I.seen images.new) (stream (S.left source.new) (S.faults source.new)) (stream (K.gained out.new) (K.faults out.new))) result }
+{
+    match command {
+        Command::Write { set, end, .. } => {
+            show_set(alloc, images, names, set, *end, source, out)
+        }
+        Command::MirrorWrite { set, end, .. } => {
+            show_mirror(alloc, images, names, set, *end, source, out)
+        }
+        _ => unreachable!(),
+    }
+}

@@ -1,0 +1,56 @@
+//! The top call.
+ghost use Rattle.std.specs.Prelude.{◌≡◌, [], All, IsTrue, Result, length, ℕ};
+ghost use Rattle.outside.specs.Attached.{AreImagesOf};
+ghost use Rattle.run_ends.specs.Jobs.{named, stream};
+ghost use Rattle.command_words.specs.Commands.{names_after};
+ghost use Rattle.command_words.specs.declared.command.Command.{Command as CommandOf};
+ghost use Rattle.reraid_nbd_cli.specs.Ends.{IsTold};
+ghost use Rattle.reraid_nbd_cli.specs.Runs.{Runs, place};
+ghost use Rattle.reraid_nbd_cli.specs.Words.{Asks};
+ghost use Rattle.reraid_nbd_cli.specs.declared.ends.NbdEnd.{NbdEnd};
+
+use crate::running::run;
+use command_words::Word;
+use outside::{Images, Sink, Source};
+use std::alloc::Global;
+
+/// Does all that the program does, and answers the status that it ends with.
+///
+/// Status 0: the client ended the dialogue, or the input ended between two messages. 1: the words are refused at a word. 4: the images
+/// are not those that the set takes. 7: the set breaks a rule. 10, 11 and 12: an image could not be attached, and the input or the output
+/// failed. 14: the client sent what the protocol does not allow, or the input ended inside a message. 15: the volume has 2^63 bytes or
+/// more. 20: out of memory.
+///
+/// Images are read only for requests. A reading that fails is told the client as `EIO`, and the dialogue goes on. All memory is taken
+/// before the first byte is put.
+pub fn reraid_nbd<S: Source, I: Images, K: Sink, N: Sink>(
+    alloc: Global,
+    words: &[Word],
+    source: &mut S,
+    images: &mut I,
+    out: &mut K,
+    notes: &mut N,
+) -> u8
+    requires fresh { (I.seen images.old).attached ≡ [] }
+    requires named { All (λ name. IsTrue ((I.seen images.old).world.may_attach name)) (names_after words.now) }
+
+    // The words ask for one volume, or are refused at one word. What is done for that, and why it ended, is told by the status and, where
+    // the dialogue did not end, by a line on the notes.
+    ensures runs { (asked : Result CommandOf ℕ) × Asks words.now asked × (end : Result (Unit {0}) NbdEnd) ×
+        Runs asked (named (length (names_after words.now)) (I.seen images.new).attached)
+        (place (I.seen images.old) (stream (S.left source.old) (S.faults source.old)) (stream (K.gained out.old) (K.faults out.old)))
+        (place (I.seen images.new) (stream (S.left source.new) (S.faults source.new)) (stream (K.gained out.new) (K.faults out.new))) end
+        × IsTold end result (stream (N.gained notes.old) (N.faults notes.old)) (stream (N.gained notes.new) (N.faults notes.new)) }
+
+    // The images attached are those of the words after `--`, in their order. Nothing else is attached.
+    ensures attached { AreImagesOf (I.seen images.old).world (names_after words.now) (I.seen images.new).attached }
+{
+    match run(alloc, words, source, images, out) {
+        Ok(()) => 0,
+        Err(end) => {
+            let notice = end.notice();
+            let _ = notes.put(notice.line.as_bytes());
+            notice.status
+        }
+    }
+}

@@ -1,8 +1,9 @@
 #!/usr/bin/env python3
-"""Compares docs/WRONG-BODIES.md with the edits that must fail: prints the edits that the page does not have, those that it
-has or speaks of and that are gone, and those whose function is another now; status 1 where there are some.
+"""Compares the tables of docs/WRONG-BODIES.md with the edits that must fail, of which they are made: an edit says in a line `wrong:` what
+is wrong with its body and, if bodies like it once passed, in a line `refused by:` which clause refuses it now. Prints what the page
+ought to say otherwise, and the edits that have no such line, or that the page speaks of and that are gone; status 1 where there are some.
 
-Usage: bench/edits.py
+Usage: bench/edits.py [--write], which makes the tables anew
 """
 
 import pathlib
@@ -10,53 +11,70 @@ import re
 import sys
 
 TOP = pathlib.Path(__file__).resolve().parent.parent
+PAGE = TOP / "docs/WRONG-BODIES.md"
 FUNCTION = re.compile(r"(?:fn|static|const)\s+(\w+)")
 CITED = re.compile(r"`(\w+)/(\w+)`")
-ROW = re.compile(r"\| `([^`]+)` \| `([^`]+)` \| .+ \|")
+BEGIN, END = "<!-- {} -->\n", "<!-- end -->\n"
 
 
-def changed_function(edit):
-    """The function or constant in which the first changed text of an edit stands, or None where that text is gone."""
-    lines = edit.read_text().splitlines()
-    file = next(line[6:] for line in lines if line.startswith("file: "))
-    old = next(line[5:] for line in lines if line.startswith("old: "))
-    text = (edit.parent.parent / file).read_text()
-    at = text.find(old)
-    before = FUNCTION.findall(text[:at + len(old)]) if at >= 0 else []
-    return before[-1] if before else None
+class Edit:
+    """A file of must-fail: what its lines say, and the function or constant in which its first changed text stands."""
+
+    def __init__(self, path):
+        self.crate, self.name = path.parent.parent.name, path.stem
+        lines = path.read_text().splitlines()
+        said = {word: line[len(word) + 2:] for line in reversed(lines) for word in ("wrong", "refused by", "file", "old")
+                if line.startswith(word + ": ")}
+        self.wrong, self.refused_by = said.get("wrong"), said.get("refused by")
+        text = (path.parent.parent / said["file"]).read_text()
+        at = text.find(said["old"])
+        before = FUNCTION.findall(text[:at + len(said["old"])]) if at >= 0 else []
+        self.function = before[-1] if before else None
 
 
-def listed():
-    """The rows of the page, by crate and name of the edit."""
-    rows, crate = {}, None
-    for line in (TOP / "docs/WRONG-BODIES.md").read_text().splitlines():
-        if line.startswith("## "):
-            crate = line[3:].strip("`")
-        elif row := ROW.fullmatch(line):
-            rows[crate, row[1]] = row[2]
-    return rows
+def by_crate(edits):
+    """The table of each crate, in the order of the alphabet."""
+    text, crate = "", None
+    for edit in edits:
+        if edit.crate != crate:
+            crate = edit.crate
+            text += f"\n## `{crate}`\n\n| edit | in | what is wrong |\n|---|---|---|\n"
+        text += f"| `{edit.name}` | `{edit.function}` | {edit.wrong} |\n"
+    return text + "\n"
 
 
-def cited():
-    """The edits that the page speaks of by crate and name."""
-    return {found.groups() for found in CITED.finditer((TOP / "docs/WRONG-BODIES.md").read_text())}
+def passed_once(edits):
+    """The table of those of which bodies like them once passed."""
+    rows = [f"| `{edit.crate}/{edit.name}` | {edit.refused_by} |\n" for edit in edits if edit.refused_by]
+    return "\n| edit | refused by |\n|---|---|\n" + "".join(rows) + "\n"
+
+
+def with_tables(page, edits):
+    """The page with each table in its place."""
+    for place, table in (("by crate", by_crate(edits)), ("passed once", passed_once(edits))):
+        begin = BEGIN.format(place)
+        before, rest = page.split(begin)
+        page = before + begin + table + END + rest.split(END, 1)[1]
+    return page
 
 
 def main():
-    there = {(edit.parent.parent.name, edit.stem): changed_function(edit)
-             for edit in TOP.glob("crates/*/must-fail/*.edit")}
-    rows = listed()
-    for key in sorted(there.keys() | rows.keys()):
-        if key not in rows:
-            print("/".join(key), "is not on the page; it changes", there[key])
-        elif key not in there:
-            print("/".join(key), "is gone")
-        elif there[key] != rows[key]:
-            print("/".join(key), "changes", there[key], "and not", rows[key])
-    gone = sorted(cited() - there.keys())
-    for key in gone:
-        print("/".join(key), "is spoken of and gone")
-    return rows != there or gone != []
+    edits = [Edit(path) for path in sorted(TOP.glob("crates/*/must-fail/*.edit"))]
+    page = PAGE.read_text()
+    there = {(edit.crate, edit.name) for edit in edits}
+    faults = [f"{edit.crate}/{edit.name}: {what}" for edit in edits
+              for what, bad in (("its old text is gone", edit.function is None), ("has no line `wrong:`", edit.wrong is None)) if bad]
+    new = with_tables(page, edits)
+    text_alone = "".join(part.split(END, 1)[-1] for part in re.split(r"<!-- (?:by crate|passed once) -->\n", page))
+    faults += [f"{'/'.join(key)} is spoken of and gone" for key in sorted({found.groups() for found in CITED.finditer(text_alone)} - there)]
+    if "--write" in sys.argv[1:]:
+        PAGE.write_text(new)
+    elif new != page:
+        old_lines, new_lines = page.splitlines(), new.splitlines()
+        faults += [f"the page lacks: {line}" for line in new_lines if line not in old_lines]
+        faults += [f"the page has: {line}" for line in old_lines if line not in new_lines]
+    print("\n".join(faults), end="\n" if faults else "")
+    return bool(faults)
 
 
 sys.exit(main())

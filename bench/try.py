@@ -1,14 +1,16 @@
 #!/usr/bin/env python3
 """Runs reraid-try on arrays that it makes: each level with each kind of volume, and traits of real disks, alone and by twos. Prints a
 table: the array, how many sets the defaults of reraid list and whether the true one is among them, what reraid-try had loosened where the true
-set came, whether that volume was found clean and its files whole, and the seconds. The last line counts them.
+set came, whether that volume was found clean and its files whole, the seconds, and those of the processors. The last line counts them.
 
-Usage: bench/try.py [--few] [--from N] [--keep DIR] [WORD..]
-With --from N it begins with array N, counted from 0. With words only the arrays in whose names all of them stand; with --few one array of each kind of volume. Needs the program on the PATH or at crates/reraid/out, and the Debian
-packages e2fsprogs, xfsprogs, btrfs-progs, ntfs-3g and lvm2.
+Usage: bench/try.py [--few] [--from N] [--jobs N] [--keep DIR] [WORD..]
+With --from N it begins with array N, counted from 0; with --jobs N so many arrays are searched side by side. With words only the arrays in
+whose names all of them stand; with --few one array of each kind of volume. Needs the program on the PATH or at crates/reraid/out, and the
+Debian packages e2fsprogs, xfsprogs, btrfs-progs, ntfs-3g and lvm2.
 """
 
 import argparse
+import concurrent.futures
 import json
 import os
 import pathlib
@@ -18,7 +20,7 @@ import sys
 import tempfile
 import time
 
-from try_arrays import Array, alike, make, tree
+from try_arrays import Array, alike, make, plain_volume, tree
 
 TOP = pathlib.Path(__file__).resolve().parent.parent
 KINDS = ["ext4", "btrfs", "xfs", "ntfs", "lvm2", "gpt", "mbr"]
@@ -72,39 +74,41 @@ def defaults(order, env):
 
 
 def tried(order, env, log):
-    """What reraid-try finds: its candidates by their sets, and the seconds."""
+    """What reraid-try finds: its candidates by their sets, the seconds, those of the processors, and all that it printed."""
     began = time.monotonic()
-    words = ["reraid-try", "--json", "--time", "20", "--log", log, *order]
-    done = subprocess.run(words, env=env, capture_output=True, text=True, timeout=10 * MOST_SECONDS, check=False)
-    took = time.monotonic() - began
-    found = [json.loads(line) for line in done.stdout.splitlines()]
-    if done.stderr:
-        print(done.stderr, file=sys.stderr)
-    return [it for it in found if it["event"] == "candidate"], took, done.stdout
+    words = ["timeout", str(10 * MOST_SECONDS), "reraid-try", "--json", "--time", "20", "--log", log, *order]
+    with subprocess.Popen(words, env=env, stdout=subprocess.PIPE, text=True) as running:
+        said = running.stdout.read()
+        _, status, used = os.wait4(running.pid, 0)
+        running.returncode = os.waitstatus_to_exitcode(status)
+    found = [json.loads(line) for line in said.splitlines()]
+    return [it for it in found if it["event"] == "candidate"], time.monotonic() - began, used.ru_utime + used.ru_stime, said
 
 
 def judge(array, cache, base, env):
-    """One array: makes it, searches it, and gives its line in the table and whether all is well."""
+    """One array: makes it, searches it, and gives its line in the table, whether the true set is found, the seconds and those of the processors."""
     with tempfile.TemporaryDirectory(dir=base) as folder:
         order, true = make(array, cache, folder)
         listed = [] if array.level == "near2" else defaults(order, env)
-        found, took, said = tried(order, env, f"{base}/log")
-        with open(f"{base}/last.json", "w", encoding="utf-8") as file:
+        name = array.name().replace(", ", "-").replace(" ", "-")
+        found, took, used, said = tried(order, env, f"{base}/{name}.log")
+        with open(f"{base}/{name}.json", "w", encoding="utf-8") as file:
             file.write(said)
     same = [it for it in found if alike(true, true) in [alike(word, word) for word in [it["set"], *it["alike"]]]]
     there = "listed" if true in listed else "missing"
     if not same:
-        return f"| {array.name()} | {len(listed)}, {there} | MISSING of {len(found)} | | {took:.1f} |", False
-    it = same[0]
+        return f"| {array.name()} | {len(listed)}, {there} | MISSING of {len(found)} | | {took:.1f} | {used:.1f} |", False, took, used
+    it = max(same, key=lambda it: it["score"])
     sound = ["not clean", "nothing against it", "clean", "clean, and its files whole"][it["score"]]
-    line = f"| {array.name()} | {len(listed)}, {there} | {len(found)}: {'; '.join(it['loosened']) or 'nothing loosened'} | {sound} | {took:.1f} |"
-    return line, took < MOST_SECONDS
+    line = f"| {array.name()} | {len(listed)}, {there} | {len(found)}: {'; '.join(it['loosened']) or 'nothing loosened'} | {sound} |"
+    return f"{line} {took:.1f} | {used:.1f} |", True, took, used
 
 
 def main():
     asking = argparse.ArgumentParser(description=__doc__, formatter_class=argparse.RawDescriptionHelpFormatter)
     asking.add_argument("--few", action="store_true")
     asking.add_argument("--from", dest="first", type=int, default=0, metavar="N")
+    asking.add_argument("--jobs", type=int, default=1, metavar="N")
     asking.add_argument("--keep", metavar="DIR")
     asking.add_argument("words", nargs="*")
     options = asking.parse_args()
@@ -118,14 +122,18 @@ def main():
         chosen = [array for array in ARRAYS[options.first:] if all(word in array.name() for word in options.words)]
         if options.few:
             chosen = [array for array in chosen if array.level == "5" and not array.lost and not array.traits]
-        print("| array | the defaults list, the true set | reraid-try: candidates, what was loosened | the true volume | seconds |\n|---|---|---|---|---|")
-        good = 0
-        for array in chosen:
-            line, well = judge(array, cache, base, env)
-            good += well
-            print(line, flush=True)
-        print(f"{good} of {len(chosen)} arrays: the true set is among the candidates in less than {MOST_SECONDS} seconds")
-        return 0 if good == len(chosen) else 1
+        for kind in dict.fromkeys(array.kind for array in chosen):
+            plain_volume(kind, cache)
+        print("| array | the defaults list, the true set | reraid-try: candidates, what was loosened | the true volume | seconds | of processors |")
+        print("|---|---|---|---|---|---|")
+        good = quick = most = 0
+        with concurrent.futures.ThreadPoolExecutor(options.jobs) as pool:
+            for line, well, took, used in pool.map(lambda array: judge(array, cache, base, env), chosen):
+                good, quick, most = good + well, quick + (well and took < MOST_SECONDS), max(most, used)
+                print(line, flush=True)
+        print(f"{good} of {len(chosen)} arrays: the true set is among the candidates; of {quick} in less than {MOST_SECONDS} seconds, and of all with "
+              f"at most {most:.0f} seconds of the processors")
+        return 0 if quick == len(chosen) else 1
     finally:
         if not options.keep:
             shutil.rmtree(base)

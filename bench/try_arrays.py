@@ -372,11 +372,17 @@ def unreadable(path, first, count):
         file.write("# map\n0x0 + 1\n" + "".join(f"{place:#x} {many:#x} {kind}\n" for place, many, kind in blocks))
 
 
+def plain_volume(kind, cache):
+    """The volume of a kind, made once."""
+    plain = f"{cache}/{kind.replace(' ', '-')}"
+    if not os.path.exists(plain):
+        make_volume(kind, plain, f"{cache}/tree")
+    return plain
+
+
 def mended_volume(array, cache, folder):
     """The volume of an array, with the traits that lie in a volume."""
-    plain = f"{cache}/{array.kind.replace(' ', '-')}"
-    if not os.path.exists(plain):
-        make_volume(array.kind, plain, f"{cache}/tree")
+    plain = plain_volume(array.kind, cache)
     volume = f"{folder}/volume"
     run("cp", "--sparse=always", plain, volume)
     if "stray on parity" in array.traits:
@@ -388,14 +394,15 @@ def mended_volume(array, cache, folder):
     return volume
 
 
-def make(array, cache, folder):
-    """The images of an array in a folder, and its true set: the names in the order in which they are given, and the set."""
+def make(array, cache, folder, first=FIRST, volume=None):
+    """The images of an array in a folder, and its true set: the names in the order in which they are given, and the set. The data begin at
+    this sector; a volume that is given is taken in place of one of the array's kind, and removed."""
     noise = random.Random(array.name())
-    volume = mended_volume(array, cache, folder)
+    volume = volume or mended_volume(array, cache, folder)
     letters = list("abcdefghijkl"[:array.members + ("foreign image" in array.traits)])
     noise.shuffle(letters)
     names = [f"{folder}/{letter}.img" for letter in letters]
-    offsets = [FIRST] * array.members
+    offsets = [first] * array.members
     if "offsets differ" in array.traits:
         offsets[1] += 2048
     if "offset 0" in array.traits:

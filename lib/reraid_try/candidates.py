@@ -8,13 +8,19 @@ from . import checkers, plans, volumes
 
 SECTOR = 512
 MOST_CLASSED = 1024
-MANY = 48
+FEW = 8
+# How far into a volume a file system may begin to be looked for before the whole is read, in sectors.
+FARTHEST = 131072
 MOST_BEGUN = 2048
+MOST_UNTOLD = 1024
+MOST_UNKNOWN = 256
+# A set of which more than one in so many filled rows is unsound is doubtful.
+MOST_UNSOUND = 2
 
 
 @dataclasses.dataclass
 class Candidate:
-    """A set that passed a trial. `alike` has the other sets of its class, `fits` what `check` says of each group."""
+    """A set that passed a trial. `alike` has the other sets of its class, `fits` what `check` says of each group, `rows` in which rows parity holds."""
 
     word: plans.Word
     rank: int
@@ -22,10 +28,12 @@ class Candidate:
     hunt: object
     alike: list = dataclasses.field(default_factory=list)
     fits: list = dataclasses.field(default_factory=list)
+    doubtful: bool = False
     unsound: int | None = None
     origins: list = dataclasses.field(default_factory=list)
     verdict: object = None
     listed: plans.Word = None
+    rows: str = ""
 
     @property
     def order(self):
@@ -69,28 +77,35 @@ class Tests:
         self.end = min(image.sectors for image in images)
         self.checks = checkers.Checkers(commands, room, options.time, options.first)
         self.maps = volumes.maps_text(images)
+        self.put_off, self.late = [], False
 
     def begins(self, candidate):
-        """What the first bytes of a candidate's volume begin with."""
+        """The volume of a candidate begins with something known, or a group of landmarks holds where something known begins."""
+        self.ask(candidate, False)
         word = candidate.word
-        rows = 1 + 264 // max(1, int(word.data * word.chunk))
+        places = [0, *(origin for origin in candidate.origins if origin < FARTHEST)]
+        rows = 1 + (max(places) + 264) // max(1, int(word.data * word.chunk))
         words, text = volumes.writing(word, self.names, min(self.end, word.offset + rows * word.chunk), None)
-        return checkers.sniff(self.commands.run(words, text, self.options.time).data)
+        data = self.commands.run(words, text, self.options.time).data
+        return any(checkers.sniff(data[place * SECTOR:(place + 264) * SECTOR]) for place in places)
 
-    def ask(self, candidate):
-        """What `check` says of a candidate: unsound rows, and where each group holds."""
-        text, names, word = candidate.hunt.asking(candidate)
+    def ask(self, candidate, rows=True):
+        """What `check` says of a candidate: unsound rows, and where each group holds; of one row alone where rows are not asked for."""
+        text, names, word = candidate.hunt.asking(candidate, rows)
         if text is None:
             return
         answer = self.commands.run(["reraid", "check", f"set={word}", "--", *names], text, self.options.time)
+        candidate.fits, candidate.origins = [], []
         for line in answer.out.splitlines():
-            if line.startswith("unsound"):
+            if rows and line.startswith("unsound"):
                 candidate.unsound = int(line.split()[1])
             elif match := GROUP.match(line):
                 fits = f"{match[4]}" if match[3] else "none"
                 candidate.fits.append(f"{match[2]} {fits}" + (f"-{match[5]}" if match[5] and match[5] != "0" else ""))
+                candidate.doubtful = candidate.doubtful or bool(match[3]) and int(match[5]) > int(match[4])
                 if match[3] and match[2] != "gpt":
                     candidate.origins.append(int(match[3]))
+        candidate.doubtful = candidate.doubtful or MOST_UNSOUND * (candidate.unsound or 0) > candidate.hunt.filled
 
     def read(self, candidate):
         """Looks at the volume of a candidate."""
@@ -114,20 +129,17 @@ class Tests:
         return done
 
     def test(self, found):
-        """Tests one of each class: of many, those first that begin with something known, and the others where none of these is clean."""
-        many = [found]
+        """Tests one of each class: of many, those first that begin with something known, and the others where none of these is clean. Doubtful
+        sets, and too many, are put off."""
+        if len(found) > MOST_UNTOLD and not found[0].trial.shape.parity and not self.late:
+            self.report.say("put off", f"  {len(found)} sets are too many where parity tells nothing: they are put off", sets=len(found))
+            self.put_off += found
+            return []
         if len(found) > MOST_BEGUN:
             self.report.say("many", f"  of {len(found)} sets the first {MOST_BEGUN} are looked at", sets=len(found))
             found = found[:MOST_BEGUN]
-        if len(found) > MANY:
-            begin = self.side_by_side(self.begins, found, "reads how the candidates begin")
-            known = [it for it, kind in zip(found, begin) if kind]
-            many = [known, [it for it, kind in zip(found, begin) if not kind]] if known else [found]
-            if known and len(known) < len(found):
-                self.report.say("begins", f"  {len(known)} of {len(found)} sets begin with something known; these are looked at first",
-                                known=len(known), sets=len(found))
         tested = []
-        for part in many:
+        for part in self.parts(self.without_doubtful(found)):
             classes = in_classes(self.commands, part, len(self.names), self.end)
             if len(classes) > MOST_CLASSED:
                 self.report.say("many", f"  of {len(classes)} classes the first {MOST_CLASSED} are looked at", classes=len(classes))
@@ -135,3 +147,33 @@ class Tests:
             if any(it.verdict.score > 1 for it in tested):
                 break
         return tested
+
+    def without_doubtful(self, found):
+        """The sets of which more speaks for them than against them; the others are kept for the end."""
+        if not found or not found[0].trial.lenient or self.late:
+            return found
+        self.side_by_side(lambda it: self.ask(it, it.trial.has_bad_rows), found, "asks for the fits of the candidates")
+        doubtful = [it for it in found if it.doubtful]
+        self.put_off += doubtful
+        if doubtful:
+            self.report.say("doubtful", f"  {len(doubtful)} of {len(found)} sets are put off: most marks of a group, or most rows, speak against them",
+                            doubtful=len(doubtful), sets=len(found))
+        return [it for it in found if not it.doubtful]
+
+    def test_late(self):
+        """Tests the sets that were put off, those with the least loosened first."""
+        found, self.put_off, self.late = sorted(self.put_off, key=lambda it: it.order), [], True
+        return self.test(found) if found else []
+
+    def parts(self, found):
+        """Of many sets those that begin with something known, and the others after them; where there are landmarks these are put off."""
+        if len(found) <= FEW:
+            return [found]
+        begin = self.side_by_side(self.begins, found, "reads how the candidates begin")
+        known, others = [[it for it, kind in zip(found, begin) if bool(kind) == wanted] for wanted in (True, False)]
+        later = bool(others and others[0].hunt.first_plan.groups) and not self.late
+        if others and (known or later):
+            self.report.say("begins", f"  {len(known)} of {len(found)} sets begin with something known; " +
+                            ("the others are put off" if later else "these are looked at first"), known=len(known), sets=len(found))
+        self.put_off += others if later else []
+        return [it for it in (known, [] if later else others[:MOST_UNKNOWN]) if it]

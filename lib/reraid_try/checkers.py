@@ -13,12 +13,14 @@ NAMES = {"ext2": "e2fsck", "ext3": "e2fsck", "ext4": "e2fsck", "xfs": "xfs_repai
 
 @dataclasses.dataclass
 class Finding:
-    """A region that holds something: what it is called, its type, and what its checker said. `clean` is None where none was asked."""
+    """A region that holds something: what it is called, its type, and what its checker said. `clean` is None where none was asked. `place` is its
+    first byte and its length, where it is in one piece."""
 
     region: str
     kind: str
     clean: bool | None = None
     said: str = ""
+    place: tuple | None = None
 
     def text(self):
         """What is said of it."""
@@ -146,7 +148,7 @@ class Checkers:
     def checked(self, volume, region, kind):
         """What the checker of a region says, and the regions that were found in it."""
         name = NAMES.get(kind)
-        finding = Finding(region.name, kind)
+        finding = Finding(region.name, kind, place=region.pieces[0] if len(region.pieces) == 1 else None)
         if name is None or name not in self.there:
             finding.said = f"no {name} here" if name else ""
             return finding, []
@@ -187,5 +189,5 @@ class Checkers:
         if verdict.findings and all(finding.kind in (kind, "LVM2_member") for finding in verdict.findings):
             verdict.empty, verdict.findings[-1].said = True, "nothing known in it"
         if verdict.findings:
-            verdict.files = wholes.count(volume.path, 0, min(volume.length, self.most))
+            verdict.files = wholes.count(volume.path, 0, min(volume.length, self.most), 2 * self.seconds)
         return verdict

@@ -2,13 +2,14 @@
 
 import dataclasses
 import re
+import time
 
 from . import plans, trials
 
 FEW = 24
 SHOWN = 3
 SLOW = 3
-ALL_ROWS = 1 << 54
+MOST_GROUPS = 8
 
 
 @dataclasses.dataclass
@@ -16,7 +17,6 @@ class Near:
     """A set that does not pass: its unsound rows of so many, how many marks fit, and the line of each group."""
 
     word: str
-    hunt: object
     plan: object
     unsound: int = 0
     rows: int = 0
@@ -25,73 +25,154 @@ class Near:
     seconds: float = 0
 
     @property
-    def order(self):
-        """The nearest first: the fewest unsound rows, the most fits."""
-        return self.unsound, -self.fits
+    def lacking(self):
+        """How many groups do not hold."""
+        return sum(said == "none" for _, said in self.groups)
+
+    @property
+    def empty(self):
+        """How many of its slots are empty."""
+        return self.word.rsplit(":", 1)[1].split(",").count("-")
+
+    def line(self, first, last):
+        """What is said of it; `first` and `last` are its unsound rows, where they are known."""
+        where = "" if first is None or last is None else f", first {first} and last {last}"
+        groups = ", ".join(f"{kind} {said}" for kind, said in self.groups) or "no landmarks"
+        return f"  {self.word}: {plans.counted(self.unsound, 'unsound row')} of {self.rows}{where}; {groups}"
 
 
-def ask(near, window=None):
-    """How many of the first rows of a set are unsound, and how many were tested; its groups are kept where no window is given."""
-    plan = near.plan if window is None else near.plan.having(window=window)
-    answer = near.hunt.commands.run(["reraid", "check", f"set={near.word}", "--", *near.hunt.names], plan.text(), near.hunt.options.time)
-    match = re.search(r"unsound (\d+) of (\d+)", answer.out)
-    if not match:
-        return None
-    if window is None:
-        near.unsound, near.rows, near.seconds = int(match[1]), int(match[2]), answer.seconds
-        near.groups = tuple(re.findall(r"group \d+ (\w+) (none|origin \d+ fits \d+ misfits \d+)", answer.out))
-        near.fits = sum(int(it) for it in re.findall(r"fits (\d+)", answer.out))
-    return int(match[1]), int(match[2])
-
-
-def row_of(near, wanted):
-    """The row with which so many rows are unsound, by halving."""
-    low, high = 0, near.rows
-    while low + 1 < high:
-        middle = (low + high) // 2
-        told = ask(near, middle)
-        if told is None:
-            return None
-        low, high = (low, middle) if told[0] >= wanted else (middle, high)
-    return high - 1
+def rows_in_words(near, first, last):
+    """In which rows parity holds, with the first and the last that is unsound, where they are known."""
+    if not near.unsound:
+        return f"parity holds in all {plans.counted(near.rows, 'row')}"
+    said = f"{near.unsound} of {plans.counted(near.rows, 'row')} unsound"
+    if first is None or last is None:
+        return said
+    said += f", all from row {first} on" if last == near.rows - 1 else f", all in rows {first} to {last}"
+    return f"parity holds in rows 0 to {first - 1}; {said}" if first else said
 
 
 class Diagnosis:
-    """Looks for the nearest sets of a hunt: those that landmarks allow, and those that parity allows."""
+    """Looks for the nearest sets of a hunt: those with the fewest unsound rows of all that landmarks allow, and those of which the most marks
+    fit of all that parity allows."""
 
     def __init__(self, hunt, report):
         self.hunt, self.report = hunt, report
+        self.until = time.monotonic() + 4 * hunt.options.time
 
-    def near(self):
-        """Some sets that pass one of the two tests."""
+    def ask(self, near, window=None):
+        """How many of the first rows of a set are unsound, and how many were tested; its groups are kept where no window is given."""
+        plan = near.plan if window is None else near.plan.having(window=window)
+        words = ["reraid", "check", f"set={near.word}", "--", *self.hunt.names]
+        answer = self.hunt.commands.run(words, plan.text(), self.hunt.options.time)
+        match = re.search(r"unsound (\d+) of (\d+)", answer.out)
+        if not match:
+            return None
+        if window is None:
+            near.unsound, near.rows, near.seconds = int(match[1]), int(match[2]), answer.seconds
+            near.groups = tuple(re.findall(r"group \d+ (\w+) (none|origin \d+ fits \d+ misfits \d+)", answer.out))
+            near.fits = sum(int(it) for it in re.findall(r"fits (\d+)", answer.out))
+        return int(match[1]), int(match[2])
+
+    def row_of(self, near, wanted):
+        """The row with which so many rows are unsound, by halving."""
+        low, high = 0, near.rows
+        while low + 1 < high:
+            middle = (low + high) // 2
+            told = self.ask(near, middle)
+            if told is None:
+                return None
+            low, high = (low, middle) if told[0] >= wanted else (middle, high)
+        return high - 1
+
+    def whole(self, candidate):
+        """In which rows of the whole window parity holds for a candidate, whatever was loosened; nothing for RAID 10, which has none."""
+        word, request = candidate.listed, candidate.trial.request
+        if word is None or request is None or candidate.word.level == "near2":
+            return ""
+        lost = sum(slot is None for slot in word.slots)
+        if lost >= {"5": 1, "6": 2}.get(word.level, 0):
+            return "parity tells nothing" + (f" with {plans.counted(lost, 'disk')} missing" if word.level != "0" else " at level 0")
+        plan = self.hunt.surveys.plan(request)
+        plan = plan.without([group.place for group in plan.groups]).having(window=self.hunt.window, badrows=0)
+        near = Near(word.text, dataclasses.replace(plan, end=self.hunt.end))
+        if self.ask(near) is None:
+            return ""
+        return rows_in_words(near, *self.bounds(near))
+
+    def bounds(self, near):
+        """The first and the last unsound row of a set; None where there is none, or where it takes long to find them."""
+        if not near.unsound or near.seconds >= SLOW:
+            return None, None
+        return self.row_of(near, 1), self.row_of(near, near.unsound)
+
+    def sets(self, plan, most):
+        """The first sets of a plan that pass; none after the diagnosis's time."""
+        if time.monotonic() > self.until:
+            return []
+        answer = trials.list_span(self.hunt.commands, self.hunt.names, plan.text(), 0, trials.LAST, self.hunt.options.time, most)
+        return [word for _, word in trials.read_page(answer.out)[0]]
+
+    def least(self, plan, name, below):
+        """The least value of a field, below this one, with which a plan lists a set, by halving; None where there is none."""
+        if below < 1 or not self.sets(plan.having(**{name: below - 1}), 1):
+            return None
+        low, high = 0, below - 1
+        while low < high:
+            middle = (low + high) // 2
+            low, high = (low, middle) if self.sets(plan.having(**{name: middle}), 1) else (middle + 1, high)
+        return high
+
+    def shapes(self):
+        """The shapes of which parity tells something, with what is asked for."""
+        return [(shape, self.hunt.request(shape)) for shape in self.hunt.shapes() if shape.parity][:6]
+
+    def by_rows(self):
+        """Of all sets that landmarks allow those with the fewest unsound rows."""
+        found, least = {}, 1 << 54
+        for shape, request in self.shapes():
+            changed = [cure.of(request) for cure in self.hunt.cures(shape) if cure.family in ("records", "group") or cure.family[:6] == "group "]
+            for it in [request, *changed]:
+                plan = self.hunt.surveys.plan(it).having(levels=shape.telling)
+                rows = self.least(plan, "badrows", min(least + 1, int(plan.values["window"]))) if plan.groups else None
+                if rows is None or rows == 0:
+                    continue
+                found = {} if rows < least else found
+                least = rows
+                for word in self.sets(plan.having(badrows=rows), FEW):
+                    found.setdefault(word, Near(word, self.hunt.surveys.plan(request).having(misfits=it.get("misfits", "0"))))
+        return sorted(filter(self.ask, found.values()), key=lambda it: (it.unsound, it.lacking, it.empty, -it.fits))
+
+    def by_marks(self):
+        """Of all sets that parity allows those of which the most groups hold, each group by itself with the fewest misfits."""
         found = {}
-        for shape in self.hunt.shapes()[:4]:
-            request = self.hunt.request(shape)
-            plan = self.hunt.surveys.plan(request)
-            loose = [plan.having(badrows=ALL_ROWS), plan.having(badrows=ALL_ROWS, misfits=8)]
-            if not plan.groups:
-                loose = []
-            loose += [plan.without([group.place for group in plan.groups]).having(levels=shape.telling)] if shape.parity else []
-            for it in loose:
-                if it.groups or it.values["badrows"] == "0":
-                    answer = trials.list_span(self.hunt.commands, self.hunt.names, it.text(), 0, trials.LAST, self.hunt.options.time, FEW)
-                    for _, word in trials.read_page(answer.out)[0]:
-                        found.setdefault(word, Near(word, self.hunt, plan))
-        return list(found.values())[:4 * FEW]
+        for shape, request in self.shapes():
+            whole = self.hunt.surveys.plan(request).having(levels=shape.telling)
+            places = [group.place for group in whole.groups]
+            if not self.sets(whole.without(places), 1):
+                continue
+            for group in sorted(whole.groups, key=lambda group: -len(group.marks))[:MOST_GROUPS]:
+                alone = whole.without([place for place in places if place != group.place])
+                misfits = self.least(alone, "misfits", len(group.marks))
+                for word in self.sets(alone.having(misfits=misfits), FEW) if misfits is not None else ():
+                    found.setdefault(word, Near(word, whole.having(misfits=misfits)))
+        return sorted(filter(self.ask, found.values()), key=lambda it: (it.lacking, int(it.plan.values["misfits"]), it.empty, -it.fits))
 
     def show(self):
         """Prints the nearest sets."""
-        asked = [it for it in self.near() if ask(it)]
-        if not asked:
+        rows, marks = self.by_rows(), self.by_marks()
+        if not rows and not marks:
             self.report.say("diagnosis", "diagnosis: no set is near: landmarks and parity each allow none")
-            return
-        self.report.say("diagnosis", "diagnosis: nothing is sure; these sets come nearest")
-        for near in sorted(asked, key=lambda it: it.order)[:SHOWN]:
-            first = last = None
-            if near.unsound and near.seconds < SLOW:
-                first, last = row_of(near, 1), row_of(near, near.unsound)
-            where = f", first {first} and last {last}" if first is not None and last is not None else ""
-            groups = ", ".join(f"{kind} {said}" for kind, said in near.groups) or "no landmarks"
-            self.report.say("near", f"  {near.word}: {plans.counted(near.unsound, 'unsound row')} of {near.rows}{where}; {groups}",
-                            set=near.word, unsound=near.unsound, rows=near.rows, first=first, last=last,
+        if rows:
+            self.report.say("diagnosis", "diagnosis: of the sets that landmarks allow these have the fewest unsound rows")
+            self.lines(rows[:SHOWN])
+        if marks:
+            self.report.say("diagnosis", "diagnosis: of the sets that parity allows these have the most groups and marks that fit")
+            self.lines(marks[:SHOWN])
+
+    def lines(self, found):
+        """A line for each of these sets."""
+        for near in found:
+            first, last = self.bounds(near)
+            self.report.say("near", near.line(first, last), set=near.word, unsound=near.unsound, rows=near.rows, first=first, last=last,
                             groups=[f"{kind} {said}" for kind, said in near.groups])

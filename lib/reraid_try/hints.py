@@ -2,6 +2,7 @@
 
 import collections
 import dataclasses
+import itertools
 import re
 
 from . import images as seen
@@ -11,6 +12,8 @@ SECTOR = 512
 # Of mdadm, and of controllers that keep nothing before the data.
 USUAL_OFFSETS = [0, 2048, 262144, 264192]
 MORE_OFFSETS = [16, 272, 1024, 4096, 6144, 8192, 10240, 16384, 18432, 32768, 34816, 65536, 67584, 131072, 133120]
+# Of so many marks of a group, and so many allocation groups, an offset is worked out, and so many offsets are taken.
+MOST_MARKS, MOST_STEPS, MOST_PLACED = 64, 64, 6
 
 
 @dataclasses.dataclass(frozen=True)
@@ -23,7 +26,7 @@ class Hint:
 
     def line(self):
         """What is said of it."""
-        return f"hint: {self.what} {self.value}, from {self.why}"
+        return f"hint: {'perhaps ' if self.what == 'level' else ''}{self.what} {self.value}, from {self.why}"
 
 
 def rules_of(plan):
@@ -36,8 +39,9 @@ def rules_of(plan):
 
 
 def offsets(plan, heads):
-    """Offsets: where the first mark of each rule stands, less its distance; those that several images show come first."""
-    shown, why = collections.defaultdict(set), {}
+    """Offsets: where the first mark of each rule stands, less its distance; those that several images show come first, then those of groups
+    with many marks."""
+    shown, why, size = collections.defaultdict(set), {}, collections.Counter()
     for (group, kind, _), marks in rules_of(plan).items():
         if kind in ("agf", "agi"):
             continue
@@ -45,12 +49,41 @@ def offsets(plan, heads):
         if first.sector >= first.nearest:
             value = first.sector - first.nearest
             shown[value].update(mark.image for mark in marks if mark.sector == first.sector)
+            size[value] = max(size[value], len(group.marks))
             why.setdefault(value, f"mark {kind} of image {first.image} at sector {first.sector}, less {first.nearest}")
     for head in heads:
         shown[head.sector].add(head.image)
         why.setdefault(head.sector, f"what looks like the head of {head.kind} on image {head.image}")
-    order = sorted(shown, key=lambda value: (-len(shown[value]), value))
+    order = sorted(shown, key=lambda value: (-len(shown[value]), -size[value], value))
     return [Hint("offset", value, f"{why[value]}; on {counted(len(shown[value]), 'image')}") for value in order]
+
+
+def distances(mark):
+    """How far behind the start of its file system a mark may lie, in sectors; the first of many."""
+    step, count, plus = mark.numbers if mark.step else (0, 0, 0)
+    return [step * k + plus for k in range(min(count, MOST_STEPS))] if mark.step else mark.numbers
+
+
+def placed_offsets(plan, data, origins, told):
+    """Offsets that explain the places of most marks of a group, for some number of data disks, chunk and origin: a mark that lies so far
+    behind the start of its volume stands in that row of chunks on its member, whichever it is, and P and Q show it there too. None of a
+    group whose places are explained as well by an offset that is told."""
+    found = {}
+    for group in plan.groups:
+        marks = {mark.sector: mark for mark in group.marks[:MOST_MARKS] if mark.kind != "record"}
+        here = {}
+        for disks, chunk, origin in itertools.product(data, plan.numbers("chunks"), origins):
+            votes = collections.Counter()
+            for sector, mark in marks.items():
+                votes.update({sector - (place // (chunk * disks) * chunk + place % chunk) for place in (origin + it for it in distances(mark))})
+            for value, count in votes.items():
+                if value >= 0 and count > 2 and 4 * count >= 3 * len(marks) and count > here.get(value, (0, ""))[0]:
+                    here[value] = count, f"{count} places of {group.name()}, for {disks} data disks and chunks of {chunk}"
+        most = max((count for count, _ in here.values()), default=0)
+        if not any(here.get(value, (0, ""))[0] == most for value in told):
+            found = here | found
+    order = sorted(found, key=lambda value: (-found[value][0], value))
+    return [Hint("offset", value, found[value][1]) for value in order if value not in told][:MOST_PLACED]
 
 
 def ratios(marks):

@@ -1,11 +1,17 @@
 """Hunts: searches over some of the images, with the hints that their landmarks give, and the shapes that are tried."""
 
 import dataclasses
+import itertools
 
 from . import hints, plans, surveys, trials
+from . import images as seen
 
 SECTOR = 512
 MOST_WINDOW = 524288
+# An offset with less than this part of the filled sectors behind it is tried last.
+FEW_FILLED = 16
+# How many rows may be bad at least, where that is loosened and no map tells.
+LEAST_BAD = 128
 # A first mark so far behind the first of all is mostly a stray one: its offset is tried with more offsets alone.
 FAR = 8192
 
@@ -19,13 +25,14 @@ class Pairs:
 
 
 class Hunt:
-    """A search over these images. With `pairs` its sets are those of a RAID 0 of one image of each pair."""
+    """A search over these images. With `pairs` its sets are those of a RAID 0 of one image of each pair. `late` is told of each question that
+    ran out of its time."""
 
-    def __init__(self, options, commands, images, pairs=None):
-        self.options, self.commands, self.images, self.pairs = options, commands, images, pairs
+    def __init__(self, options, commands, images, late, pairs=None):
+        self.options, self.commands, self.images, self.late, self.pairs = options, commands, images, late, pairs
         self.surveys = surveys.Surveys(commands, images)
         self.tried, self.allows, self.passed_over, self.repeated = set(), {}, 0, False
-        self.hints = []
+        self.hints, self.filled, self.counts = [], 0, []
         self.names = [image.name for image in images]
         self.end = min(min(image.sectors for image in images), options.first // SECTOR)
         self.window = min(self.end, MOST_WINDOW)
@@ -43,10 +50,16 @@ class Hunt:
         self.offset_hints = self.pairs_offsets() or self.own_offsets() + hints.offsets(plan, heads)
         starts = {hint.value for hint in self.offset_hints} | set(hints.USUAL_OFFSETS)
         origins = hints.lvm_origins(plan, self.numbered()) + hints.table_origins(self.images, starts)
-        self.level_hints, self.data_hints = hints.level(plan, heads), hints.data_disks(plan, len(self.images) + 2)
+        # Where images are copies of one another, how many show a mark at one place tells of mirrors, not of a level.
+        mirrored = any(image.like is not None for image in self.images)
+        self.level_hints = [] if mirrored else hints.level(plan, heads)
+        self.data_hints = hints.data_disks(plan, len(self.images) + 2)
+        if not self.pairs:
+            told = {hint.value for hint in self.offset_hints}
+            self.offset_hints += hints.placed_offsets(plan, [hint.value for hint in self.data_hints], [0, 2048], told)
         self.bad = hints.bad_sectors(self.images)
         ends = self.own_end()
-        self.hints = said + ends + self.offset_hints[:8] + self.data_hints + self.level_hints + origins[:16] + self.bad
+        self.hints = said + ends + self.offset_hints[:12] + self.data_hints + self.level_hints + origins[:16] + self.bad
         asked = {0, 2048} | {hint.value for hint in origins} | self.deeper(origins)
         self.base = self.base.having(origins=plans.listed(sorted(asked)[:64]), offsets=plans.listed(self.offsets()))
         if ends:
@@ -55,7 +68,31 @@ class Hunt:
             self.base = self.base.having(end=self.end)
         if self.window < self.end:
             self.base = self.base.having(window=self.window)
+        self.weigh()
         return plan
+
+    def weigh(self):
+        """Counts how many sectors are filled, from each offset on, where parity is tested."""
+        pieces = []
+        for offset in sorted({*self.offsets(), *(it for it in hints.MORE_OFFSETS if it < self.end)}):
+            last = min(self.end, offset + self.window)
+            if pieces and offset <= pieces[-1][1]:
+                pieces[-1][1] = last
+            else:
+                pieces.append([offset, last])
+        self.counts = [(first, [0, *itertools.accumulate(seen.filled(self.names, first, last))]) for first, last in pieces]
+        self.filled = max(map(self.weight, self.offsets()))
+
+    def weight(self, offset):
+        """How many of the sectors that are tested at an offset are filled: of zeros parity says nothing."""
+        for first, counts in self.counts:
+            if first <= offset < first + len(counts):
+                return counts[min(offset - first + self.window, len(counts) - 1)] - counts[offset - first]
+        return 0
+
+    def has_weight(self, offset):
+        """Enough is filled from this offset on for it to be tried before all others are."""
+        return FEW_FILLED * self.weight(offset) >= self.filled
 
     def own_end(self):
         """The end of the partitions that hold the members, where each image has a table of its own."""
@@ -116,15 +153,22 @@ class Hunt:
                     found.append(trials.Shape(level, members, 0, count - members))
         return found
 
+    def exact(self):
+        """The levels with parity at which the images are as many as the data disks of a hint need."""
+        return [shape for shape in self.hinted() if shape.parity and not shape.missing and not shape.foreign]
+
     def tiers(self):
         """What is searched, in order, in three parts: by the hints of level and data disks, what parity tells of, the rest."""
         if self.pairs:
             return [[trials.Shape("0", len(self.images))], [], []]
         count, hinted = len(self.images), self.hinted()
-        first = [shape for shape in hinted if self.level_hints and shape.levels == str(self.level_hints[0].value)]
-        second = [trials.Shape("5,6", count), *(shape for shape in hinted if shape.parity)]
-        third = [trials.Shape("0", count), trials.Shape("5,6", count + 1, 1), *hinted, trials.Shape("6", count + 2, 2)]
-        third += [trials.Shape("5,6", count - 1, 0, 1), trials.Shape("0", count - 1, 0, 1)]
+        level = str(self.level_hints[0].value) if self.level_hints else ""
+        first = [shape for shape in hinted if not shape.foreign and shape.levels == level]
+        levels = [it for it in "56" if trials.Shape(it, count) not in first]
+        second = [*self.exact(), trials.Shape(",".join(levels), count), *(shape for shape in hinted if shape.parity or shape.levels == level)]
+        second += [trials.Shape("6", count + 1, 1), trials.Shape("5,6", count - 1, 0, 1)]
+        third = [trials.Shape("0", count), trials.Shape("5", count + 1, 1), *hinted, trials.Shape("6", count + 2, 2)]
+        third += [trials.Shape("0", count - 1, 0, 1), trials.Shape("5", count, 1, 1), trials.Shape("6", count, 2, 1)]
         seen, tiers = set(), []
         for tier in (first, second, third):
             kept = [it for it in map(self.allowed, tier) if it]
@@ -139,29 +183,54 @@ class Hunt:
     def allowed(self, shape):
         """The shape with the levels alone that are asked for; None where it makes no sense."""
         least = {"0": 2, "5": 3, "6": 4}
-        levels = [level for level in shape.levels.split(",") if level in self.options.levels and shape.members >= least[level]]
+        levels = [level for level in filter(None, shape.levels.split(",")) if level in self.options.levels and shape.members >= least[level]]
         if not levels or (self.options.members and shape.members not in self.options.members) or shape.members > 24:
             return None
         return dataclasses.replace(shape, levels=",".join(levels))
 
-    def request(self, shape):
-        """What is asked for with nothing loosened."""
-        values = {"levels": shape.levels, "members": shape.members}
+    def request(self, shape, every=False):
+        """What is asked for with nothing loosened; with those offsets too behind which little is filled, where every one is asked for."""
+        offsets = [offset for offset in self.offsets() if every or self.has_weight(offset)]
+        values = {"levels": shape.levels, "members": shape.members, "offsets": plans.listed(offsets or self.offsets())}
         values |= {"missing": shape.missing} if shape.missing else {}
         values |= {"foreign": shape.foreign} if shape.foreign else {}
         return self.base.having(**values)
 
-    def cures(self, shape):
-        """What may be loosened for a shape, in order."""
-        found = trials.cures(self.first_plan, self.request(shape), self.bad[0].value if self.bad else 0, self.unlike_offsets(),
-                             [hint.value for hint in self.offset_hints])
+    def cures(self, shape, every=False):
+        """What may be loosened for a shape, in order; where not every one is asked for, without what is mostly wrong."""
+        rows = self.bad[0].value if self.bad else max(LEAST_BAD, min(self.window // 64, self.filled // 16))
+        offsets = [hint.value for hint in self.offset_hints[:24]] + hints.MORE_OFFSETS
+        offsets = [offset for offset in offsets if offset < self.end and (every or self.has_weight(offset))]
+        unlike = [it for it in self.unlike_offsets() if every or all(map(self.has_weight, it))]
+        found = trials.cures(self.first_plan, self.request(shape), rows, unlike, offsets, every)
         if not shape.parity:
             found = [cure for cure in found if cure.family not in ("window", "badrows")]
         if not self.first_plan.groups:
             found = [cure for cure in found if cure.family != "origins"]
         if not any(group.kind == "ntfs" for group in self.first_plan.groups):
             found = [cure for cure in found if not cure.name.startswith("file records")]
-        return [cure for cure in found if not (shape.foreign and cure.name.endswith("its own"))]
+        return [cure for cure in found if not (shape.foreign and cure.slow)]
+
+    def loosened(self, shape, count, every=False, quick=False):
+        """The requests for a shape with so many things loosened at once, in order, each with their names. Where parity tells something, what
+        changes it is loosened only as far as parity needs it; all else too, where every one is asked for. Quick ones have nothing loosened that
+        makes a listing long."""
+        request = self.request(shape, every or count == 0)
+        cures = [cure for cure in self.cures(shape, every) if not (quick and cure.slow)]
+        for chosen in trials.choices(cures, count):
+            if every or not shape.parity or self.is_needed(shape, [cure for cure in chosen if cure.rows]):
+                yield tuple(cure.name for cure in chosen), trials.changed(request, chosen)
+
+    def is_needed(self, shape, chosen):
+        """Parity allows no set with less loosened than this. Half the window counts for nothing here: what stands at the end of the disks is
+        passed over by large chunks as well, which parity alone then allows."""
+        free = [cure for cure in chosen if cure.family != "window"]
+        request = self.request(shape)
+        less = [part for count in range(len(chosen)) for part in itertools.combinations(chosen, count) if list(part) != free]
+        try:
+            return not any(self.parity_allows(self.surveys.plan(trials.changed(request, part)), shape) for part in less)
+        except surveys.Failed:
+            return True
 
     def unlike_offsets(self):
         """Offsets of which each image may have another one: the first two of the hints, and the first with one 2,048 sectors away."""
@@ -191,14 +260,21 @@ class Hunt:
 
     def may_list(self, plan, shape):
         """Landmarks alone allow a set, and so does parity alone; each is asked once for all trials that agree in it."""
-        alone = [plan.having(window=1, badrows=1)] if plan.groups else []
-        alone += [plan.without([group.place for group in plan.groups])] if shape.parity and plan.version == 1 else []
-        return all(self.has_set(it.text()) for it in alone)
+        if plan.groups and not self.has_set(plan.having(window=1, badrows=1).text(), "landmarks alone allow"):
+            return False
+        return not shape.parity or self.parity_allows(plan, shape)
 
-    def has_set(self, text):
-        """Some set of a plan passes, or its time was up before that was known."""
+    def parity_allows(self, plan, shape):
+        """Parity alone allows a set."""
+        alone = plan.having(levels=shape.telling).without([group.place for group in plan.groups])
+        return self.has_set(alone.text(), "parity alone allows")
+
+    def has_set(self, text, what):
+        """Some set of a plan passes, or its time was up before that was known. `what` says what allows it."""
         if text not in self.allows:
             answer = trials.list_span(self.commands, self.names, text, 0, trials.LAST, self.options.time, 1)
+            if answer.status is None:
+                self.late(what)
             self.allows[text] = answer.status is None or bool(trials.read_page(answer.out)[0])
         return self.allows[text]
 
@@ -210,8 +286,8 @@ class Hunt:
         self.commands.tell(" | ".join(quoted(it) for it in words))
 
     def word(self, text):
-        """A set of this hunt as one of all images."""
-        word = plans.read_word(text)
+        """A set of this hunt as one of all images, with one offset where all are the same."""
+        word = plans.folded(plans.read_word(text))
         if not self.pairs:
             return word
         numbers = []
@@ -220,9 +296,11 @@ class Hunt:
             numbers += [str(self.images[slot].number), "-" if partner is None else str(partner)]
         return plans.read_word(f"near2:{word.chunk}:{word.offset}:{','.join(numbers)}")
 
-    def asking(self, candidate):
-        """The plan, the images and the set with which `check` is asked of a candidate: with all groups, whatever was left out."""
+    def asking(self, candidate, rows=True):
+        """The plan, the images and the set with which `check` is asked of a candidate: with all groups, whatever was left out, and with one row
+        where rows are not asked for."""
         if candidate.listed is None or candidate.trial.request is None:
             return None, None, None
         request = dataclasses.replace(candidate.trial.request, out=())
-        return self.surveys.plan(request).text(), self.names, candidate.listed.text
+        plan = self.surveys.plan(request)
+        return (plan if rows else plan.having(window=1)).text(), self.names, candidate.listed.text

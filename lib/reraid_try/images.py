@@ -2,6 +2,7 @@
 
 import dataclasses
 import os
+import stat
 import struct
 import zlib
 
@@ -60,6 +61,15 @@ class Image:
         if self.map:
             said.append(f"its map is {self.map}")
         return ", ".join(said)
+
+
+def is_image(name):
+    """It is a file or a block device that can be read."""
+    try:
+        mode = os.stat(name).st_mode
+    except OSError:
+        return False
+    return (stat.S_ISREG(mode) or stat.S_ISBLK(mode)) and os.access(name, os.R_OK)
 
 
 def data_runs(file, first, last):
@@ -185,6 +195,22 @@ def find_heads(file, number, last):
     return tuple(found)
 
 
+def filled(names, first, last):
+    """For each of these sectors 1 where some image is not zero there, and 0 else."""
+    flags, zeros = bytearray(), bytes(SECTOR)
+    files = [open(name, "rb") for name in names]
+    for place in range(first * SECTOR, last * SECTOR, STEP):
+        merged, count = 0, min(STEP, last * SECTOR - place)
+        for file in files:
+            file.seek(place)
+            merged |= int.from_bytes(file.read(count), "little")
+        block = merged.to_bytes(count, "little") if merged else b""
+        flags += bytes(block[start:start + SECTOR] != zeros for start in range(0, count, SECTOR)) if merged else bytes(count // SECTOR)
+    for file in files:
+        file.close()
+    return flags
+
+
 def samples(file, length, count=64):
     """Some sectors of an image, spread over it, and the first ones that hold data."""
     taken = []
@@ -196,9 +222,8 @@ def samples(file, length, count=64):
 
 def look(name, number, first_bytes):
     """What is seen of an image, with no more read than its first bytes and its last ones."""
-    size = os.stat(name).st_size
-    image = Image(name, number, size // SECTOR)
     with open(name, "rb") as file:
+        image = Image(name, number, file.seek(0, os.SEEK_END) // SECTOR)
         def read(place, count):
             file.seek(place)
             return file.read(count)

@@ -6,7 +6,7 @@ import shutil
 import signal
 import sys
 
-from . import commands, report, search, table, volumes
+from . import commands, images, report, search, table, volumes
 
 UNITS = {"K": 1 << 10, "M": 1 << 20, "G": 1 << 30, "T": 1 << 40}
 
@@ -75,14 +75,14 @@ def read_words(words):
     if len(options.images) > 24:
         asking.error("more than 24 images")
     for name in options.images:
-        if not os.path.isfile(name) or not os.access(name, os.R_OK):
-            asking.error(f"{name} is no file that can be read")
+        if not images.is_image(name):
+            asking.error(f"{name} is no file and no block device that can be read")
     if options.room and not os.path.isdir(options.room):
         asking.error(f"{options.room} is no folder")
     if not shutil.which("reraid"):
         asking.error("there is no reraid on the PATH")
     if options.all:
-        options.first = 1 << 62
+        options.first = search.ALL
     return options
 
 
@@ -106,10 +106,10 @@ def main(words):
     run = search.Search(options, ran, out, room)
     try:
         found = run.run()
-        table.show(out, run.tested)
+        table.show(out, run.tested, run.images)
         return 0 if found else 1
     except KeyboardInterrupt:
-        table.show(out, [it for it in run.tested if it.verdict])
+        table.show(out, [it for it in run.tested if it.verdict], run.images)
         out.say("interrupted", "interrupted", interrupted=True)
         return 130
     finally:

@@ -140,6 +140,14 @@ class Word:
         return max(self.offsets)
 
 
+def folded(word):
+    """The same set with one offset, where the list of its offsets is one number repeated."""
+    if len(word.offsets) < 2 or len(set(word.offsets)) > 1:
+        return word
+    parts = word.text.split(":")
+    return read_word(":".join([*parts[:-2], str(word.offset), parts[-1]]))
+
+
 def read_word(text):
     """A set word of a listing, taken apart."""
     parts = text.split(":")

@@ -2,12 +2,15 @@
 
 import dataclasses
 
-from . import candidates, commands, diagnosis, hunts, plans, surveys, trials
+from . import candidates, commands, diagnosis, ending, hunts, plans, surveys, trials
 from . import images as seen
 from .trials import Shape, Trial
 
 SECTOR = 512
 SMALL_WINDOW = 8192
+# Images of at most so many times what is read first are read wholly where nothing was found.
+SMALL_TIMES = 4
+ALL = 1 << 62
 NO_LANDMARKS = ("no landmarks",)
 
 
@@ -16,24 +19,47 @@ class Search:
 
     def __init__(self, options, commands, report, room):
         self.options, self.commands, self.report, self.room = options, commands, report, room
-        self.tested, self.known = [], set()
-        self.number = 0
+        self.images, self.tested, self.known = [], [], set()
+        self.number, self.said_on = 0, False
 
     def run(self):
         """Does all of it; it says whether there are candidates."""
-        self.look()
-        self.tests = candidates.Tests(self.options, self.commands, self.report, self.room, self.images)
-        self.hunt = hunts.Hunt(self.options, self.commands, self.images)
-        self.survey(self.hunt)
-        self.try_all()
+        self.pass_through()
+        if self.best() < 1 and self.may_read_all():
+            self.report.say("all", "nothing was found in the first part, and all images are small: goes on to the whole of them")
+            self.options.first = ALL
+            self.known.clear()
+            self.pass_through()
+        if self.best() < 1:
+            self.without_landmarks()
+        if self.best() < 2:
+            diagnosis.Diagnosis(self.hunt, self.report).show()
+        for _, it in ending.best(sorted(self.tested, key=lambda it: it.order))[:ending.MOST_TOLD]:
+            it.rows = diagnosis.Diagnosis(it.hunt, self.report).whole(it)
         return bool(self.tested)
 
+    def pass_through(self):
+        """Looks, surveys and tries, in as much of the images as is to be read; without landmarks all is read at once, where it may be."""
+        self.look()
+        self.tests = candidates.Tests(self.options, self.commands, self.report, self.room, self.images)
+        self.hunt = hunts.Hunt(self.options, self.commands, self.images, self.say_late)
+        self.survey(self.hunt)
+        if self.hunt.first_plan.groups or not self.may_read_all():
+            self.try_all()
+
+    def may_read_all(self):
+        """Some image is longer than what was read of it, and none is so much longer that reading all would take very long."""
+        longest = max(image.sectors for image in self.images) * SECTOR
+        return self.options.first < longest <= SMALL_TIMES * self.options.first
+
     def look(self):
-        """The images, a line each."""
+        """The images, a line each that was not printed before."""
+        before = {image.line() for image in self.images}
         self.images = seen.look_at_all(self.options.images, self.options.first)
         for image in self.images:
             fields = {name: value for name, value in dataclasses.asdict(image).items() if name != "heads"}
-            self.report.say("image", image.line(), **fields)
+            if image.line() not in before:
+                self.report.say("image", image.line(), **fields)
         total = sum(min(image.sectors * SECTOR, self.options.first) for image in self.images)
         self.report.total = total
         part = "all" if total == sum(image.sectors * SECTOR for image in self.images) else "the first part"
@@ -54,39 +80,40 @@ class Search:
     def try_all(self):
         """All trials, in order, until the volume of a candidate says enough for itself."""
         if not self.first_trials() and not self.further_trials() and self.best() < 1:
-            self.without_landmarks()
+            self.keep(self.tests.test_late())
         if self.hunt.passed_over:
-            self.report.say("passed over", f"{self.hunt.passed_over} trials were passed over: landmarks alone, or parity alone, allow no set there",
+            self.report.say("passed over", f"passed over {plans.counted(self.hunt.passed_over, 'trial')}: landmarks alone, or parity alone, allow no set there",
                             trials=self.hunt.passed_over)
 
     def first_trials(self):
-        """What the hints say, with up to two things loosened; and then what parity tells of and the rest, with up to one."""
+        """What the hints say, with up to three things loosened where parity tells something, and what parity tells of and the rest with up to
+        one; it says whether the search is at its end."""
         if self.wants("10") and self.mirrors(0):
             return True
         hinted, told, rest = self.hunt.tiers()
-        if any(self.stage(self.hunt, hinted, count) for count in (0, 1)) or self.best() > 1:
+        exact = [shape for shape in self.hunt.exact() if shape in told]
+        steps = [(hinted, 0), (exact, 0), (hinted, 1), (hinted, 2), ([it for it in hinted if it.parity], 3), (told, 0), (told, 1)]
+        for shapes, count in steps:
+            if self.stage(self.hunt, shapes, count, quick=shapes is told) or (count and self.best() > 1):
+                return True
+        if (self.wants("10") and self.mirrors(1)) or self.stage(self.hunt, rest, 0) or self.best() > 1:
             return True
-        if self.stage(self.hunt, hinted, 2) or self.best() > 1:
-            return True
-        if self.stage(self.hunt, told, 0) or (self.wants("10") and self.mirrors(1)) or self.stage(self.hunt, rest, 0):
-            return True
-        return self.best() > 1 or self.stage(self.hunt, told + rest, 1) or self.best() > 1
+        return self.stage(self.hunt, told + rest, 1) or self.best() > 1
 
     def further_trials(self):
-        """With two and three things loosened."""
-        shapes = self.hunt.shapes()
-        for count, some in ((2, shapes), (3, shapes[:2])):
-            if self.best() > 0 or self.stage(self.hunt, some, count):
+        """With two and three things loosened: what parity tells of first, and then all else with two."""
+        hinted, told, rest = self.hunt.tiers()
+        steps = [(told, 2, False), (told, 3, False), (rest, 2, False), (hinted + told + rest, 2, True), ((hinted + told + rest)[:2], 3, True)]
+        for shapes, count, every in steps:
+            if self.best() > 0 or self.stage(self.hunt, shapes, count, every):
                 return True
         return False
 
     def without_landmarks(self):
-        """What is left where nothing was found: all sets that parity allows; and then how near the nearest ones come."""
+        """What is left where nothing was found: all sets that parity allows; where parity tells nothing, without landmarks alone."""
         for shape in self.hunt.shapes():
-            if self.attempt(self.hunt, shape, NO_LANDMARKS, self.bare(self.hunt, shape), True):
+            if (shape.parity or not self.hunt.first_plan.groups) and self.attempt(self.hunt, shape, NO_LANDMARKS, self.bare(self.hunt, shape), True):
                 return
-        if self.best() < 1:
-            diagnosis.Diagnosis(self.hunt, self.report).show()
 
     def wants(self, level):
         """This level is to be tried."""
@@ -100,16 +127,17 @@ class Search:
         """A request with all groups left out."""
         return dataclasses.replace(hunt.request(shape), out=tuple(group.place for group in hunt.first_plan.groups))
 
-    def stage(self, hunt, shapes, count):
+    def stage(self, hunt, shapes, count, every=False, quick=False):
         """The trials of some shapes with so many things loosened; it says whether the search is at its end."""
         for shape in shapes:
-            for names, request in trials.loosened(hunt.request(shape), hunt.cures(shape), count):
+            for names, request in hunt.loosened(shape, count, every, quick):
                 if self.attempt(hunt, shape, names, request):
                     return True
         return False
 
     def attempt(self, hunt, shape, names, request, last=False):
         """One trial; it says whether a candidate is clean and whole."""
+        self.why_on()
         self.report.doing = f"{shape.line()}: {' and '.join(names) or 'nothing loosened'}: "
         self.report.bar.show(self.report.doing)
         try:
@@ -125,6 +153,19 @@ class Search:
         trial = self.told(shape, names, request, listing)
         return self.take(hunt, trial, [(rank, plans.read_word(word), hunt.word(word)) for rank, word in listing.sets])
 
+    def why_on(self):
+        """Says once why it goes on after a checker was content."""
+        if self.best() == 2 and not self.said_on:
+            self.said_on = True
+            row = max(it.verdict.row for it in self.tested if it.verdict.score == 2)
+            self.report.say("goes on", f"  goes on: a checker alone is content, and no file longer than a row of chunks ({row // 1024} KiB) is whole, which "
+                            "would say more", row=row)
+
+    def say_late(self, what):
+        """Says that a question ran out of its time."""
+        self.report.say("late", f"  {self.options.time} s were up before it was known whether {what} a set: goes on as if so (--time gives more)",
+                        what=what, seconds=self.options.time)
+
     def take(self, hunt, trial, sets):
         """Tests the new sets of a trial; it says whether one of them is clean and whole."""
         fresh = []
@@ -136,7 +177,11 @@ class Search:
             return False
         tested = self.tests.test(fresh)
         told = hunt is not self.hunt or trial.loosened != NO_LANDMARKS
-        self.tested += [it for it in tested if told or it.verdict.findings or it.word.level in trial.shape.telling]
+        return self.keep([it for it in tested if told or it.verdict.findings or it.word.level in trial.shape.telling])
+
+    def keep(self, tested):
+        """Keeps what was tested for the table; it says whether one is clean and whole."""
+        self.tested += tested
         for it in tested:
             if it.verdict.score > 1:
                 self.report.say("sound", f"  {it.word.text}: {it.verdict.text()}", set=it.word.text, said=it.verdict.text())
@@ -160,7 +205,7 @@ class Search:
         if trials.read_page(answer.out)[0]:
             answer = self.commands.run(large, seconds=self.options.time)
         sets, following = trials.read_page(answer.out)
-        note = "its time was up before all were looked at" if answer.status is None else ""
+        note = f"its time of {self.options.time} s was up before all were looked at" if answer.status is None else ""
         trial = self.told(Shape("10", members, missing), (), None, trials.Listing(sets, following or 0, not note, note))
         if not sets:
             return False
@@ -190,7 +235,8 @@ class Search:
         """The RAID 0 of one image of each pair, as a hunt of its own."""
         pairs = sorted(pairing)
         images = [self.images[one] for one, _ in pairs]
-        hunt = hunts.Hunt(self.options, self.commands, images, hunts.Pairs(tuple(other for _, other in pairs), tuple(sorted(offsets))))
+        partners = hunts.Pairs(tuple(other for _, other in pairs), tuple(sorted(offsets)))
+        hunt = hunts.Hunt(self.options, self.commands, images, self.say_late, partners)
         said = " ".join("image {} alone".format(one) if other is None else f"{one}={other}" for one, other in pairs)
         self.report.say("pairs", f"  pairs {said}: a RAID 0 of {len(pairs)} disks", pairs=[list(pair) for pair in pairs])
         self.survey(hunt)

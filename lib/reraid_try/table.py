@@ -1,5 +1,7 @@
 """The table of the candidates."""
 
+from . import ending
+
 HEAD = ("", "class", "set", "loosened", "fits", "volume")
 LAST = """reraid-try does not choose. These sets passed, by what was loosened and by rank. + stands where a checker is content and none found
 fault, ++ where long files are whole besides, or the sums of all data are right."""
@@ -36,8 +38,8 @@ def shown(report, order):
     return known, said
 
 
-def show(report, tested):
-    """Prints the candidates, one of each class, and that none is chosen."""
+def show(report, tested, images):
+    """Prints the candidates, one of each class, that none is chosen, and what the best are in words."""
     order = sorted(tested, key=lambda it: it.order)
     told, others = shown(report, order)
     rows = [HEAD, *(row(number, it) for number, it in told)]
@@ -51,3 +53,4 @@ def show(report, tested):
     for said in others:
         report.say("rest", said)
     report.say("end", LAST if order else NONE, candidates=len(order))
+    ending.show(report, order, images)

@@ -5,7 +5,7 @@ import dataclasses
 import itertools
 import re
 
-from . import hints, plans
+from . import plans
 
 MOST_LINES = 20000
 SPAN = 4_000_000
@@ -50,6 +50,16 @@ class Cure:
     family: str
     change: object
 
+    @property
+    def rows(self):
+        """It changes what parity says."""
+        return self.family in ("window", "end", "badrows", "offsets")
+
+    @property
+    def slow(self):
+        """It makes a listing long."""
+        return self.name.endswith("its own")
+
     def of(self, request):
         """The request with this loosened."""
         return self.change(request)
@@ -63,6 +73,16 @@ class Trial:
     loosened: tuple
     request: object
     number: int = 0
+
+    @property
+    def has_bad_rows(self):
+        """Rows may be unsound."""
+        return self.request is not None and self.request.get("badrows", "0") != "0"
+
+    @property
+    def lenient(self):
+        """Marks may lie where they should not, or rows be unsound."""
+        return self.has_bad_rows or self.request is not None and self.request.get("misfits", "0") != "0"
 
     def line(self):
         """What is said of it."""
@@ -130,7 +150,7 @@ def list_plan(commands, names, plan, seconds, jobs):
                 break
         for task in tasks:
             task.cancel()
-    note = "" if whole else f"more than {len(found)} pass" if len(found) >= MOST_LINES else "its time was up before all were looked at"
+    note = "" if whole else f"more than {len(found)} pass" if len(found) >= MOST_LINES else f"its time of {seconds} s was up before all were looked at"
     return Listing(found, total, whole, note)
 
 
@@ -139,12 +159,13 @@ def with_out(place):
     return lambda request: dataclasses.replace(request, out=tuple(sorted({*request.out, place})))
 
 
-def group_cures(plan):
-    """Each group left out, small ones first; then each large one alone."""
-    order = sorted(plan.groups, key=lambda group: (len(group.marks), group.place))
-    found = [Cure(f"without {group.name()}", f"group {group.place}", with_out(group.place)) for group in order]
+def group_cures(plan, every):
+    """Each group left out, small ones first; then each large one alone. One with most of all marks is left out where every one is asked for."""
+    order, most = sorted(plan.groups, key=lambda group: (len(group.marks), group.place)), len(plan.marks()) / 2
+    found = [Cure(f"without {group.name()}", f"group {group.place}", with_out(group.place)) for group in order
+             if every or len(group.marks) <= most]
     if len(order) > 2:
-        for group in reversed(order[-2:]):
+        for group in [group for group in reversed(order[-2:]) if 2 * len(group.marks) >= len(order[-1].marks)]:
             rest = tuple(sorted(it.place for it in plan.groups if it is not group))
             found.append(Cure(f"{group.name()} alone", "group", lambda request, rest=rest: dataclasses.replace(request, out=rest)))
     return found
@@ -165,10 +186,10 @@ def before_superblock(plan):
     return lambda request: request.having(end=max(1, min(end, int(request.get("end")))), window=max(1, min(end, int(request.get("window", end)))))
 
 
-def more_offsets(hinted):
-    """Each of the usual offsets of mdadm, and all of the hints."""
+def more_offsets(offsets):
+    """These offsets besides."""
     def change(request):
-        asked = {int(it) for it in request.get("offsets").split(",")} | set(hints.MORE_OFFSETS) | set(hinted[:24])
+        asked = {int(it) for it in request.get("offsets").split(",")} | set(offsets)
         return request.having(offsets=plans.listed(sorted(it for it in asked if it < int(request.get("end")))[:64]))
     return change
 
@@ -192,15 +213,14 @@ def misfits(request):
     return request.having(misfits=8)
 
 
-def cures(plan, request, bad_rows, unlike, hinted):
-    """What may be loosened, in the order in which it is tried."""
+def cures(plan, request, rows, unlike, offsets, every):
+    """What may be loosened, in the order in which it is tried: so many bad rows, unlike offsets out of these lists, and more offsets."""
     found = [Cure("half the window", "window", half_window(plan)), Cure("an end before a superblock", "end", before_superblock(plan))]
     found.append(Cure("file records of number 0 left out", "records", lambda it: dataclasses.replace(it, records=True)))
-    found += group_cures(plan)
+    found += group_cures(plan, every)
     found.append(Cure("8 misfits", "records", misfits))
-    rows = bad_rows or max(128, int(request.get("window", plan.end)) // 64)
     found.append(Cure(f"badrows {rows}", "badrows", lambda it: it.having(badrows=rows)))
-    found.append(Cure("more offsets", "offsets", more_offsets(hinted)))
+    found.append(Cure("more offsets", "offsets", more_offsets(offsets)))
     found.append(Cure("more origins", "origins", more_origins))
     for offsets in unlike:
         found.append(Cure(f"offsets {plans.listed(offsets)}, each image its own", "offsets", offsets_each(offsets)))
@@ -213,12 +233,13 @@ def goes_with(chosen):
     return len(set(families)) == len(families) and not ("group" in families and any(it.startswith("group ") for it in families))
 
 
-def loosened(request, cure_list, count):
-    """The requests with so many things loosened at once, in order."""
-    slow = [cure.name for cure in cure_list if cure.name.endswith("its own")]
-    for chosen in sorted(itertools.combinations(cure_list, count), key=lambda chosen: any(cure.name in slow for cure in chosen)):
-        if goes_with(chosen):
-            changed = request
-            for cure in chosen:
-                changed = cure.of(changed)
-            yield tuple(cure.name for cure in chosen), changed
+def choices(cure_list, count):
+    """The ways to loosen so many things at once, in order; those that make a listing long come last."""
+    return sorted(filter(goes_with, itertools.combinations(cure_list, count)), key=lambda chosen: any(cure.slow for cure in chosen))
+
+
+def changed(request, chosen):
+    """A request with these things loosened."""
+    for cure in chosen:
+        request = cure.of(request)
+    return request

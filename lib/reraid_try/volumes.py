@@ -133,7 +133,7 @@ class Room:
         server = subprocess.Popen(words, stdin=subprocess.DEVNULL, stdout=subprocess.DEVNULL, stderr=subprocess.DEVNULL, start_new_session=True)
         self.mounted[folder] = server
         self.commands.note(" ".join(words), 0, 0)
-        for _ in range(200):
+        for _ in range(500):
             if os.path.exists(os.path.join(folder, "volume")):
                 return True
             if server.poll() is not None:

@@ -8,6 +8,7 @@ import bz2
 import dataclasses
 import lzma
 import struct
+import time
 import zlib
 
 from . import images
@@ -31,9 +32,11 @@ class Wholes:
         return f"{self.whole} of {self.found} files whole" if self.found else "no such files"
 
 
-def starts(file, first, last):
-    """The places at which such a file may begin, with its kind, in order."""
+def starts(file, first, last, until):
+    """The places at which such a file may begin, with its kind, in order, as far as they are read until a time."""
     for place, block in images.blocks(file, first, last):
+        if time.monotonic() > until:
+            return
         found = []
         for magic, kind in STARTS.items():
             here = block.find(magic)
@@ -122,13 +125,13 @@ def length_of(file, place, kind):
     return png(file, place) if kind == "png" else packed(file, place)
 
 
-def count(path, first=0, last=None, most=MOST_FILES):
-    """The files that begin in a volume, or in a part of it, in bytes; the first of them where there are many."""
-    told = Wholes()
+def count(path, first=0, last=None, seconds=None, most=MOST_FILES):
+    """The files that begin in a volume, or in a part of it, in bytes; the first of them where there are many, or where time is up."""
+    told, until = Wholes(), time.monotonic() + (seconds or 1e9)
     with open(path, "rb") as file:
         last = last if last is not None else file.seek(0, 2)
         after = first
-        for place, kind in starts(file, first, last):
+        for place, kind in starts(file, first, last, until):
             if place < after:
                 continue
             told.found += 1

@@ -1,0 +1,112 @@
+#!/usr/bin/env python3
+"""Runs reraid-try where the plain search finds nothing: an array that begins behind what is read first, one with a damaged image, one with
+two, and one whose landmarks mostly contradict it. For the last two it compares the diagnosis with what was done to the images. The last
+line counts them.
+
+Usage: bench/near.py [--keep DIR] [CASE..], of far, one_damaged, two_damaged and wrong_group. It needs what bench/try.py needs.
+"""
+
+import argparse
+import json
+import os
+import pathlib
+import random
+import re
+import shutil
+import subprocess
+import sys
+import tempfile
+
+import try_arrays
+from try_arrays import SECTOR, Array
+
+TOP = pathlib.Path(__file__).resolve().parent.parent
+DATA = 2048
+NOISE = random.Random(39)
+
+
+def search(order, *words):
+    """The events of a run, each with its fields."""
+    done = subprocess.run(["reraid-try", "--json", "--time", "20", *words, *order], stdout=subprocess.PIPE, text=True, check=False)
+    return [json.loads(line) for line in done.stdout.splitlines()]
+
+
+def best(events):
+    """The candidates with files that are whole, or the sums of all data right."""
+    return [it["set"] for it in events if it["event"] == "candidate" and it["score"] == 3]
+
+
+def damaged(name, place, step):
+    """Overwrites a sector of every so many with noise, from the data's start on; it says which rows these are."""
+    rows = list(range(place, os.path.getsize(name) // SECTOR - DATA, step))
+    for row in rows:
+        try_arrays.put(name, DATA + row, NOISE.randbytes(SECTOR))
+    return rows
+
+
+def far(folder, cache):
+    """The data begin behind what is read first."""
+    order, true = try_arrays.make(Array("5", 4, (), "xfs"), cache, folder, 65536)
+    events = search(order, "--first", "24M")
+    return any(it["event"] == "all" for it in events) and true in best(events)
+
+
+def one_damaged(folder, cache):
+    """One image has more bad rows than are allowed: left out, its member is found by parity."""
+    order, true = try_arrays.make(Array("5", 4, (), "xfs"), cache, folder)
+    head, slots = true.rsplit(":", 1)
+    slots = slots.split(",")
+    damaged(order[int(slots[2])], 0, 5)
+    return ":".join([head, ",".join(slots[:2] + ["-"] + slots[3:])]) in best(search(order))
+
+
+def two_damaged(folder, cache):
+    """Two images have: the diagnosis has the true set, with as many unsound rows as were damaged, the first and the last."""
+    order, true = try_arrays.make(Array("5", 4, (), "xfs"), cache, folder)
+    rows = damaged(order[0], 3, 7) + damaged(order[2], 4, 7)
+    near = [it for it in search(order) if it["event"] == "near"]
+    wanted = len(rows), min(rows), max(rows)
+    return true in [it["set"] for it in near if (it["unsound"], it["first"], it["last"]) == wanted]
+
+
+def wrong_group(folder, cache):
+    """The first superblock is gone, and twelve copies of another stand elsewhere: the diagnosis has the true set, with twelve misfits."""
+    array = Array("5", 4, (), "xfs")
+    volume = f"{folder}/changed"
+    shutil.copy(try_arrays.plain_volume(array.kind, cache), volume)
+    _, later = list(try_arrays.sectors_that(volume, lambda it: it[:4] == b"XFSB"))[1]
+    try_arrays.put(volume, 0, bytes(SECTOR))
+    for k in range(12):
+        try_arrays.put(volume, 150000 + 1001 * k, later)
+    order, true = try_arrays.make(array, cache, folder, DATA, volume)
+    near = [it for it in search(order) if it["event"] == "near"]
+    return true in [it["set"] for it in near if it["unsound"] == 0 and re.search(r"misfits 12$", it["groups"][0])]
+
+
+def main():
+    asking = argparse.ArgumentParser(description=__doc__, formatter_class=argparse.RawDescriptionHelpFormatter)
+    asking.add_argument("--keep", metavar="DIR")
+    asking.add_argument("cases", nargs="*")
+    options = asking.parse_args()
+    os.environ["PATH"] = os.pathsep.join([str(TOP / "crates/reraid/out"), str(TOP / "bin"), os.environ["PATH"], "/usr/sbin", "/sbin"])
+    base = options.keep or tempfile.mkdtemp(prefix="reraid-near.")
+    cache = f"{base}/volumes"
+    os.makedirs(cache, exist_ok=True)
+    try:
+        try_arrays.tree(f"{cache}/tree")
+        cases = [case for case in (far, one_damaged, two_damaged, wrong_group) if not options.cases or case.__name__ in options.cases]
+        good = 0
+        for case in cases:
+            with tempfile.TemporaryDirectory(dir=base) as folder:
+                well = case(folder, cache)
+            good += well
+            print(f"{'as stated' if well else 'NOT AS STATED'}: {case.__doc__}", flush=True)
+        print(f"{good} of {len(cases)} are as stated")
+        return 0 if good == len(cases) else 1
+    finally:
+        if not options.keep:
+            shutil.rmtree(base)
+
+
+if __name__ == "__main__":
+    sys.exit(main())

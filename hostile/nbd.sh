@@ -1,0 +1,230 @@
+#!/bin/bash
+# Tries reraid-nbd: by nbd_dialogues.py, and with real clients over arrays of ext4, XFS and btrfs with members lost: nbdinfo, nbdcopy, nbdsh,
+# nbdfuse with a loop mount, qemu-img by a socket and through nbdkit, and reraid-mount. All that they read is compared with what `write` and
+# `mirrorwrite` put, and all files with those that were put into the file systems. Its last line says how many cases were as stated; status 1
+# where one was not.
+# It is to be run as root, and takes loop devices, FUSE and the Debian packages libnbd-bin, python3-libnbd, nbdkit, qemu-utils, e2fsprogs,
+# xfsprogs and btrfs-progs. What is said after SERVER goes to nbd_dialogues.py: seed=, reads=, dialogues=.
+# Usage: hostile/nbd.sh PROGRAM SERVER [WORD..]
+set -u
+[ $# -ge 2 ] || { sed -n 's/^# \(Usage.*\)/\1/p' "$0"; exit 2; }
+here=$(cd "$(dirname "$0")" && pwd)
+bench=$here/../bench
+program=$(realpath "$1") server=$(realpath "$2")
+shift 2
+folder=$(mktemp -d "${TMPDIR:-/tmp}/reraid-nbd.XXXXXX") || exit 2
+listener=
+ended() {
+    cd "$folder" || return
+    for name in files shown; do umount "$name" 2>/dev/null; done
+    [ -z "$listener" ] || kill "$listener" 2>/dev/null
+    for number in *.pid; do [ ! -s "$number" ] || kill "$(cat "$number")" 2>/dev/null; done
+    cd / && rm -rf "$folder"
+}
+trap ended EXIT
+
+talked=$(python3 "$here/nbd_dialogues.py" "$program" "$server" "$@")
+echo "$talked"
+read -r cases _ _ reads _ failed _ <<<"$(tail -n 1 <<<"$talked")"
+
+cd "$folder" || exit 2
+uri=nbd+unix:///?socket=$folder/socket
+mkdir bin tree files shown
+ln -s "$program" bin/reraid
+ln -s "$server" bin/reraid-nbd
+cp "$here/../bin/reraid-mount" bin
+export PATH=$folder/bin:$PATH
+
+# as NAME COMMAND..: a case, which is as stated where the command ends with 0
+as() {
+    local name=$1
+    shift
+    cases=$((cases + 1))
+    if "$@" >log 2>&1; then
+        echo "ok $name"
+    else
+        failed=$((failed + 1))
+        echo "FAILED $name: $(head -c 400 log | tr '\n' '|')"
+    fi
+}
+
+not() { ! "$@"; }
+
+# listening: clients of the socket get the server of the array from now on
+listening() {
+    [ -z "$listener" ] || { kill "$listener"; wait "$listener" 2>/dev/null; }
+    rm -f socket
+    python3 "$bench/nbd_listen.py" socket reraid-nbd "${words[@]}" &
+    listener=$!
+    until [ -S socket ]; do sleep 0.1; done
+}
+
+# shown: the server is asked by nbdfuse for the file shown/volume
+shown() {
+    nbdfuse -r shown/volume --command reraid-nbd "${words[@]}" &
+    for _ in $(seq 100); do [ ! -e shown/volume ] || return 0; sleep 0.1; done
+    return 1
+}
+
+# holds TEXT COMMAND..: the command prints it
+holds() {
+    local text=$1
+    shift
+    "$@" | tee log | grep -qF -- "$text"
+}
+
+told() {
+    as "$1: nbdinfo says the size" test "$(nbdinfo --size "$uri")" = "$size"
+    for line in "is_read_only: true" "can_multi_conn: true" "can_flush: false" "can_trim: false" "can_zero: false" "block_size_minimum: 1" \
+        "block_size_preferred: 4096" "block_size_maximum: 4194304" "protocol: newstyle-fixed without TLS, using simple packets"; do
+        as "$1: nbdinfo says $line" holds "$line" nbdinfo "$uri"
+    done
+    as "$1: nbdinfo lists one export" holds 'export="":' nbdinfo --list "$uri"
+    as "$1: nbdinfo of a name that is not there" not nbdinfo "nbd+unix:///name?socket=$folder/socket"
+}
+
+copied() {
+    for connections in 1 4; do
+        as "$1: nbdcopy, $connections connections" nbdcopy --connections=$connections "$uri" copy
+        as "$1: what it copied" cmp copy volume
+    done
+    as "$1: qemu-img compare" qemu-img compare -f raw -F raw "$uri" volume
+    as "$1: qemu-img convert" qemu-img convert -f raw -O raw "$uri" copy
+    as "$1: what it converted" cmp copy volume
+    nbdkit -U kit.socket -P kit.pid nbd socket="$folder/socket"
+    until [ -s kit.pid ]; do sleep 0.1; done
+    as "$1: qemu-img compare through nbdkit" qemu-img compare -f raw -F raw "nbd+unix:///?socket=$folder/kit.socket" volume
+    kill "$(cat kit.pid)"
+    rm -f kit.pid kit.socket copy
+}
+
+# What libnbd refuses by itself is asked all the same.
+asked() {
+    cat >ask.py <<'END'
+import sys
+import nbd
+
+client = nbd.NBD()
+client.set_strict_mode(0)
+client.connect_command(["reraid-nbd", *sys.argv[1:]])
+size = client.get_size()
+
+
+def refused(number, call, *words):
+    try:
+        call(*words)
+    except nbd.Error as error:
+        assert error.errnum == number, (error.errnum, number, call)
+    else:
+        raise AssertionError(call)
+
+
+assert client.is_read_only()
+refused(1, client.pwrite, bytes(5 << 20), 0)
+refused(1, client.trim, 512, 0)
+refused(1, client.zero, 512, 0)
+refused(22, client.pread, 1, size)
+refused(22, client.pread, 2, size - 1)
+refused(22, client.pread, (4 << 20) + 1, 0)
+refused(22, client.cache, 512, 0)
+client.flush()
+with open("volume", "rb") as file:
+    for place, length in ((0, 4 << 20), (size - 1, 1), (size // 2 - 77, 1234567), (511, 2)):
+        file.seek(place)
+        assert client.pread(length, place) == file.read(length), (place, length)
+client.shutdown()
+END
+    as "$1: libnbd" /usr/bin/python3 ask.py "${words[@]}"
+}
+
+# looked NAME OPTIONS: the files of the file system, mounted from the file that is shown
+looked() {
+    as "$1: a mount of $3" mount -o "$2" "$3" files
+    as "$1: its files" diff -r tree files -x lost+found
+    as "$1: none can be written" not touch files/new
+    as "$1: its end" umount files
+}
+
+mounted() {
+    as "$1: nbdfuse" shown
+    as "$1: the length of its file" test "$(stat -c %s shown/volume)" = "$size"
+    as "$1: its file" cmp shown/volume volume
+    as "$1: its file cannot be written" not dd if=/dev/zero of=shown/volume conv=notrunc count=1
+    looked "$1" "$2" shown/volume
+    as "$1: nbdfuse ends" umount shown
+    set=${words[0]#set=}
+    as "$1: reraid-mount" reraid-mount "$set" shown "${words[@]:2}"
+    looked "$1" "$2" shown/volume
+    as "$1: reraid-mount ends" umount shown
+}
+
+# array NAME OPTIONS COMMAND SET IMAGE..: all of this over an array whose volume that command of reraid writes
+array() {
+    local name=$1 options=$2 command=$3
+    words=("set=$4" -- "${@:5}")
+    reraid "$command" "${words[@]}" >volume || exit 2
+    size=$(stat -c %s volume)
+    listening
+    told "$name"
+    copied "$name"
+    asked "$name"
+    mounted "$name" "$options"
+    rm -f volume ?.img
+}
+
+# ends STATUS TEXT COMMAND..: it ends with that status, and says the text
+ends() {
+    local status=$1 text=$2
+    shift 2
+    "$@" >log 2>&1
+    [ $? = "$status" ] && grep -qF -- "$text" log
+}
+
+# refused: what reraid-mount does not show, and names that are awkward
+refused() {
+    head -c 1M /dev/urandom >made
+    mkdir "a folder"
+    "$bench/disks.py" offsets=0 5 8 made "a folder/one image" --d1 d2
+    local set=5:ls:none:8:0:0,1,2 images=("a folder/one image" --d1 d2)
+    as "reraid-mount without images" ends 1 "usage: " reraid-mount "$set" shown
+    as "reraid-mount of a folder that is not empty" ends 1 "tree is not empty" reraid-mount "$set" tree "${images[@]}"
+    as "reraid-mount of a file" ends 1 "" reraid-mount "$set" made "${images[@]}"
+    as "reraid-mount of no set" ends 1 "word 1 is not understood" reraid-mount 5:ls shown "${images[@]}"
+    as "reraid-mount of a set with a fault" ends 7 "set rule 6 value 1" reraid-mount 5:ls:none:8:0:0,1,1 shown "${images[@]}"
+    as "reraid-mount of an image that is not there" ends 10 "image read fault" reraid-mount "$set" shown --d1 d2 nothing
+    as "reraid-mount without nbdfuse" ends 1 "there is no nbdfuse" env PATH="$folder/bin:$folder/few" "$(command -v reraid-mount)" "$set" shown "${images[@]}"
+    as "nothing is shown" test -z "$(ls -A shown)"
+    as "reraid-mount of a folder that it makes" ends 0 "to end it: umount -new: folder/" reraid-mount "set=$set" "-new: folder/" "${images[@]}"
+    reraid write "set=$set" -- "${images[@]}" >volume
+    as "its file" cmp "./-new: folder/volume" volume
+    as "its end" umount "./-new: folder"
+    rm -rf made volume "a folder" ./--d1 d2 "./-new: folder"
+}
+
+mkdir few
+for name in dirname realpath ls id stat mktemp mkdir setsid sleep cat rm; do ln -s "$(command -v $name)" few; done
+
+mkdir -p tree/deep/er
+head -c 9M /dev/urandom >tree/large
+head -c 700 /dev/urandom >tree/deep/small
+for number in $(seq 60); do head -c "${number}00" /dev/urandom >"tree/deep/er/$number"; done
+
+refused
+
+mke2fs -q -t ext4 -d tree made 32M >/dev/null
+"$bench/disks.py" offsets=2048,0,16,4096 5 128 made a.img b.img c.img d.img
+array "ext4, level 5, an offset of each image, one lost" ro,noload,loop write 5:ls:none:128:16+4096+2048:2,-,0,1 c.img d.img a.img
+
+truncate -s 320M made
+mkfs.xfs -q -f made
+mount -o loop made files && cp -r tree/. files && umount files
+python3 "$bench/sparse.py" 6 1024 264192 524288 made a.img b.img c.img d.img e.img
+array "XFS, level 6, two lost" ro,norecovery,loop write 6:ls:after-q:1024:264192:-,2,0,-,1 c.img e.img b.img
+
+rm made && truncate -s 120M made
+mkfs.btrfs -q -r tree made 2>/dev/null
+"$bench/disks.py" near2 128 made a.img b.img c.img d.img
+array "btrfs, near2, one lost" ro,loop mirrorwrite near2:128:2048:1,-,0,2 c.img a.img d.img
+
+echo "$cases cases, with $reads reads, $failed not as stated"
+[ "$failed" = 0 ]

@@ -1,0 +1,182 @@
+# Completion of bash for reraid, reraid-nbd, reraid-mount, reraid-try and reraid-ranges: commands, operands and their values, set words
+# part by part, options, and names of files where images stand.
+
+# _reraid_words: the words up to the cursor as they stand on the line, in `words`, the last of them in `word`
+_reraid_words() {
+    local line=${COMP_LINE:0:COMP_POINT}
+    read -ra words <<<"$line"
+    [[ $line != *[[:blank:]] ]] || words+=("")
+    word=${words[-1]}
+}
+
+# _reraid_files: names of files, as bash completes them by itself
+_reraid_files() {
+    COMPREPLY=()
+    compopt -o default
+}
+
+# _reraid_offer CHOICE..: the choices that go on from the word. Readline replaces only what stands after the last character at which it
+# breaks words, so what is before that is taken off.
+_reraid_offer() {
+    local breaks=${COMP_WORDBREAKS//[^=:]/} rest choice
+    rest=$word
+    [[ -z $breaks ]] || rest=${word##*[$breaks]}
+    for choice; do
+        [[ $choice == "$word"* ]] || continue
+        COMPREPLY+=("${choice#"${word%"$rest"}"}")
+        [[ $choice != *[=:] ]] || compopt -o nospace
+    done
+}
+
+# _reraid_list BEFORE VALUE ELEMENT..: one element more of a list, of those that are not in it
+_reraid_list() {
+    local before=$1 value=$2 element done
+    shift 2
+    done=${value%"${value##*,}"}
+    compopt -o nospace
+    for element; do
+        [[ ,$done == *,$element,* ]] || _reraid_offer "$before$done$element"
+    done
+}
+
+# _reraid_set BEFORE VALUE LEVEL..: the next part of a set word of these levels
+_reraid_set() {
+    local before=$1 value=$2 parts level choices
+    shift 2
+    IFS=: read -ra parts <<<"$value:."
+    level=${parts[0]}
+    [[ $level != near2 || ${#parts[@]} == 2 ]] || parts=(near2 copies none "${parts[@]:1}")
+    case ${#parts[@]} in
+        2) choices=("$@") ;;
+        3) case $level in
+            0) choices=(plain) ;;
+            5) choices=(la ra ls rs parity-first parity-last) ;;
+            6) choices=(la ra ls rs parity-first parity-last n-restart n-continue la-6 ra-6 ls-6 rs-6 parity-first-6) ;;
+        esac ;;
+        4) [[ $level == 6 ]] && choices=(after-q by-data by-slot) || choices=(none) ;;
+        5) choices=(8 16 32 64 128 256 512 1024 2048) ;;
+        6) choices=(0 2048 262144 264192) ;;
+        *) return ;;
+    esac
+    value=${value%"${value##*:}"}
+    choices=("${choices[@]/%/:}")
+    _reraid_offer "${choices[@]/#/$before$value}"
+}
+
+# _reraid_value COMMAND NAME VALUE: values of an operand
+_reraid_value() {
+    local before=$2=
+    case $2 in
+        set) case $1 in
+            mirrorwrite) _reraid_set "$before" "$3" near2 ;;
+            nbd) _reraid_set "$before" "$3" 0 5 6 near2 ;;
+            *) _reraid_set "$before" "$3" 0 5 6 ;;
+        esac ;;
+        form) [[ $1 == salvage ]] && _reraid_offer form=data form=lost || _reraid_offer form=text form=json ;;
+        marks) _reraid_offer marks=none marks=xfs ;;
+        mode) _reraid_offer mode=common mode=each ;;
+        logical) _reraid_offer logical=512 logical=4096 ;;
+        missing) _reraid_offer missing={0,1}; [[ $1 == mirrors ]] || _reraid_offer missing=2 ;;
+        levels) _reraid_list "$before" "$3" 0 5 6 ;;
+        members) _reraid_list "$before" "$3" {2..24} ;;
+        patterns) _reraid_list "$before" "$3" plain la ra ls rs parity-first parity-last n-restart n-continue la-6 ra-6 ls-6 rs-6 \
+            parity-first-6 ;;
+        syndromes) _reraid_list "$before" "$3" none after-q by-data by-slot ;;
+        chunks) _reraid_list "$before" "$3" 8 16 32 64 128 256 512 1024 2048 ;;
+        offsets) _reraid_list "$before" "$3" 0 2048 262144 264192 ;;
+        kinds) _reraid_list "$before" "$3" gpt ntfs xfs btrfs lvm ext ;;
+    esac
+}
+
+# _reraid_operands COMMAND NAME..: operands that are not given yet, or values of the one at the cursor, or images after `--`
+_reraid_operands() {
+    local command=$1 name given
+    shift
+    given=" ${words[*]:1:${#words[@]}-2} "
+    if [[ $given == *" -- "* || $given == *[\<\>]" " ]]; then
+        [[ $command == sample || $command == classes ]] && [[ $given != *[\<\>]" " ]] || _reraid_files
+    elif [[ $word == *=* ]]; then
+        for name; do
+            [[ $name != "${word%%=*}" ]] || _reraid_value "$command" "$name" "${word#*=}"
+        done
+    else
+        for name; do
+            [[ $given == *" $name="* ]] || _reraid_offer "$name="
+        done
+        _reraid_offer --
+    fi
+}
+
+_reraid() {
+    local words word
+    _reraid_words
+    COMPREPLY=()
+    if ((${#words[@]} == 2)); then
+        _reraid_offer survey list check map write rebuild sample classes mirrors mirrorwrite salvage
+        return
+    fi
+    case ${words[1]} in
+        survey) _reraid_operands survey levels members patterns syndromes chunks offsets origins missing foreign badrows misfits least window \
+            end kinds mode logical drop ;;
+        list) _reraid_operands list from size span pages form ;;
+        check) _reraid_operands check set ;;
+        map) _reraid_operands map set sector end ;;
+        write | mirrorwrite) _reraid_operands "${words[1]}" set end ;;
+        rebuild) _reraid_operands rebuild set slot end ;;
+        sample) _reraid_operands sample number set rows marks ;;
+        classes) _reraid_operands classes images end ;;
+        mirrors) _reraid_operands mirrors members chunks offsets missing foreign badrows window end from size span ;;
+        salvage) _reraid_operands salvage set form end ;;
+    esac
+}
+
+_reraid_nbd() {
+    local words word
+    _reraid_words
+    COMPREPLY=()
+    _reraid_operands nbd set end
+}
+
+# The set, without the name of an operand, a folder, and images.
+_reraid_mount() {
+    local words word
+    _reraid_words
+    COMPREPLY=()
+    case ${#words[@]} in
+        2) _reraid_set "" "$word" 0 5 6 near2 ;;
+        *) _reraid_files ;;
+    esac
+}
+
+_reraid_try() {
+    local words word
+    _reraid_words
+    COMPREPLY=()
+    case ${words[-2]} in
+        --levels) _reraid_list "" "$word" 0 5 6 10 ;;
+        --members) _reraid_list "" "$word" {2..24} ;;
+        --first | --time | -j) ;;
+        *) if [[ $word == -* && ${words[-2]} != --room && ${words[-2]} != --log ]]; then
+            _reraid_offer --json -x -j --members --levels --first --all --time --room --log --help
+        else
+            _reraid_files
+        fi ;;
+    esac
+}
+
+_reraid_ranges() {
+    local words word
+    _reraid_words
+    COMPREPLY=()
+    if ((${#words[@]} == 2)); then
+        _reraid_offer split run range join
+    else
+        _reraid_files
+    fi
+}
+
+complete -F _reraid reraid
+complete -F _reraid_nbd reraid-nbd
+complete -F _reraid_mount reraid-mount
+complete -F _reraid_try reraid-try
+complete -F _reraid_ranges reraid-ranges

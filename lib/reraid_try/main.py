@@ -95,7 +95,16 @@ def stop(ran):
 
 
 def main(words):
-    """One run, and its status."""
+    """One run, and its status: that of a program that a closed pipe ends, where nobody reads what is printed."""
+    try:
+        return run_once(words)
+    except BrokenPipeError:
+        os.dup2(os.open(os.devnull, os.O_WRONLY), sys.stdout.fileno())
+        return 128 + signal.SIGPIPE
+
+
+def run_once(words):
+    """One run over the images of these words, and its status."""
     options = read_words(words)
     log = open(options.log, "w", encoding="utf-8") if options.log else None
     out = report.Report(options.json)

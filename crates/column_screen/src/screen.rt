@@ -98,7 +98,8 @@ impl<'a> Screen<'a> {
         }
         let roles = self.roles[number];
         let (p, q) = self.samples.sums(number, &roles, slots);
-        !passes(test_of(self.head.level, &roles, lost), p, q)
+        let test = test_of(self.head.level, &roles, lost);
+        !passes(self.samples.weights(), test, p, q)
     }
 }
 

@@ -9,7 +9,7 @@ use Rattle.column_screen.proofs.samples.Samples.sums.Goals as goal
 
 pub overflow_mul-at-2 : goal.overflow_mul-at-2
 overflow_mul-at-2 c =
-    let list : c.self.inside.list.items ≡ c.args.self.now.list = ap (λ (kept : Kept). kept.list) c.self.view_is in
+    let list : c.self.inside.list.value.items ≡ c.args.self.now.list = ap (λ (kept : Kept). kept.list) c.self.view_is in
     let fits = table_fits c.self.inside.images c.args.number (length c.args.self.now.list) c.self.invariant.few c.requires.number c.requires.most in
     omega arith
 
@@ -28,7 +28,7 @@ sums_at-requires-clause-room c = λ k d lt.
 pub returns-clause-sums : goal.returns-clause-sums
 returns-clause-sums c = λ none.
     let images : c.self.inside.images ≡ c.args.self.now.images = ap (λ (kept : Kept). kept.images) c.self.view_is in
-    let list : c.self.inside.list.items ≡ c.args.self.now.list = ap (λ (kept : Kept). kept.list) c.self.view_is in
+    let list : c.self.inside.list.value.items ≡ c.args.self.now.list = ap (λ (kept : Kept). kept.list) c.self.view_is in
     let at = 400 * c.self.inside.images * c.args.number in
     let sample = slice_index_or c.args.self.now.list c.args.number none in
     let hold : HoldProducts sample c.self.inside.images at c.deref.result.now

@@ -8,4 +8,3 @@ pub mod Taking
 pub mod Table
 pub mod Keeping
 pub mod Verdict
-pub mod Nibbles

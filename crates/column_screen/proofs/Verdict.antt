@@ -29,12 +29,12 @@ use Rattle.raid_terms.specs.Parity.{in_p, in_q, is_sound_column}
 use Rattle.raid_terms.specs.Role.{HasRole, Item, P as RoleP, Q as RoleQ, Role}
 use Rattle.row_parity.specs.Syndromes.{known_sum}
 use Rattle.column_screen.specs.Passes.{Passes}
-use Rattle.column_screen.specs.Products.{AreRoles, AreSumsOf, HasBytes, place_in_p, place_in_q, test_at, test_by, test_for, HasWeight, ArePlaces}
+use Rattle.column_screen.specs.Products.{AreRoles, AreSumsOf, HasBytes, place_in_p, place_in_q, test_at, test_by, test_for}
 use Rattle.column_screen.specs.Screens.{breaks, held_byte, sample_column, IsFirstEmpty}
 use Rattle.column_screen.specs.declared.roles.Roles.{Roles}
 use Rattle.column_screen.specs.declared.samples.Sample.{Sample}
 use Rattle.column_screen.specs.declared.tests.Test.{Test}
-use Rattle.column_screen.specs.declared.tests.Test.TheVariants.{P as OfP, Q as OfQ, QByP}
+use Rattle.column_screen.specs.declared.tests.Test.TheVariants.{Q as OfQ, QByP}
 use Rattle.column_screen.proofs.Counting.{all_from, not_all}
 use Rattle.column_screen.proofs.RowTests.{full_column, some_unsound, test_tells}
 use Rattle.column_screen.proofs.SlotSums.{column_fits, column_length, p_zero, q_zero}
@@ -64,17 +64,11 @@ few_in_q (Block k) h = omega arith
 few_in_q P h = omega arith
 few_in_q Q h = omega arith
 
-p_few : (head : Head) (row slot : ℕ) (roles : Roles) → AreRoles head row roles → slot < head.members → slice_index roles.p slot ≤ 24
+pub p_few : (head : Head) (row slot : ℕ) (roles : Roles) → AreRoles head row roles → slot < head.members → slice_index roles.p slot ≤ 24
 p_few head row slot roles are lt = let e = are.p slot lt in let few = few_in_p (part_of head row slot) in omega arith
 
-q_few : (head : Head) (row slot : ℕ) (roles : Roles) → IsTrue (is_valid_head head) → AreRoles head row roles → slot < head.members → slice_index roles.q slot ≤ 24
+pub q_few : (head : Head) (row slot : ℕ) (roles : Roles) → IsTrue (is_valid_head head) → AreRoles head row roles → slot < head.members → slice_index roles.q slot ≤ 24
 q_few head row slot roles valid are lt = let e = are.q slot lt in let few = few_in_q (part_of head row slot) (has_entry head row slot valid lt) in omega arith
-
-pub row_places : (head : Head) (row : ℕ) (roles : Roles) (slots : ℕ) → IsTrue (is_valid_head head) → AreRoles head row roles → slots ≡ head.members → ArePlaces slots roles
-row_places head row roles slots valid are many = record {
-  p = λ slot below. p_few head row slot roles are (omega arith);
-  q = λ slot below. q_few head row slot roles valid are (omega arith);
-}
 
 -- the test of a part by its places
 by_places : (level : Level) (part : Part) → HasEntry part → test_by (place_in_p part) (place_in_q part) ≡ test_for level (Some part)
@@ -90,27 +84,6 @@ by_places Raid6 (Block k) h = below k h
     below k h = let e : (k == 24) ≡ false = grind (arith, nat_tests) in ap (λ (b : Bool). cond b OfQ (QByP k)) e
 by_places Raid5 (Block k) h = let e : (k == 24) ≡ false = grind (arith, nat_tests) in ap (λ (b : Bool). cond b OfQ (QByP k)) e
 by_places Raid0 (Block k) h = let e : (k == 24) ≡ false = grind (arith, nat_tests) in ap (λ (b : Bool). cond b OfQ (QByP k)) e
-
--- a test by the places of a row has a weight of the table
-weight_by : (p q : ℕ) → q ≤ 24 → HasWeight (test_by p q)
-weight_by p q few = by_p (p == 0)
-  where
-    by_q : (b : Bool) → (q == 24) ≡ b → HasWeight (cond b OfQ (QByP q))
-    by_q true e = tt
-    by_q false e = grind (arith, nat_tests)
-    by_p : (b : Bool) → HasWeight (cond b (if q == 24 then OfQ else QByP q) OfP)
-    by_p true = by_q (q == 24) refl
-    by_p false = tt
-
-pub has_weight : (level : Level) (roles : Roles) (slots : ℕ) (lost : Option ℕ) → ArePlaces slots roles → IfSome lost (λ slot. slot < slots) → HasWeight (test_at level roles lost)
-has_weight Raid6 roles slots None are inside = tt
-has_weight Raid5 roles slots None are inside = tt
-has_weight Raid0 roles slots None are inside = tt
-has_weight level roles slots (Some slot) are inside = weight_by (slice_index roles.p slot) (slice_index roles.q slot) (are.q slot inside)
-
-pub first_inside : (slots : List (Option ℕ)) (lost : Option ℕ) → IsFirstEmpty slots lost → IfSome lost (λ slot. slot < length slots)
-first_inside slots None first = tt
-first_inside slots (Some slot) first = first.0
 
 -- the first cell that is missing is that of the first empty slot
 none_missing : (head : Head) (row a : ℕ) (slots : List (Option ℕ)) → ((i : ℕ) → i < length slots → is_none (slice_index_or slots i None) ≡ false) →

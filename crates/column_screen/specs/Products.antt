@@ -30,10 +30,6 @@ HoldProducts sample images at products = (j : ℕ) → j < 400 * images → slic
 abbrev pub AreProducts : ℕ → List Sample → List ℕ → Type 0
 AreProducts images samples products = (s : ℕ) (none : Sample) → s < length samples → HoldProducts (slice_index_or samples s none) images (400 * images * s) products
 
--- the products of each power of 2 below 24 with the 16 values of a nibble, times the unit
-abbrev pub AreNibbles : ℕ → List ℕ → Type 0
-AreNibbles unit table = (j : ℕ) → j < 384 → slice_index table j ≡ product (power_of (j / 16)) (unit * (j % 16))
-
 -- the place of a part among the products of an image: of what it adds to P's sum, and to Q's
 abbrev pub place_in_p : Part → ℕ
 place_in_p (Block k) = 0
@@ -110,13 +106,6 @@ test_by p q = if p == 0 then (if q == 24 then OfQ else QByP q) else OfP
 abbrev pub test_at : Level → Roles → Option ℕ → Test
 test_at level roles None = test_for level None
 test_at level roles (Some slot) = test_by (slice_index roles.p slot) (slice_index roles.q slot)
-
--- a test by a weight that the table has
-abbrev pub HasWeight : Test → Type 0
-HasWeight Both = Unit {0}
-HasWeight OfP = Unit {0}
-HasWeight OfQ = Unit {0}
-HasWeight (QByP k) = k < 24
 
 -- so the places of the rows of the first n samples are
 abbrev pub AreRowRoles : Head → List Sample → ℕ → List Roles → Type 0

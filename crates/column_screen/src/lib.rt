@@ -19,7 +19,6 @@ mod screen;
 mod slots;
 mod sums;
 mod tests;
-mod weights;
 
 pub use laws::screened_sets_fail;
 pub use reading::{SampleFault, all_images, spread_row};

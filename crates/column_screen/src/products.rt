@@ -39,7 +39,7 @@ pub(crate) fn fill_products(sample: &Sample, images: usize, products: &mut [u8],
 }
 
 /// The 16 bytes from place `at` on, one a lane.
-pub(crate) fn load(bytes: &[u8], at: usize) -> u8x16
+fn load(bytes: &[u8], at: usize) -> u8x16
     requires { at + 16 ≤ length bytes.now }
     ensures long { length result ≡ 16 }
     ensures fits { Each1 (λ x. x < 256) result }

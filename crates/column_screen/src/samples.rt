@@ -1,6 +1,5 @@
 //! Samples: some columns of all images, in some rows of sectors.
 ghost use Rattle.std.specs.Prelude.{ℕ, List, ◌≡◌, ◌+◌, ◌<◌, ◌≤◌, [], All, IfOk, IfSome, length, slice_index_or};
-ghost use Rattle.std.specs.Simd.Lanes.{Each1};
 ghost use Rattle.raid_params.specs.declared.limits.TheConstants.{MOST};
 ghost use Rattle.member_regions.specs.Regions.{IsRoomFor};
 ghost use Rattle.column_screen.specs.Products.{ArePlaces, AreSumsOf, HasBytes};
@@ -12,7 +11,6 @@ use crate::columns::{first_columns, sample_at};
 use crate::products::{IMAGE_PRODUCTS, fill_products};
 use crate::roles::Roles;
 use crate::sums::sums_at;
-use crate::weights::Weights;
 use arrayvec::ArrayVec;
 use member_regions::{Regions, zeros};
 use outside::Memory;
@@ -47,7 +45,6 @@ pub struct Samples {
     list: Box<ArrayVec<Sample, SAMPLES>>,
     /// The products of the columns of each sample.
     products: Vec<u8>,
-    weights: Weights,
 }
 
 impl Model for Samples {
@@ -73,7 +70,6 @@ impl Samples {
             images,
             list,
             products,
-            weights: Weights::new(),
         })
     }
 
@@ -127,17 +123,10 @@ impl Samples {
         requires slots { length slots.now ≤ MOST }
         requires images { All (λ slot. IfSome slot (λ image. image < self.now.images)) slots.now }
         ensures p_long { length result.0 ≡ 16 }
-        ensures p_fits { Each1 (λ k. k < 256) result.0 }
         ensures q_long { length result.1 ≡ 16 }
-        ensures q_fits { Each1 (λ k. k < 256) result.1 }
         ensures sums { (none : SampleOf) → AreSumsOf (slice_index_or self.now.list number none) roles.now slots.now result.0 result.1 }
     {
         let at = IMAGE_PRODUCTS * self.images * number;
         sums_at(&self.products, at, roles, slots)
-    }
-
-    /// The products by which sums are tested.
-    pub(crate) fn weights(&self) -> &Weights {
-        &self.weights
     }
 }

@@ -98,8 +98,7 @@ impl<'a> Screen<'a> {
         }
         let roles = self.roles[number];
         let (p, q) = self.samples.sums(number, &roles, slots);
-        let test = test_of(self.head.level, &roles, lost);
-        !passes(self.samples.weights(), test, p, q)
+        !passes(test_of(self.head.level, &roles, lost), p, q)
     }
 }
 

@@ -1,6 +1,5 @@
 //! The sums of a row's equations over the columns of a sample, one column a lane.
 ghost use Rattle.std.specs.Prelude.{ℕ, ◌≡◌, ◌+◌, ◌*◌, ◌<◌, ◌≤◌, All, IfSome, length, slice_index};
-ghost use Rattle.std.specs.Simd.Lanes.{Each1};
 ghost use Rattle.raid_params.specs.declared.limits.TheConstants.{MOST};
 ghost use Rattle.column_screen.specs.Products.{ArePlaces, entries_sum};
 
@@ -21,9 +20,7 @@ pub(crate) fn sums_at(
     requires slots { length slots.now ≤ MOST }
     requires room { All (λ slot. IfSome slot (λ image. at + (400 * image + 400) ≤ length products.now)) slots.now }
     ensures p_long { length result.0 ≡ 16 }
-    ensures p_fits { Each1 (λ k. k < 256) result.0 }
     ensures q_long { length result.1 ≡ 16 }
-    ensures q_fits { Each1 (λ k. k < 256) result.1 }
     ensures p { (lane : ℕ) → lane < 16 → slice_index result.0 lane ≡ entries_sum products.now at roles.now.p slots.now lane (length slots.now) }
     ensures q { (lane : ℕ) → lane < 16 → slice_index result.1 lane ≡ entries_sum products.now at roles.now.q slots.now lane (length slots.now) }
 {

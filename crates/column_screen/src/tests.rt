@@ -4,9 +4,9 @@ ghost use Rattle.std.specs.Bool.{Decides};
 ghost use Rattle.std.specs.Simd.Lanes.{Each1};
 ghost use Rattle.gf256.specs.Field.{power_of, product};
 ghost use Rattle.column_screen.specs.Passes.{Passes};
-ghost use Rattle.column_screen.specs.Products.{HasWeight};
+ghost use Rattle.column_screen.specs.declared.samples.TheConstants.{COLUMNS};
 
-use crate::weights::Weights;
+use crate::samples::COLUMNS;
 use std::simd::prelude::*;
 
 /// What the sums of a column's equations have to be where it is sound.
@@ -52,31 +52,29 @@ fn is_zero(x: u8x16) -> bool
     x.simd_ne(u8x16::splat(0)).to_bitmask() == 0
 }
 
-/// Whether in each lane q is p times 2 to this power.
-fn are_products(weights: &Weights, p: u8x16, q: u8x16, power: u8) -> bool
-    requires power { power < 24 }
-    requires p_long { length p ≡ 16 }
-    requires p_fits { Each1 (λ k. k < 256) p }
-    requires q_long { length q ≡ 16 }
-    requires q_fits { Each1 (λ k. k < 256) q }
-    ensures { Decides result ((lane : ℕ) → lane < 16 → bit_xor (slice_index q lane) (product (power_of power) (slice_index p lane)) ≡ 0) }
+/// Whether in each lane q is p times 2 to this power. It is left at the first lane where it is not.
+fn are_products(p: &[u8; COLUMNS], q: &[u8; COLUMNS], power: u8) -> bool
+    ensures { Decides result ((lane : ℕ) → lane < COLUMNS → bit_xor (slice_index q.now lane) (product (power_of power) (slice_index p.now lane)) ≡ 0) }
 {
-    is_zero(sum(q, weights.times(power, p)))
+    let factor = gf256::power(power);
+    for lane in 0..COLUMNS {
+        if q[lane] ^ gf256::mul(factor, p[lane]) != 0 {
+            return false;
+        }
+    }
+    true
 }
 
 /// Whether the sums of each column are what they have to be.
-pub(crate) fn passes(weights: &Weights, test: Test, p: u8x16, q: u8x16) -> bool
-    requires weight { HasWeight test }
+pub(crate) fn passes(test: Test, p: u8x16, q: u8x16) -> bool
     requires p_long { length p ≡ 16 }
-    requires p_fits { Each1 (λ k. k < 256) p }
     requires q_long { length q ≡ 16 }
-    requires q_fits { Each1 (λ k. k < 256) q }
     ensures { Decides result ((lane : ℕ) → lane < 16 → Passes test (slice_index p lane) (slice_index q lane)) }
 {
     match test {
         Test::Both => is_zero(p) && is_zero(q),
         Test::P => is_zero(p),
         Test::Q => is_zero(q),
-        Test::QByP(k) => are_products(weights, p, q, k),
+        Test::QByP(k) => are_products(&p.to_array(), &q.to_array(), k),
     }
 }

@@ -4,11 +4,10 @@ use Rattle.std.specs.Option.{is_none}
 use Rattle.raid_layouts.proofs.Shapes.{shaped_images, shaped_slots}
 use Rattle.raid_params.specs.Size.{redundancy}
 use Rattle.raid_params.specs.Validity.{is_shaped}
-use Rattle.column_screen.specs.Products.{ArePlaces, HasBytes, HasWeight}
+use Rattle.column_screen.specs.Products.{ArePlaces, HasBytes}
 use Rattle.column_screen.specs.Screens.{breaks, set_of, Screening}
-use Rattle.column_screen.specs.declared.roles.Roles.{Roles}
 use Rattle.column_screen.specs.declared.samples.Sample.{Sample}
-use Rattle.column_screen.proofs.Verdict.{first_inside, has_weight, lt_is, row_places, verdict}
+use Rattle.column_screen.proofs.Verdict.{lt_is, p_few, q_few, verdict}
 use Rattle.column_screen.proofs.screen.Screen.is_broken.Goals as goal
 
 pub bounds-self-inside-number : goal.bounds-self-inside-number
@@ -24,30 +23,20 @@ sums-requires-clause-roles c =
     let none : Sample = record { row = 0; first = 0; bytes = record { items = [] } } in
     let here : F (record { kept = c.self.inside.samples.now; head = c.self.inside.head; tested = c.self.inside.tested; badrows = c.self.inside.badrows })
     = λ shaped lt.
-    row_places c.self.inside.head ((slice_index_or c.self.inside.samples.now.list c.args.number none).row / c.self.inside.head.chunk)
-    (slice_index_or c.self.inside.roles c.args.number (record { p = []; q = [] })) (length c.args.slots.now) c.self.invariant.0
-    (c.self.invariant.1 c.args.number none (record { p = []; q = [] }) lt) (shaped_slots (set_of c.self.inside.head c.args.slots.now) c.self.inside.samples.now.images shaped) in
+    let many = shaped_slots (set_of c.self.inside.head c.args.slots.now) c.self.inside.samples.now.images shaped in
+    let are = c.self.invariant.1 c.args.number none (record { p = []; q = [] }) lt in
+    record {
+      p = λ slot below. p_few c.self.inside.head ((slice_index_or c.self.inside.samples.now.list c.args.number none).row / c.self.inside.head.chunk) slot
+          (slice_index_or c.self.inside.roles c.args.number (record { p = []; q = [] })) are (omega arith);
+      q = λ slot below. q_few c.self.inside.head ((slice_index_or c.self.inside.samples.now.list c.args.number none).row / c.self.inside.head.chunk) slot
+          (slice_index_or c.self.inside.roles c.args.number (record { p = []; q = [] })) c.self.invariant.0 are (omega arith);
+    } in
     subst F c.self.view_is here c.requires.shaped c.requires.number
 
 pub sums-requires-clause-images : goal.sums-requires-clause-images
 sums-requires-clause-images c =
     let F : Screening → Type 0 = λ s. is_shaped (set_of s.head c.args.slots.now) s.kept.images ≡ true → All (λ slot. IfSome slot (λ image. image < c.self.inside.samples.now.images)) c.args.slots.now in
     subst F c.self.view_is (λ shaped. shaped_images (set_of c.self.inside.head c.args.slots.now) c.self.inside.samples.now.images shaped) c.requires.shaped
-
-pub passes-requires-clause-weight : goal.passes-requires-clause-weight
-passes-requires-clause-weight c =
-    let F : Screening → Type 0 = λ s. is_shaped (set_of s.head c.args.slots.now) s.kept.images ≡ true → c.args.number < length s.kept.list → HasWeight c.test_of-test.result in
-    let none : Sample = record { row = 0; first = 0; bytes = record { items = [] } } in
-    let blank : Roles = record { p = []; q = [] } in
-    let roles = slice_index_or c.self.inside.roles c.args.number blank in
-    let here : F (record { kept = c.self.inside.samples.now; head = c.self.inside.head; tested = c.self.inside.tested; badrows = c.self.inside.badrows })
-    = λ shaped lt.
-    subst HasWeight (sym c.test_of-test.ensures)
-    (has_weight c.self.inside.head.level roles (length c.args.slots.now) c.args.lost
-    (row_places c.self.inside.head ((slice_index_or c.self.inside.samples.now.list c.args.number none).row / c.self.inside.head.chunk) roles (length c.args.slots.now) c.self.invariant.0
-    (c.self.invariant.1 c.args.number none blank lt) (shaped_slots (set_of c.self.inside.head c.args.slots.now) c.self.inside.samples.now.images shaped))
-    (first_inside c.args.slots.now c.args.lost c.requires.lost)) in
-    subst F c.self.view_is here c.requires.shaped c.requires.number
 
 pub returns : goal.returns
 returns c = λ none.
@@ -59,8 +48,8 @@ returns c = λ none.
     let here : F (record { kept = c.self.inside.samples.now; head = c.self.inside.head; tested = c.self.inside.tested; badrows = c.self.inside.badrows })
     = λ shaped lt less long fits.
     let early : nat_lt sample.row c.self.inside.tested ≡ true = lt_is sample.row c.self.inside.tested (omega (arith, c.row.ensures none, c.if-row-self.false)) in
-    verdict geo sample (slice_index_or c.self.inside.roles c.args.number (record { p = []; q = [] })) c.test_of-test.result c.sums.result.0 c.sums.result.1 c.passes.result c.args.lost
+    verdict geo sample (slice_index_or c.self.inside.roles c.args.number (record { p = []; q = [] })) c.test_of.result c.sums.result.0 c.sums.result.1 c.passes.result c.args.lost
     (subst (λ (n : ℕ). is_shaped geo n ≡ true) (sym (long c.args.number none lt)) shaped) (fits c.args.number none lt)
-    (c.self.invariant.1 c.args.number none (record { p = []; q = [] }) lt) less c.requires.lost (c.sums.ensures.sums none) c.test_of-test.ensures c.passes.ensures
+    (c.self.invariant.1 c.args.number none (record { p = []; q = [] }) lt) less c.requires.lost (c.sums.ensures.sums none) c.test_of.ensures c.passes.ensures
     ∙ ap (λ (b : Bool). b && breaks geo sample) (sym early) in
     subst F c.self.view_is here c.requires.shaped c.requires.number c.requires.few c.requires.long c.requires.bytes

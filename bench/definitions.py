@@ -22,6 +22,8 @@ USE = re.compile(r"^(?:ghost )?use Rattle\.(\w+)\.specs\.([\w.]+)\.\{(.*?)\}", r
 
 # The crates that run nothing: of them all is printed that another crate takes.
 WORDS_ALONE = ("raid_terms", "search_terms")
+# A comment that begins so goes on from the one above it, which is then printed too.
+GOES_ON = re.compile(r"(and|its|the same|so|of|for|as) ")
 # The crates in which the promises of jobs and programs are put together from parts: of them all is printed.
 PROMISES = ("run_ends", "reraid_cli", "reraid_nbd_cli")
 
@@ -141,12 +143,13 @@ def page():
             continue
         lines = []
         for path in sorted((TOP / "crates" / crate / "specs").glob("*.antt")):
-            rows = []
-            for row in rows_of(definitions_of(path)):
+            rows, below = [], False
+            for row in reversed(rows_of(definitions_of(path))):
                 names = [it.name for it in row if (str(it.file), it.name) in wanted]
-                if names:
+                if names or below:
                     names = names if row[0].name in names else [row[0].name, *names]
-                    rows.append("- " + ", ".join(f"`{name}`" for name in names) + (f": {row[0].comment}" if row[0].comment else ""))
+                    rows.insert(0, "- " + ", ".join(f"`{name}`" for name in names) + (f": {row[0].comment}" if row[0].comment else ""))
+                    below = GOES_ON.match(row[0].comment)
             if rows:
                 lines += ["", f"`{path.stem}`", *rows]
         if lines:

@@ -113,11 +113,10 @@ def taken_by(path):
 
 def cited():
     """The definitions, by file and name, that are printed."""
-    found = set()
+    found, named = set(), re.findall(r"`([A-Z]\w+)`", (TOP / "docs/PROMISES.md").read_text())
     for path in TOP.glob("crates/*/specs/*.antt"):
         crate = path.parts[-3]
-        if crate in PROMISES:
-            found |= {(str(it.file), it.name) for it in definitions_of(path)}
+        found |= {(str(it.file), it.name) for it in definitions_of(path) if crate in PROMISES or it.name in named}
         found |= {(file, name) for _, file, name in taken_by(path) if file.split("/")[1] in WORDS_ALONE and file.split("/")[1] != crate}
     for path in TOP.glob("crates/*/src/*.rt"):
         offered = offered_by(path.parent).get(path.stem) if (path.parent / "lib.rt").exists() else None

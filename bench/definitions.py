@@ -1,13 +1,13 @@
 #!/usr/bin/env python3
-"""Prints the definitions of the house from the comments above them, as tables like those of docs/DEFINITIONS.md, or compares that page with
-them.
+"""Prints docs/DEFINITIONS.md from the comments that stand above the definitions in crates/*/specs/*.antt.
 
-    bench/definitions.py             a table for each crate, in the order of crates.txt: what each public definition says by its comment
-    bench/definitions.py --compare   how the page and the comments differ: names of the page that are defined nowhere or have no comment,
-                                     and how far the words of the rows are from the comments
+    bench/definitions.py             prints the page
+    bench/definitions.py --write     writes it to docs/DEFINITIONS.md
+    bench/definitions.py --compare   says how that page differs from what would be printed, and ends with 1 where it does
 
 A comment is the lines that begin with `-- ` just above a definition. A definition with no comment of its own is part of the one above it
-where nothing stands between but such definitions, and then has a row with it.
+where nothing stands between but such definitions, and then stands with it. Which definitions are printed is said at the top of the page,
+which is docs/definitions-head.md.
 """
 
 import difflib
@@ -16,8 +16,16 @@ import re
 import sys
 
 TOP = pathlib.Path(__file__).resolve().parent.parent
+PAGE, TOP_OF_PAGE = TOP / "docs/DEFINITIONS.md", TOP / "docs/definitions-head.md"
 HEAD = re.compile(r"^(?:abbrev |unfoldable )?pub (?:record |data )?(?P<name>[^\s:({]+)|^(?:abbrev|unfoldable) pub (?:record |data )?(?P<other>[^\s:({]+)")
-ROW = re.compile(r"^\| (?P<names>`[^|]+) \| \[[^\]]+\]\(\.\./(?P<file>[^)]+)\) \| (?P<words>.*?) \|")
+USE = re.compile(r"^(?:ghost )?use Rattle\.(\w+)\.specs\.([\w.]+)\.\{(.*?)\}", re.M | re.S)
+
+# The crates that run nothing: of them all is printed that another crate takes.
+WORDS_ALONE = ("raid_terms", "search_terms")
+# A comment that begins so goes on from the one above it, which is then printed too.
+GOES_ON = re.compile(r"(and|its|the same|so|of|for|as) ")
+# The crates in which the promises of jobs and programs are put together from parts: of them all is printed.
+PROMISES = ("run_ends", "reraid_cli", "reraid_nbd_cli")
 
 
 class Definition:
@@ -29,7 +37,7 @@ class Definition:
 
 def definitions_of(path):
     """The public definitions of a file, in their order."""
-    found, comment, gap = [], [], True
+    found, comment = [], []
     for line in path.read_text().splitlines():
         if line.startswith("-- "):
             comment.append(line[3:].strip())
@@ -50,11 +58,6 @@ def crates():
     return [line.split(":")[0].split()[0] for line in (TOP / "crates.txt").read_text().splitlines() if re.match(r"\w", line)]
 
 
-def house():
-    """The definitions of each crate, by its name."""
-    return {crate: [it for path in sorted((TOP / "crates" / crate / "specs").glob("*.antt")) for it in definitions_of(path)] for crate in crates()}
-
-
 def rows_of(definitions):
     """Definitions in rows: the ones without a comment stand with the one above them in their file."""
     rows = []
@@ -66,54 +69,101 @@ def rows_of(definitions):
     return rows
 
 
-def print_tables():
-    print("# Definitions\n\nEach public definition, where it stands, and what it says.")
-    for crate, definitions in house().items():
-        if not definitions:
+def offered_by(crate_source):
+    """What `lib.rt` of a crate offers: for each of its modules the names, "*" for all."""
+    text, offered = (crate_source / "lib.rt").read_text(), {"lib": {"*"}}
+    for module, names in re.findall(r"^pub use (\w+)(?:::(\{[^}]*\}|[\w*]+))?;", text, re.M) + [(it, "*") for it in re.findall(r"^pub mod (\w+)", text, re.M)]:
+        offered.setdefault(module, set()).update(re.findall(r"[\w*]+", names or "*"))
+    return offered
+
+
+def clauses_of(path, offered):
+    """The words of a file's types, traits and headers of functions with their clauses, without bodies, comments and functions not offered."""
+    words, body, header, private, inherent, depth = [], None, False, False, False, 0
+    for line in path.read_text().splitlines():
+        text, indent = line.strip(), len(line) - len(line.lstrip())
+        if body is not None:
+            if indent == body and text.startswith("}"):
+                body = None
             continue
-        print(f"\n## `{crate}/specs`\n\n| definition | file | in plain words |\n|---|---|---|")
-        for row in rows_of(definitions):
-            names = ", ".join(f"`{it.name}`" for it in row)
-            print(f"| {names} | [{row[0].file.stem}](../{row[0].file}) | {row[0].comment.replace('|', chr(92) + '|')} |")
+        if text.startswith(("//", "use ", "pub use ", "ghost use ")):
+            continue
+        if text.startswith(("impl", "trait", "pub trait")):
+            inherent = text.startswith("impl") and " for " not in text
+        if match := re.match(r"(pub(?:\(crate\))? )?(?:const )?fn (\w+)", text):
+            outer = indent == 0 and not {match[2], "*"} & offered
+            header, depth, private = True, 0, outer or match[1] != "pub " and (indent == 0 or inherent)
+        if not private:
+            words += re.findall(r"[\w']+", line)
+        depth += line.count("{") - line.count("}")
+        # A function's header ends where its body begins, or at a semicolon in a trait; a record in a clause is deeper.
+        if header and (text.endswith("{") and depth == 1 or text.endswith(("{}", ";")) and depth == 0):
+            body = indent if text.endswith("{") else None
+            header = private = False
+    return set(words)
 
 
-def page_rows():
-    """The rows of the page: names, file, words."""
-    for line in (TOP / "docs/DEFINITIONS.md").read_text().splitlines():
-        if match := ROW.match(line):
-            yield re.findall(r"`([^`]+)`", match["names"]), match["file"], match["words"]
+def taken_by(path):
+    """What a source or a file of definitions takes: its name here, its file and its name there."""
+    for crate, module, names in USE.findall(path.read_text()):
+        for name in names.split(","):
+            name, _, here = name.strip().partition(" as ")
+            yield here or name, f"crates/{crate}/specs/{module.replace('.', '/')}.antt", name
 
 
-def near(one, other):
-    """How near two texts are, from 0 to 1, by their words."""
-    words = [re.findall(r"\w+", text.lower()) for text in (one, other)]
-    return difflib.SequenceMatcher(None, *words).ratio()
+def cited():
+    """The definitions, by file and name, that are printed."""
+    found, named = set(), re.findall(r"`([A-Z]\w+)`", (TOP / "docs/PROMISES.md").read_text())
+    for path in TOP.glob("crates/*/specs/*.antt"):
+        crate = path.parts[-3]
+        found |= {(str(it.file), it.name) for it in definitions_of(path) if crate in PROMISES or it.name in named}
+        found |= {(file, name) for _, file, name in taken_by(path) if file.split("/")[1] in WORDS_ALONE and file.split("/")[1] != crate}
+    for path in TOP.glob("crates/*/src/*.rt"):
+        offered = offered_by(path.parent).get(path.stem) if (path.parent / "lib.rt").exists() else None
+        if not offered:
+            continue
+        clauses = clauses_of(path, offered)
+        found |= {(file, name) for here, file, name in taken_by(path) if here in clauses}
+    return found
 
 
-def compare():
-    known = {(str(it.file), it.name): it for definitions in house().values() for it in definitions}
-    nowhere, bare, grades, far, named = [], [], [], [], set()
-    for names, file, words in page_rows():
-        here = [known.get((file, name)) for name in names]
-        named.update((file, name) for name in names)
-        nowhere += [f"{file}: {name}" for name, it in zip(names, here) if it is None]
-        bare += [f"{file}: {it.name}" for it in here if it and not it.comment]
-        said = "; ".join(it.comment for it in here if it and it.comment)
-        grades.append(near(said, words))
-        if grades[-1] < 0.5:
-            far.append(f"{', '.join(names)}\n    page:    {words}\n    comment: {said}")
-    print(f"{len(grades)} rows with {len(named)} names; {len(known)} public definitions, {sum(not it.comment for it in known.values())} without a comment")
-    print(f"defined nowhere in the file that is named: {len(nowhere)}\n  " + "\n  ".join(nowhere))
-    print(f"without a comment of their own: {len(bare)}\n  " + "\n  ".join(bare))
-    for low, high in ((1.0, 1.1), (0.8, 1.0), (0.5, 0.8), (0.0, 0.5)):
-        print(f"rows whose words are the comments' to {low:.1f} and more, below {high:.1f}: {sum(low <= grade < high for grade in grades)}")
-    print("the last of these:\n  " + "\n  ".join(far))
+def sentence_on(crate):
+    """What `src/lib.rt` of a crate says on it first, up to the first colon or the end of the sentence."""
+    lines = (TOP / "crates" / crate / "src/lib.rt").read_text().splitlines()
+    text = " ".join(line[3:].strip() for line in lines[: next(i for i, line in enumerate(lines) if line.strip() == "//!" or not line.startswith("//!"))])
+    return re.sub(r"\[(`[^`]+`)\]", r"\1", re.match(r".*?(?=[.:]( |$))", text)[0]) + "."
+
+
+def page():
+    """The page: its top, and for each crate the comments of what is printed."""
+    parts, wanted = [TOP_OF_PAGE.read_text()], cited()
+    for crate in crates():
+        if crate.endswith("_rows"):
+            continue
+        lines = []
+        for path in sorted((TOP / "crates" / crate / "specs").glob("*.antt")):
+            rows, below = [], False
+            for row in reversed(rows_of(definitions_of(path))):
+                names = [it.name for it in row if (str(it.file), it.name) in wanted]
+                if names or below:
+                    names = names if row[0].name in names else [row[0].name, *names]
+                    rows.insert(0, "- " + ", ".join(f"`{name}`" for name in names) + (f": {row[0].comment}" if row[0].comment else ""))
+                    below = GOES_ON.match(row[0].comment)
+            if rows:
+                lines += ["", f"`{path.stem}`", *rows]
+        if lines:
+            parts.append("\n".join([f"\n## [{crate}](../crates/{crate}/specs)\n\n{sentence_on(crate)}", *lines]) + "\n")
+    return "".join(parts)
 
 
 if __name__ == "__main__":
-    if sys.argv[1:] == ["--compare"]:
-        compare()
+    if sys.argv[1:] == ["--write"]:
+        PAGE.write_text(page())
+    elif sys.argv[1:] == ["--compare"]:
+        differences = list(difflib.unified_diff(PAGE.read_text().splitlines(), page().splitlines(), "docs/DEFINITIONS.md", "what the comments say", n=0, lineterm=""))
+        print("\n".join(differences) or "docs/DEFINITIONS.md is what the comments say")
+        sys.exit(1 if differences else 0)
     elif sys.argv[1:]:
         sys.exit(__doc__)
     else:
-        print_tables()
+        print(page(), end="")

@@ -56,7 +56,7 @@ fn talk<D: BlockDevice, S: Source, K: Sink>(
 /// Serves a device to the client that speaks over a source and a sink: the greeting, and then an answer to each message, until the
 /// client ends the dialogue or the input ends between two messages.
 ///
-/// All memory is taken before the greeting. A reply is put by one call, once it is whole. A reading of the device that fails is told
+/// All memory is taken before the greeting. A reply is put once it is whole. A reading of the device that fails is told
 /// the client as `EIO`, and the dialogue goes on. Every run ends, at the latest with its input.
 pub fn serve<D: BlockDevice, S: Source, K: Sink>(
     alloc: Global,

@@ -2,3 +2,4 @@ pub mod Fields
 pub mod Options
 pub mod Requests
 pub mod Dialogue
+pub mod Numbers

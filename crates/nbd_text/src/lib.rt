@@ -8,11 +8,13 @@
 #![tactic(auto)]
 
 mod heads;
+mod laws;
 pub mod numbers;
 mod phase;
 mod replies;
 
 pub use heads::{OptionHead, Request, u16_at, u32_at};
+pub use laws::numbers_are_the_protocols;
 pub use phase::Phase;
 pub use replies::{
     Answer, REPLY_ROOM, Reply, bare_answer, export_answer, flags_phase, greeting, info_answer,

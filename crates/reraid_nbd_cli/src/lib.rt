@@ -4,7 +4,7 @@
 //! the dialogue or the input ends. The words, the refusals and the volume are those of the commands `write` and `mirrorwrite` of
 //! `reraid`; the dialogue is that of `nbd_text`.
 //!
-//! `reraid_nbd` calls it over real files, `nbd_rows` over objects in memory. Start at [`reraid_nbd()`]: its clauses are the promise.
+//! `reraid_nbd` calls it over real files, `reraid_rows` over objects in memory. Start at [`reraid_nbd()`]: its clauses are the promise.
 //! What a run does stands in `specs/Runs`, what the words ask for in `specs/Words`, and each status with its line in `specs/Ends`.
 #![tactic(auto)]
 

@@ -57,7 +57,7 @@ def main():
     images = [open(str(image), "wb") for image in range(members)]
     for row in range(rows):
         items = [bytes(volume[(row * data + item) * size:(row * data + item + 1) * size]) for item in range(data)]
-        for image, block in zip(images, row_of(items, row, members)):
+        for image, block in zip(images, row_of(items, row, members, "ls", "none")):
             image.write(block)
     for image in images:
         image.close()

@@ -214,9 +214,9 @@ class Hunt:
     def loosened(self, shape, count, every=False, quick=False):
         """The requests for a shape with so many things loosened at once, in order, each with their names. Where parity tells something, what
         changes it is loosened only as far as parity needs it; all else too, where every one is asked for. Quick ones have nothing loosened that
-        makes a listing long."""
+        makes a listing long, nor rows that may be bad where a member is missing, of which parity tells late."""
         request = self.request(shape, every or count == 0)
-        cures = [cure for cure in self.cures(shape, every) if not (quick and cure.slow)]
+        cures = [cure for cure in self.cures(shape, every) if not (quick and (cure.slow or shape.missing and cure.family == "badrows"))]
         for chosen in trials.choices(cures, count):
             if every or not shape.parity or self.is_needed(shape, [cure for cure in chosen if cure.rows]):
                 yield tuple(cure.name for cure in chosen), trials.changed(request, chosen)

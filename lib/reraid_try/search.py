@@ -86,13 +86,13 @@ class Search:
                             trials=self.hunt.passed_over)
 
     def first_trials(self):
-        """What the hints say, with up to three things loosened where parity tells something, and what parity tells of and the rest with up to
-        one; it says whether the search is at its end."""
+        """What the hints say, with up to three things loosened where parity tells something, what parity tells of with up to two that are soon
+        told, and the rest with up to one; it says whether the search is at its end."""
         if self.wants("10") and self.mirrors(0):
             return True
         hinted, told, rest = self.hunt.tiers()
         exact = [shape for shape in self.hunt.exact() if shape in told]
-        steps = [(hinted, 0), (exact, 0), (hinted, 1), (hinted, 2), ([it for it in hinted if it.parity], 3), (told, 0), (told, 1)]
+        steps = [(hinted, 0), (exact, 0), (hinted, 1), (hinted, 2), ([it for it in hinted if it.parity], 3), (told, 0), (told, 1), (told, 2)]
         for shapes, count in steps:
             if self.stage(self.hunt, shapes, count, quick=shapes is told) or (count and self.best() > 1):
                 return True

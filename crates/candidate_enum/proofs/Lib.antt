@@ -8,3 +8,4 @@ pub mod Counting
 pub mod Keeping
 pub mod Looks
 pub mod Ranks
+pub mod Stacks

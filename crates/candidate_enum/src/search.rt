@@ -4,7 +4,7 @@ ghost use Rattle.std.specs.Int.{bit_at};
 ghost use Rattle.slot_math.specs.Ways.{ends, IsPlace};
 ghost use Rattle.candidate_enum.specs.Survivors.{question};
 ghost use Rattle.candidate_enum.specs.Counts.{IsTable, ways_on};
-ghost use Rattle.candidate_enum.specs.Kept.{IsKept};
+ghost use Rattle.candidate_enum.specs.Kept.{IsKept, IsLonger, SharesBelow};
 ghost use Rattle.candidate_enum.specs.Left.{overlaps, left_after, left_children, left_from, index_of, IsSearch, IsParent, IsDone, IsFound, IsPassed, MayStand, Looked};
 
 use crate::counts::{Counts, ROW};
@@ -107,6 +107,7 @@ impl<'a, F: Family> Search<'a, F> {
         ensures passed { result ≡ false → IsPassed (question self.now.space (F.admits self.now.family.now) self.now.from self.now.stop) (left_children (question self.now.space (F.admits self.now.family.now) self.now.from self.now.stop) walk.old.slots.items self.now.space.images walk.old.rank) walk.new.slots.items walk.new.rank }
         ensures same { result ≡ false → walk.new.slots.items ≡ walk.old.slots.items }
         ensures going { walk.new.going ≡ walk.old.going }
+        ensures longer { result ≡ true → IsLonger walk.old.slots.items walk.new.slots.items }
         ensures kept { IsKept walk.new.slots.items walk.new.free walk.new.empty }
     {
         if walk.empty >= self.space.high as usize {
@@ -135,6 +136,7 @@ impl<'a, F: Family> Search<'a, F> {
         ensures passed { result ≡ false → IsPassed (question self.now.space (F.admits self.now.family.now) self.now.from self.now.stop) (left_children (question self.now.space (F.admits self.now.family.now) self.now.from self.now.stop) walk.old.slots.items first walk.old.rank) walk.new.slots.items walk.new.rank }
         ensures same { result ≡ false → walk.new.slots.items ≡ walk.old.slots.items }
         ensures going { walk.new.going ≡ walk.old.going }
+        ensures longer { result ≡ true → IsLonger walk.old.slots.items walk.new.slots.items }
         ensures kept { IsKept walk.new.slots.items walk.new.free walk.new.empty }
     {
         let (image, at) = self.next_image(walk, first);
@@ -158,6 +160,7 @@ impl<'a, F: Family> Search<'a, F> {
         ensures passed { result ≡ false → IsPassed (question self.now.space (F.admits self.now.family.now) self.now.from self.now.stop) (left_children (question self.now.space (F.admits self.now.family.now) self.now.from self.now.stop) walk.old.slots.items (index_of self.now.space.images last + 1) walk.old.rank) walk.new.slots.items walk.new.rank }
         ensures same { result ≡ false → walk.new.slots.items ≡ walk.old.slots.items }
         ensures going { walk.new.going ≡ walk.old.going }
+        ensures longer { result ≡ true → IsLonger walk.old.slots.items walk.new.slots.items }
         ensures kept { IsKept walk.new.slots.items walk.new.free walk.new.empty }
     {
         match last {
@@ -177,6 +180,7 @@ impl<'a, F: Family> Search<'a, F> {
         requires done { IsDone (question self.now.space (F.admits self.now.family.now) self.now.from self.now.stop) walk.old.slots.items walk.old.rank }
         ensures left { left_after (question self.now.space (F.admits self.now.family.now) self.now.from self.now.stop) walk.old.slots.items walk.old.rank ≡ left_from (question self.now.space (F.admits self.now.family.now) self.now.from self.now.stop) walk.new }
         ensures stands { MayStand (question self.now.space (F.admits self.now.family.now) self.now.from self.now.stop) walk.new }
+        ensures shares { SharesBelow walk.old.slots.items (length walk.old.slots.items) walk.new.slots.items }
         ensures kept { IsKept walk.new.slots.items walk.new.free walk.new.empty }
     {
         while let Some(last) = walk.pop() {
@@ -197,6 +201,7 @@ impl<'a, F: Family> Search<'a, F> {
         requires parent { IsParent (question self.now.space (F.admits self.now.family.now) self.now.from self.now.stop) walk.old.slots.items 0 walk.old.rank }
         ensures left { left_children (question self.now.space (F.admits self.now.family.now) self.now.from self.now.stop) walk.old.slots.items 0 walk.old.rank ≡ left_from (question self.now.space (F.admits self.now.family.now) self.now.from self.now.stop) walk.new }
         ensures stands { MayStand (question self.now.space (F.admits self.now.family.now) self.now.from self.now.stop) walk.new }
+        ensures shares { SharesBelow walk.old.slots.items (length walk.old.slots.items + 1) walk.new.slots.items }
         ensures kept { IsKept walk.new.slots.items walk.new.free walk.new.empty }
     {
         if !self.next_child(walk, 0) {

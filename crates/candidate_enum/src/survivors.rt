@@ -5,10 +5,10 @@ ghost use Rattle.slot_math.specs.Space.{lists_of};
 ghost use Rattle.candidate_enum.specs.Survivors.{question, survivors};
 ghost use Rattle.candidate_enum.specs.Tests.{tests};
 ghost use Rattle.candidate_enum.specs.Counts.{IsTable};
-ghost use Rattle.candidate_enum.specs.Kept.{IsKept};
+ghost use Rattle.candidate_enum.specs.Kept.{AreKept, IsKept};
 ghost use Rattle.candidate_enum.specs.Left.{Left, IsSearch, MayStand, left_from, nothing_left};
 
-use crate::counts::counts_of;
+use crate::counts::{ROW, counts_of};
 use crate::family::Family;
 use crate::leaf::Leaf;
 use crate::search::Search;
@@ -25,6 +25,8 @@ use step_count::Steps;
 pub struct Survivors<'a, F: Family> {
     search: Search<'a, F>,
     walk: Walk,
+    /// What is kept of the beginnings of the walk's prefix, by how many places they have.
+    stack: [F::Kept; ROW],
 }
 
 impl<'a, F: Family> Model for Survivors<'a, F> {
@@ -32,7 +34,7 @@ impl<'a, F: Family> Model for Survivors<'a, F> {
 
     ghost view = { λ s. left_from (question s.search.space (F.admits s.search.family.now) s.search.from s.search.stop) s.walk };
 
-    ghost invariant = { λ s. (s.search.space ≡ F.space_of s.search.family.now) × IsSearch s.search.space s.search.from s.search.stop × IsTable s.search.space s.search.counts × IsKept s.walk.slots.items s.walk.free s.walk.empty × MayStand (question s.search.space (F.admits s.search.family.now) s.search.from s.search.stop) s.walk };
+    ghost invariant = { λ s. (s.search.space ≡ F.space_of s.search.family.now) × IsSearch s.search.space s.search.from s.search.stop × IsTable s.search.space s.search.counts × IsKept s.walk.slots.items s.walk.free s.walk.empty × AreKept (F.keeps s.search.family.now) s.walk.slots.items s.stack × MayStand (question s.search.space (F.admits s.search.family.now) s.search.from s.search.stop) s.walk };
 }
 
 impl<'a, F: Family> Survivors<'a, F> {
@@ -55,7 +57,12 @@ impl<'a, F: Family> Survivors<'a, F> {
             stop,
         };
         let walk = search.first_walk();
-        Survivors { search, walk }
+        let stack = [family.kept_first(); ROW];
+        Survivors {
+            search,
+            walk,
+            stack,
+        }
     }
 
     /// The next leaf, or None exactly where none is left. It counts a step for each test of a
@@ -66,7 +73,7 @@ impl<'a, F: Family> Survivors<'a, F> {
         ensures cost { (steps.new - steps.old) + self.new.allowance ≡ self.old.allowance }
         ensures counts { steps.old ≤ steps.new }
     {
-        if !self.search.to_leaf_counted(&mut self.walk, steps) {
+        if !self.search.to_leaf_counted(&mut self.walk, &mut self.stack, steps) {
             return None;
         }
         steps.tick();
@@ -82,7 +89,7 @@ impl<'a, F: Family> Iterator for Survivors<'a, F> {
     ghost remaining = { item_count (λ s. s.leaves) };
 
     fn next(&mut self) -> Option<Leaf> {
-        if !self.search.to_leaf(&mut self.walk) {
+        if !self.search.to_leaf(&mut self.walk, &mut self.stack) {
             return None;
         }
         Some(self.search.take_leaf(&mut self.walk))

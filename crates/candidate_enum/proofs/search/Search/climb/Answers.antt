@@ -1,8 +1,9 @@
-use Rattle.std.proofs.Common.{sym, ◌∙◌}
+use Rattle.std.proofs.Common.{ℕ, ◌++◌, ◌∷◌, [], List, Option, ap, sym, ◌∙◌}
 use Rattle.raid_params.specs.declared.limits.TheConstants.{MOST}
 use Rattle.candidate_enum.specs.Survivors.{question}
 use Rattle.candidate_enum.proofs.Keeping.{more_images}
 use Rattle.candidate_enum.proofs.Moves.{popped}
+use Rattle.candidate_enum.proofs.Stacks.{begins_itself, begins_less, climbed}
 use Rattle.candidate_enum.proofs.Turns.{goes_on}
 use Rattle.candidate_enum.proofs.search.Search.climb.Goals as goal
 
@@ -46,4 +47,11 @@ loop-last-preserved g c =
       done = f.done;
       kept = c.next_after.ensures.kept;
       going = c.next_after.ensures.going ∙ c.pop.ensures.going ∙ c.loop-last.invariant.going;
+      begins = begins_less c.next_after.new.walk.slots.items c.args.walk.now.slots.items old c.in-Some.last c.loop-last.invariant.begins
+          (c.in-Some.ensures.slots ∙ ap (λ (t : List (Option ℕ)). t ++ c.in-Some.last ∷ []) (sym (c.next_after.ensures.same c.if-next_after.false)));
     }
+
+pub returns-then-next_after-clause-shares : goal.returns-then-next_after-clause-shares
+returns-then-next_after-clause-shares g c =
+    climbed c.pop.new.self.slots.items c.args.walk.now.slots.items c.loop-last.walk.slots.items c.next_after.new.walk.slots.items c.in-Some.last
+    c.loop-last.invariant.begins c.in-Some.ensures.slots (c.next_after.ensures.longer c.if-next_after.true)

@@ -9,8 +9,8 @@ use Rattle.candidate_enum.proofs.Looks.{here_within, standing_count}
 use Rattle.candidate_enum.proofs.Turns.{refused, deeper, begins_some, done_fits, turn_to}
 use Rattle.candidate_enum.proofs.search.Search.take_turn.Goals as goal
 
-pub may_pass-requires : goal.may_pass-requires
-may_pass-requires g c =
+pub may_pass-requires-clause-begins : goal.may_pass-requires-clause-begins
+may_pass-requires-clause-begins g c =
     let q = question c.args.self.now.space (g.F.Family.admits c.args.self.now.family.now) c.args.self.now.from c.args.self.now.stop in
     let P : Space → Type 0 = λ s. 0 < length (filter (begins c.args.walk.now.slots.items) (lists_of s)) in
     subst P c.requires.family (begins_some q c.args.walk.now.slots.items c.args.walk.now.rank c.requires.stands)

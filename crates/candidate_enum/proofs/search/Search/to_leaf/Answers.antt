@@ -5,9 +5,6 @@ use Rattle.candidate_enum.specs.declared.walk.Walk.{Walk}
 use Rattle.candidate_enum.proofs.Turns.{same_leaves, one_less}
 use Rattle.candidate_enum.proofs.search.Search.to_leaf.Goals as goal
 
-pub take_turn-requires-clause-stands : goal.take_turn-requires-clause-stands
-take_turn-requires-clause-stands g c = c.loop-walk.invariant.stands c.loop-walk-test.true
-
 pub returns-then-take_turn-clause-going : goal.returns-then-take_turn-clause-going
 returns-then-take_turn-clause-going g c = ap (λ (w : Walk). w.going) (c.take_turn.ensures.same c.if-take_turn.true) ∙ c.loop-walk-test.true
 
@@ -26,6 +23,7 @@ loop-walk-preserved g c =
     record {
       same = c.loop-walk.invariant.same ∙ same_leaves q old (left_from q new) going turn;
       kept = c.take_turn.ensures.kept;
+      stack = c.take_turn.ensures.stack;
       stands = c.take_turn.ensures.stands;
     }
 

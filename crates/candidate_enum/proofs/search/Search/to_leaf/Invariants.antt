@@ -1,6 +1,6 @@
 use Rattle.std.proofs.Common.{◌≡◌}
 use Rattle.candidate_enum.specs.Survivors.{question}
-use Rattle.candidate_enum.specs.Kept.{IsKept}
+use Rattle.candidate_enum.specs.Kept.{AreKept, IsKept}
 use Rattle.candidate_enum.specs.Left.{left_from, MayStand}
 use Rattle.candidate_enum.proofs.search.Search.to_leaf.Given as goal
 
@@ -10,6 +10,7 @@ invariant-loop-walk g l =
     record {
       same : (left_from q l.fn.walk).leaves ≡ (left_from q l.walk).leaves;
       kept : IsKept l.walk.slots.items l.walk.free l.walk.empty;
+      stack : AreKept (g.F.Family.keeps l.self.family.now) l.walk.slots.items l.stack;
       stands : MayStand q l.walk;
     }
 

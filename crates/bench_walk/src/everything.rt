@@ -13,15 +13,23 @@ pub struct Everything {
 }
 
 impl Family for Everything {
+    type Kept = ();
+
     ghost space_of = { λ all. all.space };
 
     ghost admits = { λ _ _. true };
+
+    ghost keeps = { λ _ _ _. Unit };
 
     fn space(&self) -> Space {
         self.space
     }
 
-    fn may_pass(&self, _prefix: &Slots) -> bool {
+    fn kept_first(&self) {}
+
+    fn kept_next(&self, _kept: &(), _prefix: &Slots) {}
+
+    fn may_pass(&self, _prefix: &Slots, _kept: &()) -> bool {
         true
     }
 }

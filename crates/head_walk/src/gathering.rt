@@ -2,12 +2,13 @@
 ghost use Rattle.std.specs.Prelude.{◌≡◌, ◌+◌, ◌<◌, ◌≤◌, IfErr, IfOk, length, nat_le, ◌||◌};
 ghost use Rattle.outside.specs.Attached.{told_all};
 ghost use Rattle.head_walk.specs.Faults.{EndsTest};
-ghost use Rattle.head_walk.specs.Walk.{AdmitsHopeful, CanPage, Gathers, IsCandidate, IsHeadOf, IsPart, ReadsRange, spared_by, StandsAt, tested_by};
+ghost use Rattle.head_walk.specs.Walk.{AdmitsHopeful, CanPage, Gathers, is_admitted, IsCandidate, IsHeadOf, IsPart, ReadsRange, spared_by, StandsAt, tested_by};
 
+use crate::hopeful::Hopeful;
 use crate::parts::{Lines, Paging, WalkFault};
 use crate::scanning::scan_waiting;
 use crate::waiting::Waiting;
-use candidate_enum::{Family, Survivors};
+use candidate_enum::Survivors;
 use outside::Images;
 use raid_params::Geometry;
 use row_scan::{Gate, MOST_SETS};
@@ -28,19 +29,19 @@ pub struct Gathered {
 /// Gathers the sets of a head of ranks from `from` up to `stop`: those whose slot lists the family admits, which leaves
 /// out none that passes. Each of them waits; where as many wait as a scan may test, or the page is full with those that are
 /// known to pass, they are tested. It gives the rank after the last line where the page is full.
-pub fn gather_admitted<R: Threads + Sync, I: Images, G: Gate + Sync, F: Family>(
+pub fn gather_admitted<R: Threads + Sync, I: Images, G: Gate + Sync>(
     paging: &Paging<R, G>,
     images: &mut I,
     sets: &HeadSets,
-    family: &F,
+    family: &Hopeful,
     from: u64,
     stop: u64,
     page: &mut Gathered,
 ) -> Result<Option<u64>, WalkFault>
     requires can { CanPage paging.now.plan.now paging.now.size (I.seen images.old).attached }
     requires head { IsHeadOf paging.now.plan.now sets.now }
-    requires space { F.space_of family.now ≡ sets.now.space }
-    requires admits { AdmitsHopeful (told_all (I.seen images.old).attached) paging.now.plan.now sets.now.head (F.admits family.now) }
+    requires space { family.now.asked.space ≡ sets.now.space }
+    requires admits { AdmitsHopeful (told_all (I.seen images.old).attached) paging.now.plan.now sets.now.head (is_admitted family.now) }
     requires part { IsPart sets.now from stop }
     requires stands { StandsAt (told_all (I.seen images.old).attached) paging.now.plan.now paging.now.size from page.old }
     ensures gathers { IfOk result (Gathers (told_all (I.seen images.old).attached) paging.now.plan.now paging.now.size stop page.old page.new) }

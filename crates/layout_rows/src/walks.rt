@@ -21,9 +21,13 @@ struct NotOne {
 }
 
 impl Family for NotOne {
+    type Kept = ();
+
     ghost space_of = { λ _. record { images = 3; members = 3; low = 0; high = 0 } };
 
     ghost admits = { λ _ p. not (starts_with ⟦<Option<u8> as PartialEq>⟧.eq p (Some 1 ∷ [])) };
+
+    ghost keeps = { λ _ _ _. Unit };
 
     fn space(&self) -> Space {
         Space {
@@ -34,7 +38,11 @@ impl Family for NotOne {
         }
     }
 
-    fn may_pass(&self, prefix: &Slots) -> bool {
+    fn kept_first(&self) {}
+
+    fn kept_next(&self, _kept: &(), _prefix: &Slots) {}
+
+    fn may_pass(&self, prefix: &Slots, _kept: &()) -> bool {
         self.asked.set(match self.asked.get() {
             Some(count) if ASKED.get(count).is_some_and(|p| *p == prefix.as_slice()) => Some(
                 count + 1,
@@ -142,9 +150,13 @@ struct OneList {
 }
 
 impl Family for OneList {
+    type Kept = ();
+
     ghost space_of = { λ _. record { images = 24; members = 24; low = 0; high = 0 } };
 
     ghost admits = { λ s p. starts_with ⟦<Option<u8> as PartialEq>⟧.eq s.wanted.items p };
+
+    ghost keeps = { λ _ _ _. Unit };
 
     fn space(&self) -> Space {
         Space {
@@ -155,7 +167,11 @@ impl Family for OneList {
         }
     }
 
-    fn may_pass(&self, prefix: &Slots) -> bool {
+    fn kept_first(&self) {}
+
+    fn kept_next(&self, _kept: &(), _prefix: &Slots) {}
+
+    fn may_pass(&self, prefix: &Slots, _kept: &()) -> bool {
         self.wanted.as_slice().starts_with(prefix.as_slice())
     }
 }

@@ -8,13 +8,13 @@ ghost use Rattle.near_tables.specs.Torn.{tested_below};
 ghost use Rattle.near_search.specs.declared.ask.NearAsk.{NearAsk as NearAskOf};
 ghost use Rattle.near_search.specs.Asks.{HasImages, IsNearAsk};
 ghost use Rattle.near_search.specs.Product.{near_numbered, passes_at};
-ghost use Rattle.near_search.specs.Walk.{EndsWalk, Gathers, HoldsNear, IsHeadSets, IsPart, list_passes, passes_told};
+ghost use Rattle.near_search.specs.Walk.{EndsWalk, Gathers, HoldsNear, IsHeadSets, is_near_admitted, IsPart, list_passes, passes_told};
 
 use crate::ask::NearAsk;
 use crate::heads::NearSets;
 use crate::hopeful::NearHopeful;
 use crate::parts::{NearLine, NearLines};
-use candidate_enum::{Family, Survivors};
+use candidate_enum::Survivors;
 use near_mirror::NearSet;
 use near_tables::{TableFault, TornTable, near_rows, tested_sectors};
 use outside::{Images, Memory};
@@ -22,22 +22,22 @@ use std::alloc::Global;
 
 /// Gathers the sets of a head of ranks from `from` up to `to` whose slot lists the family admits, as long as the page has fewer than
 /// `size` lines; gives the rank after its last line where it has as many.
-fn gather_lists<F: Family>(
-    family: &F,
+fn gather_lists(
+    family: &NearHopeful,
     sets: &NearSets,
     from: u64,
     to: u64,
     size: u64,
     page: &mut NearLines,
 ) -> Result<Option<u64>, Memory>
-    requires space { F.space_of family.now ≡ sets.now.space }
+    requires space { family.now.space ≡ sets.now.space }
     requires images { sets.now.space.images ≤ MOST }
     requires members { sets.now.space.members ≤ MOST }
     requires part { IsPart sets.now from to }
     requires count { sets.now.count ≡ length (lists_of sets.now.space) }
     requires high { to < 2 ^ 64 }
     requires few { length page.old < size }
-    ensures gathers { IfOk result (Gathers (Some (list_passes (F.admits family.now) sets.now)) size from to (map (λ line. line.rank) page.old) (map (λ line. line.rank) page.new)) }
+    ensures gathers { IfOk result (Gathers (Some (list_passes (is_near_admitted family.now) sets.now)) size from to (map (λ line. line.rank) page.old) (map (λ line. line.rank) page.new)) }
     ensures holds { (images : ℕ) (ask : NearAskOf) → IsHeadSets images ask sets.now → All (HoldsNear images ask) page.old → IfOk result (λ full. All (HoldsNear images ask) page.new) }
 {
     let mut walk = Survivors::start(family, from - sets.first, to - sets.first);

@@ -1,6 +1,5 @@
 //! The slot lists of a head of which each beginning is hopeful.
-ghost use Rattle.std.specs.Prelude.{nat_le};
-ghost use Rattle.near_tables.specs.Tables.{table_torn};
+ghost use Rattle.near_search.specs.Walk.{is_near_admitted};
 
 use candidate_enum::Family;
 use near_tables::TornTable;
@@ -33,15 +32,23 @@ impl Model for NearHopeful {
 }
 
 impl Family for NearHopeful {
+    type Kept = ();
+
     ghost space_of = { λ asked. asked.space };
 
-    ghost admits = { λ asked prefix. nat_le (table_torn asked.table asked.space.members prefix) asked.most };
+    ghost admits = { is_near_admitted };
+
+    ghost keeps = { λ _ _ _. Unit };
 
     fn space(&self) -> Space {
         self.space
     }
 
-    fn may_pass(&self, prefix: &Slots) -> bool {
+    fn kept_first(&self) {}
+
+    fn kept_next(&self, _kept: &(), _prefix: &Slots) {}
+
+    fn may_pass(&self, prefix: &Slots, _kept: &()) -> bool {
         self.table.torn(self.space.members, prefix) <= u128::from(self.most)
     }
 }

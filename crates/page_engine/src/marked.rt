@@ -57,15 +57,23 @@ impl<'a> Marked<'a> {
 }
 
 impl<'a> Family for Marked<'a> {
+    type Kept = ();
+
     ghost space_of = { λ asked. asked.space };
 
     ghost admits = { λ asked. all_may_hold asked.plan asked.head };
+
+    ghost keeps = { λ _ _ _. Unit };
 
     fn space(&self) -> Space {
         self.space
     }
 
-    fn may_pass(&self, prefix: &Slots) -> bool {
+    fn kept_first(&self) {}
+
+    fn kept_next(&self, _kept: &(), _prefix: &Slots) {}
+
+    fn may_pass(&self, prefix: &Slots, _kept: &()) -> bool {
         groups_may_hold(&self.marks, self.plan, &self.head, prefix)
     }
 }

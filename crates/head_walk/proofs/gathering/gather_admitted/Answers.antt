@@ -3,7 +3,7 @@ use Rattle.outside.specs.Attached.{told_all}
 use Rattle.outside.specs.Seen.{Image}
 use Rattle.slot_math.specs.declared.space.Space.{Space}
 use Rattle.candidate_enum.specs.Survivors.{question, survivors}
-use Rattle.head_walk.specs.Walk.{AreWaiting, CanPage, lines_of, Wait}
+use Rattle.head_walk.specs.Walk.{AreWaiting, CanPage, is_admitted, lines_of, Wait}
 use Rattle.head_walk.proofs.Candidates.{is_many, is_short, pushed_below, scan_by, waits_more, waits_on}
 use Rattle.head_walk.proofs.OneHead.{fills_on, gathers_all, gathers_full, reads_err, reads_none, reads_some, reads_stop, scans_ended, scans_full}
 use Rattle.head_walk.proofs.Leafwise.{begins, ended, failed, gathered, next_leaf, waits}
@@ -14,15 +14,15 @@ pub loop-leaf-init : goal.loop-leaf-init
 loop-leaf-init g c = record {
   goes = (tt, tt);
   quiet = refl;
-  stands = begins (told_all (g.I.Images.seen c.args.images.now).attached) c.args.paging.now.plan.now c.args.sets.now (g.F.Family.admits c.args.family.now) c.args.from c.args.stop c.args.paging.now.size (g.I.Images.seen c.args.images.now) c.args.page.now c.start-walk.result.leaves
+  stands = begins (told_all (g.I.Images.seen c.args.images.now).attached) c.args.paging.now.plan.now c.args.sets.now (is_admitted c.args.family.now) c.args.from c.args.stop c.args.paging.now.size (g.I.Images.seen c.args.images.now) c.args.page.now c.start-walk.result.leaves
       c.requires.part
-      (c.start-walk.ensures.leaves ∙ ap (λ (space : Space). survivors (question space (g.F.Family.admits c.args.family.now) (c.args.from - c.args.sets.now.first) (c.args.stop - c.args.sets.now.first))) c.requires.space)
+      (c.start-walk.ensures.leaves ∙ ap (λ (space : Space). survivors (question space (is_admitted c.args.family.now) (c.args.from - c.args.sets.now.first) (c.args.stop - c.args.sets.now.first))) c.requires.space)
       c.requires.stands;
 }
 
 pub overflow_add-rank : goal.overflow_add-rank
 overflow_add-rank g c =
-    let next = next_leaf (told_all (g.I.Images.seen c.args.images.now).attached) c.args.paging.now.plan.now c.args.sets.now (g.F.Family.admits c.args.family.now) c.args.from c.args.stop c.args.paging.now.size (g.I.Images.seen c.args.images.now) (g.I.Images.seen c.loop-leaf.images) c.args.page.now c.loop-leaf.page c.loop-leaf.walk.leaves c.next.new.self.leaves c.in-Some.leaf
+    let next = next_leaf (told_all (g.I.Images.seen c.args.images.now).attached) c.args.paging.now.plan.now c.args.sets.now (is_admitted c.args.family.now) c.args.from c.args.stop c.args.paging.now.size (g.I.Images.seen c.args.images.now) (g.I.Images.seen c.loop-leaf.images) c.args.page.now c.loop-leaf.page c.loop-leaf.walk.leaves c.next.new.self.leaves c.in-Some.leaf
     c.requires.head c.requires.part c.requires.admits c.loop-leaf.invariant.stands c.in-Some.ensures.steps in
     let below = next.high in
     let ends = c.requires.part.ends in
@@ -32,19 +32,19 @@ overflow_add-rank g c =
 
 pub push-requires-clause-are : goal.push-requires-clause-are
 push-requires-clause-are g c =
-    let next = next_leaf (told_all (g.I.Images.seen c.args.images.now).attached) c.args.paging.now.plan.now c.args.sets.now (g.F.Family.admits c.args.family.now) c.args.from c.args.stop c.args.paging.now.size (g.I.Images.seen c.args.images.now) (g.I.Images.seen c.loop-leaf.images) c.args.page.now c.loop-leaf.page c.loop-leaf.walk.leaves c.next.new.self.leaves c.in-Some.leaf
+    let next = next_leaf (told_all (g.I.Images.seen c.args.images.now).attached) c.args.paging.now.plan.now c.args.sets.now (is_admitted c.args.family.now) c.args.from c.args.stop c.args.paging.now.size (g.I.Images.seen c.args.images.now) (g.I.Images.seen c.loop-leaf.images) c.args.page.now c.loop-leaf.page c.loop-leaf.walk.leaves c.next.new.self.leaves c.in-Some.leaf
     c.requires.head c.requires.part c.requires.admits c.loop-leaf.invariant.stands c.in-Some.ensures.steps in
     next.goes.stands.are
 
 pub push-requires-clause-room : goal.push-requires-clause-room
 push-requires-clause-room g c =
-    let next = next_leaf (told_all (g.I.Images.seen c.args.images.now).attached) c.args.paging.now.plan.now c.args.sets.now (g.F.Family.admits c.args.family.now) c.args.from c.args.stop c.args.paging.now.size (g.I.Images.seen c.args.images.now) (g.I.Images.seen c.loop-leaf.images) c.args.page.now c.loop-leaf.page c.loop-leaf.walk.leaves c.next.new.self.leaves c.in-Some.leaf
+    let next = next_leaf (told_all (g.I.Images.seen c.args.images.now).attached) c.args.paging.now.plan.now c.args.sets.now (is_admitted c.args.family.now) c.args.from c.args.stop c.args.paging.now.size (g.I.Images.seen c.args.images.now) (g.I.Images.seen c.loop-leaf.images) c.args.page.now c.loop-leaf.page c.loop-leaf.walk.leaves c.next.new.self.leaves c.in-Some.leaf
     c.requires.head c.requires.part c.requires.admits c.loop-leaf.invariant.stands c.in-Some.ensures.steps in
     next.goes.stands.room
 
 pub overflow_add-rank-in-Some : goal.overflow_add-rank-in-Some
 overflow_add-rank-in-Some g c =
-    let next = next_leaf (told_all (g.I.Images.seen c.args.images.now).attached) c.args.paging.now.plan.now c.args.sets.now (g.F.Family.admits c.args.family.now) c.args.from c.args.stop c.args.paging.now.size (g.I.Images.seen c.args.images.now) (g.I.Images.seen c.loop-leaf.images) c.args.page.now c.loop-leaf.page c.loop-leaf.walk.leaves c.next.new.self.leaves c.in-Some.leaf
+    let next = next_leaf (told_all (g.I.Images.seen c.args.images.now).attached) c.args.paging.now.plan.now c.args.sets.now (is_admitted c.args.family.now) c.args.from c.args.stop c.args.paging.now.size (g.I.Images.seen c.args.images.now) (g.I.Images.seen c.loop-leaf.images) c.args.page.now c.loop-leaf.page c.loop-leaf.walk.leaves c.next.new.self.leaves c.in-Some.leaf
     c.requires.head c.requires.part c.requires.admits c.loop-leaf.invariant.stands c.in-Some.ensures.steps in
     let below = next.high in
     let ends = c.requires.part.ends in
@@ -55,11 +55,11 @@ overflow_add-rank-in-Some g c =
 pub returns-in_err-push-clause-reads : goal.returns-in_err-push-clause-reads
 returns-in_err-push-clause-reads g c =
     reads_stop (told_all (g.I.Images.seen c.args.images.now).attached) c.args.paging.now.plan.now c.args.page.now.tested c.args.stop 0 0 c.loop-leaf.page c.from_residual.result (g.I.Images.seen c.args.images.now) (g.I.Images.seen c.loop-leaf.images) c.from_residual.ensures.0
-    (failed (told_all (g.I.Images.seen c.args.images.now).attached) c.args.paging.now.plan.now c.args.sets.now (g.F.Family.admits c.args.family.now) c.args.from c.args.stop c.args.paging.now.size (g.I.Images.seen c.args.images.now) (g.I.Images.seen c.loop-leaf.images) c.args.page.now c.loop-leaf.page c.loop-leaf.walk.leaves c.loop-leaf.invariant.stands)
+    (failed (told_all (g.I.Images.seen c.args.images.now).attached) c.args.paging.now.plan.now c.args.sets.now (is_admitted c.args.family.now) c.args.from c.args.stop c.args.paging.now.size (g.I.Images.seen c.args.images.now) (g.I.Images.seen c.loop-leaf.images) c.args.page.now c.loop-leaf.page c.loop-leaf.walk.leaves c.loop-leaf.invariant.stands)
 
 pub loop-leaf-preserved-then-not-is_ready : goal.loop-leaf-preserved-then-not-is_ready
 loop-leaf-preserved-then-not-is_ready g c =
-    let next = next_leaf (told_all (g.I.Images.seen c.args.images.now).attached) c.args.paging.now.plan.now c.args.sets.now (g.F.Family.admits c.args.family.now) c.args.from c.args.stop c.args.paging.now.size (g.I.Images.seen c.args.images.now) (g.I.Images.seen c.loop-leaf.images) c.args.page.now c.loop-leaf.page c.loop-leaf.walk.leaves c.next.new.self.leaves c.in-Some.leaf
+    let next = next_leaf (told_all (g.I.Images.seen c.args.images.now).attached) c.args.paging.now.plan.now c.args.sets.now (is_admitted c.args.family.now) c.args.from c.args.stop c.args.paging.now.size (g.I.Images.seen c.args.images.now) (g.I.Images.seen c.loop-leaf.images) c.args.page.now c.loop-leaf.page c.loop-leaf.walk.leaves c.next.new.self.leaves c.in-Some.leaf
     c.requires.head c.requires.part c.requires.admits c.loop-leaf.invariant.stands c.in-Some.ensures.steps in
     let are : AreWaiting c.args.paging.now.plan.now c.push.new.self = search rules in
     let ranks : c.push.new.self.ranks ≡ c.loop-leaf.page.waiting.ranks ++ (c.args.sets.now.first + c.in-Some.leaf.rank) ∷ [] = search rules in
@@ -68,13 +68,13 @@ loop-leaf-preserved-then-not-is_ready g c =
     record {
       goes = (tt, tt);
       quiet = search rules;
-      stands = waits (told_all (g.I.Images.seen c.args.images.now).attached) c.args.paging.now.plan.now c.args.sets.now (g.F.Family.admits c.args.family.now) c.args.from c.args.stop c.args.paging.now.size (g.I.Images.seen c.args.images.now) (g.I.Images.seen c.loop-leaf.images) c.args.page.now c.loop-leaf.page (record { lines = c.loop-leaf.page.lines; tested = c.loop-leaf.page.tested; waiting = c.push.new.self }) c.in-Some.leaf c.next.new.self.leaves next c.loop-leaf.invariant.stands.scans
+      stands = waits (told_all (g.I.Images.seen c.args.images.now).attached) c.args.paging.now.plan.now c.args.sets.now (is_admitted c.args.family.now) c.args.from c.args.stop c.args.paging.now.size (g.I.Images.seen c.args.images.now) (g.I.Images.seen c.loop-leaf.images) c.args.page.now c.loop-leaf.page (record { lines = c.loop-leaf.page.lines; tested = c.loop-leaf.page.tested; waiting = c.push.new.self }) c.in-Some.leaf c.next.new.self.leaves next c.loop-leaf.invariant.stands.scans
           (waits_on (told_all (g.I.Images.seen c.args.images.now).attached) c.args.paging.now.plan.now c.args.paging.now.size (record { rank = c.args.sets.now.first + c.in-Some.leaf.rank; geo = record { head = c.args.sets.now.head; slots = c.in-Some.leaf.slots } }) c.loop-leaf.page (record { lines = c.loop-leaf.page.lines; tested = c.loop-leaf.page.tested; waiting = c.push.new.self }) next.goes.stands next.is are refl refl ranks sets short.1 short.0);
     }
 
 pub returns-in_err-next-clause-reads : goal.returns-in_err-next-clause-reads
 returns-in_err-next-clause-reads g c =
-    let next = next_leaf (told_all (g.I.Images.seen c.args.images.now).attached) c.args.paging.now.plan.now c.args.sets.now (g.F.Family.admits c.args.family.now) c.args.from c.args.stop c.args.paging.now.size (g.I.Images.seen c.args.images.now) (g.I.Images.seen c.loop-leaf.images) c.args.page.now c.loop-leaf.page c.loop-leaf.walk.leaves c.next.new.self.leaves c.in-Some.leaf
+    let next = next_leaf (told_all (g.I.Images.seen c.args.images.now).attached) c.args.paging.now.plan.now c.args.sets.now (is_admitted c.args.family.now) c.args.from c.args.stop c.args.paging.now.size (g.I.Images.seen c.args.images.now) (g.I.Images.seen c.loop-leaf.images) c.args.page.now c.loop-leaf.page c.loop-leaf.walk.leaves c.next.new.self.leaves c.in-Some.leaf
     c.requires.head c.requires.part c.requires.admits c.loop-leaf.invariant.stands c.in-Some.ensures.steps in
     let are : AreWaiting c.args.paging.now.plan.now c.push.new.self = search rules in
     let ranks : c.push.new.self.ranks ≡ c.loop-leaf.page.waiting.ranks ++ (c.args.sets.now.first + c.in-Some.leaf.rank) ∷ [] = search rules in
@@ -97,7 +97,7 @@ returns-in_err-next-clause-reads g c =
 
 pub returns-in-Some-2-clause-gathers : goal.returns-in-Some-2-clause-gathers
 returns-in-Some-2-clause-gathers g c =
-    let next = next_leaf (told_all (g.I.Images.seen c.args.images.now).attached) c.args.paging.now.plan.now c.args.sets.now (g.F.Family.admits c.args.family.now) c.args.from c.args.stop c.args.paging.now.size (g.I.Images.seen c.args.images.now) (g.I.Images.seen c.loop-leaf.images) c.args.page.now c.loop-leaf.page c.loop-leaf.walk.leaves c.next.new.self.leaves c.in-Some.leaf
+    let next = next_leaf (told_all (g.I.Images.seen c.args.images.now).attached) c.args.paging.now.plan.now c.args.sets.now (is_admitted c.args.family.now) c.args.from c.args.stop c.args.paging.now.size (g.I.Images.seen c.args.images.now) (g.I.Images.seen c.loop-leaf.images) c.args.page.now c.loop-leaf.page c.loop-leaf.walk.leaves c.next.new.self.leaves c.in-Some.leaf
     c.requires.head c.requires.part c.requires.admits c.loop-leaf.invariant.stands c.in-Some.ensures.steps in
     let high = next.high in
     fills_on (told_all (g.I.Images.seen c.args.images.now).attached) c.args.paging.now.plan.now c.args.paging.now.size (c.args.sets.now.first + c.in-Some.leaf.rank) ((c.args.sets.now.first + c.in-Some.leaf.rank) + 1) c.args.stop c.in-Some-2.next c.args.page.now c.loop-leaf.page c.scan_waiting.new.page next.goes (omega arith)
@@ -105,7 +105,7 @@ returns-in-Some-2-clause-gathers g c =
 
 pub returns-in-Some-2-clause-reads : goal.returns-in-Some-2-clause-reads
 returns-in-Some-2-clause-reads g c =
-    let next = next_leaf (told_all (g.I.Images.seen c.args.images.now).attached) c.args.paging.now.plan.now c.args.sets.now (g.F.Family.admits c.args.family.now) c.args.from c.args.stop c.args.paging.now.size (g.I.Images.seen c.args.images.now) (g.I.Images.seen c.loop-leaf.images) c.args.page.now c.loop-leaf.page c.loop-leaf.walk.leaves c.next.new.self.leaves c.in-Some.leaf
+    let next = next_leaf (told_all (g.I.Images.seen c.args.images.now).attached) c.args.paging.now.plan.now c.args.sets.now (is_admitted c.args.family.now) c.args.from c.args.stop c.args.paging.now.size (g.I.Images.seen c.args.images.now) (g.I.Images.seen c.loop-leaf.images) c.args.page.now c.loop-leaf.page c.loop-leaf.walk.leaves c.next.new.self.leaves c.in-Some.leaf
     c.requires.head c.requires.part c.requires.admits c.loop-leaf.invariant.stands c.in-Some.ensures.steps in
     let are : AreWaiting c.args.paging.now.plan.now c.push.new.self = search rules in
     let ranks : c.push.new.self.ranks ≡ c.loop-leaf.page.waiting.ranks ++ (c.args.sets.now.first + c.in-Some.leaf.rank) ∷ [] = search rules in
@@ -129,7 +129,7 @@ returns-in-Some-2-clause-reads g c =
 
 pub loop-leaf-preserved : goal.loop-leaf-preserved
 loop-leaf-preserved g c =
-    let next = next_leaf (told_all (g.I.Images.seen c.args.images.now).attached) c.args.paging.now.plan.now c.args.sets.now (g.F.Family.admits c.args.family.now) c.args.from c.args.stop c.args.paging.now.size (g.I.Images.seen c.args.images.now) (g.I.Images.seen c.loop-leaf.images) c.args.page.now c.loop-leaf.page c.loop-leaf.walk.leaves c.next.new.self.leaves c.in-Some.leaf
+    let next = next_leaf (told_all (g.I.Images.seen c.args.images.now).attached) c.args.paging.now.plan.now c.args.sets.now (is_admitted c.args.family.now) c.args.from c.args.stop c.args.paging.now.size (g.I.Images.seen c.args.images.now) (g.I.Images.seen c.loop-leaf.images) c.args.page.now c.loop-leaf.page c.loop-leaf.walk.leaves c.next.new.self.leaves c.in-Some.leaf
     c.requires.head c.requires.part c.requires.admits c.loop-leaf.invariant.stands c.in-Some.ensures.steps in
     let are : AreWaiting c.args.paging.now.plan.now c.push.new.self = search rules in
     let ranks : c.push.new.self.ranks ≡ c.loop-leaf.page.waiting.ranks ++ (c.args.sets.now.first + c.in-Some.leaf.rank) ∷ [] = search rules in
@@ -150,14 +150,14 @@ loop-leaf-preserved g c =
     record {
       goes = (tt, tt);
       quiet = search rules;
-      stands = gathered (told_all (g.I.Images.seen c.args.images.now).attached) c.args.paging.now.plan.now c.args.sets.now (g.F.Family.admits c.args.family.now) c.args.from c.args.stop c.args.paging.now.size (g.I.Images.seen c.args.images.now) (g.I.Images.seen c.loop-leaf.images) (g.I.Images.seen c.scan_waiting.new.images) c.args.page.now c.loop-leaf.page c.scan_waiting.new.page c.in-Some.leaf c.next.new.self.leaves next c.loop-leaf.invariant.stands.scans
+      stands = gathered (told_all (g.I.Images.seen c.args.images.now).attached) c.args.paging.now.plan.now c.args.sets.now (is_admitted c.args.family.now) c.args.from c.args.stop c.args.paging.now.size (g.I.Images.seen c.args.images.now) (g.I.Images.seen c.loop-leaf.images) (g.I.Images.seen c.scan_waiting.new.images) c.args.page.now c.loop-leaf.page c.scan_waiting.new.page c.in-Some.leaf c.next.new.self.leaves next c.loop-leaf.invariant.stands.scans
           (record { stands = goes.stands; forward = goes.forward; adds = goes.adds })
           (reads_none (told_all (g.I.Images.seen c.args.images.now).attached) c.args.paging.now.plan.now c.loop-leaf.page.tested ((c.args.sets.now.first + c.in-Some.leaf.rank) + 1) 0 0 c.scan_waiting.new.page c.scan_waiting.result (g.I.Images.seen c.loop-leaf.images) (g.I.Images.seen c.scan_waiting.new.images) (ok ∙ ap (λ (o : Option ℕ). let r : Result (Option ℕ) WalkFault = Ok o in r) c.in_default-2.is) scan);
     }
 
 pub scan_waiting-requires-clause-wait : goal.scan_waiting-requires-clause-wait
 scan_waiting-requires-clause-wait g c κs within =
-    let next = next_leaf (told_all (g.I.Images.seen c.args.images.now).attached) c.args.paging.now.plan.now c.args.sets.now (g.F.Family.admits c.args.family.now) c.args.from c.args.stop c.args.paging.now.size (g.I.Images.seen c.args.images.now) (g.I.Images.seen c.loop-leaf.images) c.args.page.now c.loop-leaf.page c.loop-leaf.walk.leaves c.next.new.self.leaves c.in-Some.leaf
+    let next = next_leaf (told_all (g.I.Images.seen c.args.images.now).attached) c.args.paging.now.plan.now c.args.sets.now (is_admitted c.args.family.now) c.args.from c.args.stop c.args.paging.now.size (g.I.Images.seen c.args.images.now) (g.I.Images.seen c.loop-leaf.images) c.args.page.now c.loop-leaf.page c.loop-leaf.walk.leaves c.next.new.self.leaves c.in-Some.leaf
     c.requires.head c.requires.part c.requires.admits c.loop-leaf.invariant.stands c.in-Some.ensures.steps in
     let are : AreWaiting c.args.paging.now.plan.now c.push.new.self = search rules in
     let ranks : c.push.new.self.ranks ≡ c.loop-leaf.page.waiting.ranks ++ (c.args.sets.now.first + c.in-Some.leaf.rank) ∷ [] = search rules in
@@ -167,7 +167,7 @@ scan_waiting-requires-clause-wait g c κs within =
 
 pub returns-clause-gathers : goal.returns-clause-gathers
 returns-clause-gathers g c =
-    ended (told_all (g.I.Images.seen c.args.images.now).attached) c.args.paging.now.plan.now c.args.sets.now (g.F.Family.admits c.args.family.now) c.args.from c.args.stop c.args.paging.now.size (g.I.Images.seen c.args.images.now) (g.I.Images.seen c.loop-leaf.images) c.args.page.now c.loop-leaf.page c.loop-leaf.walk.leaves c.requires.head c.requires.part c.requires.admits c.loop-leaf.invariant.stands c.in_default.ensures.steps.0
+    ended (told_all (g.I.Images.seen c.args.images.now).attached) c.args.paging.now.plan.now c.args.sets.now (is_admitted c.args.family.now) c.args.from c.args.stop c.args.paging.now.size (g.I.Images.seen c.args.images.now) (g.I.Images.seen c.loop-leaf.images) c.args.page.now c.loop-leaf.page c.loop-leaf.walk.leaves c.requires.head c.requires.part c.requires.admits c.loop-leaf.invariant.stands c.in_default.ensures.steps.0
 
 pub returns-clause-reads : goal.returns-clause-reads
 returns-clause-reads g c = c.loop-leaf.invariant.stands.scans

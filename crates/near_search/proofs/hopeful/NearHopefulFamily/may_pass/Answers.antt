@@ -10,4 +10,4 @@ pub torn-requires-clause-images : goal.torn-requires-clause-images
 torn-requires-clause-images c =
     let Q : NearAsked → Type 0 = λ asked. 0 < length (filter (begins c.args.prefix.now.items) (lists_of asked.space)) in
     subst (AllImages MOST) (sym c.deref.ensures.0)
-    (begun_images c.self.inside.space c.args.prefix.now.items c.self.invariant.0 (subst Q (sym c.self.view_is) c.requires))
+    (begun_images c.self.inside.space c.args.prefix.now.items c.self.invariant.0 (subst Q (sym c.self.view_is) c.requires.begins))

@@ -8,3 +8,4 @@ pub mod Taking
 pub mod Table
 pub mod Keeping
 pub mod Verdict
+pub mod Prefixes

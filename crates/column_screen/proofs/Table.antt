@@ -95,6 +95,12 @@ q_adds sample (Block k) lane (Some image) fits has below inside = power_entry sa
 q_adds sample P lane (Some image) fits has below inside = zero_entry sample image lane below
 q_adds sample Q lane (Some image) fits has below inside = own_entry sample image lane fits below inside
 
+-- an entry of the table is what the slot adds
+pub entry_added : (sample : Sample) (images at : ℕ) (products : List ℕ) (place lane : ℕ) (held : Option ℕ) → HoldProducts sample images at products → lane < 16 → place ≤ 24 →
+    IfSome held (λ image. image < images) → entry_byte products at place lane held ≡ added_byte sample lane place held
+entry_added sample images at products place lane None hold below le inside = refl
+entry_added sample images at products place lane (Some image) hold below le inside = hold (400 * image + (16 * place + lane)) (omega arith)
+
 -- the entries of the table are what the slots add
 pub held_products : (sample : Sample) (images at : ℕ) (products places : List ℕ) (slots : List (Option ℕ)) (lane n : ℕ) → HoldProducts sample images at products →
     ((slot : ℕ) → slot < n → slice_index places slot ≤ 24) → ((slot : ℕ) → slot < n → IfSome (slice_index_or slots slot None) (λ image. image < images)) → lane < 16 →
@@ -103,11 +109,7 @@ unfolding entries_sum added_sum
 held_products sample images at products places slots lane zero hold few inside below = refl
 held_products sample images at products places slots lane (suc n) hold few inside below =
     ap₂ bit_xor (held_products sample images at products places slots lane n hold (λ slot lt. few slot (omega arith)) (λ slot lt. inside slot (omega arith)) below)
-    (entry_is (slice_index places n) (slice_index_or slots n None) (few n (omega arith)) (inside n (omega arith)))
-  where
-    entry_is : (place : ℕ) (held : Option ℕ) → place ≤ 24 → IfSome held (λ image. image < images) → entry_byte products at place lane held ≡ added_byte sample lane place held
-    entry_is place None le in' = refl
-    entry_is place (Some image) le in' = hold (400 * image + (16 * place + lane)) (omega arith)
+    (entry_added sample images at products (slice_index places n) lane (slice_index_or slots n None) hold below (few n (omega arith)) (inside n (omega arith)))
 
 -- they are the sums of the equations
 pub added_known : (place : Part → ℕ) (adds : Part → ℕ → ℕ) (sample : Sample) (geo : Geometry) (row : ℕ) (places : List ℕ) (lane n : ℕ) → AddsAt place adds → AddsNoZero adds → HasBytes sample → lane < 16 →

@@ -5,6 +5,8 @@ use Rattle.std.proofs.lemmas.Bool.{false≢true}
 use Rattle.std.proofs.lemmas.Bool.Decides.{nat_tests}
 use Rattle.std.proofs.lemmas.List.{take_all}
 use Rattle.std.proofs.lemmas.List.Elements.{recursion_from_All}
+use Rattle.std.proofs.lemmas.List.Sums.{count_by_more_no, count_by_more_yes}
+use mir.Val.{bool_byte}
 use Rattle.std.specs.Bool.{Decides}
 use Rattle.std.specs.List.{All, AllByRecursion, count_by, find, slice_index, slice_index_or}
 use Rattle.std.specs.Option.{is_none, option_map}
@@ -30,7 +32,7 @@ use Rattle.raid_terms.specs.Role.{HasRole, Item, P as RoleP, Q as RoleQ, Role}
 use Rattle.row_parity.specs.Syndromes.{known_sum}
 use Rattle.column_screen.specs.Passes.{Passes}
 use Rattle.column_screen.specs.Products.{AreRoles, AreSumsOf, HasBytes, place_in_p, place_in_q, test_at, test_by, test_for}
-use Rattle.column_screen.specs.Screens.{breaks, held_byte, sample_column, IsFirstEmpty}
+use Rattle.column_screen.specs.Screens.{breaks, broken_samples, held_byte, sample_column, IsFirstEmpty}
 use Rattle.column_screen.specs.declared.roles.Roles.{Roles}
 use Rattle.column_screen.specs.declared.samples.Sample.{Sample}
 use Rattle.column_screen.specs.declared.tests.Test.{Test}
@@ -210,6 +212,33 @@ take_few f (suc n) (x ∷ xs) =
     let b = count_cons f x xs in
     let rest = take_few f n xs in
     omega arith
+
+-- the first empty slot of few
+pub first_below : (slots : List (Option ℕ)) (lost : Option ℕ) → length slots ≤ 24 → IsFirstEmpty slots lost → IfSome lost (λ slot. slot < 24)
+first_below slots None few first = tt
+first_below slots (Some slot) few first = let lt = first.0 in omega arith
+
+-- the sample of nothing, where one has to be named
+pub no_sample : Sample
+no_sample = record { row = 0; first = 0; bytes = record { items = [] } }
+
+-- one more sample, which breaks the set or does not
+pub more_yes : (samples : List Sample) (tested number broken : ℕ) (geo : Geometry) → number < length samples → broken ≡ broken_samples (take number samples) tested geo →
+    (nat_lt (slice_index_or samples number no_sample).row tested && breaks geo (slice_index_or samples number no_sample)) ≡ true → broken + 1 ≡ broken_samples (take (number + 1) samples) tested geo
+more_yes samples tested number broken geo lt was passes =
+    let one = count_by_more_yes (λ sample. nat_lt sample.row tested && breaks geo sample) samples number no_sample lt passes in
+    omega arith
+
+pub more_no : (samples : List Sample) (tested number broken : ℕ) (geo : Geometry) → number < length samples → broken ≡ broken_samples (take number samples) tested geo →
+    (nat_lt (slice_index_or samples number no_sample).row tested && breaks geo (slice_index_or samples number no_sample)) ≡ false → broken ≡ broken_samples (take (number + 1) samples) tested geo
+more_no samples tested number broken geo lt was fails =
+    was ∙ sym (count_by_more_no (λ sample. nat_lt sample.row tested && breaks geo sample) samples number no_sample lt fails)
+
+-- the first sample alone
+pub first_broken : (samples : List Sample) (tested : ℕ) (geo : Geometry) (flag : Bool) → 0 < length samples →
+    flag ≡ (nat_lt (slice_index_or samples 0 no_sample).row tested && breaks geo (slice_index_or samples 0 no_sample)) → bool_byte flag ≡ broken_samples (take 1 samples) tested geo
+first_broken samples tested geo true some is = more_yes samples tested 0 0 geo some refl (sym is)
+first_broken samples tested geo false some is = more_no samples tested 0 0 geo some refl (sym is)
 
 -- tests of numbers
 pub lt_is : (a b : ℕ) → a < b → nat_lt a b ≡ true

@@ -4,3 +4,4 @@ pub mod Reading
 pub mod Laws
 pub mod Passes
 pub mod Products
+pub mod KeptSums

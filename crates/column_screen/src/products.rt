@@ -39,6 +39,7 @@ pub(crate) fn fill_products(sample: &Sample, images: usize, products: &mut [u8],
 }
 
 /// The 16 bytes from place `at` on, one a lane.
+#[inline]
 fn load(bytes: &[u8], at: usize) -> u8x16
     requires { at + 16 ≤ length bytes.now }
     ensures long { length result ≡ 16 }
@@ -49,6 +50,7 @@ fn load(bytes: &[u8], at: usize) -> u8x16
 }
 
 /// The entry at a place of the products of the image that is held, and zeros where none is. Those of the sample begin at `at`.
+#[inline]
 pub(crate) fn entry(products: &[u8], at: usize, held: Option<u8>, place: u8) -> u8x16
     requires place { place ≤ 24 }
     requires room { IfSome held (λ image. at + (400 * image + 400) ≤ length products.now) }

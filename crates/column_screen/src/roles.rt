@@ -67,6 +67,7 @@ pub(crate) fn roles_of(head: &Head, row: u64) -> Roles
 }
 
 /// What the sums have to be where no part is lost.
+#[inline]
 pub(crate) fn whole_test(level: Level) -> Test
     ensures { result ≡ test_for level None }
 {
@@ -77,6 +78,7 @@ pub(crate) fn whole_test(level: Level) -> Test
 }
 
 /// What they have to be where the part of these places is lost, and a row has another equation.
+#[inline]
 pub(crate) fn lost_test(p: u8, q: u8) -> Test
     ensures { result ≡ test_by p q }
 {

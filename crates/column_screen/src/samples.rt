@@ -1,14 +1,15 @@
 //! Samples: some columns of all images, in some rows of sectors.
-ghost use Rattle.std.specs.Prelude.{ℕ, List, ◌≡◌, ◌+◌, ◌<◌, ◌≤◌, [], All, IfOk, IfSome, length, slice_index_or};
+ghost use Rattle.std.specs.Prelude.{ℕ, List, ◌≡◌, ◌+◌, ◌<◌, ◌≤◌, [], All, IfOk, IfSome, length, slice_index, slice_index_or};
+ghost use Rattle.std.specs.Simd.Lanes.{Each1};
 ghost use Rattle.raid_params.specs.declared.limits.TheConstants.{MOST};
 ghost use Rattle.member_regions.specs.Regions.{IsRoomFor};
-ghost use Rattle.column_screen.specs.Products.{ArePlaces, AreSumsOf, HasBytes};
+ghost use Rattle.column_screen.specs.Products.{added_byte, ArePlaces, AreSumsOf, HasBytes};
 ghost use Rattle.column_screen.specs.declared.samples.Sample.{Sample as SampleOf};
 ghost use Rattle.column_screen.specs.declared.samples.TheConstants.{SAMPLES};
 ghost use Rattle.column_screen.specs.Samples.{AreBelow, AreSamples, AreUpTo, HoldSector, TakesRow};
 
 use crate::columns::{first_columns, sample_at};
-use crate::products::{IMAGE_PRODUCTS, fill_products};
+use crate::products::{IMAGE_PRODUCTS, entry, fill_products};
 use crate::roles::Roles;
 use crate::sums::sums_at;
 use arrayvec::ArrayVec;
@@ -98,6 +99,7 @@ impl Samples {
     }
 
     /// How many samples are kept.
+    #[inline]
     pub(crate) fn count(&self) -> usize
         ensures count { result ≡ length self.now.list }
         ensures few { result ≤ SAMPLES }
@@ -108,11 +110,25 @@ impl Samples {
     }
 
     /// The row of a sample by its number.
+    #[inline]
     pub(crate) fn row(&self, number: usize) -> u64
         requires { number < length self.now.list }
         ensures { (none : SampleOf) → result ≡ (slice_index_or self.now.list number none).row }
     {
         self.list[number].row
+    }
+
+    /// What a slot adds to the sums of the first sample, at a place of the products.
+    #[inline]
+    pub(crate) fn first_entry(&self, held: Option<u8>, place: u8) -> u8x16
+        requires some { 0 < length self.now.list }
+        requires image { IfSome held (λ image. image < self.now.images) }
+        requires place { place ≤ 24 }
+        ensures long { length result ≡ 16 }
+        ensures fits { Each1 (λ x. x < 256) result }
+        ensures lanes { (none : SampleOf) (lane : ℕ) → lane < 16 → slice_index result lane ≡ added_byte (slice_index_or self.now.list 0 none) lane place held }
+    {
+        entry(&self.products, 0, held, place)
     }
 
     /// The sums of both equations over the columns of a sample by its number, with the places of its row.

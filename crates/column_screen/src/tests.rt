@@ -23,6 +23,7 @@ pub(crate) enum Test {
 }
 
 /// Zeros.
+#[inline]
 pub(crate) fn zeros() -> u8x16
     ensures long { length result ≡ 16 }
     ensures fits { Each1 (λ x. x < 256) result }
@@ -32,6 +33,7 @@ pub(crate) fn zeros() -> u8x16
 }
 
 /// The sum of two, lane by lane.
+#[inline]
 pub(crate) fn sum(x: u8x16, y: u8x16) -> u8x16
     requires x_long { length x ≡ 16 }
     requires x_fits { Each1 (λ k. k < 256) x }
@@ -45,6 +47,7 @@ pub(crate) fn sum(x: u8x16, y: u8x16) -> u8x16
 }
 
 /// Whether each lane is 0.
+#[inline]
 fn is_zero(x: u8x16) -> bool
     requires { length x ≡ 16 }
     ensures { Decides result ((lane : ℕ) → lane < 16 → slice_index x lane ≡ 0) }
@@ -66,6 +69,7 @@ fn are_products(p: &[u8; COLUMNS], q: &[u8; COLUMNS], power: u8) -> bool
 }
 
 /// Whether the sums of each column are what they have to be.
+#[inline]
 pub(crate) fn passes(test: Test, p: u8x16, q: u8x16) -> bool
     requires p_long { length p ≡ 16 }
     requires q_long { length q ≡ 16 }

@@ -1,6 +1,6 @@
 use Rattle.std.proofs.Common.{◌≡◌, ◌≤◌, take}
 use Rattle.column_screen.specs.Screens.{broken_samples, set_of}
-use Rattle.column_screen.proofs.screen.Screen.settles.Given as goal
+use Rattle.column_screen.proofs.screen.Screen.others_settle.Given as goal
 
 abbrev pub invariant-loop-number : goal.invariant-loop-number
 invariant-loop-number l = record {

@@ -1,5 +1,5 @@
 -- What a screen passes over fails, and nothing else is passed over by it.
-use Rattle.std.proofs.Common.{rules, ℕ, zero, suc, ◌≡◌, ◌<◌, ◌+◌, ◌-◌, Bool, true, false, not, ◌&&◌, ◌==◌, cond, get_or, nat_le, nat_lt, List, [], ◌∷◌, length, take, filter, refl, sym, ap, ap₂, ◌∙◌, arith, Option, Some, None, IfSome, IfOk, Result, Ok, Err, All, slice_get, inl, inr, subst, Contains}
+use Rattle.std.proofs.Common.{rules, ℕ, zero, suc, ◌≡◌, ◌<◌, ◌≤◌, ◌+◌, ◌-◌, Bool, true, false, not, ◌&&◌, ◌==◌, cond, get_or, nat_le, nat_lt, List, [], ◌∷◌, length, take, filter, refl, sym, ap, ap₂, ◌∙◌, arith, Option, Some, None, IfSome, IfOk, Result, Ok, Err, All, slice_get, inl, inr, subst, Contains}
 use Rattle.std.specs.List.{list_all, range_with_len}
 use Rattle.std.specs.Option.{is_some, option_map, option_map_or}
 use Rattle.std.specs.Iterator.{YieldsFirst}
@@ -26,7 +26,9 @@ use Rattle.search_terms.specs.SlotLists.{all_lists, is_kept}
 use Rattle.candidate_enum.specs.Left.{Left}
 use Rattle.candidate_enum.specs.declared.leaf.Leaf.{Leaf}
 use Rattle.candidate_enum.specs.Survivors.{admitted_leaves, all_admitted, question}
+use Rattle.column_screen.specs.KeptSums.{KeepsSums}
 use Rattle.column_screen.specs.Samples.{AreSamples, Kept}
+use Rattle.column_screen.specs.declared.kept.Sums.{Sums}
 use Rattle.column_screen.specs.Screens.{is_screened, screening_of, set_of, settles, Screening}
 use Rattle.column_screen.specs.declared.samples.Sample.{Sample}
 use Rattle.column_screen.proofs.Screened.{screened_sets_fail}
@@ -206,6 +208,38 @@ screen_shaped plan head space (Some s) prefix is shaped members some = λ long.
     ap (λ (t : Screening). is_shaped (set_of t.head prefix) s.kept.images) is.0
     ∙ ap (is_shaped (set_of head prefix)) is.1
     ∙ shaped prefix (whole_listed space prefix some (long ∙ sym members))
+
+-- the images of a prefix, one by one
+each_image : (n : ℕ) (prefix : List (Option ℕ)) → AllImages n prefix → (k : ℕ) (blank : Option ℕ) → k < length prefix → IfSome (get_or prefix k blank) (λ image. image < n)
+each_image n [] all k blank lt = absurd (omega arith)
+each_image n (None ∷ l) all zero blank lt = tt
+each_image n (Some i ∷ l) all zero blank lt = all.0
+each_image n (None ∷ l) all (suc k) blank lt = each_image n l all k blank (omega arith)
+each_image n (Some i ∷ l) all (suc k) blank lt = each_image n l all.1 k blank (omega arith)
+
+-- a prefix is no longer than the sets of its screen
+pub screen_short : (plan : Plan) (head : Head) (screen : Option Screening) (prefix : List (Option ℕ)) → IfSome screen (IsScreenOf plan head) → length prefix ≤ head.members →
+    IfSome screen (λ s. length prefix ≤ s.head.members)
+screen_short plan head None prefix is short = tt
+screen_short plan head (Some s) prefix is short = subst (λ (t : Screening). length prefix ≤ t.head.members) (sym is.0) short
+
+-- and holds images that its samples are of
+pub screen_images : (plan : Plan) (head : Head) (screen : Option Screening) (prefix : List (Option ℕ)) → IfSome screen (IsScreenOf plan head) → AllImages (length plan.lengths.items) prefix →
+    IfSome screen (λ s. All (λ slot. IfSome slot (λ image. image < s.kept.images)) prefix)
+screen_images plan head None prefix is all = tt
+screen_images plan head (Some s) prefix is all = subst (λ (n : ℕ). All (λ slot. IfSome slot (λ image. image < n)) prefix) (sym is.1) (each_image (length plan.lengths.items) prefix all)
+
+-- what is kept of a prefix for a family is kept of it for its screen
+pub kept_for_screen : (plan : Plan) (head : Head) (screen : Option Screening) (prefix : List (Option ℕ)) (kept : Sums) → IfSome screen (IsScreenOf plan head) → KeepsSums head (samples_of screen) prefix kept →
+    IfSome screen (λ s. KeepsSums s.head s.kept.list prefix kept)
+kept_for_screen plan head None prefix kept is keeps = tt
+kept_for_screen plan head (Some s) prefix kept is keeps = subst (λ (t : Screening). KeepsSums t.head s.kept.list prefix kept) (sym is.0) keeps
+
+-- and the other way
+pub kept_by_screen : (plan : Plan) (head : Head) (screen : Option Screening) (prefix : List (Option ℕ)) (kept : Sums) → IfSome screen (IsScreenOf plan head) → IfSome screen (λ s. KeepsSums s.head s.kept.list prefix kept) →
+    KeepsSums head (samples_of screen) prefix kept
+kept_by_screen plan head None prefix kept is keeps = λ none some. absurd (omega arith)
+kept_by_screen plan head (Some s) prefix kept is keeps = subst (λ (t : Screening). KeepsSums t.head s.kept.list prefix kept) is.0 keeps
 
 -- the lists of a head make sets of a sensible shape
 pub lists_shaped : (plan : Plan) (sets : HeadSets) → IsPlan plan → IsHeadOf plan sets → AreShaped plan sets.head sets.space

@@ -29,7 +29,7 @@ pub struct Gathered {
 /// Gathers the sets of a head of ranks from `from` up to `stop`: those whose slot lists the family admits, which leaves
 /// out none that passes. Each of them waits; where as many wait as a scan may test, or the page is full with those that are
 /// known to pass, they are tested. It gives the rank after the last line where the page is full.
-pub fn gather_admitted<R: Threads + Sync, I: Images, G: Gate + Sync>(
+pub(crate) fn gather_admitted<R: Threads + Sync, I: Images, G: Gate + Sync>(
     paging: &Paging<R, G>,
     images: &mut I,
     sets: &HeadSets,

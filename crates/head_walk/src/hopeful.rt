@@ -1,14 +1,15 @@
 //! The slot lists of a head of which each prefix may still pass.
-ghost use Rattle.std.specs.Prelude.{◌≡◌, ◌==◌, ◌&&◌, [], IfOk, IfSome, IsSome, IsTrue, false, length, true};
+ghost use Rattle.std.specs.Prelude.{◌≡◌, ◌==◌, ◌<◌, ◌≤◌, ◌-◌, ◌&&◌, [], All, IfOk, IfSome, IsSome, IsTrue, false, length, take, true};
 ghost use Rattle.std.specs.Option.{option_map, option_map_or};
 ghost use Rattle.raid_params.specs.Validity.{is_shaped, is_valid_head};
 ghost use Rattle.search_plan.specs.Plans.{IsPlan};
 ghost use Rattle.prune_filters.specs.Rows.{needs_table as head_needs_table};
+ghost use Rattle.column_screen.specs.KeptSums.{KeepsSums};
 ghost use Rattle.column_screen.specs.Screens.{screening_of, set_of, settles as samples_settle};
 ghost use Rattle.head_walk.specs.Walk.{is_admitted, IsHeadOf};
 
 use candidate_enum::Family;
-use column_screen::{Samples, Screen};
+use column_screen::{Samples, Screen, Sums, no_sums};
 use outside::Memory;
 use prune_filters::{EarlyTable, HeadRows, MarkTable, early_may_pass};
 use raid_params::{Head, Slots};
@@ -79,28 +80,57 @@ fn screen_of<'a>(samples: Option<&'a Samples>, plan: &Plan, head: &Head) -> Opti
     }
 }
 
-/// Whether a screen settles the set of a prefix, which it does not where the prefix is no whole slot list.
-fn is_settled(screen: &Option<Screen>, members: u8, prefix: &[Option<u8>]) -> bool
-    requires { IfSome screen.now (λ s. length prefix.now ≡ members → is_shaped (set_of s.head prefix.now) s.kept.images ≡ true) }
+/// What is kept of a prefix for a screen, by what is kept of it without its last place.
+#[inline]
+fn next_kept(screen: &Option<Screen>, kept: &Sums, prefix: &[Option<u8>]) -> Sums
+    requires some { 0 < length prefix.now }
+    requires short { IfSome screen.now (λ s. length prefix.now ≤ s.head.members) }
+    requires images { IfSome screen.now (λ s. All (λ slot. IfSome slot (λ image. image < s.kept.images)) prefix.now) }
+    requires kept { IfSome screen.now (λ s. KeepsSums s.head s.kept.list (take (length prefix.now - 1) prefix.now) kept.now) }
+    ensures { IfSome screen.now (λ s. KeepsSums s.head s.kept.list prefix.now result) }
+{
+    match screen {
+        Some(screen) => screen.next_sums(kept, prefix),
+        None => *kept,
+    }
+}
+
+/// Whether a screen settles the set of a prefix, of which this is kept. It does not where the prefix is no whole slot list.
+#[inline]
+fn is_settled(screen: &Option<Screen>, members: u8, prefix: &[Option<u8>], kept: &Sums) -> bool
+    requires kept { IfSome screen.now (λ s. KeepsSums s.head s.kept.list prefix.now kept.now) }
+    requires shaped { IfSome screen.now (λ s. length prefix.now ≡ members → is_shaped (set_of s.head prefix.now) s.kept.images ≡ true) }
     ensures { result ≡ option_map_or (λ s. (length prefix.now == members) && samples_settle s prefix.now) screen.now false }
 {
     match screen {
-        Some(screen) => prefix.len() == members as usize && screen.settles(prefix),
+        Some(screen) => prefix.len() == members as usize && screen.settles(prefix, kept),
         None => false,
     }
 }
 
 impl<'a> Family for Hopeful<'a> {
+    type Kept = Sums;
+
     ghost space_of = { λ family. family.asked.space };
 
     ghost admits = { is_admitted };
+
+    ghost keeps = { λ family. KeepsSums family.asked.head family.samples };
 
     fn space(&self) -> Space {
         self.space
     }
 
-    fn may_pass(&self, prefix: &Slots) -> bool {
+    fn kept_first(&self) -> Sums {
+        no_sums()
+    }
+
+    fn kept_next(&self, kept: &Sums, prefix: &Slots) -> Sums {
+        next_kept(&self.screen, kept, prefix)
+    }
+
+    fn may_pass(&self, prefix: &Slots, kept: &Sums) -> bool {
         early_may_pass(&self.marks, &self.rows, prefix)
-            && !is_settled(&self.screen, self.rows.head().members, prefix)
+            && !is_settled(&self.screen, self.rows.head().members, prefix, kept)
     }
 }

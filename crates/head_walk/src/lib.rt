@@ -28,7 +28,7 @@ mod scanning;
 mod waiting;
 mod walking;
 
-pub use gathering::{Gathered, gather_admitted};
+pub use gathering::Gathered;
 pub use parts::{Line, Lines, Paging, WalkFault};
 pub use row_tables::{KeptTables, OffsetTables};
 pub use scanning::finish;

@@ -3,24 +3,33 @@ use Rattle.std.specs.Option.{option_map_or}
 use Rattle.raid_params.specs.Validity.{is_shaped}
 use Rattle.raid_params.specs.declared.types.Head.{Head}
 use Rattle.slot_math.specs.Space.{begins, lists_of}
+use Rattle.column_screen.specs.KeptSums.{KeepsSums}
 use Rattle.column_screen.specs.Screens.{is_screened, set_of, settles}
 use Rattle.prune_filters.specs.Hopeful.{is_hopeful_by}
 use Rattle.head_walk.specs.Walk.{is_admitted, samples_of, Screened}
 use Rattle.head_walk.proofs.Admitted.{is_prefix}
-use Rattle.head_walk.proofs.Screening.{screen_shaped, settled_by}
+use Rattle.head_walk.proofs.Screening.{kept_for_screen, screen_shaped, settled_by}
 use Rattle.head_walk.proofs.hopeful.HopefulFamily.may_pass.Goals as goal
 
 pub early_may_pass-requires-clause-prefix : goal.early_may_pass-requires-clause-prefix
 early_may_pass-requires-clause-prefix c =
     let Q : Screened → Type 0 = λ s. 0 < length (filter (begins c.args.prefix.now.items) (lists_of s.asked.space)) in
-    is_prefix c.self.inside.rows.plan c.self.inside.rows.head c.self.inside.space c.args.prefix.now.items c.self.invariant.0 (subst Q (sym c.self.view_is) c.requires)
+    is_prefix c.self.inside.rows.plan c.self.inside.rows.head c.self.inside.space c.args.prefix.now.items c.self.invariant.0 (subst Q (sym c.self.view_is) c.requires.begins)
 
-pub is_settled-requires : goal.is_settled-requires
-is_settled-requires c =
+pub is_settled-requires-clause-kept : goal.is_settled-requires-clause-kept
+is_settled-requires-clause-kept c =
+    let p = c.args.prefix.now.items in
+    let K : Screened → Type 0 = λ s. KeepsSums s.asked.head s.samples p c.args.kept.now in
+    let P : List (Option ℕ) → Type 0 = λ l. IfSome c.self.inside.screen (λ s. KeepsSums s.head s.kept.list l c.args.kept.now) in
+    subst P (sym c.deref.ensures.0)
+    (kept_for_screen c.self.inside.rows.plan c.self.inside.rows.head c.self.inside.screen p c.args.kept.now c.self.invariant.2 (subst K (sym c.self.view_is) c.requires.kept))
+
+pub is_settled-requires-clause-shaped : goal.is_settled-requires-clause-shaped
+is_settled-requires-clause-shaped c =
     let Q : Screened → Type 0 = λ s. 0 < length (filter (begins c.args.prefix.now.items) (lists_of s.asked.space)) in
     let P : List (Option ℕ) → Head → Type 0 = λ l h. IfSome c.self.inside.screen (λ s. length l ≡ h.members → is_shaped (set_of s.head l) s.kept.images ≡ true) in
     let told : P c.args.prefix.now.items c.self.inside.rows.head
-    = screen_shaped c.self.inside.rows.plan c.self.inside.rows.head c.self.inside.space c.self.inside.screen c.args.prefix.now.items c.self.invariant.2 c.self.invariant.3 c.self.invariant.0.members (subst Q (sym c.self.view_is) c.requires) in
+    = screen_shaped c.self.inside.rows.plan c.self.inside.rows.head c.self.inside.space c.self.inside.screen c.args.prefix.now.items c.self.invariant.2 c.self.invariant.3 c.self.invariant.0.members (subst Q (sym c.self.view_is) c.requires.begins) in
     subst (λ (l : List (Option ℕ)). P l c.head.result.now) (sym c.deref.ensures.0) (subst (P c.args.prefix.now.items) (sym c.head.ensures.is) told)
 
 pub returns-then-early_may_pass : goal.returns-then-early_may_pass

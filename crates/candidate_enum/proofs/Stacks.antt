@@ -1,6 +1,6 @@
 -- What is kept of the beginnings of a prefix, as the walk goes on.
-use Rattle.std.proofs.Common.{ℕ, zero, suc, ◌≡◌, ◌≢◌, ◌≤◌, ◌<◌, ◌+◌, ◌-◌, ◌++◌, ◌∷◌, [], List, Option, length, take, slice_index_or, slice_set, refl, sym, ap, ◌∙◌, subst, arith, inl, inr}
-use Rattle.std.proofs.lemmas.List.{append-nil, append_assoc, take-append-le, length-append, get_or-set_same, get_or-set_other}
+use Rattle.std.proofs.Common.{ℕ, suc, ◌≡◌, ◌≤◌, ◌<◌, ◌+◌, ◌++◌, ◌∷◌, [], List, Option, length, take, slice_index_or, refl, sym, ap, ◌∙◌, subst, arith, inl, inr}
+use Rattle.std.proofs.lemmas.List.{append-nil, append_assoc, take-append-le, length-append}
 use Rattle.std.proofs.Math.Seq.{take-length}
 use Rattle.std.proofs.lemmas.Bool.{cases_lt}
 use Rattle.candidate_enum.specs.Kept.{AreKept, IsLonger, SharesBelow}
@@ -21,9 +21,10 @@ pub longer_shares : (p q w : List (Option ℕ)) (x : Option ℕ) (rest : List (O
 longer_shares p q w x rest e l = λ d lt.
     let n : length w ≡ length p + 1 = ap length l.1 ∙ length-append p (l.0 ∷ []) in
     let m : length q ≡ length p + length (x ∷ rest) = ap length e ∙ length-append p (x ∷ rest) in
-    let at : d ≤ length p = omega arith in
-    ((let k : length (x ∷ rest) ≡ suc (length rest) = refl in omega arith),
-     ap (take d) l.1 ∙ take-append-le d p (l.0 ∷ []) at ∙ sym (take-append-le d p (x ∷ rest) at) ∙ ap (take d) (sym e))
+    let at : d ≤ length p = omega arith in (
+      (let k : length (x ∷ rest) ≡ suc (length rest) = refl in omega arith),
+      ap (take d) l.1 ∙ take-append-le d p (l.0 ∷ []) at ∙ sym (take-append-le d p (x ∷ rest) at) ∙ ap (take d) (sym e),
+    )
 
 pub climbed : (p q old w : List (Option ℕ)) (x : Option ℕ) → Begins old q → old ≡ p ++ x ∷ [] → IsLonger p w → SharesBelow q (length q) w
 climbed p q old w x b e l = longer_shares p q w x b.0 (b.1 ∙ ap (λ (t : List (Option ℕ)). t ++ b.0) e ∙ append_assoc p (x ∷ []) b.0) l
@@ -56,12 +57,12 @@ own_below {A} keeps p stack k own d none lt = elim (cases_lt d (length p)) [
       let e : d ≡ length p = omega arith in
       subst (λ (n : ℕ). keeps (take n p) (slice_index_or stack n none)) (sym e)
       (subst (λ (t : List (Option ℕ)). keeps t (slice_index_or stack (length p) none)) (sym (take-length p)) (own none))
-  ]
+]
 
 pub kept_on : {A : Type 0} (keeps : List (Option ℕ) → A → Type 0) (p w : List (Option ℕ)) (stack : List A) →
     AreKept keeps p stack → ((none : A) → keeps p (slice_index_or stack (length p) none)) → SharesBelow p (length p + 1) w → AreKept keeps w stack
 kept_on {A} keeps p w stack k own s = record {
   first = k.first;
   parents = λ d none lt. let h = s d lt in
-    subst (λ (t : List (Option ℕ)). keeps t (slice_index_or stack d none)) (sym h.1) (own_below keeps p stack k own d none h.0);
+      subst (λ (t : List (Option ℕ)). keeps t (slice_index_or stack d none)) (sym h.1) (own_below keeps p stack k own d none h.0);
 }

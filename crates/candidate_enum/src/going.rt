@@ -139,7 +139,12 @@ impl<'a, F: Family> Search<'a, F> {
 
     /// Does as `to_leaf`, and counts a step for each test but that of the list.
     #[inline]
-    pub(crate) fn to_leaf_counted<L: Ledger>(&self, walk: &mut Walk, stack: &mut [F::Kept; ROW], steps: &mut Steps<L>) -> bool
+    pub(crate) fn to_leaf_counted<L: Ledger>(
+        &self,
+        walk: &mut Walk,
+        stack: &mut [F::Kept; ROW],
+        steps: &mut Steps<L>,
+    ) -> bool
         requires family { self.now.space ≡ F.space_of self.now.family.now }
         requires search { IsSearch self.now.space self.now.from self.now.stop }
         requires counts { IsTable self.now.space self.now.counts }

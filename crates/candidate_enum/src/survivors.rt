@@ -73,7 +73,10 @@ impl<'a, F: Family> Survivors<'a, F> {
         ensures cost { (steps.new - steps.old) + self.new.allowance ≡ self.old.allowance }
         ensures counts { steps.old ≤ steps.new }
     {
-        if !self.search.to_leaf_counted(&mut self.walk, &mut self.stack, steps) {
+        if !self
+            .search
+            .to_leaf_counted(&mut self.walk, &mut self.stack, steps)
+        {
             return None;
         }
         steps.tick();

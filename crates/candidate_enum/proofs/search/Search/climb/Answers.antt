@@ -3,7 +3,7 @@ use Rattle.raid_params.specs.declared.limits.TheConstants.{MOST}
 use Rattle.candidate_enum.specs.Survivors.{question}
 use Rattle.candidate_enum.proofs.Keeping.{more_images}
 use Rattle.candidate_enum.proofs.Moves.{popped}
-use Rattle.candidate_enum.proofs.Stacks.{begins_itself, begins_less, climbed}
+use Rattle.candidate_enum.proofs.Stacks.{begins_less, climbed}
 use Rattle.candidate_enum.proofs.Turns.{goes_on}
 use Rattle.candidate_enum.proofs.search.Search.climb.Goals as goal
 

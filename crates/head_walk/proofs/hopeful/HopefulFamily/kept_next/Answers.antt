@@ -2,7 +2,7 @@ use Rattle.std.proofs.Common.{ℕ, ◌≤◌, ◌<◌, ◌-◌, All, IfSome, Lis
 use Rattle.slot_math.specs.Space.{begins, lists_of}
 use Rattle.column_screen.specs.KeptSums.{KeepsSums}
 use Rattle.prune_filters.specs.Hopeful.{IsPrefix}
-use Rattle.head_walk.specs.Walk.{Screened, samples_of}
+use Rattle.head_walk.specs.Walk.{Screened}
 use Rattle.head_walk.proofs.Admitted.{is_prefix}
 use Rattle.head_walk.proofs.Screening.{kept_by_screen, kept_for_screen, screen_images, screen_short}
 use Rattle.head_walk.proofs.hopeful.HopefulFamily.kept_next.Goals as goal

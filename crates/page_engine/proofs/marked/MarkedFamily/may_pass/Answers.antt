@@ -9,4 +9,4 @@ pub groups_may_hold-requires-clause-prefix : goal.groups_may_hold-requires-claus
 groups_may_hold-requires-clause-prefix c =
     let Q : Asked → Type 0 = λ asked. 0 < length (filter (begins c.args.prefix.now.items) (lists_of asked.space)) in
     let P : List (Option ℕ) → Type 0 = λ prefix. IsPrefixOf (length c.self.inside.plan.now.lengths.items) c.self.inside.head.members prefix in
-    subst P (sym c.deref.ensures.0) (is_prefix c.self.inside.plan.now c.self.inside.head c.self.inside.space c.args.prefix.now.items c.self.invariant.0 (subst Q (sym c.self.view_is) c.requires))
+    subst P (sym c.deref.ensures.0) (is_prefix c.self.inside.plan.now c.self.inside.head c.self.inside.space c.args.prefix.now.items c.self.invariant.0 (subst Q (sym c.self.view_is) c.requires.begins))

@@ -148,13 +148,22 @@ impl<'a> Screen<'a> {
         ensures { (none : SampleOf) → result ≡ (nat_lt (slice_index_or self.now.kept.list number none).row self.now.tested
             && breaks (set_of self.now.head slots.now) (slice_index_or self.now.kept.list number none)) }
     {
-        if self.samples.row(number) >= self.tested {
+        if !self.is_tested(number) {
             return false;
         }
         let all = &self.roles;
         let roles = &all[number];
         let (p, q) = self.sums_of(number, roles, slots, sums);
         !passes(test_of(self.head.level, roles, sums.lost), p, q)
+    }
+
+    /// Whether a sample, by its number, is of a tested row.
+    #[inline]
+    fn is_tested(&self, number: usize) -> bool
+        requires { number < length self.now.kept.list }
+        ensures { (none : SampleOf) → result ≡ nat_lt (slice_index_or self.now.kept.list number none).row self.now.tested }
+    {
+        self.samples.row(number) < self.tested
     }
 
     /// The sums of both equations over the columns of a sample by its number, with the places of its row: of the first sample

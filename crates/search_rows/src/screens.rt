@@ -1,5 +1,7 @@
 //! Screens of columns, over images in memory.
-ghost use Rattle.std.specs.Prelude.{◌≡◌};
+ghost use Rattle.std.specs.Prelude.{◌≡◌, true};
+ghost use Rattle.raid_params.specs.Validity.{is_shaped};
+ghost use Rattle.column_screen.specs.Screens.{set_of, settles as samples_settle};
 
 use crate::objects::{agree, three_images};
 use crate::plans::two_levels;
@@ -7,6 +9,18 @@ use crate::row_counts::three_members;
 use column_screen::{Samples, Screen};
 use std::process::Abort;
 use std::test::Fail;
+
+// Whether a screen settles the set with these slots, of which it keeps what they are a slot at a time.
+fn settles_by_slot(screen: &Screen, slots: &[Option<u8>]) -> bool
+    requires { is_shaped (set_of screen.now.head slots.now) screen.now.kept.images ≡ true }
+    ensures { result ≡ samples_settle screen.now slots.now }
+{
+    let mut sums = screen.first_sums();
+    for slot in 0..slots.len() {
+        sums = screen.next_sums(&sums, &slots[..slot + 1]);
+    }
+    screen.settles(slots, &sums)
+}
 
 // Whether samples of two rows settle the set of three members of which each holds one byte. None where they are not read.
 fn settled<R: Abort + AllocGlobal>(rt: &R, bytes: [u8; 3]) -> Result<Option<bool>, Fail> {
@@ -24,7 +38,7 @@ fn settled<R: Abort + AllocGlobal>(rt: &R, bytes: [u8; 3]) -> Result<Option<bool
         return Ok(None);
     };
     let screen = Screen::new(&samples, &plan, &geo.head);
-    Ok(Some(screen.settles(geo.slots.as_slice())))
+    Ok(Some(settles_by_slot(&screen, geo.slots.as_slice())))
 }
 
 // 1 + 3 + 2 cancel bit by bit, 1 + 3 + 7 do not. Zeros tell nothing.

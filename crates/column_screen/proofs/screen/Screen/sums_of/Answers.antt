@@ -1,11 +1,8 @@
-use Rattle.std.proofs.Common.{ℕ, [], ◌≡◌, ◌<◌, ◌/◌, arith, length, subst}
+use Rattle.std.proofs.Common.{ℕ, ◌≡◌, ◌<◌, ◌/◌, arith, length, subst}
 use Rattle.std.specs.List.{slice_index_or}
 use Rattle.column_screen.specs.Products.{AreRoles, AreSumsOf}
-use Rattle.column_screen.specs.declared.samples.Sample.{Sample}
+use Rattle.column_screen.proofs.Verdict.{no_sample}
 use Rattle.column_screen.proofs.screen.Screen.sums_of.Goals as goal
-
-no_sample : Sample
-no_sample = record { row = 0; first = 0; bytes = record { items = [] } }
 
 pub returns-then-number-eq0-clause-p_long : goal.returns-then-number-eq0-clause-p_long
 returns-then-number-eq0-clause-p_long c =

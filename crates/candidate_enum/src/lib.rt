@@ -3,12 +3,13 @@
 //! A [`Family`] means a space of slot lists and a test of prefixes. [`Survivors`] gives the lists
 //! of a range of ranks whose every prefix passes that test, in order of rank. It goes from one
 //! untested prefix to the next by counts, which stand in a table of the space, changes its prefix in
-//! place, keeps no list of ranks, and takes no memory.
+//! place, keeps no list of ranks, and takes no memory. What a family keeps of a prefix, it makes from
+//! what it keeps of the prefix without its last place, so that a test need not look at all places.
 //!
-//! `page_engine` walks the slot lists of a head with it. What survives stands in
+//! `head_walk` and `near_search` walk the slot lists of a head with it. What survives stands in
 //! `specs/Survivors`, how many tests a walk may take in `specs/Tests`, and where it stands in
-//! `specs/Left`; what it keeps of its prefix in `specs/Kept`, and the table in `specs/Counts`. The
-//! laws: the leaves by their ranks, and that each leaf holds the list of its rank.
+//! `specs/Left`; what it keeps of its prefix and of the beginnings in `specs/Kept`, and the table in
+//! `specs/Counts`. The laws: the leaves by their ranks, and that each leaf holds the list of its rank.
 #![tactic(auto)]
 
 mod counts;

@@ -11,7 +11,6 @@ use Rattle.raid_params.specs.declared.types.Pattern.{Pattern}
 use Rattle.raid_params.specs.declared.types.Syndrome.{Syndrome}
 use Rattle.search_terms.specs.Product.{heads}
 use Rattle.candidate_enum.specs.Survivors.{all_admitted}
-use Rattle.column_screen.specs.declared.samples.TheConstants.{SAMPLES}
 use Rattle.row_scan.specs.Scan.{is_unbreakable}
 use Rattle.row_scan.specs.Windows.{scan_reads}
 use Rattle.prune_filters.specs.Hopeful.{is_hopeful}
@@ -64,5 +63,5 @@ asks_samples plan = list_any (needs_samples plan) (heads plan.bounds)
 unfoldable pub offset_reads : Plan → ℕ → ℕ
 offset_reads plan offset =
     if asks_tables plan then length plan.lengths.items * most_tested plan plan.bounds.chunks.items offset
-    else if asks_samples plan then length plan.lengths.items * min SAMPLES (most_tested plan plan.bounds.chunks.items offset)
+    else if asks_samples plan then length plan.lengths.items * min 64 (most_tested plan plan.bounds.chunks.items offset)
     else 0

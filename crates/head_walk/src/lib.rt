@@ -15,7 +15,7 @@
 //! [`KeptTables`] for all pages of a call; they are made where the first head needs them. By the samples a whole slot list
 //! that breaks more of these rows than may be is passed over before it waits (`column_screen`).
 //!
-//! `page_engine` walks the heads of a plan with it. What a walk keeps stands in `specs/Walk`, and how many sets of a range
+//! `common_pages` walks the heads of a plan with it. What a walk keeps stands in `specs/Walk`, and how many sets of a range
 //! are hopeful, with what is read for them, in `specs/Counts`.
 #![tactic(auto)]
 

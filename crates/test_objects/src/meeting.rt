@@ -6,37 +6,21 @@ use std::sync::atomic::{AtomicBool, AtomicU64, Ordering};
 /// How often a piece looks for the other before it gives up.
 const TURNS: u32 = 50_000_000;
 
-/// A gate for scans of two pieces: pieces 0 and 1 each wait at it until the other has come, and it counts how often each piece
-/// comes.
-#[derive(Drop)]
+/// A gate for scans of two pieces: pieces 0 and 1 each wait at it until the other has come. It counts how often each comes, so
+/// where they passed just once each, side by side, and no other did, these are 1, 1, 0 and false.
+#[derive(Default, Drop)]
 pub struct Meeting {
-    first: AtomicU64,
-    second: AtomicU64,
-    others: AtomicU64,
-    gave_up: AtomicBool,
+    /// How often piece 0 came.
+    pub first: AtomicU64,
+    /// How often piece 1 came.
+    pub second: AtomicU64,
+    /// How often any other piece came.
+    pub others: AtomicU64,
+    /// Whether a piece waited in vain.
+    pub gave_up: AtomicBool,
 }
 
 impl Meeting {
-    /// A gate that no piece has passed yet.
-    pub fn new() -> Meeting {
-        Meeting {
-            first: AtomicU64::new(0),
-            second: AtomicU64::new(0),
-            others: AtomicU64::new(0),
-            gave_up: AtomicBool::new(false),
-        }
-    }
-
-    /// Whether pieces 0 and 1 passed just once each, side by side, and no other piece did.
-    pub fn met_once(&self) -> bool {
-        let came = (
-            self.first.load(Ordering::SeqCst),
-            self.second.load(Ordering::SeqCst),
-            self.others.load(Ordering::SeqCst),
-        );
-        came == (1, 1, 0) && !self.gave_up.load(Ordering::SeqCst)
-    }
-
     // Waits until the other piece has come.
     fn wait_for(&self, other: &AtomicU64) {
         for _ in 0..TURNS {

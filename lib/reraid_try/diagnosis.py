@@ -124,14 +124,14 @@ class Diagnosis:
         answer = trials.list_span(self.hunt.commands, self.hunt.names, plan.text(), 0, trials.LAST, self.hunt.options.time, most)
         return [word for _, word in trials.read_page(answer.out)[0]]
 
-    def least(self, plan, name, below):
-        """The least value of a field, below this one, with which a plan lists a set, by halving; None where there is none."""
-        if below < 1 or not self.sets(plan.having(**{name: below - 1}), 1):
+    def least(self, plan, below):
+        """The fewest misfits, below this number, with which a plan lists a set, by halving; None where there is none."""
+        if below < 1 or not self.sets(plan.having(misfits=below - 1), 1):
             return None
         low, high = 0, below - 1
         while low < high:
             middle = (low + high) // 2
-            low, high = (low, middle) if self.sets(plan.having(**{name: middle}), 1) else (middle + 1, high)
+            low, high = (low, middle) if self.sets(plan.having(misfits=middle), 1) else (middle + 1, high)
         return high
 
     def fewest(self, plan, most):
@@ -154,8 +154,8 @@ class Diagnosis:
         return [(shape, self.hunt.request(shape)) for shape in self.hunt.shapes() if shape.parity][:6]
 
     def by_rows(self):
-        """Of the sets that landmarks allow, all or some of them, those with about the fewest unsound rows; none with more than twice as many as others.
-        Those that most marks of a group speak against are the last; what chunks leave over at the end of the disks makes no difference."""
+        """Of the sets that landmarks allow, all or some of them, those with about the fewest unsound rows, none with more than twice as many as
+        others. Those that most marks of a group speak against are the last; what chunks leave over at the end of the disks makes no difference."""
         found, most = {}, self.hunt.end
         for shape, request in self.shapes():
             changed = [cure.of(request) for cure in self.hunt.cures(shape) if cure.family in ("records", "group") or cure.family[:6] == "group "]
@@ -166,7 +166,7 @@ class Diagnosis:
                     most = min(most, 2 * rows)
                     for word in self.sets(plan.having(badrows=rows), FEW):
                         found.setdefault(word, Near(word, self.hunt.surveys.plan(request).having(misfits=it.get("misfits", "0"))))
-        return self.asked(found, lambda it: (it.doubtful, 100 * it.unsound // it.rows, it.lacking, it.misfits, it.empty, -it.fits))
+        return self.asked(found, lambda it: (it.doubtful, 100 * it.unsound // max(1, it.rows), it.lacking, it.misfits, it.empty, -it.fits))
 
     def by_marks(self):
         """Of all sets that parity allows those of which the most groups hold, each group by itself with the fewest misfits."""
@@ -178,7 +178,7 @@ class Diagnosis:
                 continue
             for group in sorted(whole.groups, key=lambda group: -len(group.marks))[:MOST_GROUPS]:
                 alone = whole.without([place for place in places if place != group.place])
-                misfits = self.least(alone, "misfits", len(group.marks))
+                misfits = self.least(alone, len(group.marks))
                 for word in self.sets(alone.having(misfits=misfits), FEW) if misfits is not None else ():
                     found.setdefault(word, Near(word, whole.having(misfits=misfits)))
         return self.asked(found, lambda it: (it.lacking, it.misfits, it.empty, -it.fits))

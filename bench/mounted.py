@@ -1,7 +1,7 @@
 #!/usr/bin/env python3
-"""Runs reraid-try with volumes mounted by reraid-nbd, and without: both find the same of each candidate, and more than one of the former
-was a mount. Then interrupts runs, each a tenth of a second later, and looks whether one leaves a mount, a folder or a process.
-The last line counts them.
+"""Runs reraid-try with volumes mounted by reraid-nbd, and a copy of it that has no server beside it: both find the same of each candidate,
+and more than one of the former was a mount. Then interrupts runs, each a tenth of a second later, and looks whether one leaves a mount, a
+folder or a process. The last line counts them.
 
 Usage: bench/mounted.py PROGRAM [RUNS]. PROGRAM is a reraid-nbd, which is put on the PATH. It needs FUSE, nbdfuse of Debian's libnbd-bin, and
 what bench/try.py needs.
@@ -10,6 +10,7 @@ what bench/try.py needs.
 import json
 import os
 import pathlib
+import shutil
 import signal
 import subprocess
 import sys
@@ -68,9 +69,11 @@ def main(words):
             os.mkdir(folder)
         os.symlink(program, f"{bin_folder}/reraid-nbd")
         try_arrays.tree(f"{cache}/tree")
-        path = os.pathsep.join([str(TOP / "crates/reraid/out"), str(TOP / "bin"), os.environ["PATH"], "/usr/sbin", "/sbin"])
-        without, mounting = os.environ | {"PATH": path}, os.environ | {"PATH": bin_folder + os.pathsep + path}
-        os.environ["PATH"] = path
+        shutil.copytree(TOP / "lib", f"{base}/alone/lib")
+        os.mkdir(f"{base}/alone/bin")
+        shutil.copy(TOP / "bin/reraid-try", f"{base}/alone/bin")
+        os.environ["PATH"] = os.pathsep.join([str(TOP / "crates/reraid/out"), f"{base}/alone/bin", os.environ["PATH"], "/usr/sbin", "/sbin"])
+        without, mounting = dict(os.environ), os.environ | {"PATH": os.pathsep.join([bin_folder, str(TOP / "bin"), os.environ["PATH"]])}
         for number, array in enumerate(ARRAYS):
             os.mkdir(f"{base}/{number}")
             order, _ = try_arrays.make(array, cache, f"{base}/{number}")

@@ -90,7 +90,10 @@ class Tests:
         return any(checkers.sniff(data[place * SECTOR:(place + 264) * SECTOR]) for place in places)
 
     def ask(self, candidate, rows=True):
-        """What `check` says of a candidate: unsound rows, and where each group holds; of one row alone where rows are not asked for."""
+        """What `check` says of a candidate: unsound rows, and where each group holds; of one row alone where rows are not asked for. What is known
+        already is not asked again."""
+        if candidate.unsound is not None or not rows and candidate.fits:
+            return
         text, names, word = candidate.hunt.asking(candidate, rows)
         if text is None:
             return

@@ -1,5 +1,6 @@
 """What the nearest sets look like where nothing passes: their unsound rows, first and last, and the fits of each group."""
 
+import concurrent.futures
 import dataclasses
 import re
 import time
@@ -23,6 +24,16 @@ class Near:
     fits: int = 0
     groups: tuple = ()
     seconds: float = 0
+
+    @property
+    def doubtful(self):
+        """More marks of some group speak against it than for it."""
+        return any(int(said.split()[-1]) > int(said.split()[-3]) for _, said in self.groups if said != "none")
+
+    @property
+    def misfits(self):
+        """How many misfits each group was allowed."""
+        return int(self.plan.values["misfits"])
 
     @property
     def lacking(self):
@@ -113,35 +124,49 @@ class Diagnosis:
         answer = trials.list_span(self.hunt.commands, self.hunt.names, plan.text(), 0, trials.LAST, self.hunt.options.time, most)
         return [word for _, word in trials.read_page(answer.out)[0]]
 
-    def least(self, plan, name, below):
-        """The least value of a field, below this one, with which a plan lists a set, by halving; None where there is none."""
-        if below < 1 or not self.sets(plan.having(**{name: below - 1}), 1):
+    def least(self, plan, below):
+        """The fewest misfits, below this number, with which a plan lists a set, by halving; None where there is none."""
+        if below < 1 or not self.sets(plan.having(misfits=below - 1), 1):
             return None
         low, high = 0, below - 1
         while low < high:
             middle = (low + high) // 2
-            low, high = (low, middle) if self.sets(plan.having(**{name: middle}), 1) else (middle + 1, high)
+            low, high = (low, middle) if self.sets(plan.having(misfits=middle), 1) else (middle + 1, high)
         return high
+
+    def fewest(self, plan, most):
+        """About the fewest unsound rows of a set that a plan lists; None where all have more than `most`. Each set that is found tells how many the
+        next one may have: fewer by a 64th."""
+        fewest = None
+        while most >= 0 and (found := self.sets(plan.having(badrows=most), 1)) and (told := self.ask(Near(found[0], plan))):
+            fewest = min(told[0], most)
+            most = fewest - fewest // 64 - 1
+        return fewest
+
+    def asked(self, found, order):
+        """These sets with what `check` says of them, in order."""
+        with concurrent.futures.ThreadPoolExecutor(self.hunt.options.jobs) as pool:
+            told = zip(found.values(), pool.map(self.ask, found.values()))
+        return sorted((near for near, rows in told if rows), key=order)
 
     def shapes(self):
         """The shapes of which parity tells something, with what is asked for."""
         return [(shape, self.hunt.request(shape)) for shape in self.hunt.shapes() if shape.parity][:6]
 
     def by_rows(self):
-        """Of all sets that landmarks allow those with the fewest unsound rows."""
-        found, least = {}, 1 << 54
+        """Of the sets that landmarks allow, all or some of them, those with about the fewest unsound rows, none with more than twice as many as
+        others. Those that most marks of a group speak against are the last; what chunks leave over at the end of the disks makes no difference."""
+        found, most = {}, self.hunt.end
         for shape, request in self.shapes():
             changed = [cure.of(request) for cure in self.hunt.cures(shape) if cure.family in ("records", "group") or cure.family[:6] == "group "]
             for it in [request, *changed]:
                 plan = self.hunt.surveys.plan(it).having(levels=shape.telling)
-                rows = self.least(plan, "badrows", min(least + 1, int(plan.values["window"]))) if plan.groups else None
-                if rows is None or rows == 0:
-                    continue
-                found = {} if rows < least else found
-                least = rows
-                for word in self.sets(plan.having(badrows=rows), FEW):
-                    found.setdefault(word, Near(word, self.hunt.surveys.plan(request).having(misfits=it.get("misfits", "0"))))
-        return sorted(filter(self.ask, found.values()), key=lambda it: (it.unsound, it.lacking, it.empty, -it.fits))
+                rows = self.fewest(plan, most) if plan.groups else None
+                if rows:
+                    most = min(most, 2 * rows)
+                    for word in self.sets(plan.having(badrows=rows), FEW):
+                        found.setdefault(word, Near(word, self.hunt.surveys.plan(request).having(misfits=it.get("misfits", "0"))))
+        return self.asked(found, lambda it: (it.doubtful, 100 * it.unsound // max(1, it.rows), it.lacking, it.misfits, it.empty, -it.fits))
 
     def by_marks(self):
         """Of all sets that parity allows those of which the most groups hold, each group by itself with the fewest misfits."""
@@ -153,10 +178,10 @@ class Diagnosis:
                 continue
             for group in sorted(whole.groups, key=lambda group: -len(group.marks))[:MOST_GROUPS]:
                 alone = whole.without([place for place in places if place != group.place])
-                misfits = self.least(alone, "misfits", len(group.marks))
+                misfits = self.least(alone, len(group.marks))
                 for word in self.sets(alone.having(misfits=misfits), FEW) if misfits is not None else ():
                     found.setdefault(word, Near(word, whole.having(misfits=misfits)))
-        return sorted(filter(self.ask, found.values()), key=lambda it: (it.lacking, int(it.plan.values["misfits"]), it.empty, -it.fits))
+        return self.asked(found, lambda it: (it.lacking, it.misfits, it.empty, -it.fits))
 
     def show(self):
         """Prints the nearest sets."""

@@ -265,8 +265,8 @@ class Hunt:
         return not shape.parity or self.parity_allows(plan, shape)
 
     def parity_allows(self, plan, shape):
-        """Parity alone allows a set."""
-        alone = plan.having(levels=shape.telling).without([group.place for group in plan.groups])
+        """Parity alone allows a set. What is asked of landmarks says nothing there, and makes no other question of the same one."""
+        alone = plan.having(levels=shape.telling, origins=0, misfits=0).without([group.place for group in plan.groups])
         return self.has_set(alone.text(), "parity alone allows")
 
     def has_set(self, text, what):

@@ -39,11 +39,8 @@ def starts(file, first, last, until):
             return
         found = []
         for magic, kind in STARTS.items():
-            here = block.find(magic)
-            while here >= 0:
-                if (place + here) % SECTOR == 0:
-                    found.append((place + here, kind))
-                here = block.find(magic, here + 1)
+            heads = (sector * SECTOR for sector in images.strided(block, 0, magic[0]))
+            found += [(place + head, kind) for head in heads if block.startswith(magic, head)]
         yield from sorted(found)
 
 

@@ -176,7 +176,7 @@ class Search:
         if not fresh:
             return False
         tested = self.tests.test(fresh)
-        told = hunt is not self.hunt or trial.loosened != NO_LANDMARKS
+        told = hunt is not self.hunt or NO_LANDMARKS[0] not in trial.loosened
         return self.keep([it for it in tested if told or it.verdict.findings or it.word.level in trial.shape.telling])
 
     def keep(self, tested):
@@ -191,6 +191,7 @@ class Search:
         """The command that lists the sets of a RAID 10. With an even number of members the copies do not tell the chunk, so one is enough."""
         words = ["reraid", "mirrors", f"members={members}", f"offsets={plans.listed(self.hunt.offsets())}", f"end={self.hunt.end}"]
         words += ["missing=1"] if missing else []
+        words += [f"badrows={self.hunt.unread}"] if self.hunt.unread else []
         words += ["chunks=8"] if members % 2 == 0 else []
         return [*words, f"window={window}", f"size={size}", "--", *self.hunt.names]
 
@@ -216,6 +217,7 @@ class Search:
     def told(self, shape, names, request, listing):
         """A trial, with what it listed, after it is printed."""
         self.number += 1
+        names = (*names, *self.hunt.unread_name(shape, request))
         trial = Trial(shape, names, request, self.number)
         self.report.say("trial", f"trial {self.number}: {trial.line()}: {listing.line()}", number=self.number, shape=shape.line(),
                         loosened=list(names), listed=len(listing.sets), total=listing.total, note=listing.note)

@@ -31,11 +31,17 @@ def shown(report, order):
         return told, []
     known = [(number, it) for number, it in told if it.verdict.findings]
     said = [f"{len(told) - len(known)} more: nothing is known in the volume"] if len(known) < len(told) else []
-    sound = [(number, it) for number, it in known if it.verdict.score]
-    if len(known) > MANY and sound:
-        said.insert(0, f"{len(known) - len(sound)} more: a checker found fault (--json has them all)")
-        known = sound
+    if len(known) > MANY:
+        kept = [pair for pair in known if pair[1].verdict.score] or sorted(sorted(known, key=soundness)[:MANY], key=lambda pair: pair[0])
+        said = [f"{len(known) - len(kept)} more: a checker found fault (--json has them all)"] * (len(kept) < len(known)) + said
+        known = kept
     return known, said
+
+
+def soundness(pair):
+    """What candidates with a fault are sorted by: the longest whole file, how many are whole, and the order of all."""
+    number, it = pair
+    return -it.verdict.files.longest, -it.verdict.files.whole, number
 
 
 def show(report, tested, images):

@@ -158,8 +158,8 @@ class Search:
         if self.best() == 2 and not self.said_on:
             self.said_on = True
             row = max(it.verdict.row for it in self.tested if it.verdict.score == 2)
-            self.report.say("goes on", f"  goes on: a checker alone is content, and no file longer than a row of chunks ({row // 1024} KiB) is whole, which "
-                            "would say more", row=row)
+            self.report.say("goes on", f"  goes on: a checker alone is content, and no file longer than a row of chunks ({row // 1024} KiB) was found whole, "
+                            "which would say more. Ctrl-C ends the search, and prints what it found with what to type", row=row)
 
     def say_late(self, what):
         """Says that a question ran out of its time."""

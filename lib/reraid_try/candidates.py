@@ -20,7 +20,8 @@ MOST_UNSOUND = 2
 
 @dataclasses.dataclass
 class Candidate:
-    """A set that passed a trial. `alike` has the other sets of its class, `fits` what `check` says of each group, `rows` in which rows parity holds."""
+    """A set that passed a trial. `alike` has the other sets of its class, `fits` what `check` says of each group, `rows` in which rows parity holds,
+    `same` and `inside` which other candidates have its volume."""
 
     word: plans.Word
     rank: int
@@ -34,6 +35,8 @@ class Candidate:
     verdict: object = None
     listed: plans.Word = None
     rows: str = ""
+    same: int | None = None
+    inside: tuple | None = None
 
     @property
     def order(self):

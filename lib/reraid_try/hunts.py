@@ -20,10 +20,12 @@ FAR = 8192
 
 @dataclasses.dataclass
 class Pairs:
-    """The mirrors of a RAID 10: for each image of the hunt the one that holds the same, or None where that is missing."""
+    """The mirrors of a RAID 10: for each image of the hunt the one that holds the same, or None where that is missing. `same` says that they are
+    the same from their start to their end, so that the offsets at which they agree tell nothing."""
 
     partners: tuple
     offsets: tuple
+    same: bool = False
 
 
 class Hunt:
@@ -61,7 +63,8 @@ class Hunt:
             self.offset_hints += hints.placed_offsets(plan, [hint.value for hint in self.data_hints], [0, 2048], told)
         self.bad = hints.bad_sectors(self.images, self.end)
         ends = self.own_end()
-        self.hints = said + ends + self.offset_hints[:12] + self.data_hints + self.level_hints + origins[:16] + self.bad
+        told = [] if self.pairs and self.pairs.same else self.offset_hints[:12]
+        self.hints = said + ends + told + self.data_hints + self.level_hints + origins[:16] + self.bad
         asked = {0, 2048} | {hint.value for hint in origins} | self.deeper(origins)
         self.base = self.base.having(origins=plans.listed(sorted(asked)[:64]), offsets=plans.listed(self.offsets()))
         if ends:

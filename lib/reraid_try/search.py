@@ -2,7 +2,7 @@
 
 import dataclasses
 
-from . import candidates, commands, diagnosis, ending, hunts, plans, surveys, trials
+from . import candidates, commands, diagnosis, ending, hunts, kin, plans, surveys, trials
 from . import images as seen
 from .trials import Shape, Trial
 
@@ -34,7 +34,7 @@ class Search:
             self.without_landmarks()
         if self.best() < 2:
             diagnosis.Diagnosis(self.hunt, self.report).show()
-        for _, it in ending.best(sorted(self.tested, key=lambda it: it.order))[:ending.MOST_TOLD]:
+        for _, it in ending.best(kin.in_order(self.tested, self.images))[:ending.MOST_TOLD]:
             it.rows = diagnosis.Diagnosis(it.hunt, self.report).whole(it)
         return bool(self.tested)
 
@@ -82,8 +82,7 @@ class Search:
         if not self.first_trials() and not self.further_trials() and self.best() < 1:
             self.keep(self.tests.test_late())
         if self.hunt.passed_over:
-            self.report.say("passed over", f"passed over {plans.counted(self.hunt.passed_over, 'trial')}: landmarks alone, or parity alone, allow no set there",
-                            trials=self.hunt.passed_over)
+            self.commands.note(f"# passed over {plans.counted(self.hunt.passed_over, 'trial')}: landmarks alone, or parity alone, allow no set", 0, 0)
 
     def first_trials(self):
         """What the hints say, with up to three things loosened where parity tells something, what parity tells of with up to two that are soon
@@ -237,7 +236,8 @@ class Search:
         """The RAID 0 of one image of each pair, as a hunt of its own."""
         pairs = sorted(pairing)
         images = [self.images[one] for one, _ in pairs]
-        partners = hunts.Pairs(tuple(other for _, other in pairs), tuple(sorted(offsets)))
+        same = all(other is None or self.images[other].like in (one, self.images[one].like) for one, other in pairs)
+        partners = hunts.Pairs(tuple(other for _, other in pairs), tuple(sorted(offsets)), same)
         hunt = hunts.Hunt(self.options, self.commands, images, self.say_late, partners)
         said = " ".join("image {} alone".format(one) if other is None else f"{one}={other}" for one, other in pairs)
         self.report.say("pairs", f"  pairs {said}: a RAID 0 of {len(pairs)} disks", pairs=[list(pair) for pair in pairs])

@@ -5,6 +5,9 @@ import collections
 # By how many slots the order of the disks is turned from one row to the next.
 TURNS = {"ls": -1, "rs": 1}
 FIXED = ("plain", "parity-first", "parity-last")
+PLAIN = ["0", "plain", "none"]
+# The slot that has all parity.
+PARITY = {"parity-first": 0, "parity-last": -1}
 
 
 def in_order(tested, images):
@@ -28,10 +31,13 @@ def family(it):
 
 
 def key(word, same):
-    """A set by the layout, chunk, offset and slots, with one number for images that hold the same, and with RAID 10 of pairs as RAID 0."""
+    """A set by the layout, chunk, offset and slots, with one number for images that hold the same; RAID 10 of pairs, and a RAID 5 without the disk
+    that has all parity, as the RAID 0 that they are."""
     layout, slots = word.text.split(":")[:-3], tuple(same.get(slot) for slot in word.slots)
     if word.level == "near2" and len(slots) % 2 == 0:
-        layout, slots = ["0", "plain", "none"], tuple(one if one is not None else other for one, other in zip(slots[::2], slots[1::2]))
+        layout, slots = PLAIN, tuple(one if one is not None else other for one, other in zip(slots[::2], slots[1::2]))
+    elif word.level == "5" and slots[PARITY.get(layout[1], 0)] is None and layout[1] in PARITY:
+        layout, slots = PLAIN, tuple(slot for slot in slots if slot is not None)
     return tuple(layout), word.chunk, word.offsets, slots
 
 

@@ -20,7 +20,8 @@ MOST_UNSOUND = 2
 
 @dataclasses.dataclass
 class Candidate:
-    """A set that passed a trial. `alike` has the other sets of its class, `fits` what `check` says of each group, `rows` in which rows parity holds."""
+    """A set that passed a trial. `alike` has the other sets of its class, `fits` what `check` says of each group, `rows` in which rows parity holds,
+    `same` and `inside` which other candidates have its volume."""
 
     word: plans.Word
     rank: int
@@ -34,6 +35,13 @@ class Candidate:
     verdict: object = None
     listed: plans.Word = None
     rows: str = ""
+    same: int | None = None
+    inside: tuple | None = None
+
+    @property
+    def mostly_unsound(self):
+        """Most of the filled rows are unsound, as far as was asked."""
+        return MOST_UNSOUND * (self.unsound or 0) > self.hunt.filled
 
     @property
     def order(self):
@@ -108,7 +116,7 @@ class Tests:
                 candidate.doubtful = candidate.doubtful or bool(match[3]) and int(match[5]) > int(match[4])
                 if match[3] and match[2] != "gpt":
                     candidate.origins.append(int(match[3]))
-        candidate.doubtful = candidate.doubtful or MOST_UNSOUND * (candidate.unsound or 0) > candidate.hunt.filled
+        candidate.doubtful = candidate.doubtful or candidate.mostly_unsound
 
     def read(self, candidate):
         """Looks at the volume of a candidate."""
@@ -155,7 +163,13 @@ class Tests:
         """The sets of which more speaks for them than against them; the others are kept for the end."""
         if not found or not found[0].trial.lenient or self.late:
             return found
-        self.side_by_side(lambda it: self.ask(it, it.trial.has_bad_rows), found, "asks for the fits of the candidates")
+        # At level 5 parity is the same in whatever order the images stand.
+        firsts = {}
+        alike = [firsts.setdefault((it.word.offsets, frozenset(it.word.slots)) if it.word.level == "5" else it.word.text, it) for it in found]
+        self.side_by_side(lambda it: self.ask(it, it.trial.has_bad_rows), firsts.values(), "asks for the unsound rows of the candidates")
+        self.side_by_side(lambda it: self.ask(it, False), found, "asks for the fits of the candidates")
+        for it, first in zip(found, alike):
+            it.doubtful = it.doubtful or first.mostly_unsound
         doubtful = [it for it in found if it.doubtful]
         self.put_off += doubtful
         if doubtful:

@@ -46,8 +46,9 @@ class Verdict:
 
     @property
     def whole(self):
-        """A file that is longer than a row of chunks is whole, and at least half of all are."""
-        return self.files.longest > self.row and 2 * self.files.whole >= self.files.found
+        """A file that is longer than a row of chunks is whole, and at least half of the first ones are."""
+        longest = max(self.files.longest, self.files.long.longest if self.files.long else 0)
+        return longest > self.row and 2 * self.files.whole >= self.files.found
 
     @property
     def summed(self):
@@ -189,5 +190,8 @@ class Checkers:
         if verdict.findings and all(finding.kind in (kind, "LVM2_member") for finding in verdict.findings):
             verdict.empty, verdict.findings[-1].said = True, "nothing known in it"
         if verdict.findings:
-            verdict.files = wholes.count(volume.path, 0, min(volume.length, self.most), 2 * self.seconds)
+            most = min(volume.length, self.most)
+            verdict.files = wholes.count(volume.path, 0, most, 2 * self.seconds)
+            if verdict.clean and verdict.files.more and not verdict.whole and not verdict.summed:
+                verdict.files.long = wholes.count_long(volume.path, most, row, self.seconds)
         return verdict

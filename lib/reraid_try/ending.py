@@ -3,7 +3,7 @@
 import os
 import shlex
 
-from . import volumes
+from . import kin, volumes
 
 SECTOR = 512
 MOST_TOLD = 3
@@ -78,9 +78,9 @@ def commands(number, it, names, end):
 
 
 def best(order):
-    """The candidates, with their numbers, with `++`; those with `+` where there is none."""
+    """The candidates, with their numbers, with `++`; those with `+` where there is none. One alone of those with the same volume."""
     score = max((it.verdict.score for it in order), default=0)
-    return [(number, it) for number, it in enumerate(order) if it.verdict.score == score] if score > 1 else []
+    return [(number, it) for number, it in enumerate(order) if it.verdict.score == score and it.same is None] if score > 1 else []
 
 
 def show(report, order, images):
@@ -89,7 +89,8 @@ def show(report, order, images):
     for number, it in told[:MOST_TOLD]:
         said, lines = in_words(it.word, names), commands(number, it, names, end)
         loosened = "loosened: " + (" and ".join(it.trial.loosened) or "nothing") + (f"; {it.rows}" if it.rows else "")
-        text = "\n".join([f"class {number}: {said}", f"  {loosened}", "  to look into it, as root:", *("    " + line for line in lines)])
+        kin_said = [f"  {kin.text(it)}"] if kin.text(it) else []
+        text = "\n".join([f"class {number}: {said}", f"  {loosened}", *kin_said, "  to look into it, as root:", *("    " + line for line in lines)])
         if any(image.map for image in images):
             text += "\n  (this shows zeros where a map says unread; reraid salvage finds what parity has of it)"
         report.say("words", text, **{"class": number, "set": it.word.text, "words": said, "rows": it.rows, "commands": lines})

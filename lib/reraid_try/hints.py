@@ -178,14 +178,15 @@ def logical(plan, images):
     return []
 
 
-def bad_sectors(images):
-    """How many sectors of the images their maps call unread."""
+def bad_sectors(images, end):
+    """How many sectors of the images before an end their maps call unread."""
     total = 0
     for image in images:
         if not image.map:
             continue
         with open(image.map, encoding="utf-8") as file:
             rows = [line.split() for line in file if line.strip() and not line.startswith("#")][1:]
-        total += sum(-(-int(row[1], 0) // SECTOR) + 1 for row in rows if len(row) == 3 and row[2] != "+")
+        unread = [(int(row[0], 0), int(row[1], 0)) for row in rows if len(row) == 3 and row[2] != "+"]
+        total += sum(-(-min(length, end * SECTOR - first) // SECTOR) + 1 for first, length in unread if first < end * SECTOR)
     return [Hint("badrows", total, "the maps")] if total else []
 

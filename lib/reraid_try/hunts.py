@@ -10,18 +10,22 @@ SECTOR = 512
 MOST_WINDOW = 524288
 # An offset with less than this part of the filled sectors behind it is tried last.
 FEW_FILLED = 16
-# How many rows may be bad at least, where that is loosened and no map tells.
+# How many rows may be bad at least, where that is loosened.
 LEAST_BAD = 128
+# Where maps call more than one in so many of the filled sectors unread, so many bad rows are asked for only where nothing passes without.
+MOST_UNREAD = 4
 # A first mark so far behind the first of all is mostly a stray one: its offset is tried with more offsets alone.
 FAR = 8192
 
 
 @dataclasses.dataclass
 class Pairs:
-    """The mirrors of a RAID 10: for each image of the hunt the one that holds the same, or None where that is missing."""
+    """The mirrors of a RAID 10: for each image of the hunt the one that holds the same, or None where that is missing. `same` says that they are
+    the same from their start to their end, so that the offsets at which they agree tell nothing."""
 
     partners: tuple
     offsets: tuple
+    same: bool = False
 
 
 class Hunt:
@@ -32,7 +36,7 @@ class Hunt:
         self.options, self.commands, self.images, self.late, self.pairs = options, commands, images, late, pairs
         self.surveys = surveys.Surveys(commands, images)
         self.tried, self.allows, self.passed_over, self.repeated = set(), {}, 0, False
-        self.hints, self.filled, self.counts = [], 0, []
+        self.hints, self.filled, self.counts, self.unread = [], 0, [], 0
         self.names = [image.name for image in images]
         self.end = min(min(image.sectors for image in images), options.first // SECTOR)
         self.window = min(self.end, MOST_WINDOW)
@@ -57,9 +61,10 @@ class Hunt:
         if not self.pairs:
             told = {hint.value for hint in self.offset_hints}
             self.offset_hints += hints.placed_offsets(plan, [hint.value for hint in self.data_hints], [0, 2048], told)
-        self.bad = hints.bad_sectors(self.images)
+        self.bad = hints.bad_sectors(self.images, self.end)
         ends = self.own_end()
-        self.hints = said + ends + self.offset_hints[:12] + self.data_hints + self.level_hints + origins[:16] + self.bad
+        told = [] if self.pairs and self.pairs.same else self.offset_hints[:12]
+        self.hints = said + ends + told + self.data_hints + self.level_hints + origins[:16] + self.bad
         asked = {0, 2048} | {hint.value for hint in origins} | self.deeper(origins)
         self.base = self.base.having(origins=plans.listed(sorted(asked)[:64]), offsets=plans.listed(self.offsets()))
         if ends:
@@ -82,6 +87,8 @@ class Hunt:
                 pieces.append([offset, last])
         self.counts = [(first, [0, *itertools.accumulate(seen.filled(self.names, first, last))]) for first, last in pieces]
         self.filled = max(map(self.weight, self.offsets()))
+        told = self.bad[0].value if self.bad else 0
+        self.unread = told if MOST_UNREAD * told <= self.filled else 0
 
     def weight(self, offset):
         """How many of the sectors that are tested at an offset are filled: of zeros parity says nothing."""
@@ -92,7 +99,11 @@ class Hunt:
 
     def has_weight(self, offset):
         """Enough is filled from this offset on for it to be tried before all others are."""
-        return FEW_FILLED * self.weight(offset) >= self.filled
+        return FEW_FILLED * self.weight(offset) >= self.filled and self.tells(offset)
+
+    def tells(self, offset):
+        """Of the filled sectors from this offset on, so few are unread that parity tells something there."""
+        return self.weight(offset) > 2 * self.unread or not self.unread
 
     def own_end(self):
         """The end of the partitions that hold the members, where each image has a table of its own."""
@@ -165,10 +176,11 @@ class Hunt:
         level = str(self.level_hints[0].value) if self.level_hints else ""
         first = [shape for shape in hinted if not shape.foreign and shape.levels == level]
         levels = [it for it in "56" if trials.Shape(it, count) not in first]
-        second = [*self.exact(), trials.Shape(",".join(levels), count), *(shape for shape in hinted if shape.parity or shape.levels == level)]
+        second = [*self.exact(), trials.Shape(",".join(levels), count), *(shape for shape in hinted if shape.parity)]
         second += [trials.Shape("6", count + 1, 1), trials.Shape("5,6", count - 1, 0, 1)]
-        third = [trials.Shape("0", count), trials.Shape("5", count + 1, 1), *hinted, trials.Shape("6", count + 2, 2)]
-        third += [trials.Shape("0", count - 1, 0, 1), trials.Shape("5", count, 1, 1), trials.Shape("6", count, 2, 1)]
+        third = [trials.Shape("0", count), trials.Shape("5", count + 1, 1), *(shape for shape in hinted if not shape.foreign)]
+        third += [trials.Shape("6", count + 2, 2), trials.Shape("0", count - 1, 0, 1), trials.Shape("5", count, 1, 1)]
+        third += [trials.Shape("6", count, 2, 1), *hinted]
         seen, tiers = set(), []
         for tier in (first, second, third):
             kept = [it for it in map(self.allowed, tier) if it]
@@ -189,16 +201,24 @@ class Hunt:
         return dataclasses.replace(shape, levels=",".join(levels))
 
     def request(self, shape, every=False):
-        """What is asked for with nothing loosened; with those offsets too behind which little is filled, where every one is asked for."""
-        offsets = [offset for offset in self.offsets() if every or self.has_weight(offset)]
+        """What is asked for with nothing loosened, but for the rows that maps call unread; with those offsets too behind which little is filled,
+        where every one is asked for."""
+        offsets = [offset for offset in self.offsets() if (self.tells(offset) if every else self.has_weight(offset))]
         values = {"levels": shape.levels, "members": shape.members, "offsets": plans.listed(offsets or self.offsets())}
         values |= {"missing": shape.missing} if shape.missing else {}
         values |= {"foreign": shape.foreign} if shape.foreign else {}
+        values |= {"badrows": self.unread} if shape.parity and self.unread else {}
         return self.base.having(**values)
+
+    def unread_name(self, shape, request):
+        """What is loosened by the rows that maps call unread; nothing where the request has none of them, or more."""
+        asked = shape.parity and request.get("badrows") == str(self.unread) if request else shape.levels == "10"
+        return (f"badrows {self.unread} from the maps",) if self.unread and asked else ()
 
     def cures(self, shape, every=False):
         """What may be loosened for a shape, in order; where not every one is asked for, without what is mostly wrong."""
-        rows = self.bad[0].value if self.bad else max(LEAST_BAD, min(self.window // 64, self.filled // 16))
+        rows = max(LEAST_BAD, min(self.window // 64, self.filled // 16))
+        rows += self.unread or (self.bad[0].value if self.bad else 0)
         offsets = [hint.value for hint in self.offset_hints[:24]] + hints.MORE_OFFSETS
         offsets = [offset for offset in offsets if offset < self.end and (every or self.has_weight(offset))]
         unlike = [it for it in self.unlike_offsets() if every or all(map(self.has_weight, it))]

@@ -7,6 +7,10 @@ import threading
 import time
 
 
+# Seconds after which a line says how far it is, where standard error is no terminal.
+SELDOM = 20
+
+
 class Report:
     """Prints what is seen, tried and found, in order."""
 
@@ -37,20 +41,25 @@ class Report:
 
 
 class Bar:
-    """A line on a terminal: what is done, and how far it is. Nothing where standard error is no terminal."""
+    """A line on a terminal: what is done, and how far it is. Where standard error is no terminal, a line of its own now and then, for what takes
+    long."""
 
     def __init__(self):
         self.shown = False
+        self.until = time.monotonic() + SELDOM
         self.there = sys.stderr.isatty()
         self.began = time.monotonic()
         self.lock = threading.Lock()
 
     def show(self, text, done=None, total=None):
         """Shows what is done, with so much done of so much."""
+        seconds = int(time.monotonic() - self.began)
         if not self.there:
+            if total and time.monotonic() > self.until:
+                print(f"{seconds // 60}:{seconds % 60:02} {text}: {done} of {total}", file=sys.stderr, flush=True)
+                self.until = time.monotonic() + SELDOM
             return
         width = shutil.get_terminal_size().columns - 1
-        seconds = int(time.monotonic() - self.began)
         part = ""
         if total:
             full = 20 * done // total
@@ -61,7 +70,8 @@ class Bar:
             self.shown = True
 
     def clear(self):
-        """Takes the line away."""
+        """Takes the line away. What follows is new, and takes no long time yet."""
+        self.until = time.monotonic() + SELDOM
         if self.shown:
             sys.stderr.write("\r\033[K")
             sys.stderr.flush()

@@ -2,7 +2,7 @@
 
 import dataclasses
 
-from . import candidates, commands, diagnosis, ending, hunts, plans, surveys, trials
+from . import candidates, commands, diagnosis, ending, hunts, kin, plans, surveys, trials
 from . import images as seen
 from .trials import Shape, Trial
 
@@ -34,7 +34,7 @@ class Search:
             self.without_landmarks()
         if self.best() < 2:
             diagnosis.Diagnosis(self.hunt, self.report).show()
-        for _, it in ending.best(sorted(self.tested, key=lambda it: it.order))[:ending.MOST_TOLD]:
+        for _, it in ending.best(kin.in_order(self.tested, self.images))[:ending.MOST_TOLD]:
             it.rows = diagnosis.Diagnosis(it.hunt, self.report).whole(it)
         return bool(self.tested)
 
@@ -82,8 +82,7 @@ class Search:
         if not self.first_trials() and not self.further_trials() and self.best() < 1:
             self.keep(self.tests.test_late())
         if self.hunt.passed_over:
-            self.report.say("passed over", f"passed over {plans.counted(self.hunt.passed_over, 'trial')}: landmarks alone, or parity alone, allow no set there",
-                            trials=self.hunt.passed_over)
+            self.commands.note(f"# passed over {plans.counted(self.hunt.passed_over, 'trial')}: landmarks alone, or parity alone, allow no set", 0, 0)
 
     def first_trials(self):
         """What the hints say, with up to three things loosened where parity tells something, what parity tells of with up to two that are soon
@@ -158,8 +157,8 @@ class Search:
         if self.best() == 2 and not self.said_on:
             self.said_on = True
             row = max(it.verdict.row for it in self.tested if it.verdict.score == 2)
-            self.report.say("goes on", f"  goes on: a checker alone is content, and no file longer than a row of chunks ({row // 1024} KiB) is whole, which "
-                            "would say more", row=row)
+            self.report.say("goes on", f"  goes on: a checker alone is content, and no file longer than a row of chunks ({row // 1024} KiB) was found whole, "
+                            "which would say more. Ctrl-C ends the search, and prints what it found with what to type", row=row)
 
     def say_late(self, what):
         """Says that a question ran out of its time."""
@@ -176,7 +175,7 @@ class Search:
         if not fresh:
             return False
         tested = self.tests.test(fresh)
-        told = hunt is not self.hunt or trial.loosened != NO_LANDMARKS
+        told = hunt is not self.hunt or NO_LANDMARKS[0] not in trial.loosened
         return self.keep([it for it in tested if told or it.verdict.findings or it.word.level in trial.shape.telling])
 
     def keep(self, tested):
@@ -191,6 +190,7 @@ class Search:
         """The command that lists the sets of a RAID 10. With an even number of members the copies do not tell the chunk, so one is enough."""
         words = ["reraid", "mirrors", f"members={members}", f"offsets={plans.listed(self.hunt.offsets())}", f"end={self.hunt.end}"]
         words += ["missing=1"] if missing else []
+        words += [f"badrows={self.hunt.unread}"] if self.hunt.unread else []
         words += ["chunks=8"] if members % 2 == 0 else []
         return [*words, f"window={window}", f"size={size}", "--", *self.hunt.names]
 
@@ -216,6 +216,7 @@ class Search:
     def told(self, shape, names, request, listing):
         """A trial, with what it listed, after it is printed."""
         self.number += 1
+        names = (*names, *self.hunt.unread_name(shape, request))
         trial = Trial(shape, names, request, self.number)
         self.report.say("trial", f"trial {self.number}: {trial.line()}: {listing.line()}", number=self.number, shape=shape.line(),
                         loosened=list(names), listed=len(listing.sets), total=listing.total, note=listing.note)
@@ -235,7 +236,8 @@ class Search:
         """The RAID 0 of one image of each pair, as a hunt of its own."""
         pairs = sorted(pairing)
         images = [self.images[one] for one, _ in pairs]
-        partners = hunts.Pairs(tuple(other for _, other in pairs), tuple(sorted(offsets)))
+        same = all(other is None or self.images[other].like in (one, self.images[one].like) for one, other in pairs)
+        partners = hunts.Pairs(tuple(other for _, other in pairs), tuple(sorted(offsets)), same)
         hunt = hunts.Hunt(self.options, self.commands, images, self.say_late, partners)
         said = " ".join("image {} alone".format(one) if other is None else f"{one}={other}" for one, other in pairs)
         self.report.say("pairs", f"  pairs {said}: a RAID 0 of {len(pairs)} disks", pairs=[list(pair) for pair in pairs])

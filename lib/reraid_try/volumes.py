@@ -230,5 +230,5 @@ def logical_volumes(text, region):
             segments = sorted((it for key, it in body.items() if re.fullmatch(r"segment\d+", key)), key=lambda it: int(it["start_extent"]))
             if segments and all(it["type"] == "striped" and it["stripe_count"] == "1" for it in segments):
                 pieces = tuple((base + int(it["stripes"][1]) * size, int(it["extent_count"]) * size) for it in segments)
-                found.append(Region(f"{region.name} {name}".strip(), pieces))
+                found.append(Region(f"{region.name} logical volume {name}:".strip(), pieces))
     return found

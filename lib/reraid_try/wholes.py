@@ -1,11 +1,12 @@
 """Files that say themselves whether they are whole: gzip, bzip2, xz, zip and png, wherever one begins at a sector of a volume.
 
 No file system is read. A file that lies in several pieces counts as broken, also in the true volume; one that is whole and longer than
-a row of chunks says that the blocks under it are in order.
+a row of chunks says that the blocks under it are in order. A zip that does not say where its members end is not counted.
 """
 
 import bz2
 import dataclasses
+import itertools
 import lzma
 import struct
 import time
@@ -15,21 +16,33 @@ from . import images
 
 SECTOR = 512
 MOST_FILES = 64
+# Of a longer file so much is read.
 MOST_BYTES = 1 << 28
+# So many are read of those that may be the longest, of so many.
+MOST_LONG, MOST_STARTS = 16, 1 << 16
 STARTS = {b"\x1f\x8b\x08": "gzip", b"BZh": "bzip2", b"\xfd7zXZ\0": "xz", b"PK\x03\x04": "zip", b"\x89PNG\r\n\x1a\n": "png"}
 
 
 @dataclasses.dataclass
 class Wholes:
-    """How many files begin, how many are whole, and how long the longest whole one is in bytes."""
+    """How many files were read, how many are whole, and how long the longest whole one is in bytes. `more` says that others begin behind them."""
 
     found: int = 0
     whole: int = 0
     longest: int = 0
+    more: bool = False
+    long: object = None
+
+    def take(self, size):
+        """Counts a file of so many bytes, or a broken one; not one of which nothing is told."""
+        self.found += size is not None
+        self.whole += bool(size)
+        self.longest = max(self.longest, size or 0)
 
     def text(self):
         """What is said of them."""
-        return f"{self.whole} of {self.found} files whole" if self.found else "no such files"
+        said = f"{self.whole} of {'the first ' if self.more else ''}{self.found} files whole" if self.found else "no such files"
+        return said + (f", {self.long.whole} of {self.long.found} that may be long" if self.long else "")
 
 
 def starts(file, first, last, until):
@@ -54,7 +67,7 @@ def pieces(file, place):
 
 
 def stream(file, place, engine):
-    """The length of a compressed stream that begins here; None where it is broken."""
+    """The length of a compressed stream that begins here; 0 where it is broken."""
     read = 0
     try:
         for block in pieces(file, place):
@@ -69,57 +82,104 @@ def stream(file, place, engine):
                 if engine.eof:
                     return read - len(engine.unused_data)
     except (zlib.error, OSError, lzma.LZMAError, EOFError, ValueError):
-        return None
-    return None
+        return 0
+    return read if read >= MOST_BYTES else 0
 
 
 def png(file, place):
-    """The length of a picture whose chunks all have the right sums; None where one has not."""
+    """The length of a picture whose chunks all have the right sums; 0 where one has not."""
     here = place + 8
     while here - place < MOST_BYTES:
         file.seek(here)
         head = file.read(8)
         if len(head) < 8:
-            return None
+            return 0
         size, kind = struct.unpack(">I4s", head)
         if size > 1 << 26 or not kind.isalpha():
-            return None
+            return 0
         body = file.read(size + 4)
         if len(body) < size + 4 or zlib.crc32(kind + body[:size]) != struct.unpack(">I", body[size:])[0]:
-            return None
+            return 0
         here += size + 12
         if kind == b"IEND":
-            return here - place
-    return None
+            break
+    return here - place
 
 
-def packed(file, place):
-    """The length of the first member of a zip, where its sum is right; None where it is not, or not told at its front."""
+def inflated(file, place):
+    """The packed length and the sum of what is deflated from here on, None for the sum where it is too long; zlib.error where it is broken."""
+    engine, read, check = zlib.decompressobj(-15), 0, 0
+    for block in pieces(file, place):
+        read += len(block)
+        while block and not engine.eof:
+            check = zlib.crc32(engine.decompress(block, 1 << 22), check)
+            block = engine.unconsumed_tail
+        if engine.eof:
+            return read - len(engine.unused_data), check
+    if read < MOST_BYTES:
+        raise zlib.error
+    return read, None
+
+
+def stored(file, place, size):
+    """The length and the sum of so many bytes from here on, None for the sum where they are too many; zlib.error where there are fewer."""
+    check, left = 0, size
+    for block in pieces(file, place) if size else ():
+        check, left = zlib.crc32(block[:left], check), left - min(left, len(block))
+        if not left:
+            break
+    if left and size - left < MOST_BYTES:
+        raise zlib.error
+    return size, None if left else check
+
+
+def described(file, place):
+    """The sum that stands behind a member of a zip, and the length of what stands there."""
     file.seek(place)
-    head = file.read(30)
-    if len(head) < 30:
-        return None
-    flags, method, _, _, check, size, _, name, extra = struct.unpack("<HHHHIIIHH", head[6:30])
-    if flags & 9 or method not in (0, 8) or size == 0 or size > MOST_BYTES:
-        return None
-    file.seek(place + 30 + name + extra)
-    body = file.read(size)
-    try:
-        plain = zlib.decompress(body, -15) if method else body
-    except zlib.error:
-        return None
-    return 30 + name + extra + size if zlib.crc32(plain) == check else None
+    text = file.read(24)
+    first = 4 if text[:4] == b"PK\7\x08" else 0
+    length = first + (12 if text[first + 12:first + 14] == b"PK" else 20)
+    return int.from_bytes(text[first:first + 4], "little"), length
+
+
+def archive(file, place):
+    """The length of a zip up to its list, where the sums of all members are right; 0 where one is not, None where it does not say where one ends."""
+    here = place
+    while here - place < MOST_BYTES:
+        file.seek(here)
+        head = file.read(30)
+        if head[:4] in (b"PK\1\2", b"PK\5\6"):
+            break
+        if len(head) < 30 or head[:4] != b"PK\3\4":
+            return 0
+        flags, method, check, size, name, extra = struct.unpack("<HH4xII4xHH", head[6:30])
+        if flags & 1 or method not in (0, 8) or method == 0 and (flags & 8 and size == 0 or size == 0xFFFFFFFF):
+            return None
+        here += 30 + name + extra
+        try:
+            length, found = inflated(file, here) if method else stored(file, here, size)
+        except zlib.error:
+            return 0
+        here += length
+        if found is None:
+            break
+        if flags & 8:
+            check, length = described(file, here)
+            here += length
+        if found != check:
+            return 0
+    return here - place
 
 
 def length_of(file, place, kind):
-    """The length of a file that begins here; None where it is broken."""
+    """The length of a file that begins here; 0 where it is broken, None where that is not told."""
     if kind == "gzip":
         return stream(file, place, zlib.decompressobj(31))
     if kind == "bzip2":
         return stream(file, place, bz2.BZ2Decompressor())
     if kind == "xz":
         return stream(file, place, lzma.LZMADecompressor())
-    return png(file, place) if kind == "png" else packed(file, place)
+    return png(file, place) if kind == "png" else archive(file, place)
 
 
 def count(path, first=0, last=None, seconds=None, most=MOST_FILES):
@@ -131,12 +191,24 @@ def count(path, first=0, last=None, seconds=None, most=MOST_FILES):
         for place, kind in starts(file, first, last, until):
             if place < after:
                 continue
-            told.found += 1
-            size = length_of(file, place, kind)
-            if size:
-                told.whole += 1
-                told.longest = max(told.longest, size)
-                after = place + size
             if told.found >= most:
+                told.more = True
                 break
+            size = length_of(file, place, kind)
+            told.take(size)
+            after = place + (size or 0)
+    return told
+
+
+def count_long(path, last, row, seconds):
+    """Of the files that begin in a volume those behind which most bytes lie up to the next one, longest first, until one longer than a row is
+    whole, or until time is up; half of it goes to the search for where they begin."""
+    told, now = Wholes(), time.monotonic()
+    with open(path, "rb") as file:
+        found = list(itertools.islice(starts(file, 0, last, now + seconds / 2), MOST_STARTS))
+        room = [after - place for (place, _), (after, _) in zip(found, [*found[1:], (last, "")])]
+        for _, (place, kind) in sorted(zip(room, found), reverse=True)[:MOST_LONG]:
+            if told.longest > row or time.monotonic() > now + seconds:
+                break
+            told.take(length_of(file, place, kind))
     return told

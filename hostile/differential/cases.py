@@ -84,24 +84,30 @@ def many_bases(rng):
     return few_ranks(rng, Plan([length] * count, length, given, [], True), images)
 
 
+def columns(byte, places):
+    """A sector with this byte in some places, and zeros elsewhere."""
+    return bytes(byte if place in places else 0 for place in range(SECTOR))
+
+
 def scan_case(rng):
     """A listing of which hundreds or thousands of sets are left for the parity test, so that they are tested together: sectors
-    that are mostly alike, and rows that may be unsound."""
+    that are mostly alike, and rows that may be unsound. In half of them most columns are zeros in all images."""
     sectors = rng.choice([1, 2, 3, 4])
     each = rng.random() < 0.25
     count = rng.choice([4, 4, 5] if each else [5, 6, 6, 7])
     foreign, missing = rng.choice([(0, 0), (0, 0), (0 if each else 1, 0), (0, 1)])
     members = count - foreign + missing
     level = rng.choice([5, 6, 6, 6])
-    sector = bytes([rng.choice([0, 0, 1])]) * SECTOR
-    images = [b"".join(rng.choice([sector, sector, sector, sector, bytes([rng.choice([0, 1, 2, 255])]) * SECTOR]) for _ in range(sectors))
+    places = [range(SECTOR), range(SECTOR), [rng.randrange(SECTOR)], sorted(rng.sample(range(SECTOR), 3))][rng.randrange(4)]
+    sector = columns(rng.choice([0, 0, 1]), places)
+    images = [b"".join(rng.choice([sector, sector, sector, sector, columns(rng.choice([0, 1, 2, 255]), places)]) for _ in range(sectors))
               for _ in range(count)]
     patterns = SIX if level == 6 else FIVE
     given = {"levels": [level], "members": [members], "patterns": sorted(rng.sample(patterns, rng.choice([1, 2, 3])), key=PATTERNS.index),
              "syndromes": sorted(rng.sample(SYNDROMES[1:], rng.choice([1, 2])), key=SYNDROMES.index) if level == 6 else SYNDROMES[:1],
              "chunks": rng.choice([[1], [1], [1, 2]]), "offsets": [0, 1] if each else rng.choice([[0], [0], [0, 1]]), "origins": [0],
-             "missing": missing, "foreign": foreign, "badrows": rng.choice([0, 1, 1, 2, sectors]), "window": rng.choice([1, sectors, FAR - 1]),
-             "misfits": 0, "least": 1}
+             "missing": missing, "foreign": foreign, "badrows": rng.choice([0, 1, 1, 2, sectors - 1, sectors, sectors + 1]),
+             "window": rng.choice([1, sectors, FAR - 1]), "misfits": 0, "least": 1}
     plan = Plan([sectors] * count, sectors, given, [], each)
     total = Product(plan).total
     operands = [f"size={rng.choice([1, 7, 100, 1000, 1000000])}", f"span={min(total, 5000)}", f"from={rng.choice([0, 0, rng.randint(0, total)])}"]

@@ -1,7 +1,10 @@
 //! A device of whole sectors that is only read, as a server of blocks sees it.
 //!
 //! It stands on `outside` alone: a device counts the faults of what it stands on, as the objects of `outside` do.
+//! [`read_bytes`] reads bytes that begin and end inside sectors.
 #![tactic(auto)]
+
+mod reading;
 
 ghost use Rattle.std.specs.Prelude.{◌≡◌, ◌<◌, ◌≤◌, ◌+◌, ◌*◌, ◌/◌, ◌%◌, ℕ, List, length, slice_range, OnOk, IfSome};
 ghost use Rattle.std.specs.declared.option.Option.{Option};
@@ -9,6 +12,7 @@ ghost use Rattle.outside.specs.Causes.{HasCause};
 ghost use Rattle.block_device.specs.Content.{Fixed, IsContent};
 
 use outside::Failed;
+pub use reading::read_bytes;
 
 /// A device of whole sectors of 512 bytes that is only read.
 pub trait BlockDevice {

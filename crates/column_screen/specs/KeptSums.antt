@@ -11,7 +11,7 @@ use Rattle.column_screen.specs.Products.{AreRoles, AreSumsOf}
 use Rattle.column_screen.specs.Screens.{IsFirstEmpty}
 
 -- what is kept of some slots: the sums of the sample's columns in their places of its row, how many are empty, and the first of these
-pub record AreKept (head : Head) (sample : Sample) (slots : List (Option ℕ)) (kept : Sums) : Type 0 where
+pub record AreSlotSums (head : Head) (sample : Sample) (slots : List (Option ℕ)) (kept : Sums) : Type 0 where
   pub p_long : length kept.p ≡ 16
   pub p_fits : Each1 (λ x. x < 256) kept.p
   pub q_long : length kept.q ≡ 16
@@ -22,4 +22,4 @@ pub record AreKept (head : Head) (sample : Sample) (slots : List (Option ℕ)) (
 
 -- so it is for the first of the samples, if there is one
 abbrev pub KeepsSums : Head → List Sample → List (Option ℕ) → Sums → Type 0
-KeepsSums head samples slots kept = (none : Sample) → 0 < length samples → AreKept head (slice_index_or samples 0 none) slots kept
+KeepsSums head samples slots kept = (none : Sample) → 0 < length samples → AreSlotSums head (slice_index_or samples 0 none) slots kept

@@ -3,7 +3,7 @@ ghost use Rattle.std.specs.Prelude.{◌≡◌, ◌-◌, ◌<◌, ◌≤◌, [], 
 ghost use Rattle.std.specs.Option.{is_none};
 ghost use Rattle.raid_params.specs.declared.limits.TheConstants.{MOST};
 ghost use Rattle.raid_params.specs.declared.types.Head.{Head as HeadOf};
-ghost use Rattle.column_screen.specs.KeptSums.{AreKept};
+ghost use Rattle.column_screen.specs.KeptSums.{AreSlotSums};
 ghost use Rattle.column_screen.specs.Screens.{IsFirstEmpty};
 ghost use Rattle.column_screen.specs.declared.samples.Sample.{Sample as SampleOf};
 
@@ -27,7 +27,7 @@ pub struct Sums {
 /// What is kept of no slots, whatever the samples.
 #[inline]
 pub fn no_sums() -> Sums
-    ensures { (head : HeadOf) (sample : SampleOf) → AreKept head sample [] result }
+    ensures { (head : HeadOf) (sample : SampleOf) → AreSlotSums head sample [] result }
 {
     Sums {
         p: zeros(),

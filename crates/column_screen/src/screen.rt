@@ -10,7 +10,7 @@ ghost use Rattle.column_screen.specs.Screens.{breaks, broken_samples, screening_
 ghost use Rattle.column_screen.specs.declared.samples.Sample.{Sample as SampleOf};
 ghost use Rattle.column_screen.specs.declared.samples.TheConstants.{SAMPLES};
 
-use crate::kept::{Sums, count_with, first_with, no_sums};
+use crate::kept::{Sums, count_with, first_with};
 use crate::roles::{Roles, lost_test, roles_of, whole_test};
 use crate::samples::{SAMPLES, Samples};
 use crate::tests::{Test, passes, sum};
@@ -58,14 +58,6 @@ impl<'a> Screen<'a> {
             badrows: plan.limits.badrows,
             roles: sample_roles(samples, head),
         }
-    }
-
-    /// What is kept of no slots.
-    #[inline]
-    pub fn first_sums(&self) -> Sums
-        ensures { KeepsSums self.now.head self.now.kept.list [] result }
-    {
-        no_sums()
     }
 
     /// What is kept of some slots, by what is kept of them without the last. It takes no memory.

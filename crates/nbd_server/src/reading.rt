@@ -3,7 +3,7 @@ ghost use Rattle.std.specs.Prelude.{ℕ, ◌≡◌, ◌+◌, ◌-◌, ◌*◌, �
 ghost use Rattle.outside.specs.Causes.{HasCause};
 ghost use Rattle.nbd_text.specs.Requests.{is_read, simple_reply as simple_reply_of};
 
-use block_device::BlockDevice;
+use block_device::{BlockDevice, read_bytes};
 use nbd_text::numbers::*;
 use nbd_text::{Request, simple_reply};
 use outside::{Failed, Memory, SECTOR};
@@ -19,31 +19,6 @@ pub(crate) fn room_for(alloc: Global, count: usize) -> Result<Vec<u8>, Memory>
 {
     let room = vec![in alloc; 0u8; count].map_err(|_| Memory)?;
     Ok(room)
-}
-
-/// Reads bytes of a device, so that the first of them stands at `SECTOR + offset % SECTOR` in the room.
-fn read_bytes<D: BlockDevice>(
-    device: &mut D,
-    room: &mut [u8],
-    offset: u64,
-    count: usize,
-) -> Result<(), Failed>
-    requires room { length room.old ≡ ROOM }
-    requires some { 0 < count }
-    requires few { count ≤ MOST_BLOCK }
-    requires within { offset + count ≤ 512 * D.size device.old }
-    ensures told { OnOk result (IfSome (D.content device.old) (λ content.
-        slice_range room.new (512 + offset % 512) (512 + offset % 512 + count) ≡ slice_range content offset (offset + count))) }
-    ensures kept { (D.content device.new ≡ D.content device.old) × (D.size device.new ≡ D.size device.old) }
-    ensures fixed { D.fixed device.new ≡ D.fixed device.old }
-    ensures cause { HasCause (D.faults device.old) (D.faults device.new) result }
-{
-    let shift = (offset % SECTOR as u64) as usize;
-    let sectors = (shift + count).div_ceil(SECTOR);
-    device.read(
-        offset / SECTOR as u64,
-        &mut room[SECTOR..SECTOR + SECTOR * sectors],
-    )
 }
 
 /// Copies a head in front of the bytes that stand at `at`.
@@ -71,7 +46,12 @@ pub(crate) fn read_request<D: BlockDevice>(
     ensures fixed { D.fixed device.new ≡ D.fixed device.old }
     ensures cause { HasCause (D.faults device.old) (D.faults device.new) result }
 {
-    read_bytes(device, room, request.offset, request.length as usize)?;
+    read_bytes(
+        device,
+        &mut room[SECTOR..],
+        request.offset,
+        request.length as usize,
+    )?;
     let at = SECTOR + (request.offset % SECTOR as u64) as usize;
     put_head(room, at, &simple_reply(0, request.handle));
     Ok(at - REPLY_HEAD)

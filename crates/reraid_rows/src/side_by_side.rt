@@ -5,7 +5,6 @@ use crate::rows::ZERO;
 use outside::Memory;
 use std::alloc::Global;
 use std::process::Abort;
-use std::sync::atomic::Ordering;
 use std::test::Fail;
 use std::thread::Threads;
 use test_objects::Meeting;
@@ -33,22 +32,12 @@ fn compare<R: Abort>(rt: &R, status: u8, out: &[u8]) {
     assert!(rt; out.ends_with(b"\nnext 720 of 720\n"));
 }
 
-// How often pieces 0 and 1 came, and any other, and whether one waited in vain.
-fn came(gate: &Meeting) -> (u64, u64, u64, bool) {
-    (
-        gate.first.load(Ordering::SeqCst),
-        gate.second.load(Ordering::SeqCst),
-        gate.others.load(Ordering::SeqCst),
-        gate.gave_up.load(Ordering::SeqCst),
-    )
-}
-
 // Zero bytes satisfy every equation: all 720 orders of six images pass, in one scan of two pieces.
 #[test]
 fn pieces_meet(rt: HostRuntime) -> Result<(), Fail> {
     let gate = Meeting::default();
     let (status, met) = listed(&rt, rt.alloc(), &gate)?;
     compare(&rt, status, met.out.bytes());
-    assert_eq!(rt; came(&gate), (1, 1, 0, false));
+    assert_eq!(rt; <(u64, u64, u64, bool)>::from(&gate), (1, 1, 0, false));
     Ok(())
 }

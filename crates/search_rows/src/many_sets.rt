@@ -13,7 +13,6 @@ use row_scan::{Gate, MOST_SETS, OpenGate, ScanFault, Verdicts, scan};
 use search_plan::Plan;
 use std::alloc::Global;
 use std::process::Abort;
-use std::sync::atomic::Ordering;
 use std::test::Fail;
 use std::thread::Threads;
 use test_objects::Meeting;
@@ -185,22 +184,12 @@ fn gated<R: Threads + Sync + Abort + AllocGlobal>(
     Ok(verdicts(rt, rt.alloc(), &mut images, &plan, &sets, gate)?)
 }
 
-// How often pieces 0 and 1 came, and any other, and whether one waited in vain.
-fn came(gate: &Meeting) -> (u64, u64, u64, bool) {
-    (
-        gate.first.load(Ordering::SeqCst),
-        gate.second.load(Ordering::SeqCst),
-        gate.others.load(Ordering::SeqCst),
-        gate.gave_up.load(Ordering::SeqCst),
-    )
-}
-
 // 1, 3 and 2 cancel bit by bit, so that all sets are tested to the end, in two pieces, each of which passes the gate once.
 #[test]
 fn pieces_meet(rt: HostRuntime) -> Result<(), Fail> {
     let gate = Meeting::default();
     let found = gated(&rt, &gate)?;
-    assert_eq!(rt; came(&gate), (1, 1, 0, false));
+    assert_eq!(rt; <(u64, u64, u64, bool)>::from(&gate), (1, 1, 0, false));
     assert_eq!(rt; found.as_slice().len(), 1024);
     assert!(rt; found.as_slice().iter().all(|passes| *passes));
     Ok(())

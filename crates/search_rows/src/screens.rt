@@ -6,7 +6,7 @@ ghost use Rattle.column_screen.specs.Screens.{set_of, settles as samples_settle}
 use crate::objects::{agree, three_images};
 use crate::plans::two_levels;
 use crate::row_counts::three_members;
-use column_screen::{Samples, Screen};
+use column_screen::{Samples, Screen, no_sums};
 use std::process::Abort;
 use std::test::Fail;
 
@@ -15,7 +15,7 @@ fn settles_by_slot(screen: &Screen, slots: &[Option<u8>]) -> bool
     requires { is_shaped (set_of screen.now.head slots.now) screen.now.kept.images ≡ true }
     ensures { result ≡ samples_settle screen.now slots.now }
 {
-    let mut sums = screen.first_sums();
+    let mut sums = no_sums();
     for slot in 0..slots.len() {
         sums = screen.next_sums(&sums, &slots[..slot + 1]);
     }

@@ -33,6 +33,18 @@ impl Meeting {
     }
 }
 
+// How often pieces 0 and 1 came, and any other, and whether one waited in vain.
+impl From<&Meeting> for (u64, u64, u64, bool) {
+    fn from(gate: &Meeting) -> Self {
+        (
+            gate.first.load(Ordering::SeqCst),
+            gate.second.load(Ordering::SeqCst),
+            gate.others.load(Ordering::SeqCst),
+            gate.gave_up.load(Ordering::SeqCst),
+        )
+    }
+}
+
 impl Gate for Meeting {
     fn pass(&self, piece: usize) {
         if piece == 0 {

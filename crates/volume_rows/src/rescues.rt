@@ -11,7 +11,6 @@ use raid_params::{Level, Pattern, Syndrome, Wide};
 use rescue_map::{lost_text, read_rescue, salvage};
 use std::alloc::Global;
 use std::process::Abort;
-use std::sync::atomic::Ordering;
 use std::test::Fail;
 use std::thread::Threads;
 use test_objects::Meeting;
@@ -122,16 +121,6 @@ fn a_row_is_lost(rt: HostRuntime) -> Result<(), Fail> {
     )
 }
 
-// How often pieces 0 and 1 came, and any other, and whether one waited in vain.
-fn came(gate: &Meeting) -> (u64, u64, u64, bool) {
-    (
-        gate.first.load(Ordering::SeqCst),
-        gate.second.load(Ordering::SeqCst),
-        gate.others.load(Ordering::SeqCst),
-        gate.gave_up.load(Ordering::SeqCst),
-    )
-}
-
 // Two members of 64 sectors of ones: the volume is one block of 128 sectors, in two pieces, each of which passes the gate once.
 #[test]
 fn pieces_meet(rt: HostRuntime) -> Result<(), Fail> {
@@ -149,7 +138,7 @@ fn pieces_meet(rt: HostRuntime) -> Result<(), Fail> {
     };
     let mut images = two_of_ones(&rt, rt.alloc(), 64 * SECTOR)?;
     let sink = salvaged(&rt, rt.alloc(), &mut images, 2, &set, 64, b"", &gate)?;
-    assert_eq!(rt; came(&gate), (1, 1, 0, false));
+    assert_eq!(rt; <(u64, u64, u64, bool)>::from(&gate), (1, 1, 0, false));
     assert!(rt; sink.bytes().len() == 128 * SECTOR && repeat(sink.bytes(), 1));
     Ok(())
 }

@@ -1,8 +1,11 @@
-use Rattle.std.proofs.Common.{ℕ, ◌+◌, List, Option, arith, subst}
+use Rattle.std.proofs.Common.{ℕ, ◌+◌, List, Option, arith, slice_index_or, subst}
 use Rattle.std.proofs.lemmas.List.{take_all}
 use Rattle.column_screen.specs.KeptSums.{KeepsSums}
 use Rattle.column_screen.proofs.Prefixes.{first_images, without_last}
 use Rattle.search_rows.proofs.screens.settles_by_slot.Goals as goal
+
+pub loop-slot-init : goal.loop-slot-init
+loop-slot-init c = λ none some. c.no_sums-sums.ensures c.args.screen.now.head (slice_index_or c.args.screen.now.kept.list 0 none)
 
 pub next_sums-sums-requires-clause-images : goal.next_sums-sums-requires-clause-images
 next_sums-sums-requires-clause-images c = first_images c.args.screen.now.head c.args.slots.now c.args.screen.now.kept.images (c.loop-slot.slot + 1) c.requires

@@ -1,0 +1,30 @@
+//! Reading bytes that begin and end inside sectors.
+ghost use Rattle.std.specs.Prelude.{◌≡◌, ◌+◌, ◌*◌, ◌/◌, ◌%◌, ◌<◌, ◌≤◌, length, slice_range, IfSome, OnOk};
+ghost use Rattle.outside.specs.Causes.{HasCause};
+
+use crate::BlockDevice;
+use outside::{Failed, SECTOR};
+
+/// Reads the sectors in which `count` bytes from `offset` on lie, so that the first of the bytes stands at `offset % SECTOR` of `room`.
+///
+/// The bytes lie within the device, and `room` holds those sectors. It fails only where the count of faults rose, and then
+/// `room` holds unknown bytes.
+pub fn read_bytes<D: BlockDevice>(
+    device: &mut D,
+    room: &mut [u8],
+    offset: u64,
+    count: usize,
+) -> Result<(), Failed>
+    requires some { 0 < count }
+    requires within { offset + count ≤ 512 * D.size device.old }
+    requires room { 512 * ((offset % 512 + count + 511) / 512) ≤ length room.old }
+    ensures told { OnOk result (IfSome (D.content device.old) (λ content.
+        slice_range room.new (offset % 512) (offset % 512 + count) ≡ slice_range content offset (offset + count))) }
+    ensures kept { (D.content device.new ≡ D.content device.old) × (D.size device.new ≡ D.size device.old) }
+    ensures fixed { D.fixed device.new ≡ D.fixed device.old }
+    ensures cause { HasCause (D.faults device.old) (D.faults device.new) result }
+{
+    let shift = (offset % SECTOR as u64) as usize;
+    let sectors = (shift + count).div_ceil(SECTOR);
+    device.read(offset / SECTOR as u64, &mut room[..SECTOR * sectors])
+}

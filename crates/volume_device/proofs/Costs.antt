@@ -6,8 +6,7 @@ use Rattle.std.specs.Prelude.{IsTrue, nat_le, if◌then◌else◌, slice_index_o
 use Rattle.std.proofs.lemmas.Bool.{cases_lt}
 use Rattle.std.proofs.lemmas.Bool.Decides.{nat_tests}
 use Rattle.std.proofs.lemmas.Nat.{div-add-mod', mod_below}
-use Rattle.outside.proofs.Reading.{reads_join, reads_up}
-use Rattle.outside.specs.Seen.{OnlyReads, Seen}
+use Rattle.outside.specs.Seen.{Seen}
 use Rattle.address_map.proofs.Heads.{some_data}
 use Rattle.lost_members.proofs.NeededSums.{sum_first}
 use Rattle.raid_layouts.proofs.Levels.{item_below}
@@ -17,7 +16,10 @@ use Rattle.raid_params.specs.declared.types.Geometry.{Geometry}
 use Rattle.raid_params.specs.declared.types.Head.{Head}
 use Rattle.raid_terms.specs.Address.{home_item, home_row, home_slot}
 use Rattle.volume_device.specs.Cost.{IsStep, cost_of, is_row_asked, is_there, part_cost, range_cost, row_sectors, step_cost}
+use Rattle.volume_device.specs.Kept.{HasRead}
+use Rattle.volume_device.specs.declared.kept.Kept.{Kept}
 use Rattle.volume_device.proofs.Chunks.{same_chunk, same_slot}
+use Rattle.volume_device.proofs.Memory.{read_join, read_up}
 
 -- sums over ranges of numbers, in two parts
 sum_parts : (f : ℕ → ℕ) (a n m k b : ℕ) → k ≡ n + m → b ≡ a + n →
@@ -69,17 +71,19 @@ chunk_cost geo v n few =
     ∙ sum_of_one (if is_there geo v then 1 else data_blocks geo.head) v n ∙ turned (is_there geo v) (data_blocks geo.head) n
 
 -- the readings of one more run of a part
-pub reads_chunk : (old mid new : Seen) (geo : Geometry) (first at next n : ℕ) → at ≤ next → n ≡ next - at → (first + at) % geo.head.chunk + n ≤ geo.head.chunk →
-    OnlyReads old mid (part_cost geo first at) → OnlyReads mid new (if is_there geo (first + at) then n else data_blocks geo.head * n) → OnlyReads old new (part_cost geo first next)
-reads_chunk old mid new geo first at next n le e few before more =
+pub reads_chunk : {old mid new : Seen} {before between after : Kept} (geo : Geometry) (first at next n : ℕ) → at ≤ next → n ≡ next - at → (first + at) % geo.head.chunk + n ≤ geo.head.chunk →
+    HasRead geo (part_cost geo first at) old mid before between → HasRead geo (if is_there geo (first + at) then n else data_blocks geo.head * n) mid new between after →
+    HasRead geo (part_cost geo first next) old new before after
+reads_chunk geo first at next n le e few read more =
     let whole : part_cost geo first next ≡ part_cost geo first (at + n) = (let all : next ≡ at + n = omega arith in ap (λ (k : ℕ). part_cost geo first k) all) in
-    reads_up old new (reads_join old mid new before more) (omega (arith, whole, part_more geo first at n, chunk_cost geo (first + at) n few))
+    read_up (read_join read more) (omega (arith, whole, part_more geo first at n, chunk_cost geo (first + at) n few))
 
 -- no more than those of a longer part
-pub reads_part : (old new : Seen) (geo : Geometry) (first next count : ℕ) → next ≤ count → OnlyReads old new (part_cost geo first next) → OnlyReads old new (part_cost geo first count)
-reads_part old new geo first next count le reads =
+pub reads_part : {old new : Seen} {before after : Kept} (geo : Geometry) (first next count : ℕ) → next ≤ count →
+    HasRead geo (part_cost geo first next) old new before after → HasRead geo (part_cost geo first count) old new before after
+reads_part geo first next count le read =
     let whole : part_cost geo first count ≡ part_cost geo first (next + (count - next)) = (let all : count ≡ next + (count - next) = omega arith in ap (λ (k : ℕ). part_cost geo first k) all) in
-    reads_up old new reads (omega (arith, whole, part_more geo first next (count - next)))
+    read_up read (omega (arith, whole, part_more geo first next (count - next)))
 
 -- each slot holds an image
 slot_held : (slots : List (Option ℕ)) (k : ℕ) → list_all is_some slots ≡ true → k < length slots → is_some (get_or slots k None) ≡ true
@@ -174,17 +178,18 @@ abbrev pub front_cost : Geometry → ℕ → ℕ → ℕ → ℕ
 front_cost geo first count n = sum (map (cost_of geo first count) (range_with_len first n))
 
 -- the readings of one more step of a range
-pub reads_step : (old mid new : Seen) (geo : Geometry) (first count at next n m row most : ℕ) → 0 < row_sectors geo.head → 0 < data_blocks geo.head → next ≡ at + n → m ≡ n → row ≡ row_sectors geo.head →
+pub reads_step : {old mid new : Seen} {before between after : Kept} (geo : Geometry) (first count at next n m row most : ℕ) → 0 < row_sectors geo.head → 0 < data_blocks geo.head → next ≡ at + n → m ≡ n → row ≡ row_sectors geo.head →
     at < count → IsStep row most (first + at) (count - at) n → (0 < at → at < count → (first + at) % row_sectors geo.head ≡ 0) →
-    OnlyReads old mid (front_cost geo first count at) → OnlyReads mid new (step_cost geo (first + at) m) → OnlyReads old new (front_cost geo first count next)
-reads_step old mid new geo first count at next n m row most some one e f is less step begun before more =
+    HasRead geo (front_cost geo first count at) old mid before between → HasRead geo (step_cost geo (first + at) m) mid new between after →
+    HasRead geo (front_cost geo first count next) old new before after
+reads_step geo first count at next n m row most some one e f is less step begun read more =
     let same : step_cost geo (first + at) m ≡ step_cost geo (first + at) n = ap (λ (k : ℕ). step_cost geo (first + at) k) f in
     let least = step_least geo first count (first + at) (count - at) n most some one (omega arith) (subst (λ (r : ℕ). IsStep r most (first + at) (count - at) n) is step)
     (λ into. elim (cases_lt 0 at) [
       | inl later ↦ (let none = begun later less in absurd (omega arith))
       | inr here ↦ omega arith
     ]) in
-    reads_up old new (reads_join old mid new before more)
+    read_up (read_join read more)
     (omega (arith, same, least, sum_parts (cost_of geo first count) first at n next (first + at) e refl))
 
 -- the next step begins a row
@@ -194,7 +199,8 @@ begins_on first at n row r e h =
     ap (λ (t : ℕ). t % r) place ∙ ap (λ (t : ℕ). (first + at + n) % t) (sym e) ∙ h
 
 -- no more than those of the range
-pub reads_range : (old new : Seen) (geo : Geometry) (first count next : ℕ) → next ≤ count → OnlyReads old new (front_cost geo first count next) → OnlyReads old new (range_cost geo first count)
+pub reads_range : {old new : Seen} {before after : Kept} (geo : Geometry) (first count next : ℕ) → next ≤ count →
+    HasRead geo (front_cost geo first count next) old new before after → HasRead geo (range_cost geo first count) old new before after
 unfolding range_cost
-reads_range old new geo first count next le reads =
-    reads_up old new reads (omega (arith, sum_parts (cost_of geo first count) first next (count - next) count (first + next) (omega arith) refl))
+reads_range geo first count next le read =
+    read_up read (omega (arith, sum_parts (cost_of geo first count) first next (count - next) count (first + next) (omega arith) refl))

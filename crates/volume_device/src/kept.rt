@@ -1,14 +1,11 @@
 //! Sectors of all members, kept in memory.
-ghost use Rattle.std.specs.Prelude.{ℕ, List, ◌≡◌, ◌+◌, ◌*◌, ◌%◌, ◌/◌, ◌^◌, ◌<◌, ◌≤◌, max, All, IfOk, OnOk, length, true};
+ghost use Rattle.std.specs.Prelude.{ℕ, List, ◌≡◌, ◌+◌, ◌*◌, ◌%◌, ◌/◌, ◌^◌, ◌<◌, ◌≤◌, IfOk, OnOk, length, true};
 ghost use Rattle.outside.specs.Causes.{HasCause};
-ghost use Rattle.outside.specs.Seen.{OnlyReads};
 ghost use Rattle.raid_params.specs.Size.{data_blocks};
 ghost use Rattle.raid_params.specs.declared.types.Geometry.{Geometry as Set};
-ghost use Rattle.member_regions.specs.Members.{IsTestable, Reaches};
-ghost use Rattle.member_regions.specs.Regions.{IsRoomFor, KeepsRoom};
-ghost use Rattle.member_regions.specs.declared.regions.TheConstants.{BLOCK as BLOCK_SECTORS};
+ghost use Rattle.member_regions.specs.Regions.{IsRoomFor};
 ghost use Rattle.lost_members.specs.Needs.{HoldData};
-ghost use Rattle.volume_device.specs.Kept.{IsKept, is_among};
+ghost use Rattle.volume_device.specs.Kept.{CanKeep, HasRead, IsNew, is_among};
 ghost use Rattle.volume_device.specs.Sectors.{AreData, run_of};
 
 use lost_members::Members;
@@ -31,8 +28,7 @@ pub struct Kept {
 impl Kept {
     /// Room for a chunk of each member of a set, or for `BLOCK` sectors where chunks are smaller. None is kept.
     pub fn new(alloc: Global, geo: &Geometry) -> Result<Kept, Memory>
-        ensures room { IfOk result (λ kept. IsRoomFor (length geo.now.slots.items) (max BLOCK_SECTORS geo.now.head.chunk) kept.regions) }
-        ensures none { IfOk result (λ kept. (kept.first ≡ 0) × (kept.count ≡ 0)) }
+        ensures { IfOk result (IsNew geo.now) }
     {
         let sectors = geo.head.chunk.max(BLOCK as u64) as usize;
         let regions = Members::new(alloc, geo.slots.len(), sectors)?;
@@ -61,18 +57,12 @@ impl Kept {
         first: u64,
         count: usize,
     ) -> Result<(), Failed>
-        requires set { IsTestable geo.now }
-        requires room { IsRoomFor (length geo.now.slots.items) count self.old.regions }
-        requires held { All (Reaches (I.seen images.old).attached (geo.now.head.offset + (first + count))) geo.now.slots.items }
-        requires near { geo.now.head.offset + (first + count) < 2 ^ 55 }
+        requires can { CanKeep geo.now first count (I.seen images.old).attached self.old }
         requires some { 1 ≤ count }
-        requires kept { IsKept (I.seen images.old).attached geo.now self.old.regions self.old.first self.old.count }
         ensures among { OnOk result (is_among self.new.first self.new.count first count ≡ true) }
-        ensures kept { IsKept (I.seen images.old).attached geo.now self.new.regions self.new.first self.new.count }
-        ensures room { KeepsRoom self.old.regions self.new.regions }
         ensures still { is_among self.old.first self.old.count first count ≡ true →
             (self.new ≡ self.old) × (I.seen images.new ≡ I.seen images.old) }
-        ensures reads { OnlyReads (I.seen images.old) (I.seen images.new) (data_blocks geo.now.head * count) }
+        ensures read { HasRead geo.now (data_blocks geo.now.head * count) (I.seen images.old) (I.seen images.new) self.old self.new }
         ensures cause { HasCause (I.seen images.old).faults (I.seen images.new).faults result }
     {
         if self.has(first, count) {

@@ -1,16 +1,14 @@
 //! The volume of a set of level 0, 4, 5 or 6 as a device.
-ghost use Rattle.std.specs.Prelude.{◌≡◌, ◌+◌, ◌*◌, ◌%◌, ◌/◌, ◌<◌, ◌≤◌, max, IfSome, OnOk, length, slice_range};
+ghost use Rattle.std.specs.Prelude.{◌≡◌, ◌+◌, ◌*◌, ◌%◌, ◌/◌, ◌<◌, ◌≤◌, IfSome, OnOk, length, slice_range};
 ghost use Rattle.std.proofs.Props.{props};
 ghost use Rattle.block_device.specs.Content.{fixed_behind};
 ghost use Rattle.outside.specs.Attached.{told_all};
 ghost use Rattle.outside.specs.Causes.{HasCause};
 ghost use Rattle.outside.specs.Seen.{OnlyReads};
 ghost use Rattle.raid_params.specs.Size.{volume_sectors as volume_sectors_of};
-ghost use Rattle.member_regions.specs.Regions.{IsRoomFor};
-ghost use Rattle.member_regions.specs.declared.regions.TheConstants.{BLOCK as BLOCK_SECTORS};
 ghost use Rattle.virtual_volume.specs.Served.{IsServed};
 ghost use Rattle.volume_device.specs.Cost.{range_cost};
-ghost use Rattle.volume_device.specs.Kept.{IsKept};
+ghost use Rattle.volume_device.specs.Kept.{CanRead, IsNew, most_kept};
 ghost use Rattle.volume_device.specs.Lengths.{volume_told, volume_whole};
 
 use crate::kept::Kept;
@@ -29,9 +27,7 @@ pub struct ParityDevice<'a, I: Images> {
     geo: &'a Geometry,
     end: u64,
     kept: &'a mut Kept,
-    ghost set: { IsServed geo.now end (I.seen images.now).attached },
-    ghost room: { IsRoomFor (length geo.now.slots.items) (max BLOCK_SECTORS geo.now.head.chunk) kept.now.regions },
-    ghost held: { IsKept (I.seen images.now).attached geo.now kept.now.regions kept.now.first kept.now.count } by { Prim.hlevel props },
+    ghost can: { CanRead geo.now end (most_kept geo.now.head) (I.seen images.now).attached kept.now } by { Prim.hlevel props },
 }
 
 impl<'a, I: Images> ParityDevice<'a, I> {
@@ -44,8 +40,7 @@ impl<'a, I: Images> ParityDevice<'a, I> {
         kept: &'a mut Kept,
     ) -> ParityDevice<'a, I>
         requires set { IsServed geo.now end (I.seen images.old).attached }
-        requires room { IsRoomFor (length geo.now.slots.items) (max BLOCK_SECTORS geo.now.head.chunk) kept.old.regions }
-        requires none { (kept.old.first ≡ 0) × (kept.old.count ≡ 0) }
+        requires memory { IsNew geo.now kept.old }
         ensures same_reference { result.images.ghost_name ≡ images.entry.ghost_name }
         ensures within { result.images.now ≡ images.old }
         ensures volume { (result.geo.now ≡ geo.now) × (result.end ≡ end) }

@@ -1,18 +1,13 @@
 //! Ranges of the volume: parts of rows, and whole rows.
-ghost use Rattle.std.specs.Prelude.{◌≡◌, ◌+◌, ◌*◌, ◌%◌, ◌/◌, ◌^◌, ◌<◌, ◌≤◌, max, IfSome, IsTrue, OnOk, length};
+ghost use Rattle.std.specs.Prelude.{◌≡◌, ◌+◌, ◌*◌, ◌%◌, ◌/◌, ◌^◌, ◌<◌, ◌≤◌, IsTrue, OnOk, length};
 ghost use Rattle.std.specs.List.{list_all};
 ghost use Rattle.std.specs.Option.{is_some};
-ghost use Rattle.outside.specs.Attached.{told_all};
 ghost use Rattle.outside.specs.Causes.{HasCause};
-ghost use Rattle.outside.specs.Seen.{OnlyReads};
 ghost use Rattle.raid_params.specs.Size.{volume_sectors};
 ghost use Rattle.raid_params.specs.Validity.{is_valid_head};
-ghost use Rattle.member_regions.specs.Regions.{IsRoomFor, KeepsRoom};
-ghost use Rattle.member_regions.specs.declared.regions.TheConstants.{BLOCK as BLOCK_SECTORS};
-ghost use Rattle.virtual_volume.specs.Served.{IsServed};
 ghost use Rattle.volume_device.specs.Cost.{IsStep, range_cost, row_sectors as row_sectors_of, step_cost};
-ghost use Rattle.volume_device.specs.Kept.{IsKept};
-ghost use Rattle.volume_device.specs.Sectors.{sectors_of};
+ghost use Rattle.volume_device.specs.Kept.{CanRead, HasRead, most_kept};
+ghost use Rattle.volume_device.specs.Sectors.{AreSectors};
 
 use crate::kept::Kept;
 use crate::runs::read_part;
@@ -65,18 +60,14 @@ fn read_rows<I: Images>(
     rows: u64,
     to: &mut [u8],
 ) -> Result<(), Failed>
-    requires set { IsServed geo.now end (I.seen images.old).attached }
-    requires room { IsRoomFor (length geo.now.slots.items) (max BLOCK_SECTORS geo.now.head.chunk) kept.old.regions }
-    requires kept { IsKept (I.seen images.old).attached geo.now kept.old.regions kept.old.first kept.old.count }
+    requires can { CanRead geo.now end (most_kept geo.now.head) (I.seen images.old).attached kept.old }
     requires some { 1 ≤ rows }
-    requires short { rows * geo.now.head.chunk ≤ max BLOCK_SECTORS geo.now.head.chunk }
+    requires short { rows * geo.now.head.chunk ≤ most_kept geo.now.head }
     requires long { length to.old ≡ 512 * (rows * row_sectors_of geo.now.head) }
     requires inside { (first + rows) * row_sectors_of geo.now.head ≤ volume_sectors geo.now.head end }
-    ensures told { OnOk result (IfSome (told_all (I.seen images.old).attached)
-        (λ bytes. to.new ≡ sectors_of bytes geo.now (first * row_sectors_of geo.now.head) (rows * row_sectors_of geo.now.head))) }
-    ensures kept { IsKept (I.seen images.old).attached geo.now kept.new.regions kept.new.first kept.new.count }
-    ensures room { KeepsRoom kept.old.regions kept.new.regions }
-    ensures reads { OnlyReads (I.seen images.old) (I.seen images.new) (rows * row_sectors_of geo.now.head) }
+    ensures told { OnOk result (AreSectors (I.seen images.old).attached geo.now
+        (first * row_sectors_of geo.now.head) (rows * row_sectors_of geo.now.head) to.new) }
+    ensures read { HasRead geo.now (rows * row_sectors_of geo.now.head) (I.seen images.old) (I.seen images.new) kept.old kept.new }
     ensures cause { HasCause (I.seen images.old).faults (I.seen images.new).faults result }
 {
     let sector = first * row_sectors(&geo.head);
@@ -97,19 +88,14 @@ fn read_step<I: Images>(
     first: u64,
     to: &mut [u8],
 ) -> Result<(), Failed>
-    requires set { IsServed geo.now end (I.seen images.old).attached }
-    requires room { IsRoomFor (length geo.now.slots.items) (max BLOCK_SECTORS geo.now.head.chunk) kept.old.regions }
-    requires kept { IsKept (I.seen images.old).attached geo.now kept.old.regions kept.old.first kept.old.count }
+    requires can { CanRead geo.now end (most_kept geo.now.head) (I.seen images.old).attached kept.old }
     requires whole { length to.old % 512 ≡ 0 }
     requires begins { row_sectors_of geo.now.head ≤ length to.old / 512 → first % row_sectors_of geo.now.head ≡ 0 }
     requires rows { row_sectors_of geo.now.head ≤ length to.old / 512 → length to.old / 512 % row_sectors_of geo.now.head ≡ 0 }
-    requires short { length to.old / 512 / row_sectors_of geo.now.head * geo.now.head.chunk ≤ max BLOCK_SECTORS geo.now.head.chunk }
+    requires short { length to.old / 512 / row_sectors_of geo.now.head * geo.now.head.chunk ≤ most_kept geo.now.head }
     requires inside { first + length to.old / 512 ≤ volume_sectors geo.now.head end }
-    ensures told { OnOk result (IfSome (told_all (I.seen images.old).attached)
-        (λ bytes. to.new ≡ sectors_of bytes geo.now first (length to.old / 512))) }
-    ensures kept { IsKept (I.seen images.old).attached geo.now kept.new.regions kept.new.first kept.new.count }
-    ensures room { KeepsRoom kept.old.regions kept.new.regions }
-    ensures reads { OnlyReads (I.seen images.old) (I.seen images.new) (step_cost geo.now first (length to.old / 512)) }
+    ensures told { OnOk result (AreSectors (I.seen images.old).attached geo.now first (length to.old / 512) to.new) }
+    ensures read { HasRead geo.now (step_cost geo.now first (length to.old / 512)) (I.seen images.old) (I.seen images.new) kept.old kept.new }
     ensures cause { HasCause (I.seen images.old).faults (I.seen images.new).faults result }
 {
     let row = row_sectors(&geo.head);
@@ -129,16 +115,11 @@ pub(crate) fn read_range<I: Images>(
     first: u64,
     to: &mut [u8],
 ) -> Result<(), Failed>
-    requires set { IsServed geo.now end (I.seen images.old).attached }
-    requires room { IsRoomFor (length geo.now.slots.items) (max BLOCK_SECTORS geo.now.head.chunk) kept.old.regions }
-    requires kept { IsKept (I.seen images.old).attached geo.now kept.old.regions kept.old.first kept.old.count }
+    requires can { CanRead geo.now end (most_kept geo.now.head) (I.seen images.old).attached kept.old }
     requires whole { length to.old % 512 ≡ 0 }
     requires inside { first + length to.old / 512 ≤ volume_sectors geo.now.head end }
-    ensures told { OnOk result (IfSome (told_all (I.seen images.old).attached)
-        (λ bytes. to.new ≡ sectors_of bytes geo.now first (length to.old / 512))) }
-    ensures kept { IsKept (I.seen images.old).attached geo.now kept.new.regions kept.new.first kept.new.count }
-    ensures room { KeepsRoom kept.old.regions kept.new.regions }
-    ensures reads { OnlyReads (I.seen images.old) (I.seen images.new) (range_cost geo.now first (length to.old / 512)) }
+    ensures told { OnOk result (AreSectors (I.seen images.old).attached geo.now first (length to.old / 512) to.new) }
+    ensures read { HasRead geo.now (range_cost geo.now first (length to.old / 512)) (I.seen images.old) (I.seen images.new) kept.old kept.new }
     ensures cause { HasCause (I.seen images.old).faults (I.seen images.new).faults result }
 {
     let row = row_sectors(&geo.head);

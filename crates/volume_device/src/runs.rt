@@ -1,16 +1,12 @@
 //! Sectors of the volume, read from where they lie.
-ghost use Rattle.std.specs.Prelude.{◌≡◌, ◌+◌, ◌*◌, ◌%◌, ◌/◌, ◌^◌, ◌<◌, ◌≤◌, if◌then◌else◌, All, IfSome, OnOk, None, length, true, slice_index_or};
+ghost use Rattle.std.specs.Prelude.{◌≡◌, ◌+◌, ◌*◌, ◌%◌, ◌/◌, ◌^◌, ◌<◌, ◌≤◌, if◌then◌else◌, IfSome, OnOk, None, length, true, slice_index_or};
 ghost use Rattle.std.specs.Option.{is_some};
 ghost use Rattle.outside.specs.Attached.{told_all};
 ghost use Rattle.outside.specs.Causes.{HasCause};
-ghost use Rattle.outside.specs.Seen.{OnlyReads};
 ghost use Rattle.raid_params.specs.Size.{data_blocks, volume_sectors};
-ghost use Rattle.member_regions.specs.Members.{IsTestable, Reaches};
-ghost use Rattle.member_regions.specs.Regions.{IsRoomFor, KeepsRoom};
-ghost use Rattle.virtual_volume.specs.Served.{IsServed};
 ghost use Rattle.volume_device.specs.Cost.{is_there, part_cost};
-ghost use Rattle.volume_device.specs.Kept.{IsKept, LieAmong, is_among};
-ghost use Rattle.volume_device.specs.Sectors.{AreData, run_of, sectors_of};
+ghost use Rattle.volume_device.specs.Kept.{CanKeep, CanRead, HasRead, LieAmong, is_among};
+ghost use Rattle.volume_device.specs.Sectors.{AreData, AreSectors, run_of};
 
 use crate::kept::Kept;
 use address_map::locate;
@@ -28,24 +24,18 @@ fn read_run<I: Images>(
     sector: u64,
     to: &mut [u8],
 ) -> Result<(), Failed>
-    requires set { IsTestable geo.now }
-    requires room { IsRoomFor (length geo.now.slots.items) (length to.old / 512) kept.old.regions }
-    requires kept { IsKept (I.seen images.old).attached geo.now kept.old.regions kept.old.first kept.old.count }
+    requires can { CanKeep geo.now sector (length to.old / 512) (I.seen images.old).attached kept.old }
     requires slot { slot < length geo.now.slots.items }
     requires data { AreData geo.now slot sector (length to.old / 512) }
-    requires held { All (Reaches (I.seen images.old).attached (geo.now.head.offset + (sector + length to.old / 512)))
-        geo.now.slots.items }
-    requires near { geo.now.head.offset + (sector + length to.old / 512) < 2 ^ 55 }
     requires whole { length to.old % 512 ≡ 0 }
     requires some { 0 < length to.old }
     ensures told { OnOk result (IfSome (told_all (I.seen images.old).attached)
         (λ bytes. to.new ≡ run_of bytes geo.now slot sector (length to.old / 512))) }
-    ensures kept { IsKept (I.seen images.old).attached geo.now kept.new.regions kept.new.first kept.new.count }
-    ensures room { KeepsRoom kept.old.regions kept.new.regions }
     ensures still { is_among kept.old.first kept.old.count sector (length to.old / 512) ≡ true →
         (kept.new ≡ kept.old) × (I.seen images.new ≡ I.seen images.old) }
-    ensures reads { OnlyReads (I.seen images.old) (I.seen images.new)
-        (if is_some (slice_index_or geo.now.slots.items slot None) then length to.old / 512 else data_blocks geo.now.head * (length to.old / 512)) }
+    ensures read { HasRead geo.now
+        (if is_some (slice_index_or geo.now.slots.items slot None) then length to.old / 512 else data_blocks geo.now.head * (length to.old / 512))
+        (I.seen images.old) (I.seen images.new) kept.old kept.new }
     ensures cause { HasCause (I.seen images.old).faults (I.seen images.new).faults result }
 {
     let count = to.len() / SECTOR;
@@ -67,21 +57,17 @@ fn read_chunk<I: Images>(
     first: u64,
     to: &mut [u8],
 ) -> Result<(), Failed>
-    requires set { IsServed geo.now end (I.seen images.old).attached }
-    requires room { IsRoomFor (length geo.now.slots.items) geo.now.head.chunk kept.old.regions }
-    requires kept { IsKept (I.seen images.old).attached geo.now kept.old.regions kept.old.first kept.old.count }
+    requires can { CanRead geo.now end geo.now.head.chunk (I.seen images.old).attached kept.old }
     requires whole { length to.old % 512 ≡ 0 }
     requires some { 0 < length to.old }
     requires chunk { first % geo.now.head.chunk + length to.old / 512 ≤ geo.now.head.chunk }
     requires inside { first < volume_sectors geo.now.head end }
-    ensures told { OnOk result (IfSome (told_all (I.seen images.old).attached)
-        (λ bytes. to.new ≡ sectors_of bytes geo.now first (length to.old / 512))) }
-    ensures kept { IsKept (I.seen images.old).attached geo.now kept.new.regions kept.new.first kept.new.count }
-    ensures room { KeepsRoom kept.old.regions kept.new.regions }
+    ensures told { OnOk result (AreSectors (I.seen images.old).attached geo.now first (length to.old / 512) to.new) }
     ensures still { LieAmong geo.now.head kept.old.first kept.old.count first (length to.old / 512) →
         (kept.new ≡ kept.old) × (I.seen images.new ≡ I.seen images.old) }
-    ensures reads { OnlyReads (I.seen images.old) (I.seen images.new)
-        (if is_there geo.now first then length to.old / 512 else data_blocks geo.now.head * (length to.old / 512)) }
+    ensures read { HasRead geo.now
+        (if is_there geo.now first then length to.old / 512 else data_blocks geo.now.head * (length to.old / 512))
+        (I.seen images.old) (I.seen images.new) kept.old kept.new }
     ensures cause { HasCause (I.seen images.old).faults (I.seen images.new).faults result }
 {
     match locate(&geo.head, end, first) {
@@ -99,18 +85,13 @@ pub(crate) fn read_part<I: Images>(
     first: u64,
     to: &mut [u8],
 ) -> Result<(), Failed>
-    requires set { IsServed geo.now end (I.seen images.old).attached }
-    requires room { IsRoomFor (length geo.now.slots.items) geo.now.head.chunk kept.old.regions }
-    requires kept { IsKept (I.seen images.old).attached geo.now kept.old.regions kept.old.first kept.old.count }
+    requires can { CanRead geo.now end geo.now.head.chunk (I.seen images.old).attached kept.old }
     requires whole { length to.old % 512 ≡ 0 }
     requires inside { first + length to.old / 512 ≤ volume_sectors geo.now.head end }
-    ensures told { OnOk result (IfSome (told_all (I.seen images.old).attached)
-        (λ bytes. to.new ≡ sectors_of bytes geo.now first (length to.old / 512))) }
-    ensures kept { IsKept (I.seen images.old).attached geo.now kept.new.regions kept.new.first kept.new.count }
-    ensures room { KeepsRoom kept.old.regions kept.new.regions }
+    ensures told { OnOk result (AreSectors (I.seen images.old).attached geo.now first (length to.old / 512) to.new) }
     ensures still { LieAmong geo.now.head kept.old.first kept.old.count first (length to.old / 512) →
         (kept.new ≡ kept.old) × (I.seen images.new ≡ I.seen images.old) }
-    ensures reads { OnlyReads (I.seen images.old) (I.seen images.new) (part_cost geo.now first (length to.old / 512)) }
+    ensures read { HasRead geo.now (part_cost geo.now first (length to.old / 512)) (I.seen images.old) (I.seen images.new) kept.old kept.new }
     ensures cause { HasCause (I.seen images.old).faults (I.seen images.new).faults result }
 {
     let count = (to.len() / SECTOR) as u64;

@@ -1,31 +1,22 @@
 use Rattle.std.proofs.Common.{◌+◌, ◌/◌, length, arith}
 use Rattle.outside.specs.Attached.{told_all}
-use Rattle.virtual_volume.proofs.Sets.{served_held, served_testable}
+use Rattle.virtual_volume.proofs.Sets.{served_testable}
 use Rattle.volume_device.proofs.Chunks.{run_among, run_data, run_near}
+use Rattle.volume_device.proofs.Memory.{can_keep}
 use Rattle.volume_device.proofs.Rows.{among_test}
 use Rattle.volume_device.proofs.Told.{run_told}
 use Rattle.volume_device.proofs.runs.read_chunk.Goals as goal
 
-pub read_run-requires-clause-set : goal.read_run-requires-clause-set
-read_run-requires-clause-set g c = served_testable c.args.geo.now c.args.end (g.I.Images.seen c.args.images.now).attached c.requires.set
-
 pub read_run-requires-clause-data : goal.read_run-requires-clause-data
 read_run-requires-clause-data g c =
     run_data c.args.geo.now c.in-Some.home.slot c.in-Some.home.sector c.args.first (length c.args.to.now / 512)
-    (served_testable c.args.geo.now c.args.end (g.I.Images.seen c.args.images.now).attached c.requires.set) c.in-Some.ensures.lies c.requires.chunk
+    (served_testable c.args.geo.now c.args.end (g.I.Images.seen c.args.images.now).attached c.requires.can.set) c.in-Some.ensures.lies c.requires.chunk
 
-pub read_run-requires-clause-held : goal.read_run-requires-clause-held
-read_run-requires-clause-held g c =
+pub read_run-requires-clause-can : goal.read_run-requires-clause-can
+read_run-requires-clause-can g c =
     let near = run_near c.args.geo.now c.args.end c.args.first (length c.args.to.now / 512) (g.I.Images.seen c.args.images.now).attached c.in-Some.home.slot c.in-Some.home.sector
-    c.requires.set c.in-Some.ensures.lies c.requires.inside c.requires.chunk in
-    served_held c.args.geo.now c.args.end (c.args.geo.now.head.offset + (c.in-Some.home.sector + length c.args.to.now / 512)) (g.I.Images.seen c.args.images.now).attached c.requires.set near
-
-pub read_run-requires-clause-near : goal.read_run-requires-clause-near
-read_run-requires-clause-near g c =
-    let near = run_near c.args.geo.now c.args.end c.args.first (length c.args.to.now / 512) (g.I.Images.seen c.args.images.now).attached c.in-Some.home.slot c.in-Some.home.sector
-    c.requires.set c.in-Some.ensures.lies c.requires.inside c.requires.chunk in
-    let far = c.requires.set.near in
-    omega arith
+    c.requires.can.set c.in-Some.ensures.lies c.requires.inside c.requires.chunk in
+    can_keep c.in-Some.home.sector (length c.args.to.now / 512) c.requires.can (omega (arith, c.requires.chunk)) near
 
 pub returns-in-Some-clause-told : goal.returns-in-Some-clause-told
 returns-in-Some-clause-told g c =

@@ -1,5 +1,5 @@
 //! Sectors of the volume, read from where they lie.
-ghost use Rattle.std.specs.Prelude.{◌≡◌, ◌+◌, ◌*◌, ◌%◌, ◌/◌, ◌^◌, ◌<◌, ◌≤◌, if◌then◌else◌, IfSome, OnOk, None, length, true, slice_index_or};
+ghost use Rattle.std.specs.Prelude.{◌≡◌, ◌+◌, ◌*◌, ◌%◌, ◌/◌, ◌<◌, ◌≤◌, if◌then◌else◌, IfSome, OnOk, None, length, true, slice_index_or};
 ghost use Rattle.std.specs.Option.{is_some};
 ghost use Rattle.outside.specs.Attached.{told_all};
 ghost use Rattle.outside.specs.Causes.{HasCause};

@@ -1,4 +1,4 @@
-use Rattle.std.proofs.Common.{◌+◌, ◌/◌, length, arith}
+use Rattle.std.proofs.Common.{◌/◌, length, arith}
 use Rattle.outside.specs.Attached.{told_all}
 use Rattle.virtual_volume.proofs.Sets.{served_testable}
 use Rattle.volume_device.proofs.Chunks.{run_among, run_data, run_near}

@@ -1,6 +1,5 @@
-use Rattle.std.proofs.Common.{arith, rules}
+use Rattle.std.proofs.Common.{rules}
 use Rattle.lost_members.proofs.NeededRows.{reads_data}
-use Rattle.volume_device.proofs.Memory.{read_none, read_up}
 use Rattle.volume_device.proofs.kept.Kept.fill.Goals as goal
 
 pub returns-in_err-read_needed-clause-read : goal.returns-in_err-read_needed-clause-read

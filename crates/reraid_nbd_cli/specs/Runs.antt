@@ -1,5 +1,5 @@
 -- What a run does.
-use Rattle.std.specs.Prelude.{ℕ, ◌≡◌, ◌<◌, ◌≤◌, ◌^◌, min, List, length, IfSome, IfOk, IfErr, IsErrOf, Result, Ok, Err}
+use Rattle.std.specs.Prelude.{ℕ, ◌≡◌, ◌<◌, ◌≤◌, ◌^◌, min, List, length, All, IfSome, IfOk, IfErr, IsErrOf, Result, Ok, Err}
 use Rattle.std.specs.declared.option.Option.{Option}
 use Rattle.std.specs.declared.option.Option.TheVariants.{None, Some}
 use Rattle.command_words.specs.declared.command.Command.{Command}
@@ -12,10 +12,10 @@ use Rattle.nbd_server.specs.declared.stop.NbdStop.TheVariants.{SourceFault, OutF
 use Rattle.nbd_text.specs.Dialogue.{dialogue}
 use Rattle.outside.specs.Attached.{told_all}
 use Rattle.outside.specs.Causes.{Rose}
-use Rattle.outside.specs.Seen.{Seen}
+use Rattle.outside.specs.Seen.{Image, Seen}
 use Rattle.outside.specs.Streams.{Stream}
 use Rattle.run_ends.specs.Counts.{Raises}
-use Rattle.run_ends.specs.Jobs.{Named}
+use Rattle.run_ends.specs.Jobs.{Named, stream}
 use Rattle.run_ends.specs.declared.stop.Refusal.{Refusal}
 use Rattle.run_ends.specs.declared.stop.Refusal.TheVariants.{Word}
 use Rattle.set_jobs.specs.Mapping.{set_refusal}
@@ -31,6 +31,10 @@ pub record Place : Type 0 where
 
 abbrev pub place : Seen → Stream → Stream → Place
 place images source out = record { images = images; source = source; out = out }
+
+-- of objects, by what is seen of the images, by the bytes left in the source and the bytes that the sink gained, each with its count of faults
+abbrev pub place_of : {I S K : Type 0} → (I → Seen) → (S → Option (List ℕ)) → (S → ℕ) → (K → Option (List ℕ)) → (K → ℕ) → I → S → K → Place
+place_of seen left taken gained put images source out = place (seen images) (stream (left source) (taken source)) (stream (gained out) (put out))
 
 -- as the server sees it
 abbrev pub wire_of : Place → Wire
@@ -81,6 +85,11 @@ pub record Leaves (old new : Place) (result : Result (Unit {0}) NbdEnd) : Type 0
   pub out : Raises (Stopped OutFault) old.out.faults new.out.faults result
   pub later : old.images.faults ≤ new.images.faults
   pub world : new.images.world ≡ old.images.world
+
+-- the images are those of so many names, or of the first 65,536 of them, each shorter than 2^55 sectors
+pub record AreImages (names : ℕ) (images : List Image) : Type 0 where
+  pub many : length images ≡ min names 65536
+  pub small : All (λ image. image.sectors < 2 ^ 55) images
 
 -- the volume is shown over images that are attached, and stay so
 pub record Shows (refused : Option Refusal) (size : ℕ) (content : Option (List ℕ)) (old new : Place) (result : Result (Unit {0}) NbdEnd) : Type 0 where

@@ -2,7 +2,7 @@
 ghost use Rattle.std.specs.Prelude.{◌≡◌, ◌≤◌, length};
 ghost use Rattle.nbd_server.specs.declared.stop.NbdStop.TheVariants.{OutOfMemory};
 ghost use Rattle.reraid_nbd_cli.specs.Ends.{end_notice, long_line as long_line_of, stop_notice as stop_notice_of};
-ghost use Rattle.reraid_nbd_cli.specs.declared.ends.NbdEnd.TheVariants.{Stopped};
+ghost use Rattle.reraid_nbd_cli.specs.declared.ends.NbdEnd.TheVariants.{Refused, Stopped};
 
 use arrayvec::ArrayString;
 use itoa::Buffer;
@@ -28,6 +28,22 @@ impl From<Memory> for NbdEnd {
 
     fn from(_: Memory) -> NbdEnd {
         NbdEnd::Stopped(NbdStop::OutOfMemory)
+    }
+}
+
+impl From<NbdStop> for NbdEnd {
+    ghost from_gives = { λ stop end. end ≡ Stopped stop };
+
+    fn from(stop: NbdStop) -> NbdEnd {
+        NbdEnd::Stopped(stop)
+    }
+}
+
+impl From<Refusal> for NbdEnd {
+    ghost from_gives = { λ refusal end. end ≡ Refused refusal };
+
+    fn from(refusal: Refusal) -> NbdEnd {
+        NbdEnd::Refused(refusal)
     }
 }
 

@@ -1,17 +1,17 @@
 //! A run, up to why it ends.
-ghost use Rattle.std.specs.Prelude.{◌≡◌, ◌<◌, ◌^◌, [], All, IsTrue, Ok, Result, length, min, ℕ};
+ghost use Rattle.std.specs.Prelude.{◌≡◌, [], All, IsTrue, Ok, Result, length, ℕ};
 ghost use Rattle.outside.specs.Attached.{AreImagesOf};
-ghost use Rattle.run_ends.specs.Jobs.{named, stream};
+ghost use Rattle.run_ends.specs.Jobs.{named};
 ghost use Rattle.command_words.specs.Commands.{IsWithin, names_after};
 ghost use Rattle.command_words.specs.declared.command.Command.{Command as CommandOf};
-ghost use Rattle.reraid_nbd_cli.specs.Runs.{Runs, Shows, place, refusal, sectors, volume};
+ghost use Rattle.reraid_nbd_cli.specs.Runs.{AreImages, Runs, Shows, place_of, refusal, sectors, volume};
 ghost use Rattle.reraid_nbd_cli.specs.Words.{AreNamed, Asks, PutsVolume};
 
 use crate::asking::read_asked;
 use crate::ends::NbdEnd;
 use crate::showing::{show_mirror, show_set};
 use command_words::{Command, Word};
-use outside::{Images, MOST_ATTACHED, Sink, Source};
+use outside::{Images, Sink, Source};
 use run_ends::{Refusal, attach_front};
 use std::alloc::Global;
 
@@ -27,8 +27,8 @@ pub(crate) fn run<S: Source, I: Images, K: Sink>(
     requires named { All (λ name. IsTrue ((I.seen images.old).world.may_attach name)) (names_after words.now) }
     ensures runs { (asked : Result CommandOf ℕ) × Asks words.now asked ×
         Runs asked (named (length (names_after words.now)) (I.seen images.new).attached)
-        (place (I.seen images.old) (stream (S.left source.old) (S.faults source.old)) (stream (K.gained out.old) (K.faults out.old)))
-        (place (I.seen images.new) (stream (S.left source.new) (S.faults source.new)) (stream (K.gained out.new) (K.faults out.new))) result }
+        (place_of I.seen S.left S.faults K.gained K.faults images.old source.old out.old)
+        (place_of I.seen S.left S.faults K.gained K.faults images.new source.new out.new) result }
     ensures attached { AreImagesOf (I.seen images.old).world (names_after words.now) (I.seen images.new).attached }
 {
     match read_asked(words) {
@@ -64,14 +64,13 @@ fn show<S: Source, I: Images, K: Sink>(
     source: &mut S,
     out: &mut K,
 ) -> Result<(), NbdEnd>
-    requires attached { length (I.seen images.old).attached ≡ min names MOST_ATTACHED }
-    requires small { All (λ image. image.sectors < 2 ^ 55) (I.seen images.old).attached }
+    requires given { AreImages names (I.seen images.old).attached }
     requires volume { PutsVolume command.now }
     requires within { IsWithin command.now }
     ensures { Shows (refusal (Ok command.now) (named names (I.seen images.old).attached)) (sectors (Ok command.now) (named names (I.seen images.old).attached))
         (volume (Ok command.now) (named names (I.seen images.old).attached))
-        (place (I.seen images.old) (stream (S.left source.old) (S.faults source.old)) (stream (K.gained out.old) (K.faults out.old)))
-        (place (I.seen images.new) (stream (S.left source.new) (S.faults source.new)) (stream (K.gained out.new) (K.faults out.new))) result }
+        (place_of I.seen S.left S.faults K.gained K.faults images.old source.old out.old)
+        (place_of I.seen S.left S.faults K.gained K.faults images.new source.new out.new) result }
 {
     match command {
         Command::Write { set, end, .. } => {

@@ -1,9 +1,6 @@
 //! Serving a volume over attached images.
-ghost use Rattle.std.specs.Prelude.{◌≡◌, ◌<◌, ◌^◌, max, All, IfSome, None, length, min};
-ghost use Rattle.member_regions.specs.Regions.{IsRoomFor};
-ghost use Rattle.member_regions.specs.declared.regions.TheConstants.{BLOCK};
+ghost use Rattle.std.specs.Prelude.{◌≡◌, ◌<◌, ◌^◌, IfSome, None};
 ghost use Rattle.outside.specs.Attached.{told_all};
-ghost use Rattle.run_ends.specs.Jobs.{stream};
 ghost use Rattle.raid_params.specs.Size.{volume_sectors as volume_sectors_of};
 ghost use Rattle.near_mirror.specs.Copies.{near_sectors};
 ghost use Rattle.near_volume.specs.Mirrored.{IsMirrored};
@@ -12,8 +9,9 @@ ghost use Rattle.set_jobs.specs.Mapping.{set_refusal};
 ghost use Rattle.set_jobs.specs.Writing.{IsServedBy, told_for, volume_reads, write_output};
 ghost use Rattle.value_text.specs.SetText.{HasWord};
 ghost use Rattle.virtual_volume.specs.Served.{IsServed};
+ghost use Rattle.volume_device.specs.Kept.{IsNew};
 ghost use Rattle.volume_device.specs.Lengths.{mirror_told, volume_told};
-ghost use Rattle.reraid_nbd_cli.specs.Runs.{Shows, place};
+ghost use Rattle.reraid_nbd_cli.specs.Runs.{AreImages, Shows, place_of};
 
 use crate::ends::NbdEnd;
 use address_map::volume_sectors;
@@ -21,7 +19,7 @@ use block_device::BlockDevice;
 use nbd_server::serve;
 use near_jobs::mirrored_end;
 use near_mirror::NearSet;
-use outside::{Images, MOST_ATTACHED, Sink, Source};
+use outside::{Images, Sink, Source};
 use padded_images::Padded;
 use raid_params::{Geometry, Wide};
 use set_jobs::served_end;
@@ -42,19 +40,16 @@ pub(crate) fn show_set<I: Images, S: Source, K: Sink>(
     source: &mut S,
     out: &mut K,
 ) -> Result<(), NbdEnd>
-    requires attached { length (I.seen images.old).attached ≡ min names MOST_ATTACHED }
-    requires small { All (λ image. image.sectors < 2 ^ 55) (I.seen images.old).attached }
+    requires given { AreImages names (I.seen images.old).attached }
     requires set { HasWord set.now }
     requires end { IfSome end (λ sector. sector < 2 ^ 55) }
     ensures { Shows (set_refusal set.now end names (I.seen images.old).attached) (volume_reads set.now end (I.seen images.old).attached)
         (write_output set.now end (I.seen images.old).attached (told_for set.now (I.seen images.old).attached))
-        (place (I.seen images.old) (stream (S.left source.old) (S.faults source.old)) (stream (K.gained out.old) (K.faults out.old)))
-        (place (I.seen images.new) (stream (S.left source.new) (S.faults source.new)) (stream (K.gained out.new) (K.faults out.new))) result }
+        (place_of I.seen S.left S.faults K.gained K.faults images.old source.old out.old)
+        (place_of I.seen S.left S.faults K.gained K.faults images.new source.new out.new) result }
 {
-    match served_end(images, names, set, end) {
-        Ok(end) => show_based(alloc, images, set, end, source, out),
-        Err(refusal) => Err(NbdEnd::Refused(refusal)),
-    }
+    let end = served_end(images, names, set, end)?;
+    show_based(alloc, images, set, end, source, out)
 }
 
 /// Serves the volume of a set over its images, which are padded where the set has bases.
@@ -68,8 +63,8 @@ fn show_based<I: Images, S: Source, K: Sink>(
 ) -> Result<(), NbdEnd>
     requires { IsServedBy set.now end (I.seen images.old).attached }
     ensures { Shows None (volume_sectors_of set.now.geo.head end) (volume_told (told_for set.now (I.seen images.old).attached) set.now.geo end)
-        (place (I.seen images.old) (stream (S.left source.old) (S.faults source.old)) (stream (K.gained out.old) (K.faults out.old)))
-        (place (I.seen images.new) (stream (S.left source.new) (S.faults source.new)) (stream (K.gained out.new) (K.faults out.new))) result }
+        (place_of I.seen S.left S.faults K.gained K.faults images.old source.old out.old)
+        (place_of I.seen S.left S.faults K.gained K.faults images.new source.new out.new) result }
 {
     if set.bases.is_empty() {
         show_parity(alloc, images, &set.geo, end, source, out)
@@ -90,8 +85,8 @@ fn show_parity<I: Images, S: Source, K: Sink>(
 ) -> Result<(), NbdEnd>
     requires { IsServed geo.now end (I.seen images.old).attached }
     ensures { Shows None (volume_sectors_of geo.now.head end) (volume_told (told_all (I.seen images.old).attached) geo.now end)
-        (place (I.seen images.old) (stream (S.left source.old) (S.faults source.old)) (stream (K.gained out.old) (K.faults out.old)))
-        (place (I.seen images.new) (stream (S.left source.new) (S.faults source.new)) (stream (K.gained out.new) (K.faults out.new))) result }
+        (place_of I.seen S.left S.faults K.gained K.faults images.old source.old out.old)
+        (place_of I.seen S.left S.faults K.gained K.faults images.new source.new out.new) result }
 {
     let sectors = volume_sectors(&geo.head, end);
     if sectors >= SECTORS_END {
@@ -113,17 +108,13 @@ fn serve_parity<I: Images, S: Source, K: Sink>(
 ) -> Result<(), NbdEnd>
     requires set { IsServed geo.now end (I.seen images.old).attached }
     requires short { volume_sectors_of geo.now.head end < SECTORS_END }
-    requires room { IsRoomFor (length geo.now.slots.items) (max BLOCK geo.now.head.chunk) kept.old.regions }
-    requires none { (kept.old.first ≡ 0) × (kept.old.count ≡ 0) }
+    requires memory { IsNew geo.now kept.old }
     ensures { Shows None (volume_sectors_of geo.now.head end) (volume_told (told_all (I.seen images.old).attached) geo.now end)
-        (place (I.seen images.old) (stream (S.left source.old) (S.faults source.old)) (stream (K.gained out.old) (K.faults out.old)))
-        (place (I.seen images.new) (stream (S.left source.new) (S.faults source.new)) (stream (K.gained out.new) (K.faults out.new))) result }
+        (place_of I.seen S.left S.faults K.gained K.faults images.old source.old out.old)
+        (place_of I.seen S.left S.faults K.gained K.faults images.new source.new out.new) result }
 {
     let mut device = ParityDevice::new(images, geo, end, kept);
-    match serve(alloc, &mut device, source, out) {
-        Ok(()) => Ok(()),
-        Err(stop) => Err(NbdEnd::Stopped(stop)),
-    }
+    Ok(serve(alloc, &mut device, source, out)?)
 }
 
 /// Serves the volume of a mirror over attached images. `names` is the number of images; `end` is the image sector after the last one
@@ -137,18 +128,15 @@ pub(crate) fn show_mirror<I: Images, S: Source, K: Sink>(
     source: &mut S,
     out: &mut K,
 ) -> Result<(), NbdEnd>
-    requires attached { length (I.seen images.old).attached ≡ min names MOST_ATTACHED }
-    requires small { All (λ image. image.sectors < 2 ^ 55) (I.seen images.old).attached }
+    requires given { AreImages names (I.seen images.old).attached }
     requires end { IfSome end (λ sector. sector < 2 ^ 55) }
     ensures { Shows (mirror_refusal set.now end names (I.seen images.old).attached) (mirror_reads set.now end (I.seen images.old).attached)
         (mirror_output set.now end (I.seen images.old).attached (told_all (I.seen images.old).attached))
-        (place (I.seen images.old) (stream (S.left source.old) (S.faults source.old)) (stream (K.gained out.old) (K.faults out.old)))
-        (place (I.seen images.new) (stream (S.left source.new) (S.faults source.new)) (stream (K.gained out.new) (K.faults out.new))) result }
+        (place_of I.seen S.left S.faults K.gained K.faults images.old source.old out.old)
+        (place_of I.seen S.left S.faults K.gained K.faults images.new source.new out.new) result }
 {
-    match mirrored_end(images, names, set, end) {
-        Ok(end) => show_copies(alloc, images, set, end, source, out),
-        Err(refusal) => Err(NbdEnd::Refused(refusal)),
-    }
+    let end = mirrored_end(images, names, set, end)?;
+    show_copies(alloc, images, set, end, source, out)
 }
 
 /// Serves the volume of a mirror up to an image sector.
@@ -162,16 +150,13 @@ fn show_copies<I: Images, S: Source, K: Sink>(
 ) -> Result<(), NbdEnd>
     requires { IsMirrored set.now end (I.seen images.old).attached }
     ensures { Shows None (near_sectors set.now.head end) (mirror_told (told_all (I.seen images.old).attached) set.now end)
-        (place (I.seen images.old) (stream (S.left source.old) (S.faults source.old)) (stream (K.gained out.old) (K.faults out.old)))
-        (place (I.seen images.new) (stream (S.left source.new) (S.faults source.new)) (stream (K.gained out.new) (K.faults out.new))) result }
+        (place_of I.seen S.left S.faults K.gained K.faults images.old source.old out.old)
+        (place_of I.seen S.left S.faults K.gained K.faults images.new source.new out.new) result }
 {
     let mut device = MirrorDevice::new(images, set, end);
     let sectors = device.sectors();
     if sectors >= SECTORS_END {
         return Err(NbdEnd::Long(sectors));
     }
-    match serve(alloc, &mut device, source, out) {
-        Ok(()) => Ok(()),
-        Err(stop) => Err(NbdEnd::Stopped(stop)),
-    }
+    Ok(serve(alloc, &mut device, source, out)?)
 }

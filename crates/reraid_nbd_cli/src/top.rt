@@ -5,7 +5,7 @@ ghost use Rattle.run_ends.specs.Jobs.{named, stream};
 ghost use Rattle.command_words.specs.Commands.{names_after};
 ghost use Rattle.command_words.specs.declared.command.Command.{Command as CommandOf};
 ghost use Rattle.reraid_nbd_cli.specs.Ends.{IsTold};
-ghost use Rattle.reraid_nbd_cli.specs.Runs.{Runs, place};
+ghost use Rattle.reraid_nbd_cli.specs.Runs.{Runs, place_of};
 ghost use Rattle.reraid_nbd_cli.specs.Words.{Asks};
 ghost use Rattle.reraid_nbd_cli.specs.declared.ends.NbdEnd.{NbdEnd};
 
@@ -38,8 +38,8 @@ pub fn reraid_nbd<S: Source, I: Images, K: Sink, N: Sink>(
     // the dialogue did not end, by a line on the notes.
     ensures runs { (asked : Result CommandOf ℕ) × Asks words.now asked × (end : Result (Unit {0}) NbdEnd) ×
         Runs asked (named (length (names_after words.now)) (I.seen images.new).attached)
-        (place (I.seen images.old) (stream (S.left source.old) (S.faults source.old)) (stream (K.gained out.old) (K.faults out.old)))
-        (place (I.seen images.new) (stream (S.left source.new) (S.faults source.new)) (stream (K.gained out.new) (K.faults out.new))) end
+        (place_of I.seen S.left S.faults K.gained K.faults images.old source.old out.old)
+        (place_of I.seen S.left S.faults K.gained K.faults images.new source.new out.new) end
         × IsTold end result (stream (N.gained notes.old) (N.faults notes.old)) (stream (N.gained notes.new) (N.faults notes.new)) }
 
     // The images attached are those of the words after `--`, in their order. Nothing else is attached.

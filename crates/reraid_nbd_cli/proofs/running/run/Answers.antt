@@ -6,12 +6,16 @@ use Rattle.reraid_nbd_cli.specs.Runs.{Shows, place, refusal, sectors, volume}
 use Rattle.reraid_nbd_cli.proofs.Ran.{cut, images_small, ran, wordless}
 use Rattle.reraid_nbd_cli.proofs.running.run.Goals as goal
 
-pub show-requires-clause-small : goal.show-requires-clause-small
-show-requires-clause-small g c =
+pub show-requires-clause-given : goal.show-requires-clause-given
+show-requires-clause-given g c =
     let some = c.attach_front.ensures.some in
     let P : List Image → Type 0 = λ images. All (λ image. image.sectors < 2 ^ 55) images in
-    subst P (sym (some.attached.2 ∙ ap (λ (images : List Image). images ++ some.attached.0) c.requires.fresh))
-    (images_small (g.I.Images.seen c.args.images.now).world _ some.attached.0 some.attached.1)
+    record {
+      many = c.in-Ok-attach_front.ensures.all;
+      small =
+          subst P (sym (some.attached.2 ∙ ap (λ (images : List Image). images ++ some.attached.0) c.requires.fresh))
+          (images_small (g.I.Images.seen c.args.images.now).world _ some.attached.0 some.attached.1);
+    }
 
 pub returns-in-Err-clause-runs : goal.returns-in-Err-clause-runs
 returns-in-Err-clause-runs g c = (Err c.in-Err.number, c.in-Err.ensures.asks, wordless c.in-Err.number (length (names_after c.args.words.now)) (g.I.Images.seen c.args.images.now) _ _)

@@ -28,7 +28,7 @@ near:
 	bench/near.py $(words)
 
 # Compares docs/DEFINITIONS.md with the comments from which it is printed. Runs the commands of the pages as they are printed, and compares
-# what they print: it needs the Debian packages xfsprogs, gdisk, e2fsprogs, ntfs-3g, pv, parallel, jq, gddrescue and libnbd-bin; with root=--root it runs
+# what they print: it needs the Debian packages xfsprogs, gdisk, e2fsprogs, ntfs-3g, pv, parallel, gddrescue and libnbd-bin; with root=--root it runs
 # those that need root too. Then reraid-try on one array of each kind of volume.
 pages:
 	bench/definitions.py --compare

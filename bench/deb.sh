@@ -29,12 +29,10 @@ gzip -9n "$tree"/usr/share/man/man1/*.1
 
 # The pages, and what their first lines make arrays with.
 pages=$tree/usr/share/doc/reraid
-install -d "$pages/docs" "$pages/examples/data"
+install -d "$pages/docs" "$pages/examples"
 install -m 644 "$top/README.md" "$pages"
 install -m 644 "$top"/docs/*.md "$pages/docs"
 install -m 755 "$top/bench/disks.py" "$top/bench/volume.py" "$pages/examples"
-install -m 644 "$top/crates/reraid/stdin" "$pages/examples"
-install -m 644 "$top"/crates/reraid/data/* "$pages/examples/data"
 cat >"$pages/copyright" <<END
 reraid $version, made from its sources by bench/deb.sh. The sources name no licence.
 END

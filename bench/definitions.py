@@ -20,11 +20,11 @@ PAGE, TOP_OF_PAGE = TOP / "docs/DEFINITIONS.md", TOP / "docs/definitions-head.md
 HEAD = re.compile(r"^(?:abbrev |unfoldable )?pub (?:record |data )?(?P<name>[^\s:({]+)|^(?:abbrev|unfoldable) pub (?:record |data )?(?P<other>[^\s:({]+)")
 USE = re.compile(r"^(?:ghost )?use Rattle\.(\w+)\.specs\.([\w.]+)\.\{(.*?)\}", re.M | re.S)
 
-# The crates that run nothing: of them all is printed that another crate takes.
+# The crates that run nothing: what another crate takes of them counts as offered.
 WORDS_ALONE = ("raid_terms", "search_terms")
 # A comment that begins so goes on from the one above it, which is then printed too.
 GOES_ON = re.compile(r"(and|its|the same|so|of|for|as) ")
-# The crates in which the promises of jobs and programs are put together from parts: of them all is printed.
+# The crates in which the promises of jobs and programs are put together from parts.
 PROMISES = ("run_ends", "reraid_cli", "reraid_nbd_cli")
 
 
@@ -111,13 +111,11 @@ def taken_by(path):
             yield here or name, f"crates/{crate}/specs/{module.replace('.', '/')}.antt", name
 
 
-def cited():
-    """The definitions, by file and name, that are printed."""
-    found, named = set(), re.findall(r"`([A-Z]\w+)`", (TOP / "docs/PROMISES.md").read_text())
+def offered_definitions():
+    """The definitions, by file and name, that the promises of jobs and programs or a clause of an offered function, trait or type cites."""
+    found = {(str(it.file), it.name) for path in TOP.glob("crates/*/specs/*.antt") if path.parts[-3] in PROMISES for it in definitions_of(path)}
     for path in TOP.glob("crates/*/specs/*.antt"):
-        crate = path.parts[-3]
-        found |= {(str(it.file), it.name) for it in definitions_of(path) if crate in PROMISES or it.name in named}
-        found |= {(file, name) for _, file, name in taken_by(path) if file.split("/")[1] in WORDS_ALONE and file.split("/")[1] != crate}
+        found |= {(file, name) for _, file, name in taken_by(path) if file.split("/")[1] in WORDS_ALONE and file.split("/")[1] != path.parts[-3]}
     for path in TOP.glob("crates/*/src/*.rt"):
         offered = offered_by(path.parent).get(path.stem) if (path.parent / "lib.rt").exists() else None
         if not offered:
@@ -125,6 +123,42 @@ def cited():
         clauses = clauses_of(path, offered)
         found |= {(file, name) for here, file, name in taken_by(path) if here in clauses}
     return found
+
+
+def cited_in(path):
+    """Of each definition of a file, by file and name, the definitions that its text cites."""
+    file, names = str(path.relative_to(TOP)), {it.name for it in definitions_of(path)}
+    here = {name: (file, name) for name in names} | {here: (other, name) for here, other, name in taken_by(path)}
+    cites, current = {}, None
+    for line in path.read_text().splitlines():
+        if match := HEAD.match(line):
+            current = match["name"] or match["other"]
+        elif not line.strip():
+            current = None
+        if current in names:
+            cites.setdefault((file, current), set()).update(here[word] for word in re.findall(r"[\w']+", line) if word in here)
+    return cites
+
+
+def promised(named):
+    """The definitions, by file and name, of which the promises of jobs and programs and those of these names are made."""
+    cites = {}
+    for path in TOP.glob("crates/*/specs/*.antt"):
+        cites |= cited_in(path)
+    waiting, found = [it for it in cites if it[0].split("/")[1] in PROMISES or it[1] in named], set()
+    while waiting:
+        it = waiting.pop()
+        if it not in found:
+            found.add(it)
+            waiting += cites.get(it, ())
+    return found
+
+
+def printed():
+    """The definitions, by file and name, that are printed."""
+    named = set(re.findall(r"`([A-Z]\w+)`", (TOP / "docs/PROMISES.md").read_text()))
+    made_of = promised(named)
+    return made_of & offered_definitions() | {it for it in made_of if it[1] in named}
 
 
 def sentence_on(crate):
@@ -136,7 +170,7 @@ def sentence_on(crate):
 
 def page():
     """The page: its top, and for each crate the comments of what is printed."""
-    parts, wanted = [TOP_OF_PAGE.read_text()], cited()
+    parts, wanted = [TOP_OF_PAGE.read_text()], printed()
     for crate in crates():
         if crate.endswith("_rows"):
             continue

@@ -137,7 +137,7 @@ def first_listing(tree, every):
     last = next(place for place, (_, command, _) in enumerate(found) if command[0].startswith("reraid-try "))
     found = found if every else found[: last + 1]
     examples = tree / "usr/share/doc/reraid/examples"
-    first = f"export PATH={tree}/usr/bin:{examples}:/usr/local/bin:/usr/bin:/bin:/usr/sbin:/sbin DEMO={examples}"
+    first = f"export PATH={tree}/usr/bin:{examples}:/usr/local/bin:/usr/bin:/bin:/usr/sbin:/sbin"
     return [(found[0][0], [first], [])] + found[1:]
 
 

@@ -86,7 +86,7 @@ pub record Leaves (old new : Place) (result : Result (Unit {0}) NbdEnd) : Type 0
   pub later : old.images.faults ≤ new.images.faults
   pub world : new.images.world ≡ old.images.world
 
--- the images are those of so many names, or of the first 65,536 of them, each shorter than 2^55 sectors
+-- there are as many images as names, or 65,536 where there are more names, and each is shorter than 2^55 sectors
 pub record AreImages (names : ℕ) (images : List Image) : Type 0 where
   pub many : length images ≡ min names 65536
   pub small : All (λ image. image.sectors < 2 ^ 55) images

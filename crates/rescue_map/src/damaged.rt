@@ -1,11 +1,9 @@
 //! Which cells of a row are known.
-ghost use Rattle.std.specs.Prelude.{nat_lt, ℕ, ◌≡◌, ◌+◌, ◌<◌, ◌≤◌, ◌^◌, ◌%◌, length, true};
-ghost use Rattle.raid_params.specs.declared.limits.TheConstants.{MOST};
+ghost use Rattle.std.specs.Prelude.{nat_lt, ℕ, ◌≡◌, ◌+◌, ◌<◌, ◌≤◌, ◌^◌, ◌%◌, true};
 ghost use Rattle.raid_params.specs.Size.{redundancy, volume_sectors as volume_sectors_of};
 ghost use Rattle.raid_params.specs.Slots.{empties};
-ghost use Rattle.raid_params.specs.Validity.{is_valid_head};
 ghost use Rattle.rescue_map.specs.Salvaged.{IsKnownRun};
-ghost use Rattle.rescue_map.specs.Damaged.{damaged as damaged_of, image_sector as image_sector_of, is_good as is_good_of, is_lost as is_lost_of, known_slot as known_slot_of, AreAllGood, IsDamaged, IsMendable};
+ghost use Rattle.rescue_map.specs.Damaged.{damaged as damaged_of, image_sector as image_sector_of, is_lost as is_lost_of, known_slot as known_slot_of, AreAllGood, IsDamaged, IsMendable};
 
 use address_map::locate;
 use raid_params::{Geometry, Slots, Wide, count_empty};

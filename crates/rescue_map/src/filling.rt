@@ -1,5 +1,5 @@
 //! Sectors of the volume, by what was read for them.
-ghost use Rattle.std.specs.Prelude.{ℕ, ◌≡◌, ◌+◌, ◌*◌, ◌^◌, ◌<◌, ◌≤◌, ◌/◌, ◌%◌, length, slice_index};
+ghost use Rattle.std.specs.Prelude.{ℕ, ◌≡◌, ◌+◌, ◌*◌, ◌<◌, ◌≤◌, ◌/◌, length, slice_index};
 ghost use Rattle.raid_params.specs.Size.{volume_sectors as volume_sectors_of};
 ghost use Rattle.raid_terms.specs.Parity.{column_of};
 ghost use Rattle.rescue_map.specs.Damaged.{IsMendable};

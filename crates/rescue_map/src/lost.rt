@@ -1,7 +1,7 @@
 //! What of a volume is lost, as a text.
-ghost use Rattle.std.specs.Prelude.{◌≡◌, ◌+◌, ◌-◌, ◌*◌, ◌<◌, ◌≤◌, ◌^◌, ◌++◌, [], ℕ, All, Bool, IfOk, IfSome, OnOk, codes, decimal, false, true, length};
-ghost use Rattle.raid_params.specs.Size.{area as area_of, data_blocks as data_blocks_of, rows as rows_of, volume_sectors as volume_sectors_of};
-ghost use Rattle.rescue_map.specs.Damaged.{is_lost as is_lost_of, AreAllGood, IsDamaged};
+ghost use Rattle.std.specs.Prelude.{◌≡◌, ◌+◌, ◌-◌, ◌*◌, ◌<◌, ◌≤◌, ◌^◌, ◌++◌, ℕ, Bool, IfOk, IfSome, OnOk, decimal, false, true};
+ghost use Rattle.raid_params.specs.Size.{data_blocks as data_blocks_of, rows as rows_of, volume_sectors as volume_sectors_of};
+ghost use Rattle.rescue_map.specs.Damaged.{IsDamaged};
 ghost use Rattle.rescue_map.specs.LostText.{lines_before, lost_text as lost_text_of, HasLost, HasRuns};
 ghost use Rattle.value_text.specs.Spelling.{line};
 
@@ -25,7 +25,13 @@ pub struct Runs {
 }
 
 /// Appends a line: a word, a number, what stands between, and a number.
-fn add_line(text: &mut Text, word: &[u8], first: u64, between: &[u8], second: u64) -> Result<(), Memory>
+fn add_line(
+    text: &mut Text,
+    word: &[u8],
+    first: u64,
+    between: &[u8],
+    second: u64,
+) -> Result<(), Memory>
     ensures { OnOk result (text.new ≡ text.old ++ line (word.now ++ decimal first ++ between.now ++ decimal second)) }
 {
     text.extend_from_slice(word)?;

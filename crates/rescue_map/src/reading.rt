@@ -1,5 +1,5 @@
 //! What is read of the images for sectors of the volume.
-ghost use Rattle.std.specs.Prelude.{if◌then◌else◌, ℕ, ◌-◌, ◌%◌, IfOk, ◌≡◌, ◌+◌, ◌*◌, ◌^◌, ◌<◌, ◌≤◌, ◌/◌, length, slice_index, slice_index_or, All, IfSome, OnOk, None};
+ghost use Rattle.std.specs.Prelude.{if◌then◌else◌, ℕ, ◌-◌, ◌%◌, IfOk, ◌≡◌, ◌+◌, ◌*◌, ◌^◌, ◌<◌, ◌≤◌, ◌/◌, length, slice_index, All, IfSome, OnOk, None};
 ghost use Rattle.outside.specs.Attached.{told_all};
 ghost use Rattle.outside.specs.Seen.{OnlyReads};
 ghost use Rattle.std.specs.Option.{is_none};

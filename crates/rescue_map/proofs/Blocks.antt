@@ -96,10 +96,15 @@ blocks_are xs f a (suc n) long each same =
     ∙ ap (λ (l : List ℕ). flat_map f (range_with_len a n) ++ l) last ∙ sym (flat_more f a n (suc n) (a + n) (omega arith) refl)
 
 pub salvaged_are : (images : List (List ℕ)) (sections : List Section) (set : Wide) (first n : ℕ) (rows old new : List ℕ) → length new ≡ 512 * n →
-    ((j : ℕ) → j < n → IsRead images sections set first rows old j) → ((j : ℕ) → j < n → IsFilled sections set first rows old new j) → new ≡ salvaged_sectors images sections set first n
+    ((j : ℕ) → j < n → IsRead images sections set first rows old j) → ((j : ℕ) → j < n → IsFilled sections set first 0 rows old new j) → new ≡ salvaged_sectors images sections set first n
 unfolding salvaged_sectors
 salvaged_are images sections set first n rows old new long read filled =
-    blocks_are new (salvaged_sector images sections set) first n long (salvaged_long images sections set) (λ j x below inside. filled j below x inside ∙ read j below x inside)
+    blocks_are new (salvaged_sector images sections set) first n long (salvaged_long images sections set)
+    (λ j x below inside.
+    let at : 0 + j ≡ j = omega arith in
+    filled j below x inside
+    ∙ ap (λ (t : ℕ). filled_byte sections set (first + t) (column_at (length set.geo.slots.items) rows (512 * length set.geo.slots.items * t) x) (get_or old (512 * j + x) 0)) at
+    ∙ read j below x inside)
 
 -- a piece of a block is whole sectors
 pub piece_whole : (total start len : ℕ) → total % 512 ≡ 0 → start % 32768 ≡ 0 → len ≡ min 32768 (total - start) → start + len ≤ total →
@@ -167,3 +172,7 @@ reads_next old mid new sections set first n m same before block =
 -- the sectors of the first part of a block
 pub part_count : (block : List ℕ) (count : ℕ) → 512 * count ≤ length block → length (take (512 * count) block) / 512 ≡ count
 part_count block count fits = let long = length-take (512 * count) block in omega arith
+
+-- rows that have room for so many sectors
+pub room_same : (slots start n m room : ℕ) → 512 * slots * (start + n) ≤ room → start + n ≡ m → 512 * slots * m ≤ room
+room_same slots start n m room fits same = subst (λ (t : ℕ). 512 * slots * t ≤ room) same fits

@@ -21,7 +21,7 @@ use Rattle.raid_params.specs.declared.types.Geometry.{Geometry}
 use Rattle.raid_params.specs.declared.wide.Wide.{Wide}
 use Rattle.raid_params.specs.declared.wide.WideFault.TheVariants.{Bases}
 use Rattle.rescue_map.specs.Salvaged.{IsSalvaged}
-use Rattle.rescue_map.specs.Damaged.{IsDamaged}
+use Rattle.rescue_map.specs.Damaged.{IsDamaged, IsMendable, IsReadable}
 use Rattle.rescue_map.proofs.Known.{all_below}
 use Rattle.rescue_map.proofs.Passed.{damage_of}
 
@@ -101,14 +101,24 @@ longer end greatest (base ∷ bases) (image ∷ images) long =
     (longer end greatest bases images (All-tail (λ image. end ≤ image.sectors) image images long))
 
 -- the members reach to the end, and do so once the images are padded
-pub salvaged_held : (set : Wide) (end : ℕ) (attached : List Image) → IsSalvaged set end attached → All (Reaches attached end) set.geo.slots.items
+salvaged_held : (set : Wide) (end : ℕ) (attached : List Image) → IsSalvaged set end attached → All (Reaches attached end) set.geo.slots.items
 salvaged_held set end attached s = images_reach set.geo end end attached (salvaged_shape set end attached s) s.long (omega arith)
 
-pub padded_held : (set : Wide) (end : ℕ) (attached : List Image) → IsSalvaged set end attached → All (Reaches (padded_images set.bases.items attached) end) set.geo.slots.items
+padded_held : (set : Wide) (end : ℕ) (attached : List Image) → IsSalvaged set end attached → All (Reaches (padded_images set.bases.items attached) end) set.geo.slots.items
 padded_held set end attached s =
     images_reach set.geo end end (padded_images set.bases.items attached)
     (subst (λ (n : ℕ). is_shaped set.geo n ≡ true) (sym (padded_length (greatest_base set.bases.items) set.bases.items attached)) (salvaged_shape set end attached s))
     (longer end (greatest_base set.bases.items) set.bases.items attached s.long) (omega arith)
+
+salvaged_mendable : (set : Wide) (end : ℕ) (attached : List Image) → IsSalvaged set end attached → IsMendable set end
+salvaged_mendable set end attached s = record { shape = salvaged_testable set end attached s; near = s.near }
+
+-- so its volume can be read of them
+pub salvaged_readable : (set : Wide) (end : ℕ) (attached : List Image) → IsSalvaged set end attached → IsReadable set end attached
+salvaged_readable set end attached s = record { mendable = salvaged_mendable set end attached s; held = salvaged_held set end attached s }
+
+pub padded_readable : (set : Wide) (end : ℕ) (attached : List Image) → IsSalvaged set end attached → IsReadable set end (padded_images set.bases.items attached)
+padded_readable set end attached s = record { mendable = salvaged_mendable set end attached s; held = padded_held set end attached s }
 
 pub none_padded : (bases : List ℕ) (attached : List Image) → length bases ≡ 0 → padded_images bases attached ≡ attached
 none_padded [] attached h = refl

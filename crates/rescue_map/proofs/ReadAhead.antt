@@ -1,14 +1,19 @@
 -- How far the reading is ahead of what was put.
-use Rattle.std.proofs.Common.{ℕ, ◌≡◌, ◌+◌, ◌-◌, ◌*◌, ◌/◌, ◌≤◌, min, List, [], length, take, Option, None, Some, IfSome, ap, ◌∙◌, arith, length-append}
+use Rattle.std.proofs.Common.{ℕ, ◌≡◌, ◌+◌, ◌-◌, ◌*◌, ◌/◌, ◌≤◌, min, List, [], length, take, Option, None, Some, IfSome, Result, Ok, Err, refl, ap, ◌∙◌, arith, length-append}
 use Rattle.std.specs.Io.KnownBytes.{Appends}
+use Rattle.std.specs.Result.{IsErrOf}
+use Rattle.member_regions.proofs.IfTold.{if_any}
+use Rattle.outside.proofs.Reading.{reads_none, reads_up}
 use Rattle.member_regions.specs.declared.regions.TheConstants.{BLOCK}
 use Rattle.outside.specs.Seen.{OnlyReads, Seen}
 use Rattle.outside.specs.Streams.{AppendsFront}
 use Rattle.raid_params.specs.declared.wide.Wide.{Wide}
-use Rattle.rescue_map.specs.Salvaged.{reads_for_all, salvaged_sectors, IsReadAhead}
+use Rattle.rescue_map.specs.Salvaged.{reads_for_all, salvaged_sectors, IsReadAhead, Salvages}
 use Rattle.rescue_map.proofs.Blocks.{reads_parts, sectors_long}
 use Rattle.rescue_text.specs.declared.section.Section.{Section}
 use Rattle.virtual_volume.proofs.Fronts.{front_none}
+use Rattle.virtual_volume.specs.declared.volume.VolumeFault.{VolumeFault}
+use Rattle.virtual_volume.specs.declared.volume.VolumeFault.TheVariants.{ReadFault, WriteFault, Memory}
 
 reads_grow : (sections : List Section) (set : Wide) (n m : ℕ) → n ≤ m → reads_for_all sections set 0 n ≤ reads_for_all sections set 0 m
 reads_grow sections set n m le = omega (arith, reads_parts sections set 0 n (m - n) m n (omega arith) (omega arith))
@@ -50,3 +55,19 @@ pub ahead_none : (told : Option (List (List ℕ))) (sections : List Section) (se
 ahead_none None sections set sectors from a = tt
 ahead_none (Some bytes) sections set sectors from None = tt
 ahead_none (Some bytes) sections set sectors from (Some xs) = omega arith
+
+-- memory ran out before anything was read or put
+pub salvages_none : {T : Type 0} (told : Option (List (List ℕ))) (sections : List Section) (set : Wide) (sectors : ℕ) (seen : Seen) (sink : Option (List ℕ)) (faults : ℕ) (result : Result T VolumeFault) →
+    IsErrOf result Memory → Salvages told sections set sectors seen seen sink sink faults faults result
+salvages_none told sections set sectors seen sink faults (Ok value) is = absurd (cc)
+salvages_none told sections set sectors seen sink faults (Err ReadFault) is = absurd (cc)
+salvages_none told sections set sectors seen sink faults (Err WriteFault) is = absurd (cc)
+salvages_none told sections set sectors seen sink faults (Err Memory) is = record {
+  put = if_any told (λ bytes. AppendsFront sink sink (salvaged_sectors bytes sections set 0 sectors)) (λ bytes. front_none sink (salvaged_sectors bytes sections set 0 sectors));
+  whole = λ other. absurd (cc);
+  memory = λ same. (refl, refl);
+  reads = reads_up seen seen (reads_none seen) (omega arith);
+  ahead = ahead_none told sections set sectors seen.sectors_read sink;
+  later = omega arith;
+  faults = (refl, refl);
+}

@@ -4,6 +4,9 @@ use Rattle.std.specs.List.{list_all, range_with_len}
 use Rattle.std.specs.Option.{is_none}
 use Rattle.std.specs.declared.option.Option.{Option}
 use Rattle.std.specs.declared.option.Option.TheVariants.{None, Some}
+use Rattle.std.specs.Prelude.{All}
+use Rattle.outside.specs.Seen.{Image}
+use Rattle.member_regions.specs.Members.{IsTestable, Reaches}
 use Rattle.raid_params.specs.Size.{redundancy}
 use Rattle.raid_params.specs.Slots.{empties}
 use Rattle.raid_params.specs.Validity.{is_valid_head}
@@ -56,6 +59,16 @@ pub record IsDamaged (set : Wide) (end : ℕ) : Type 0 where
   pub members : set.geo.head.members ≡ length set.geo.slots.items
   pub near : end < 2 ^ 55
   pub few : empties set.geo.slots.items ≤ redundancy set.geo.head.level
+
+-- a set whose damaged volume can be mended: it is of a sensible shape, and its members end before image sector 2^55
+pub record IsMendable (set : Wide) (end : ℕ) : Type 0 where
+  pub shape : IsTestable set.geo
+  pub near : end < 2 ^ 55
+
+-- a set whose damaged volume can be mended, and its members read: each slot is empty, or holds an attached image that reaches to the end
+pub record IsReadable (set : Wide) (end : ℕ) (attached : List Image) : Type 0 where
+  pub mendable : IsMendable set end
+  pub held : All (Reaches attached end) set.geo.slots.items
 
 -- at member sector t each slot that holds an image is known
 abbrev pub AreAllGood : List Section → Wide → ℕ → Type 0

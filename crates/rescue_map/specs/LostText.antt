@@ -47,3 +47,7 @@ pub record HasRuns (lost : ℕ → Bool) (sectors v : ℕ) (runs : Runs) : Type 
   pub within : v ≤ sectors
   pub lines : AreLines lost sectors v runs.text runs.first
   pub good : runs.good ≡ count_by (λ w. not (lost w)) (range_with_len 0 v)
+
+-- the runs of what is lost of the volume, among its sectors before one
+abbrev pub HasLost : List Section → Wide → ℕ → ℕ → Runs → Type 0
+HasLost sections set end v runs = HasRuns (is_lost sections set) (volume_sectors set.geo.head end) v runs

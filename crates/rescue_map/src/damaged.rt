@@ -1,12 +1,9 @@
 //! Which cells of a row are known.
-ghost use Rattle.std.specs.Prelude.{nat_lt, ℕ, ◌≡◌, ◌+◌, ◌<◌, ◌≤◌, ◌^◌, ◌%◌, length, true};
-ghost use Rattle.raid_params.specs.declared.limits.TheConstants.{MOST};
+ghost use Rattle.std.specs.Prelude.{nat_lt, ℕ, ◌≡◌, ◌+◌, ◌<◌, ◌≤◌, ◌^◌, ◌%◌, true};
 ghost use Rattle.raid_params.specs.Size.{redundancy, volume_sectors as volume_sectors_of};
 ghost use Rattle.raid_params.specs.Slots.{empties};
-ghost use Rattle.raid_params.specs.Validity.{is_valid_head};
-ghost use Rattle.member_regions.specs.Members.{IsTestable};
-ghost use Rattle.rescue_map.specs.Salvaged.{AreKnown};
-ghost use Rattle.rescue_map.specs.Damaged.{damaged as damaged_of, image_sector as image_sector_of, is_good as is_good_of, is_lost as is_lost_of, known_slot as known_slot_of, AreAllGood, IsDamaged};
+ghost use Rattle.rescue_map.specs.Salvaged.{IsKnownRun};
+ghost use Rattle.rescue_map.specs.Damaged.{damaged as damaged_of, image_sector as image_sector_of, is_lost as is_lost_of, known_slot as known_slot_of, AreAllGood, IsDamaged, IsMendable};
 
 use address_map::locate;
 use raid_params::{Geometry, Slots, Wide, count_empty};
@@ -136,13 +133,11 @@ fn known_front(set: &Wide, rescue: &Rescue, first: u64, most: u64, held: Option<
 /// How many volume sectors from number `sector` on, `most` at most, lie beside each other on one member and are known, before
 /// the first one that is not.
 pub(crate) fn known_run(damage: &Damage, sector: u64, most: u64) -> u64
-    requires set { IsTestable damage.now.set.now.geo }
-    requires near { damage.now.end < 2 ^ 55 }
+    requires set { IsMendable damage.now.set.now damage.now.end }
     requires some { 1 ≤ most }
     requires within { sector + most ≤ volume_sectors_of damage.now.set.now.geo.head damage.now.end }
     ensures most { result ≤ most }
-    ensures chunk { sector % damage.now.set.now.geo.head.chunk + result ≤ damage.now.set.now.geo.head.chunk }
-    ensures known { AreKnown damage.now.rescue.now damage.now.set.now sector result }
+    ensures run { IsKnownRun damage.now.rescue.now damage.now.set.now sector result }
 {
     let head = &damage.set.geo.head;
     let Some(home) = locate(head, damage.end, sector) else {

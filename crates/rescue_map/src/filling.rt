@@ -1,9 +1,9 @@
 //! Sectors of the volume, by what was read for them.
-ghost use Rattle.std.specs.Prelude.{ℕ, ◌≡◌, ◌+◌, ◌*◌, ◌^◌, ◌<◌, ◌≤◌, ◌/◌, ◌%◌, length, slice_index};
-ghost use Rattle.member_regions.specs.Members.{IsTestable};
+ghost use Rattle.std.specs.Prelude.{ℕ, ◌≡◌, ◌+◌, ◌*◌, ◌<◌, ◌≤◌, ◌/◌, length, slice_index};
 ghost use Rattle.raid_params.specs.Size.{volume_sectors as volume_sectors_of};
 ghost use Rattle.raid_terms.specs.Parity.{column_of};
-ghost use Rattle.rescue_map.specs.Salvaged.{column_at, filled_byte, IsFilled};
+ghost use Rattle.rescue_map.specs.Damaged.{IsMendable};
+ghost use Rattle.rescue_map.specs.Salvaged.{filled_byte, FillsPiece, HasSector, IsPiece};
 
 use crate::damaged::{Damage, damaged, is_beyond, known_run};
 use address_map::locate;
@@ -32,11 +32,8 @@ pub(crate) struct Threading<'a, R, G> {
 /// Finishes a sector of the volume, `to`: it stays where it was read itself, is found by `row`, a sector of each member, where
 /// its home is not known, and is zeros where it is lost.
 fn fill_sector(damage: &Damage, sector: u64, row: &[u8], to: &mut [u8])
-    requires set { IsTestable damage.now.set.now.geo }
-    requires near { damage.now.end < 2 ^ 55 }
-    requires within { sector < volume_sectors_of damage.now.set.now.geo.head damage.now.end }
-    requires row { length row.now ≡ 512 * length damage.now.set.now.geo.slots.items }
-    requires to { length to.old ≡ 512 }
+    requires set { IsMendable damage.now.set.now damage.now.end }
+    requires sector { HasSector damage.now.set.now damage.now.end sector row.now to.old }
     ensures long { length to.new ≡ 512 }
     ensures filled { (x : ℕ) → x < 512 → slice_index to.new x ≡ filled_byte damage.now.rescue.now damage.now.set.now sector
         (column_of (length damage.now.set.now.geo.slots.items) row.now x) (slice_index to.old x) }
@@ -59,16 +56,9 @@ fn fill_sector(damage: &Damage, sector: u64, row: &[u8], to: &mut [u8])
 /// Finishes the sectors of a piece, the first of which is number `start` of those from `first` on. `rows` has a row of
 /// sectors, one a member, for each of these. Sectors that were read themselves are passed over together.
 pub(crate) fn fill_piece(damage: &Damage, first: u64, start: usize, piece: &mut [u8], rows: &[u8])
-    requires set { IsTestable damage.now.set.now.geo }
-    requires near { damage.now.end < 2 ^ 55 }
-    requires whole { length piece.old % 512 ≡ 0 }
-    requires within { first + (start + length piece.old / 512) ≤ volume_sectors_of damage.now.set.now.geo.head damage.now.end }
-    requires rows { 512 * length damage.now.set.now.geo.slots.items * (start + length piece.old / 512) ≤ length rows.now }
-    ensures long { length piece.new ≡ length piece.old }
-    ensures filled { (j x : ℕ) → 512 * j + 512 ≤ length piece.old → x < 512 → slice_index piece.new (512 * j + x)
-        ≡ filled_byte damage.now.rescue.now damage.now.set.now (first + (start + j))
-        (column_at (length damage.now.set.now.geo.slots.items) rows.now (512 * length damage.now.set.now.geo.slots.items * (start + j)) x)
-        (slice_index piece.old (512 * j + x)) }
+    requires set { IsMendable damage.now.set.now damage.now.end }
+    requires piece { IsPiece damage.now.set.now damage.now.end first start piece.old rows.now }
+    ensures { FillsPiece damage.now.rescue.now damage.now.set.now first start rows.now piece.old piece.new }
 {
     let stride = SECTOR * damage.set.geo.slots.len();
     let count = piece.len() / SECTOR;
@@ -97,26 +87,17 @@ fn fill_pieces<R: Threads + Sync, G: Gate + Sync>(
     block: &mut [u8],
     rows: &[u8],
 )
-    requires set { IsTestable damage.now.set.now.geo }
-    requires near { damage.now.end < 2 ^ 55 }
-    requires whole { length block.old % 512 ≡ 0 }
-    requires within { first + length block.old / 512 ≤ volume_sectors_of damage.now.set.now.geo.head damage.now.end }
-    requires rows { 512 * length damage.now.set.now.geo.slots.items * (length block.old / 512) ≤ length rows.now }
-    ensures long { length block.new ≡ length block.old }
-    ensures filled { (j : ℕ) → j < length block.old / 512 → IsFilled damage.now.rescue.now damage.now.set.now first rows.now block.old block.new j }
+    requires set { IsMendable damage.now.set.now damage.now.end }
+    requires block { IsPiece damage.now.set.now damage.now.end first 0 block.old rows.now }
+    ensures { FillsPiece damage.now.rescue.now damage.now.set.now first 0 rows.now block.old block.new }
 {
     thread::for_each_chunk_mut(
         rt,
         block,
         PIECE,
         &|start: usize, piece: &mut [u8]|
-            requires { IsTestable damage.now.set.now.geo × (damage.now.end < 2 ^ 55) × (length piece.old % 512 ≡ 0)
-                × (first + (start / 512 + length piece.old / 512) ≤ volume_sectors_of damage.now.set.now.geo.head damage.now.end)
-                × (512 * length damage.now.set.now.geo.slots.items * (start / 512 + length piece.old / 512) ≤ length rows.now) }
-            ensures { (j x : ℕ) → 512 * j + 512 ≤ length piece.old → x < 512 → slice_index piece.new (512 * j + x)
-                ≡ filled_byte damage.entry.now.rescue.now damage.entry.now.set.now (first + (start / 512 + j))
-                (column_at (length damage.entry.now.set.now.geo.slots.items) rows.entry.now (512 * length damage.entry.now.set.now.geo.slots.items * (start / 512 + j)) x)
-                (slice_index piece.old (512 * j + x)) }
+            requires { IsMendable damage.now.set.now damage.now.end × IsPiece damage.now.set.now damage.now.end first (start / 512) piece.old rows.now }
+            ensures { FillsPiece damage.entry.now.rescue.now damage.entry.now.set.now first (start / 512) rows.entry.now piece.old piece.new }
         {
             gate.pass(start / PIECE);
             fill_piece(damage, first, start / SECTOR, piece, rows);
@@ -126,8 +107,7 @@ fn fill_pieces<R: Threads + Sync, G: Gate + Sync>(
 
 /// Whether so many of `count` sectors of the volume from number `first` on are to be found that threads are worth their cost.
 fn are_many(damage: &Damage, first: u64, count: usize) -> bool
-    requires set { IsTestable damage.now.set.now.geo }
-    requires near { damage.now.end < 2 ^ 55 }
+    requires set { IsMendable damage.now.set.now damage.now.end }
     requires within { first + count ≤ volume_sectors_of damage.now.set.now.geo.head damage.now.end }
 {
     let mut unknown = 0;
@@ -149,13 +129,9 @@ pub(crate) fn fill_block<R: Threads + Sync, G: Gate + Sync>(
     block: &mut [u8],
     rows: &[u8],
 )
-    requires set { IsTestable damage.now.set.now.geo }
-    requires near { damage.now.end < 2 ^ 55 }
-    requires whole { length block.old % 512 ≡ 0 }
-    requires within { first + length block.old / 512 ≤ volume_sectors_of damage.now.set.now.geo.head damage.now.end }
-    requires rows { 512 * length damage.now.set.now.geo.slots.items * (length block.old / 512) ≤ length rows.now }
-    ensures long { length block.new ≡ length block.old }
-    ensures filled { (j : ℕ) → j < length block.old / 512 → IsFilled damage.now.rescue.now damage.now.set.now first rows.now block.old block.new j }
+    requires set { IsMendable damage.now.set.now damage.now.end }
+    requires block { IsPiece damage.now.set.now damage.now.end first 0 block.old rows.now }
+    ensures { FillsPiece damage.now.rescue.now damage.now.set.now first 0 rows.now block.old block.new }
 {
     if first == 0 {
         fill_pieces(threads.rt, threads.gate, damage, first, block, rows);

@@ -1,8 +1,8 @@
 //! What of a volume is lost, as a text.
-ghost use Rattle.std.specs.Prelude.{◌≡◌, ◌+◌, ◌-◌, ◌*◌, ◌<◌, ◌≤◌, ◌^◌, ◌++◌, [], ℕ, All, Bool, IfOk, IfSome, OnOk, codes, decimal, false, true, length};
-ghost use Rattle.raid_params.specs.Size.{area as area_of, data_blocks as data_blocks_of, rows as rows_of, volume_sectors as volume_sectors_of};
-ghost use Rattle.rescue_map.specs.Damaged.{is_lost as is_lost_of, AreAllGood, IsDamaged};
-ghost use Rattle.rescue_map.specs.LostText.{lines_before, lost_text as lost_text_of, HasRuns};
+ghost use Rattle.std.specs.Prelude.{◌≡◌, ◌+◌, ◌-◌, ◌*◌, ◌<◌, ◌≤◌, ◌^◌, ◌++◌, ℕ, Bool, IfOk, IfSome, OnOk, decimal, false, true};
+ghost use Rattle.raid_params.specs.Size.{data_blocks as data_blocks_of, rows as rows_of, volume_sectors as volume_sectors_of};
+ghost use Rattle.rescue_map.specs.Damaged.{IsDamaged};
+ghost use Rattle.rescue_map.specs.LostText.{lines_before, lost_text as lost_text_of, HasLost, HasRuns};
 ghost use Rattle.value_text.specs.Spelling.{line};
 
 use crate::damaged::{Damage, are_all_good, is_lost};
@@ -24,14 +24,20 @@ pub struct Runs {
     pub good: u64,
 }
 
-/// Appends the line of a run.
-fn add_run(text: &mut Text, first: u64, count: u64) -> Result<(), Memory>
-    ensures { OnOk result (text.new ≡ text.old ++ line (codes "lost " ++ decimal first ++ codes " " ++ decimal count)) }
+/// Appends a line: a word, a number, what stands between, and a number.
+fn add_line(
+    text: &mut Text,
+    word: &[u8],
+    first: u64,
+    between: &[u8],
+    second: u64,
+) -> Result<(), Memory>
+    ensures { OnOk result (text.new ≡ text.old ++ line (word.now ++ decimal first ++ between.now ++ decimal second)) }
 {
-    text.extend_from_slice(b"lost ")?;
+    text.extend_from_slice(word)?;
     add_number(text, first)?;
-    text.extend_from_slice(b" ")?;
-    add_number(text, count)?;
+    text.extend_from_slice(between)?;
+    add_number(text, second)?;
     text.extend_from_slice(b"\n")
 }
 
@@ -56,7 +62,7 @@ impl Runs {
         ensures good { self.new.good ≡ self.old.good }
     {
         if let Some(first) = self.first {
-            add_run(&mut self.text, first, at - first)?;
+            add_line(&mut self.text, b"lost ", first, b" ", at - first)?;
             self.first = None;
         }
         Ok(())
@@ -91,8 +97,8 @@ fn add_sectors(damage: &Damage, from: u64, to: u64, runs: &mut Runs) -> Result<(
     requires set { IsDamaged damage.now.set.now damage.now.end }
     requires range { from ≤ to }
     requires within { to ≤ volume_sectors_of damage.now.set.now.geo.head damage.now.end }
-    requires runs { HasRuns (is_lost_of damage.now.rescue.now damage.now.set.now) (volume_sectors_of damage.now.set.now.geo.head damage.now.end) from runs.old }
-    ensures { OnOk result (HasRuns (is_lost_of damage.now.rescue.now damage.now.set.now) (volume_sectors_of damage.now.set.now.geo.head damage.now.end) to runs.new) }
+    requires runs { HasLost damage.now.rescue.now damage.now.set.now damage.now.end from runs.old }
+    ensures { OnOk result (HasLost damage.now.rescue.now damage.now.set.now damage.now.end to runs.new) }
 {
     for sector in from..to {
         if is_lost(damage.set, damage.end, damage.rescue, sector) {
@@ -108,9 +114,9 @@ fn add_sectors(damage: &Damage, from: u64, to: u64, runs: &mut Runs) -> Result<(
 fn add_rows(damage: &Damage, first: u64, count: u64, runs: &mut Runs) -> Result<(), Memory>
     requires set { IsDamaged damage.now.set.now damage.now.end }
     requires within { first + count ≤ rows_of damage.now.set.now.geo.head damage.now.end }
-    requires runs { HasRuns (is_lost_of damage.now.rescue.now damage.now.set.now) (volume_sectors_of damage.now.set.now.geo.head damage.now.end)
+    requires runs { HasLost damage.now.rescue.now damage.now.set.now damage.now.end
         (first * (damage.now.set.now.geo.head.chunk * data_blocks_of damage.now.set.now.geo.head)) runs.old }
-    ensures { OnOk result (HasRuns (is_lost_of damage.now.rescue.now damage.now.set.now) (volume_sectors_of damage.now.set.now.geo.head damage.now.end)
+    ensures { OnOk result (HasLost damage.now.rescue.now damage.now.set.now damage.now.end
         ((first + count) * (damage.now.set.now.geo.head.chunk * data_blocks_of damage.now.set.now.geo.head)) runs.new) }
 {
     if count == 0 {
@@ -134,17 +140,6 @@ fn add_rows(damage: &Damage, first: u64, count: u64, runs: &mut Runs) -> Result<
     add_rows(damage, first + half, count - half, runs)
 }
 
-/// Appends the line that says how many sectors are not lost.
-fn add_good(text: &mut Text, good: u64, sectors: u64) -> Result<(), Memory>
-    ensures { OnOk result (text.new ≡ text.old ++ line (codes "good " ++ decimal good ++ codes " of " ++ decimal sectors)) }
-{
-    text.extend_from_slice(b"good ")?;
-    add_number(text, good)?;
-    text.extend_from_slice(b" of ")?;
-    add_number(text, sectors)?;
-    text.extend_from_slice(b"\n")
-}
-
 /// What of the volume is lost: a line for each longest run of lost sectors, and how many sectors are not lost.
 pub fn lost_text(alloc: Global, set: &Wide, end: u64, rescue: &Rescue) -> Result<Text, Memory>
     requires set { IsDamaged set.now end }
@@ -156,6 +151,6 @@ pub fn lost_text(alloc: Global, set: &Wide, end: u64, rescue: &Rescue) -> Result
     let mut runs = Runs::new(alloc);
     add_rows(&damage, 0, rows(head, end), &mut runs)?;
     runs.end_at(sectors)?;
-    add_good(&mut runs.text, runs.good, sectors)?;
+    add_line(&mut runs.text, b"good ", runs.good, b" of ", sectors)?;
     Ok(runs.text)
 }

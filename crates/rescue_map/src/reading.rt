@@ -1,13 +1,13 @@
 //! What is read of the images for sectors of the volume.
-ghost use Rattle.std.specs.Prelude.{if◌then◌else◌, ℕ, ◌-◌, ◌%◌, IfOk, ◌≡◌, ◌+◌, ◌*◌, ◌^◌, ◌<◌, ◌≤◌, ◌/◌, length, slice_index, slice_index_or, All, IfSome, OnOk, None};
+ghost use Rattle.std.specs.Prelude.{if◌then◌else◌, ℕ, ◌-◌, ◌%◌, IfOk, ◌≡◌, ◌+◌, ◌*◌, ◌^◌, ◌<◌, ◌≤◌, ◌/◌, length, slice_index, All, IfSome, OnOk, None};
 ghost use Rattle.outside.specs.Attached.{told_all};
-ghost use Rattle.outside.specs.Causes.{HasCause};
 ghost use Rattle.outside.specs.Seen.{OnlyReads};
 ghost use Rattle.std.specs.Option.{is_none};
-ghost use Rattle.member_regions.specs.Members.{held as held_of, IsTestable, Reaches};
+ghost use Rattle.member_regions.specs.Members.{held as held_of, Reaches};
 ghost use Rattle.raid_params.specs.Size.{volume_sectors as volume_sectors_of};
 ghost use Rattle.raid_terms.specs.Parity.{column_of, member_byte};
-ghost use Rattle.rescue_map.specs.Salvaged.{filled_byte, reads_for, reads_for_all, salvaged_sector, AreKnown, IsRead, HoldCells};
+ghost use Rattle.rescue_map.specs.Damaged.{IsReadable};
+ghost use Rattle.rescue_map.specs.Salvaged.{filled_byte, reads_for, reads_for_all, salvaged_sector, HasRoom, HasSector, HoldCells, IsKnownRun, IsRead, KeepLengths, ReadsUpTo};
 
 use crate::damaged::{Damage, damaged, is_beyond, known_run};
 use address_map::locate;
@@ -29,8 +29,7 @@ fn read_cell<I: Images>(
     ensures told { OnOk result (IfSome (told_all (I.seen images.old).attached)
         (λ bytes. (x : ℕ) → x < 512 → slice_index to.new x ≡ member_byte bytes offset sector x held)) }
     ensures long { length to.new ≡ 512 }
-    ensures reads { OnlyReads (I.seen images.old) (I.seen images.new) (if is_none held then 0 else 1) }
-    ensures cause { HasCause (I.seen images.old).faults (I.seen images.new).faults result }
+    ensures reads { ReadsUpTo (I.seen images.old) (I.seen images.new) (if is_none held then 0 else 1) result }
 {
     if held.is_none() {
         to.fill(0);
@@ -52,8 +51,7 @@ fn read_row<I: Images>(
     ensures told { OnOk result (IfSome (told_all (I.seen images.old).attached)
         (λ bytes. HoldCells bytes geo.now.slots.items geo.now.head.offset sector (length geo.now.slots.items) row.new)) }
     ensures long { length row.new ≡ length row.old }
-    ensures reads { OnlyReads (I.seen images.old) (I.seen images.new) (held_of geo.now.slots.items) }
-    ensures cause { HasCause (I.seen images.old).faults (I.seen images.new).faults result }
+    ensures reads { ReadsUpTo (I.seen images.old) (I.seen images.new) (held_of geo.now.slots.items) result }
 {
     for (slot, held) in geo.slots.iter().enumerate() {
         let to = &mut row[SECTOR * slot..SECTOR * slot + SECTOR];
@@ -71,19 +69,13 @@ fn read_sector<I: Images>(
     row: &mut [u8],
     to: &mut [u8],
 ) -> Result<(), Failed>
-    requires set { IsTestable damage.now.set.now.geo }
-    requires near { damage.now.end < 2 ^ 55 }
-    requires held { All (Reaches (I.seen images.old).attached damage.now.end) damage.now.set.now.geo.slots.items }
-    requires within { sector < volume_sectors_of damage.now.set.now.geo.head damage.now.end }
-    requires row { length row.old ≡ 512 * length damage.now.set.now.geo.slots.items }
-    requires to { length to.old ≡ 512 }
+    requires set { IsReadable damage.now.set.now damage.now.end (I.seen images.old).attached }
+    requires sector { HasSector damage.now.set.now damage.now.end sector row.old to.old }
     ensures told { OnOk result (IfSome (told_all (I.seen images.old).attached) (λ bytes. (x : ℕ) → x < 512 →
         filled_byte damage.now.rescue.now damage.now.set.now sector (column_of (length damage.now.set.now.geo.slots.items) row.new x) (slice_index to.new x)
         ≡ slice_index (salvaged_sector bytes damage.now.rescue.now damage.now.set.now sector) x)) }
-    ensures row_long { length row.new ≡ length row.old }
-    ensures to_long { length to.new ≡ length to.old }
-    ensures reads { OnlyReads (I.seen images.old) (I.seen images.new) (reads_for damage.now.rescue.now damage.now.set.now sector) }
-    ensures cause { HasCause (I.seen images.old).faults (I.seen images.new).faults result }
+    ensures lengths { KeepLengths to.old to.new row.old row.new }
+    ensures reads { ReadsUpTo (I.seen images.old) (I.seen images.new) (reads_for damage.now.rescue.now damage.now.set.now sector) result }
 {
     let Some(home) = locate(&damage.set.geo.head, damage.end, sector) else {
         return Ok(());
@@ -106,19 +98,15 @@ fn read_run<I: Images>(
     sector: u64,
     to: &mut [u8],
 ) -> Result<(), Failed>
-    requires set { IsTestable damage.now.set.now.geo }
-    requires near { damage.now.end < 2 ^ 55 }
-    requires held { All (Reaches (I.seen images.old).attached damage.now.end) damage.now.set.now.geo.slots.items }
+    requires set { IsReadable damage.now.set.now damage.now.end (I.seen images.old).attached }
     requires whole { length to.old % 512 ≡ 0 }
     requires some { 0 < length to.old }
     requires within { sector + length to.old / 512 ≤ volume_sectors_of damage.now.set.now.geo.head damage.now.end }
-    requires chunk { sector % damage.now.set.now.geo.head.chunk + length to.old / 512 ≤ damage.now.set.now.geo.head.chunk }
-    requires known { AreKnown damage.now.rescue.now damage.now.set.now sector (length to.old / 512) }
+    requires run { IsKnownRun damage.now.rescue.now damage.now.set.now sector (length to.old / 512) }
     ensures told { OnOk result (IfSome (told_all (I.seen images.old).attached) (λ bytes. (i x : ℕ) → i < length to.old / 512 → x < 512 →
         slice_index to.new (512 * i + x) ≡ slice_index (salvaged_sector bytes damage.now.rescue.now damage.now.set.now (sector + i)) x)) }
     ensures long { length to.new ≡ length to.old }
-    ensures reads { OnlyReads (I.seen images.old) (I.seen images.new) (length to.old / 512) }
-    ensures cause { HasCause (I.seen images.old).faults (I.seen images.new).faults result }
+    ensures reads { ReadsUpTo (I.seen images.old) (I.seen images.new) (length to.old / 512) result }
 {
     let head = &damage.set.geo.head;
     match locate(head, damage.end, sector) {
@@ -141,22 +129,16 @@ fn read_next<I: Images>(
     block: &mut [u8],
     rows: &mut [u8],
 ) -> Result<usize, Failed>
-    requires set { IsTestable damage.now.set.now.geo }
-    requires near { damage.now.end < 2 ^ 55 }
-    requires held { All (Reaches (I.seen images.old).attached damage.now.end) damage.now.set.now.geo.slots.items }
+    requires set { IsReadable damage.now.set.now damage.now.end (I.seen images.old).attached }
     requires more { j < count }
-    requires within { first + count ≤ volume_sectors_of damage.now.set.now.geo.head damage.now.end }
-    requires block { 512 * count ≤ length block.old }
-    requires rows { 512 * length damage.now.set.now.geo.slots.items * count ≤ length rows.old }
+    requires room { HasRoom damage.now.set.now damage.now.end first count block.old rows.old }
     ensures next { IfOk result (λ k. (j < k) × (k ≤ count)) }
     ensures told { IfOk result (λ k. IfSome (told_all (I.seen images.old).attached) (λ bytes.
         ((i : ℕ) → i < j → IsRead bytes damage.now.rescue.now damage.now.set.now first rows.old block.old i) →
         (i : ℕ) → i < k → IsRead bytes damage.now.rescue.now damage.now.set.now first rows.new block.new i)) }
-    ensures block_long { length block.new ≡ length block.old }
-    ensures rows_long { length rows.new ≡ length rows.old }
+    ensures lengths { KeepLengths block.old block.new rows.old rows.new }
     ensures reads { IfOk result (λ k. OnlyReads (I.seen images.old) (I.seen images.new) (reads_for_all damage.now.rescue.now damage.now.set.now (first + j) (k - j))) }
-    ensures reads_most { OnlyReads (I.seen images.old) (I.seen images.new) (reads_for_all damage.now.rescue.now damage.now.set.now (first + j) (count - j)) }
-    ensures cause { HasCause (I.seen images.old).faults (I.seen images.new).faults result }
+    ensures reads_most { ReadsUpTo (I.seen images.old) (I.seen images.new) (reads_for_all damage.now.rescue.now damage.now.set.now (first + j) (count - j)) result }
 {
     let run = known_run(damage, first + j as u64, (count - j) as u64) as usize;
     if run > 0 {
@@ -181,18 +163,12 @@ pub(crate) fn read_block<I: Images>(
     block: &mut [u8],
     rows: &mut [u8],
 ) -> Result<(), Failed>
-    requires set { IsTestable damage.now.set.now.geo }
-    requires near { damage.now.end < 2 ^ 55 }
-    requires held { All (Reaches (I.seen images.old).attached damage.now.end) damage.now.set.now.geo.slots.items }
-    requires within { first + count ≤ volume_sectors_of damage.now.set.now.geo.head damage.now.end }
-    requires block { 512 * count ≤ length block.old }
-    requires rows { 512 * length damage.now.set.now.geo.slots.items * count ≤ length rows.old }
+    requires set { IsReadable damage.now.set.now damage.now.end (I.seen images.old).attached }
+    requires room { HasRoom damage.now.set.now damage.now.end first count block.old rows.old }
     ensures told { OnOk result (IfSome (told_all (I.seen images.old).attached)
         (λ bytes. (j : ℕ) → j < count → IsRead bytes damage.now.rescue.now damage.now.set.now first rows.new block.new j)) }
-    ensures block_long { length block.new ≡ length block.old }
-    ensures rows_long { length rows.new ≡ length rows.old }
-    ensures reads { OnlyReads (I.seen images.old) (I.seen images.new) (reads_for_all damage.now.rescue.now damage.now.set.now first count) }
-    ensures cause { HasCause (I.seen images.old).faults (I.seen images.new).faults result }
+    ensures lengths { KeepLengths block.old block.new rows.old rows.new }
+    ensures reads { ReadsUpTo (I.seen images.old) (I.seen images.new) (reads_for_all damage.now.rescue.now damage.now.set.now first count) result }
 {
     let mut j = 0;
     while j < count {

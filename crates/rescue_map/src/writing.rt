@@ -1,17 +1,15 @@
 //! The volume of damaged members, written out.
-ghost use Rattle.std.specs.Prelude.{ℕ, ◌≡◌, ◌+◌, ◌*◌, ◌/◌, ◌%◌, ◌^◌, ◌<◌, ◌≤◌, length, All, IfErr, IfSome, OnOk, None};
-ghost use Rattle.std.specs.Io.KnownBytes.{Appends};
+ghost use Rattle.std.specs.Prelude.{◌≡◌, ◌+◌, ◌*◌, ◌/◌, ◌<◌, ◌≤◌, length, IfErr, IfSome, OnOk};
 ghost use Rattle.std.specs.Result.{IsErrOf};
 ghost use Rattle.outside.specs.Attached.{told_all};
-ghost use Rattle.outside.specs.Causes.{HasCause};
 ghost use Rattle.outside.specs.Seen.{OnlyReads};
-ghost use Rattle.outside.specs.Streams.{AppendsFront, AppendsSectors, Puts};
-ghost use Rattle.member_regions.specs.Members.{IsTestable, Reaches};
+ghost use Rattle.outside.specs.Streams.{Puts};
 ghost use Rattle.member_regions.specs.declared.regions.TheConstants.{BLOCK as BLOCK_SECTORS};
 ghost use Rattle.padded_images.specs.Padded.{padded_images};
 ghost use Rattle.raid_params.specs.Size.{volume_sectors as volume_sectors_of};
-ghost use Rattle.virtual_volume.specs.Served.{Faults, IsFault, IsServed};
-ghost use Rattle.rescue_map.specs.Salvaged.{reads_for_all, salvaged as salvaged_of, salvaged_sectors, IsReadAhead, IsSalvaged};
+ghost use Rattle.virtual_volume.specs.Served.{Faults, IsFault};
+ghost use Rattle.rescue_map.specs.Damaged.{IsReadable};
+ghost use Rattle.rescue_map.specs.Salvaged.{reads_for_all, salvaged_sectors, IsPiece, IsSalvaged, KeepLengths, ReadsUpTo, Salvages};
 
 use crate::damaged::Damage;
 use crate::filling::{Threading, fill_block};
@@ -36,25 +34,19 @@ fn make_block<R: Threads + Sync, I: Images, G: Gate + Sync>(
     block: &mut [u8],
     rows: &mut [u8],
 ) -> Result<(), Failed>
-    requires set { IsTestable damage.now.set.now.geo }
-    requires near { damage.now.end < 2 ^ 55 }
-    requires held { All (Reaches (I.seen images.old).attached damage.now.end) damage.now.set.now.geo.slots.items }
-    requires whole { length block.old % 512 ≡ 0 }
-    requires within { first + length block.old / 512 ≤ volume_sectors_of damage.now.set.now.geo.head damage.now.end }
-    requires rows { 512 * length damage.now.set.now.geo.slots.items * (length block.old / 512) ≤ length rows.old }
+    requires set { IsReadable damage.now.set.now damage.now.end (I.seen images.old).attached }
+    requires block { IsPiece damage.now.set.now damage.now.end first 0 block.old rows.old }
     ensures told { OnOk result (IfSome (told_all (I.seen images.old).attached)
         (λ bytes. block.new ≡ salvaged_sectors bytes damage.now.rescue.now damage.now.set.now first (length block.old / 512))) }
-    ensures block_long { length block.new ≡ length block.old }
-    ensures rows_long { length rows.new ≡ length rows.old }
-    ensures reads { OnlyReads (I.seen images.old) (I.seen images.new) (reads_for_all damage.now.rescue.now damage.now.set.now first (length block.old / 512)) }
-    ensures cause { HasCause (I.seen images.old).faults (I.seen images.new).faults result }
+    ensures lengths { KeepLengths block.old block.new rows.old rows.new }
+    ensures reads { ReadsUpTo (I.seen images.old) (I.seen images.new) (reads_for_all damage.now.rescue.now damage.now.set.now first (length block.old / 512)) result }
 {
     read_block(images, damage, first, block.len() / SECTOR, block, rows)?;
     fill_block(threads, damage, first, block, rows);
     Ok(())
 }
 
-/// Writes `count` sectors of the volume from number `first` on.
+/// Writes the sectors of the volume from number `first` on that fit into `block`.
 fn write_block<R: Threads + Sync, I: Images, K: Sink, G: Gate + Sync>(
     threads: &Threading<R, G>,
     images: &mut I,
@@ -64,12 +56,8 @@ fn write_block<R: Threads + Sync, I: Images, K: Sink, G: Gate + Sync>(
     block: &mut [u8],
     rows: &mut [u8],
 ) -> Result<(), VolumeFault>
-    requires set { IsTestable damage.now.set.now.geo }
-    requires near { damage.now.end < 2 ^ 55 }
-    requires held { All (Reaches (I.seen images.old).attached damage.now.end) damage.now.set.now.geo.slots.items }
-    requires whole { length block.old % 512 ≡ 0 }
-    requires within { first + length block.old / 512 ≤ volume_sectors_of damage.now.set.now.geo.head damage.now.end }
-    requires rows { 512 * length damage.now.set.now.geo.slots.items * (length block.old / 512) ≤ length rows.old }
+    requires set { IsReadable damage.now.set.now damage.now.end (I.seen images.old).attached }
+    requires block { IsPiece damage.now.set.now damage.now.end first 0 block.old rows.old }
     ensures put { IfSome (told_all (I.seen images.old).attached)
         (λ bytes. Puts (K.gained sink.old) (K.gained sink.new) result (salvaged_sectors bytes damage.now.rescue.now damage.now.set.now first (length block.old / 512))) }
     ensures unput { IsErrOf result VolumeFault.ReadFault → K.gained sink.new ≡ K.gained sink.old }
@@ -77,8 +65,7 @@ fn write_block<R: Threads + Sync, I: Images, K: Sink, G: Gate + Sync>(
     ensures later { K.faults sink.old ≤ K.faults sink.new }
     ensures faults { Faults (I.seen images.old).faults (I.seen images.new).faults (K.faults sink.old) (K.faults sink.new) result }
     ensures ends { IfErr result IsFault }
-    ensures block_long { length block.new ≡ length block.old }
-    ensures rows_long { length rows.new ≡ length rows.old }
+    ensures lengths { KeepLengths block.old block.new rows.old rows.new }
 {
     make_block(threads, images, damage, first, block, rows).map_err(|_| VolumeFault::ReadFault)?;
     sink.put(block).map_err(|_| VolumeFault::WriteFault)
@@ -94,21 +81,12 @@ fn write_blocks<R: Threads + Sync, I: Images, K: Sink, G: Gate + Sync>(
     block: &mut [u8],
     rows: &mut [u8],
 ) -> Result<(), VolumeFault>
-    requires set { IsTestable damage.now.set.now.geo }
-    requires near { damage.now.end < 2 ^ 55 }
-    requires held { All (Reaches (I.seen images.old).attached damage.now.end) damage.now.set.now.geo.slots.items }
+    requires set { IsReadable damage.now.set.now damage.now.end (I.seen images.old).attached }
     requires within { sectors ≤ volume_sectors_of damage.now.set.now.geo.head damage.now.end }
     requires block { length block.old ≡ 512 * BLOCK_SECTORS }
     requires rows { 512 * length damage.now.set.now.geo.slots.items * BLOCK_SECTORS ≤ length rows.old }
-    ensures put { IfSome (told_all (I.seen images.old).attached)
-        (λ bytes. Puts (K.gained sink.old) (K.gained sink.new) result (salvaged_sectors bytes damage.now.rescue.now damage.now.set.now 0 sectors)) }
-    ensures whole { IsErrOf result VolumeFault.ReadFault → IfSome (told_all (I.seen images.old).attached)
-        (λ bytes. AppendsSectors (K.gained sink.old) (K.gained sink.new) (salvaged_sectors bytes damage.now.rescue.now damage.now.set.now 0 sectors)) }
-    ensures reads { OnlyReads (I.seen images.old) (I.seen images.new) (reads_for_all damage.now.rescue.now damage.now.set.now 0 sectors) }
-    ensures ahead { IfSome (told_all (I.seen images.old).attached)
-        (λ bytes. IsReadAhead damage.now.rescue.now damage.now.set.now sectors (I.seen images.old).sectors_read (I.seen images.new).sectors_read (K.gained sink.old) (K.gained sink.new)) }
-    ensures later { K.faults sink.old ≤ K.faults sink.new }
-    ensures faults { Faults (I.seen images.old).faults (I.seen images.new).faults (K.faults sink.old) (K.faults sink.new) result }
+    ensures salvages { Salvages (told_all (I.seen images.old).attached) damage.now.rescue.now damage.now.set.now sectors
+        (I.seen images.old) (I.seen images.new) (K.gained sink.old) (K.gained sink.new) (K.faults sink.old) (K.faults sink.new) result }
     ensures ends { IfErr result IsFault }
 {
     let mut first = 0;
@@ -121,7 +99,7 @@ fn write_blocks<R: Threads + Sync, I: Images, K: Sink, G: Gate + Sync>(
     Ok(())
 }
 
-/// Writes the volume over images whose members all begin at the offset of the set's geometry.
+/// Writes the volume over images whose members all begin at the offset of the set's geometry, as they do once they are padded.
 fn salvage_over<R: Threads + Sync, I: Images, K: Sink, G: Gate + Sync>(
     threads: &Threading<R, G>,
     alloc: Global,
@@ -129,21 +107,9 @@ fn salvage_over<R: Threads + Sync, I: Images, K: Sink, G: Gate + Sync>(
     sink: &mut K,
     damage: &Damage,
 ) -> Result<(), VolumeFault>
-    requires set { IsTestable damage.now.set.now.geo }
-    requires near { damage.now.end < 2 ^ 55 }
-    requires held { All (Reaches (I.seen images.old).attached damage.now.end) damage.now.set.now.geo.slots.items }
-    ensures put { IfSome (told_all (I.seen images.old).attached)
-        (λ bytes. Puts (K.gained sink.old) (K.gained sink.new) result (salvaged_of bytes damage.now.rescue.now damage.now.set.now damage.now.end)) }
-    ensures whole { IsErrOf result VolumeFault.ReadFault → IfSome (told_all (I.seen images.old).attached)
-        (λ bytes. AppendsSectors (K.gained sink.old) (K.gained sink.new) (salvaged_of bytes damage.now.rescue.now damage.now.set.now damage.now.end)) }
-    ensures memory { IsErrOf result VolumeFault.Memory →
-        (K.gained sink.new ≡ K.gained sink.old) × (I.seen images.new ≡ I.seen images.old) }
-    ensures reads { OnlyReads (I.seen images.old) (I.seen images.new)
-        (reads_for_all damage.now.rescue.now damage.now.set.now 0 (volume_sectors_of damage.now.set.now.geo.head damage.now.end)) }
-    ensures ahead { IfSome (told_all (I.seen images.old).attached)
-        (λ bytes. IsReadAhead damage.now.rescue.now damage.now.set.now (volume_sectors_of damage.now.set.now.geo.head damage.now.end) (I.seen images.old).sectors_read (I.seen images.new).sectors_read (K.gained sink.old) (K.gained sink.new)) }
-    ensures later { K.faults sink.old ≤ K.faults sink.new }
-    ensures faults { Faults (I.seen images.old).faults (I.seen images.new).faults (K.faults sink.old) (K.faults sink.new) result }
+    requires set { IsReadable damage.now.set.now damage.now.end (I.seen images.old).attached }
+    ensures { Salvages (told_all (I.seen images.old).attached) damage.now.rescue.now damage.now.set.now (volume_sectors_of damage.now.set.now.geo.head damage.now.end)
+        (I.seen images.old) (I.seen images.new) (K.gained sink.old) (K.gained sink.new) (K.faults sink.old) (K.faults sink.new) result }
 {
     let sectors = volume_sectors(&damage.set.geo.head, damage.end);
     let stride = SECTOR * damage.set.geo.slots.len();
@@ -152,33 +118,6 @@ fn salvage_over<R: Threads + Sync, I: Images, K: Sink, G: Gate + Sync>(
     write_blocks(
         threads, images, sink, damage, sectors, &mut block, &mut rows,
     )
-}
-
-/// Writes the volume over images that have bases of their own, once they are padded.
-fn salvage_padded<R: Threads + Sync, I: Images, K: Sink, G: Gate + Sync>(
-    threads: &Threading<R, G>,
-    alloc: Global,
-    images: &mut I,
-    sink: &mut K,
-    damage: &Damage,
-) -> Result<(), VolumeFault>
-    requires set { IsSalvaged damage.now.set.now damage.now.end (I.seen images.old).attached }
-    requires bases { 0 < length damage.now.set.now.bases.items }
-    ensures put { IfSome (told_all (padded_images damage.now.set.now.bases.items (I.seen images.old).attached))
-        (λ bytes. Puts (K.gained sink.old) (K.gained sink.new) result (salvaged_of bytes damage.now.rescue.now damage.now.set.now damage.now.end)) }
-    ensures whole { IsErrOf result VolumeFault.ReadFault → IfSome (told_all (padded_images damage.now.set.now.bases.items (I.seen images.old).attached))
-        (λ bytes. AppendsSectors (K.gained sink.old) (K.gained sink.new) (salvaged_of bytes damage.now.rescue.now damage.now.set.now damage.now.end)) }
-    ensures memory { IsErrOf result VolumeFault.Memory →
-        (K.gained sink.new ≡ K.gained sink.old) × (I.seen images.new ≡ I.seen images.old) }
-    ensures reads { OnlyReads (I.seen images.old) (I.seen images.new)
-        (reads_for_all damage.now.rescue.now damage.now.set.now 0 (volume_sectors_of damage.now.set.now.geo.head damage.now.end)) }
-    ensures ahead { IfSome (told_all (padded_images damage.now.set.now.bases.items (I.seen images.old).attached))
-        (λ bytes. IsReadAhead damage.now.rescue.now damage.now.set.now (volume_sectors_of damage.now.set.now.geo.head damage.now.end) (I.seen images.old).sectors_read (I.seen images.new).sectors_read (K.gained sink.old) (K.gained sink.new)) }
-    ensures later { K.faults sink.old ≤ K.faults sink.new }
-    ensures faults { Faults (I.seen images.old).faults (I.seen images.new).faults (K.faults sink.old) (K.faults sink.new) result }
-{
-    let mut padded = Padded::new(images, damage.set.bases.as_slice());
-    salvage_over(threads, alloc, &mut padded, sink, damage)
 }
 
 /// Writes the volume of a set whose images have unreadable areas, by what was read of them: `volume_sectors` sectors, in their
@@ -191,7 +130,8 @@ fn salvage_padded<R: Threads + Sync, I: Images, K: Sink, G: Gate + Sync>(
 ///
 /// Memory may run out only before anything is read or written. After that only a fault of the images or of the sink ends the
 /// work: then a prefix of the volume was written, of whole sectors where the images failed. One sector at most is read for
-/// each sector that is there, the good cells of its row for each that is found, and none for one that is lost.
+/// each sector that is there, the good cells of its row for each that is found, and none for one that is lost; and no more than
+/// for what the sink gained and for one block more, also where the work failed.
 pub fn salvage<R: Threads + Sync, I: Images, K: Sink, G: Gate + Sync>(
     rt: &R,
     alloc: Global,
@@ -203,24 +143,14 @@ pub fn salvage<R: Threads + Sync, I: Images, K: Sink, G: Gate + Sync>(
     gate: &G,
 ) -> Result<(), VolumeFault>
     requires set { IsSalvaged set.now end (I.seen images.old).attached }
-    ensures put { IfSome (told_all (padded_images set.now.bases.items (I.seen images.old).attached))
-        (λ bytes. Puts (K.gained sink.old) (K.gained sink.new) result (salvaged_of bytes rescue.now set.now end)) }
-    ensures whole { IsErrOf result VolumeFault.ReadFault → IfSome (told_all (padded_images set.now.bases.items (I.seen images.old).attached))
-        (λ bytes. AppendsSectors (K.gained sink.old) (K.gained sink.new) (salvaged_of bytes rescue.now set.now end)) }
-    ensures memory { IsErrOf result VolumeFault.Memory →
-        (K.gained sink.new ≡ K.gained sink.old) × (I.seen images.new ≡ I.seen images.old) }
-    ensures reads { OnlyReads (I.seen images.old) (I.seen images.new) (reads_for_all rescue.now set.now 0 (volume_sectors_of set.now.geo.head end)) }
-
-    // No more is read than for what the sink gained, and for one block more, also where it failed.
-    ensures ahead { IfSome (told_all (padded_images set.now.bases.items (I.seen images.old).attached))
-        (λ bytes. IsReadAhead rescue.now set.now (volume_sectors_of set.now.geo.head end) (I.seen images.old).sectors_read (I.seen images.new).sectors_read (K.gained sink.old) (K.gained sink.new)) }
-    ensures later { K.faults sink.old ≤ K.faults sink.new }
-    ensures faults { Faults (I.seen images.old).faults (I.seen images.new).faults (K.faults sink.old) (K.faults sink.new) result }
+    ensures { Salvages (told_all (padded_images set.now.bases.items (I.seen images.old).attached)) rescue.now set.now (volume_sectors_of set.now.geo.head end)
+        (I.seen images.old) (I.seen images.new) (K.gained sink.old) (K.gained sink.new) (K.faults sink.old) (K.faults sink.new) result }
 {
     let threads = Threading { rt, gate };
     let damage = Damage { set, end, rescue };
     if set.bases.is_empty() {
         return salvage_over(&threads, alloc, images, sink, &damage);
     }
-    salvage_padded(&threads, alloc, images, sink, &damage)
+    let mut padded = Padded::new(images, set.bases.as_slice());
+    salvage_over(&threads, alloc, &mut padded, sink, &damage)
 }

@@ -13,7 +13,7 @@ overflow_add-row c =
     let many = c.args.start + length c.args.piece.now / 512 in
     let lies = region_inside (512 * c.len-stride.result) (c.args.start + c.loop-j.j) many (omega arith) in
     let same : 512 * c.len-stride.result * many ≡ 512 * slots * many = ap (λ (k : ℕ). k * many) c.loop-j.invariant.stride in
-    let fits = c.requires.rows in
+    let fits = c.requires.piece.room in
     omega arith
 
 pub slice_bounds-row-end : goal.slice_bounds-row-end
@@ -22,14 +22,14 @@ slice_bounds-row-end c =
     let many = c.args.start + length c.args.piece.now / 512 in
     let lies = region_inside (512 * c.len-stride.result) (c.args.start + c.loop-j.j) many (omega arith) in
     let same : 512 * c.len-stride.result * many ≡ 512 * slots * many = ap (λ (k : ℕ). k * many) c.loop-j.invariant.stride in
-    let fits = c.requires.rows in
+    let fits = c.requires.piece.room in
     search rules
 
 pub overflow_add-sector-in-loop-j : goal.overflow_add-sector-in-loop-j
 overflow_add-sector-in-loop-j c =
     let damage = c.args.damage.now in
-    let short = volume_short damage.set.now damage.end (damage_of damage.set.now damage.end c.requires.set c.requires.near) in
-    let within = c.requires.within in
+    let short = volume_short damage.set.now damage.end (damage_of damage.set.now damage.end c.requires.set.shape c.requires.set.near) in
+    let within = c.requires.piece.within in
     omega arith
 
 pub loop-j-preserved-then-known-eq0 : goal.loop-j-preserved-then-known-eq0
@@ -74,6 +74,12 @@ loop-j-preserved c =
       long = c.loop-j.invariant.long;
       done =
           over_more damage.rescue.now damage.set.now c.args.first c.args.start c.loop-j.j c.known_run-known.result c.loop-j.piece c.args.piece.now c.args.rows.now
-          c.known_run-known.ensures.known c.loop-j.invariant.done c.loop-j.invariant.rest;
+          c.known_run-known.ensures.run.known c.loop-j.invariant.done c.loop-j.invariant.rest;
       rest = λ p low. c.loop-j.invariant.rest p (omega arith);
     }
+
+pub returns : goal.returns
+returns c = record {
+  long = c.loop-j.invariant.long;
+  filled = λ j below x inside. c.loop-j.invariant.done j x (omega arith) inside;
+}

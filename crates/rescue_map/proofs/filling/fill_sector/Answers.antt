@@ -18,15 +18,15 @@ pub damaged-geo-requires : goal.damaged-geo-requires
 damaged-geo-requires c =
     let damage = c.args.damage.now in
     let set = damage.set.now in
-    let before = home_before set.geo.head damage.end c.in-Some.home.slot c.in-Some.home.sector c.args.sector (testable_head set.geo c.requires.set) c.in-Some.ensures.lies c.requires.within in
-    let near = c.requires.near in
+    let before = home_before set.geo.head damage.end c.in-Some.home.slot c.in-Some.home.sector c.args.sector (testable_head set.geo c.requires.set.shape) c.in-Some.ensures.lies c.requires.sector.within in
+    let near = c.requires.set.near in
     record { near = omega arith }
 
 pub bounds-deref-slot : goal.bounds-deref-slot
 bounds-deref-slot c =
     let damage = c.args.damage.now in
     let set = damage.set.now in
-    let inside = home_in damage.rescue.now set c.in-Some.home.slot c.in-Some.home.sector c.args.sector c.damaged-geo.result (testable_head set.geo c.requires.set) (sym (testable_slots set.geo c.requires.set)) c.in-Some.ensures.lies c.damaged-geo.ensures in
+    let inside = home_in damage.rescue.now set c.in-Some.home.slot c.in-Some.home.sector c.args.sector c.damaged-geo.result (testable_head set.geo c.requires.set.shape) (sym (testable_slots set.geo c.requires.set.shape)) c.in-Some.ensures.lies c.damaged-geo.ensures in
     subst (λ (l : List (Option ℕ)). c.in-Some.home.slot < length l) (sym c.deref.ensures.0) inside
 
 pub returns-then-is_some-clause-filled : goal.returns-then-is_some-clause-filled
@@ -55,13 +55,13 @@ pub row_cells-requires-clause-head : goal.row_cells-requires-clause-head
 row_cells-requires-clause-head c =
     let damage = c.args.damage.now in
     let set = damage.set.now in
-    subst (λ (h : Head). IsTrue (is_valid_head h)) (sym (row_head damage.rescue.now set c.in-Some.home.sector c.damaged-geo.result c.damaged-geo.ensures)) (testable_head set.geo c.requires.set)
+    subst (λ (h : Head). IsTrue (is_valid_head h)) (sym (row_head damage.rescue.now set c.in-Some.home.sector c.damaged-geo.result c.damaged-geo.ensures)) (testable_head set.geo c.requires.set.shape)
 
 pub row_cells-requires-clause-slots : goal.row_cells-requires-clause-slots
 row_cells-requires-clause-slots c =
     let damage = c.args.damage.now in
     let set = damage.set.now in
-    row_slots damage.rescue.now set c.in-Some.home.sector c.damaged-geo.result c.damaged-geo.ensures ∙ testable_slots set.geo c.requires.set
+    row_slots damage.rescue.now set c.in-Some.home.sector c.damaged-geo.result c.damaged-geo.ensures ∙ testable_slots set.geo c.requires.set.shape
     ∙ ap (λ (h : Head). h.members) (sym (row_head damage.rescue.now set c.in-Some.home.sector c.damaged-geo.result c.damaged-geo.ensures))
 
 pub solve-requires-clause-cells : goal.solve-requires-clause-cells
@@ -72,7 +72,7 @@ solve-requires-clause-cells c =
     let few : empties row.slots.items ≤ redundancy row.head.level = few_of (redundancy row.head.level) (empties row.slots.items) (sym c.is_beyond.ensures ∙ c.if-is_beyond.false) in
     let level = row_level damage.rescue.now set c.in-Some.home.sector row c.damaged-geo.ensures in
     subst (λ (cs : List Cell). IsRow cs) (sym (c.deref-2.ensures.0 ∙ c.row_cells.ensures))
-    (row_of set.geo row c.in-Some.home.row c.requires.set (row_head damage.rescue.now set c.in-Some.home.sector row c.damaged-geo.ensures) (row_slots damage.rescue.now set c.in-Some.home.sector row c.damaged-geo.ensures) (omega arith))
+    (row_of set.geo row c.in-Some.home.row c.requires.set.shape (row_head damage.rescue.now set c.in-Some.home.sector row c.damaged-geo.ensures) (row_slots damage.rescue.now set c.in-Some.home.sector row c.damaged-geo.ensures) (omega arith))
 
 pub solve-requires-clause-row : goal.solve-requires-clause-row
 solve-requires-clause-row c =
@@ -81,7 +81,7 @@ solve-requires-clause-row c =
     let row = c.damaged-geo.result in
     let cells = row_length row c.in-Some.home.row c.deref-2.result.now (c.deref-2.ensures.0 ∙ c.row_cells.ensures) in
     let slots = row_slots damage.rescue.now set c.in-Some.home.sector row c.damaged-geo.ensures in
-    let long = c.requires.row in
+    let long = c.requires.sector.members in
     omega arith
 
 pub solve-requires-clause-place : goal.solve-requires-clause-place
@@ -90,7 +90,7 @@ solve-requires-clause-place c =
     let set = damage.set.now in
     let row = c.damaged-geo.result in
     let cells = row_length row c.in-Some.home.row c.deref-2.result.now (c.deref-2.ensures.0 ∙ c.row_cells.ensures) in
-    let inside = home_in damage.rescue.now set c.in-Some.home.slot c.in-Some.home.sector c.args.sector row (testable_head set.geo c.requires.set) (sym (testable_slots set.geo c.requires.set)) c.in-Some.ensures.lies c.damaged-geo.ensures in
+    let inside = home_in damage.rescue.now set c.in-Some.home.slot c.in-Some.home.sector c.args.sector row (testable_head set.geo c.requires.set.shape) (sym (testable_slots set.geo c.requires.set.shape)) c.in-Some.ensures.lies c.damaged-geo.ensures in
     omega arith
 
 none_of : (held : Option ℕ) → is_some held ≡ false → held ≡ None
@@ -103,7 +103,7 @@ solve-requires-clause-missing c =
     let set = damage.set.now in
     let slot = c.in-Some.home.slot in
     let row = c.damaged-geo.result in
-    let inside = home_in damage.rescue.now set slot c.in-Some.home.sector c.args.sector row (testable_head set.geo c.requires.set) (sym (testable_slots set.geo c.requires.set)) c.in-Some.ensures.lies c.damaged-geo.ensures in
+    let inside = home_in damage.rescue.now set slot c.in-Some.home.sector c.args.sector row (testable_head set.geo c.requires.set.shape) (sym (testable_slots set.geo c.requires.set.shape)) c.in-Some.ensures.lies c.damaged-geo.ensures in
     let none : is_some (get_or row.slots.items slot None) ≡ false = ap (λ (l : List (Option ℕ)). is_some (get_or l slot None)) (sym c.deref.ensures.0) ∙ sym c.is_some.ensures ∙ c.if-is_some.false in
     slot_missing row c.in-Some.home.row slot c.deref-2.result.now (c.deref-2.ensures.0 ∙ c.row_cells.ensures) inside (none_of (get_or row.slots.items slot None) none)
 

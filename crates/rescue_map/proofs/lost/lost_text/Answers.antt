@@ -45,5 +45,5 @@ returns c =
     let whole = rows_whole set c.args.end c.rows.result c.rows.ensures ∙ sym is in
     let has = subst (λ (k : ℕ). HasRuns lost sectors k c.add_rows.new.runs) whole c.in_ok-add_rows.ensures in
     let ended = c.in_ok-end_at.ensures in
-    whole_text lost sectors at c.end_at.new.self.good c.end_at.new.self.text c.add_good.new.text is c.in_ok-add_good.ensures
+    whole_text lost sectors at c.end_at.new.self.good c.end_at.new.self.text c.add_line.new.text is c.in_ok-add_line.ensures
     (ended.lines lost sectors has (λ below. absurd (omega arith))) (ended.good ∙ has.good)

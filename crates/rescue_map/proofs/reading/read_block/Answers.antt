@@ -7,9 +7,12 @@ use Rattle.rescue_map.proofs.reading.read_block.Goals as goal
 
 pub returns-in_err-j-clause-reads : goal.returns-in_err-j-clause-reads
 returns-in_err-j-clause-reads g c =
-    let damage = c.args.damage.now in
-    reads_some (g.I.Images.seen c.args.images.now) (g.I.Images.seen c.read_next.new.images) damage.rescue.now damage.set.now c.args.first (c.loop-j.j + (c.args.count - c.loop-j.j)) c.args.count (omega arith)
-    (reads_blocks (g.I.Images.seen c.args.images.now) (g.I.Images.seen c.loop-j.images) (g.I.Images.seen c.read_next.new.images) damage.rescue.now damage.set.now c.args.first c.loop-j.j (c.args.count - c.loop-j.j) c.loop-j.invariant.reads c.read_next.ensures.reads_most)
+    let damage = c.args.damage.now in record {
+      only =
+          reads_some (g.I.Images.seen c.args.images.now) (g.I.Images.seen c.read_next.new.images) damage.rescue.now damage.set.now c.args.first (c.loop-j.j + (c.args.count - c.loop-j.j)) c.args.count (omega arith)
+          (reads_blocks (g.I.Images.seen c.args.images.now) (g.I.Images.seen c.loop-j.images) (g.I.Images.seen c.read_next.new.images) damage.rescue.now damage.set.now c.args.first c.loop-j.j (c.args.count - c.loop-j.j) c.loop-j.invariant.reads c.read_next.ensures.reads_most.only);
+      cause = search rules;
+    }
 
 pub loop-j-preserved : goal.loop-j-preserved
 loop-j-preserved g c =
@@ -23,8 +26,8 @@ loop-j-preserved g c =
     (i : ℕ) → i < k → IsRead bytes damage.rescue.now set c.args.first c.read_next.new.rows c.read_next.new.block i) = c.in_ok-j.ensures.told in
     record {
       within = on.1;
-      block_long = c.read_next.ensures.block_long ∙ c.loop-j.invariant.block_long;
-      rows_long = c.read_next.ensures.rows_long ∙ c.loop-j.invariant.rows_long;
+      block_long = c.read_next.ensures.lengths.block ∙ c.loop-j.invariant.block_long;
+      rows_long = c.read_next.ensures.lengths.rows ∙ c.loop-j.invariant.rows_long;
       reads =
           reads_some (g.I.Images.seen c.args.images.now) (g.I.Images.seen c.read_next.new.images) damage.rescue.now set c.args.first (j + (k - j)) k (omega arith)
           (reads_blocks (g.I.Images.seen c.args.images.now) (g.I.Images.seen c.loop-j.images) (g.I.Images.seen c.read_next.new.images) damage.rescue.now set c.args.first j (k - j) c.loop-j.invariant.reads c.in_ok-j.ensures.reads);

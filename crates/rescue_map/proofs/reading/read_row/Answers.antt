@@ -24,7 +24,7 @@ loop-slot-preserved g c =
     let stays : (g.I.Images.seen c.read_cell.new.images).faults ≡ (g.I.Images.seen c.loop-slot.images).faults = search rules in
     record {
       long = omega arith;
-      reads = reads_member (g.I.Images.seen c.args.images.now) (g.I.Images.seen c.loop-slot.images) (g.I.Images.seen c.read_cell.new.images) slots slot 1 1 None (get_or c.deref-held-items.result.now slot None) c.loop-slot.invariant.reads c.read_cell.ensures.reads refl under here;
+      reads = reads_member (g.I.Images.seen c.args.images.now) (g.I.Images.seen c.loop-slot.images) (g.I.Images.seen c.read_cell.new.images) slots slot 1 1 None (get_or c.deref-held-items.result.now slot None) c.loop-slot.invariant.reads c.read_cell.ensures.reads.only refl under here;
       stays = stays ∙ c.loop-slot.invariant.stays;
       told =
           if_both (told_all (g.I.Images.seen c.args.images.now).attached)
@@ -41,15 +41,21 @@ returns-in_err-read_cell-clause-reads g c =
     let slots = c.args.geo.now.slots.items in
     let slot = c.loop-slot.slot in
     let under : slot < length slots = search rules in
-    let here : get_or slots slot None ≡ get_or c.deref-held-items.result.now slot None = ap (λ (l : List (Option ℕ)). get_or l slot None) (sym c.deref-held-items.ensures.0) in
-    reads_up (g.I.Images.seen c.args.images.now) (g.I.Images.seen c.read_cell.new.images)
-    (reads_all (g.I.Images.seen c.args.images.now) (g.I.Images.seen c.read_cell.new.images) slots (slot + 1) 1
-    (reads_member (g.I.Images.seen c.args.images.now) (g.I.Images.seen c.loop-slot.images) (g.I.Images.seen c.read_cell.new.images) slots slot 1 1 None (get_or c.deref-held-items.result.now slot None) c.loop-slot.invariant.reads c.read_cell.ensures.reads refl under here))
-    (omega arith)
+    let here : get_or slots slot None ≡ get_or c.deref-held-items.result.now slot None = ap (λ (l : List (Option ℕ)). get_or l slot None) (sym c.deref-held-items.ensures.0) in record {
+      only =
+          reads_up (g.I.Images.seen c.args.images.now) (g.I.Images.seen c.read_cell.new.images)
+          (reads_all (g.I.Images.seen c.args.images.now) (g.I.Images.seen c.read_cell.new.images) slots (slot + 1) 1
+          (reads_member (g.I.Images.seen c.args.images.now) (g.I.Images.seen c.loop-slot.images) (g.I.Images.seen c.read_cell.new.images) slots slot 1 1 None (get_or c.deref-held-items.result.now slot None) c.loop-slot.invariant.reads c.read_cell.ensures.reads.only refl under here))
+          (omega arith);
+      cause = search rules;
+    }
 
 pub returns-clause-reads : goal.returns-clause-reads
 returns-clause-reads g c =
-    let slots = c.args.geo.now.slots.items in
-    reads_up (g.I.Images.seen c.args.images.now) (g.I.Images.seen c.loop-slot.images)
-    (reads_all (g.I.Images.seen c.args.images.now) (g.I.Images.seen c.loop-slot.images) slots c.loop-slot.slot 1 c.loop-slot.invariant.reads)
-    (omega arith)
+    let slots = c.args.geo.now.slots.items in record {
+      only =
+          reads_up (g.I.Images.seen c.args.images.now) (g.I.Images.seen c.loop-slot.images)
+          (reads_all (g.I.Images.seen c.args.images.now) (g.I.Images.seen c.loop-slot.images) slots c.loop-slot.slot 1 c.loop-slot.invariant.reads)
+          (omega arith);
+      cause = search rules;
+    }

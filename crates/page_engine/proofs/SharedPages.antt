@@ -1,5 +1,5 @@
 -- Pages of a plan whose images share an offset.
-use Rattle.std.proofs.Common.{rules, ℕ, zero, suc, ◌≡◌, ◌<◌, ◌≤◌, ◌+◌, ◌*◌, ◌^◌, Bool, true, false, cond, List, [], ◌∷◌, ◌++◌, length, map, refl, sym, ap, ◌∙◌, subst, arith, inl, inr, Option, Some, None, IfSome, IfOk, IsErrOf, Result, Ok, Err, slice_get, option_map}
+use Rattle.std.proofs.Common.{rules, ℕ, zero, suc, ◌≡◌, ◌<◌, ◌≤◌, ◌+◌, ◌*◌, ◌^◌, Bool, true, false, cond, List, [], ◌∷◌, ◌++◌, length, map, refl, sym, ap, ◌∙◌, subst, arith, inl, inr, Option, Some, None, IfSome, IfOk, IfErr, IsErrOf, Result, Ok, Err, slice_get, option_map}
 use Rattle.std.specs.Option.{option_map_or}
 use Rattle.std.proofs.lemmas.List.Elements.{All-nil}
 use Rattle.std.proofs.Math.Nat.{mul-le-mul_right}
@@ -115,7 +115,7 @@ shared_ends plan from old new ReadFault each ends = ends
 shared_ends plan from old new Memory each ends = ends
 
 -- an error of one kind of call is that of another
-same_fault : {T : Type 0} (fault other : PageFault) → IsErrOf (let r : Result T PageFault = Err fault in r) other → fault ≡ other
+pub same_fault : {T : Type 0} (fault other : PageFault) → IsErrOf (let r : Result T PageFault = Err fault in r) other → fault ≡ other
 same_fault {T} fault other e = search rules
 
 -- too many sets, and a first rank past the total
@@ -165,11 +165,37 @@ page_reads_up told plan from mid to low high =
     let few = mul-le-mul_right (most_scanned plan) (scans_up told plan from mid to low high) in
     omega arith
 
+-- what is read for a page, where the images share an offset
+wide_shared : (told : Option (List (List ℕ))) (plan : Plan) (from to : ℕ) (old new : Seen) → plan.each ≡ false → OnlyReads old new (page_reads told plan from to) → OnlyReads old new (wide_reads told plan from to)
+unfolding wide_reads
+wide_shared told plan from to old new each reads =
+    let P : ℕ → Type 0 = λ n. OnlyReads old new n in
+    subst P (sym (ap (λ (b : Bool). cond b (based_reads told plan from to) (page_reads told plan from to)) each)) reads
+
+-- a page that could not be made
+pub reads_range : (told : Option (List (List ℕ))) (plan : Plan) (from span : ℕ) (old new : Seen) → plan.each ≡ false → OnlyReads old new (page_reads told plan from (stop_of (total_of plan) from span)) →
+    OnlyReads old new (wide_reads told plan from (stop_of (wide_total plan) from span))
+reads_range told plan from span old new each reads =
+    let P : ℕ → Type 0 = λ t. OnlyReads old new (wide_reads told plan from (stop_of t from span)) in
+    subst P (sym (shared_total plan each)) (wide_shared told plan from (stop_of (total_of plan) from span) old new each reads)
+
 -- a page that was found, whatever comes of it
-pub reads_page : (told : Option (List (List ℕ))) (plan : Plan) (from stop : ℕ) (found : SharedPage) (answer : Result ListPage PageFault) (old new : Seen) → from ≤ found.next → found.next ≤ stop → IfOk answer (IsShared found) → OnlyReads old new (page_reads told plan from found.next) →
-    OnlyReads old new (page_reads told plan from (tested_to stop answer))
-reads_page told plan from stop found (Ok page) old new low high shared reads = subst (λ (n : ℕ). OnlyReads old new (page_reads told plan from n)) (sym shared.next) reads
-reads_page told plan from stop found (Err fault) old new low high shared reads = reads_up old new reads (page_reads_up told plan from found.next stop low high)
+pub reads_page : (told : Option (List (List ℕ))) (plan : Plan) (from span : ℕ) (found : SharedPage) (answer : Result ListPage PageFault) (old new : Seen) → plan.each ≡ false → from ≤ found.next → found.next ≤ stop_of (total_of plan) from span →
+    IfOk answer (IsShared found) → OnlyReads old new (page_reads told plan from found.next) → OnlyReads old new (wide_reads told plan from (tested_to (stop_of (wide_total plan) from span) answer))
+reads_page told plan from span found (Ok page) old new each low high shared reads =
+    let P : ℕ → Type 0 = λ n. OnlyReads old new (wide_reads told plan from n) in
+    subst P (sym shared.next) (wide_shared told plan from found.next old new each reads)
+reads_page told plan from span found (Err fault) old new each low high shared reads =
+    reads_range told plan from span old new each (reads_up old new reads (page_reads_up told plan from found.next (stop_of (total_of plan) from span) low high))
+
+-- pages that were found are quiet, and only memory may run out over them
+pub quiet_too : {T : Type 0} (old new : Seen) (answer : Result T PageFault) → new.faults ≡ old.faults → IfOk answer (λ made. new.faults ≡ old.faults)
+quiet_too old new (Ok made) quiet = quiet
+quiet_too old new (Err fault) quiet = tt
+
+pub ends_too : {T : Type 0} (plan : Plan) (from : ℕ) (old new : Seen) (answer : Result T PageFault) → new.faults ≡ old.faults → IfErr answer (λ fault. fault ≡ Memory) → IfErr answer (EndsBased plan from old new)
+ends_too plan from old new (Ok made) quiet memory = tt
+ends_too plan from old new (Err fault) quiet memory = subst (EndsBased plan from old new) (sym memory) quiet
 
 -- where pages end that were all made, they end too where the work was cut short after them; and they are those of the plan's sets
 -- with bases, of which there are none
@@ -201,8 +227,3 @@ reads_made told plan size span cut failed count from old new each fails reads =
       are = ends_made told plan size span cut failed count from reads.ends each fails reads.are;
       reads = subst P (sym (ap (λ (b : Bool). cond b (based_to told plan from reads.ends) (table_reads plan + scans_to told plan from reads.ends * most_scanned plan)) each)) reads.reads;
     }
-
--- what is read for a page, where the images share an offset
-pub wide_shared : (told : Option (List (List ℕ))) (plan : Plan) (from to : ℕ) → plan.each ≡ false → wide_reads told plan from to ≡ page_reads told plan from to
-unfolding wide_reads
-wide_shared told plan from to each = ap (λ (b : Bool). cond b (based_reads told plan from to) (page_reads told plan from to)) each

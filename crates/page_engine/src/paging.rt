@@ -1,14 +1,6 @@
 //! Pages of any plan.
-ghost use Rattle.std.specs.Prelude.{◌≡◌, ◌<◌, ◌≤◌, ◌^◌, true, IfErr, IfOk, IsErrOf};
-ghost use Rattle.std.specs.Result.{is_err};
-ghost use Rattle.outside.specs.Attached.{told_all};
-ghost use Rattle.outside.specs.Seen.{OnlyReads};
-ghost use Rattle.search_terms.specs.Page.{stop_of};
-ghost use Rattle.search_plan.specs.Plans.{AgreeWith, IsPlan};
-ghost use Rattle.wide_product.specs.Sets.{wide_total};
-ghost use Rattle.common_pages.specs.declared.page_parts.PageFault.TheVariants.{Cursor, Many};
-ghost use Rattle.page_engine.specs.Pages.{ArePagesFrom, EndsBased, IsPageFrom, tested_to};
-ghost use Rattle.page_engine.specs.Reads.{ReadsWide, wide_reads};
+ghost use Rattle.std.specs.Prelude.{◌≡◌, ◌≤◌, true};
+ghost use Rattle.page_engine.specs.Pages.{CanPageWide, GivesPage, GivesPages};
 
 use crate::based_page::based_page;
 use crate::page_parts::{ListPage, PageList};
@@ -35,16 +27,8 @@ pub fn page<R: Threads + Sync, I: Images, G: Gate + Sync>(
     span: u64,
     gate: &G,
 ) -> Result<ListPage, PageFault>
-    requires plan { IsPlan plan.now }
-    requires lengths { AgreeWith plan.now (I.seen images.old).attached }
-    requires size { 1 ≤ size }
-    ensures page { IfOk result (IsPageFrom (told_all (I.seen images.old).attached) plan.now from size span) }
-    ensures many { 2 ^ 64 ≤ wide_total plan.now → IsErrOf result Many }
-    ensures cursor { wide_total plan.now < 2 ^ 64 → wide_total plan.now < from → IsErrOf result (Cursor (record { from = from; total = wide_total plan.now })) }
-    ensures quiet { IfOk result (λ made. (I.seen images.new).faults ≡ (I.seen images.old).faults) }
-    ensures ends { IfErr result (EndsBased plan.now from (I.seen images.old) (I.seen images.new)) }
-    ensures reads { OnlyReads (I.seen images.old) (I.seen images.new)
-        (wide_reads (told_all (I.seen images.old).attached) plan.now from (tested_to (stop_of (wide_total plan.now) from span) result)) }
+    requires can { CanPageWide plan.now size (I.seen images.old).attached }
+    ensures { GivesPage plan.now from size span (I.seen images.old) (I.seen images.new) result }
 {
     let paging = Paging {
         rt,
@@ -74,16 +58,9 @@ pub fn pages<R: Threads + Sync, I: Images, G: Gate + Sync>(
     count: u64,
     gate: &G,
 ) -> Result<PageList, PageFault>
-    requires plan { IsPlan plan.now }
-    requires lengths { AgreeWith plan.now (I.seen images.old).attached }
-    requires size { 1 ≤ size }
+    requires can { CanPageWide plan.now size (I.seen images.old).attached }
     requires count { 1 ≤ count }
-    ensures pages { IfOk result (ArePagesFrom (told_all (I.seen images.old).attached) plan.now size span count from) }
-    ensures many { 2 ^ 64 ≤ wide_total plan.now → IsErrOf result Many }
-    ensures cursor { wide_total plan.now < 2 ^ 64 → wide_total plan.now < from → IsErrOf result (Cursor (record { from = from; total = wide_total plan.now })) }
-    ensures quiet { IfOk result (λ made. (I.seen images.new).faults ≡ (I.seen images.old).faults) }
-    ensures ends { IfErr result (EndsBased plan.now from (I.seen images.old) (I.seen images.new)) }
-    ensures reads { ReadsWide (told_all (I.seen images.old).attached) plan.now size span (is_err result) count from (I.seen images.old) (I.seen images.new) }
+    ensures { GivesPages plan.now size span count from (I.seen images.old) (I.seen images.new) result }
 {
     let paging = Paging {
         rt,
@@ -107,19 +84,10 @@ fn based_pages<R: Threads + Sync, I: Images, G: Gate + Sync>(
     span: u64,
     count: u64,
 ) -> Result<PageList, PageFault>
-    requires plan { IsPlan paging.now.plan.now }
+    requires can { CanPageWide paging.now.plan.now paging.now.size (I.seen images.old).attached }
     requires own { paging.now.plan.now.each ≡ true }
-    requires lengths { AgreeWith paging.now.plan.now (I.seen images.old).attached }
-    requires size { 1 ≤ paging.now.size }
     requires count { 1 ≤ count }
-    ensures pages { IfOk result (ArePagesFrom (told_all (I.seen images.old).attached) paging.now.plan.now paging.now.size span count from) }
-    ensures many { 2 ^ 64 ≤ wide_total paging.now.plan.now → IsErrOf result Many }
-    ensures cursor { wide_total paging.now.plan.now < 2 ^ 64 → wide_total paging.now.plan.now < from →
-        IsErrOf result (Cursor (record { from = from; total = wide_total paging.now.plan.now })) }
-    ensures quiet { IfOk result (λ made. (I.seen images.new).faults ≡ (I.seen images.old).faults) }
-    ensures ends { IfErr result (EndsBased paging.now.plan.now from (I.seen images.old) (I.seen images.new)) }
-    ensures reads { ReadsWide (told_all (I.seen images.old).attached) paging.now.plan.now paging.now.size span (is_err result) count from
-        (I.seen images.old) (I.seen images.new) }
+    ensures { GivesPages paging.now.plan.now paging.now.size span count from (I.seen images.old) (I.seen images.new) result }
 {
     let mut made = PageList::new(paging.alloc);
     let mut at = from;

@@ -17,8 +17,7 @@ use Rattle.run_ends.specs.declared.stop.Refusal.TheVariants.{Many, Cursor}
 use Rattle.run_ends.specs.declared.stop.Stop.TheVariants.{Refused, ImageFault, OutOfMemory}
 use Rattle.search_terms.specs.Page.{page_ranks}
 use Rattle.search_plan.specs.declared.plan.Plan.{Plan}
-use Rattle.page_engine.specs.Pages.{ArePagesFrom, EndsBased, IsPageOf}
-use Rattle.page_engine.specs.Reads.{ReadsWide}
+use Rattle.page_engine.specs.Pages.{ArePagesFrom, EndsBased, GivesPages, IsPageOf}
 use Rattle.page_engine.specs.Lines.{HoldsBased}
 use Rattle.wide_product.specs.Sets.{based, wide_passes_at, wide_sets, wide_total}
 use Rattle.plan_jobs.proofs.PagesRead.{ends_made, none_read}
@@ -127,18 +126,17 @@ found_allowed : (plan : Plan) (from : ℕ) (found : List ListPage) → (2 ^ 64 �
 found_allowed plan from found many cursor = page_allowed plan from (λ high. let e = many high in cc) (λ low past. let e = cursor low past in cc)
 
 -- the text of pages that were made
-pub list_found : (asked : Listing) (names : ℕ) (plan : Plan) (old new : Seen) (found : List ListPage) (text : List ℕ) → (2 ^ 64 ≤ wide_total plan → IsErrOf (Ok found) PageMany) →
-    (wide_total plan < 2 ^ 64 → wide_total plan < asked.from → IsErrOf (Ok found) (PageCursor (record { from = asked.from; total = wide_total plan }))) →
-    ArePagesFrom (told_all old.attached) plan asked.size asked.span asked.pages asked.from found → ReadsWide (told_all old.attached) plan asked.size asked.span false asked.pages asked.from old new →
-    new.faults ≡ old.faults → text ≡ flat_map (found_text asked.form) found → AnswersOver (list_over asked) names plan old new (Ok text)
-list_found asked names plan old new found text many cursor are reads quiet is =
-    let none = found_allowed plan asked.from found many cursor in
+pub list_found : (asked : Listing) (names : ℕ) (plan : Plan) (old new : Seen) (found : List ListPage) (text : List ℕ) → GivesPages plan asked.size asked.span asked.pages asked.from old new (Ok found) →
+    text ≡ flat_map (found_text asked.form) found → AnswersOver (list_over asked) names plan old new (Ok text)
+list_found asked names plan old new found text gives is =
+    let none = found_allowed plan asked.from found gives.many gives.cursor in
+    let reads = gives.reads in
     record {
       refuses = record { ends = tt; passes = none };
-      text = pages_printed (told_all old.attached) plan asked found text are is;
+      text = pages_printed (told_all old.attached) plan asked found text gives.pages is;
       order = order_allowed (page_refusal plan asked.from) old.sectors_read new.sectors_read None None (Ok text) none;
       reads = record { ends = reads.ends; are = reads.are; few = reads.reads.sectors_read };
-      faults = stays ImageFault old.faults new.faults (Ok text) quiet (λ e. absurd (cc));
+      faults = stays ImageFault old.faults new.faults (Ok text) gives.quiet (λ e. absurd (cc));
       untaken = λ f. absurd (cc);
       unput = λ f. absurd (cc);
       unread = tt;
@@ -147,17 +145,16 @@ list_found asked names plan old new found text many cursor are reads quiet is =
     }
 
 -- memory runs out over the text of pages that were made
-pub list_short : (asked : Listing) (names : ℕ) (plan : Plan) (old new : Seen) (found : List ListPage) → (2 ^ 64 ≤ wide_total plan → IsErrOf (Ok found) PageMany) →
-    (wide_total plan < 2 ^ 64 → wide_total plan < asked.from → IsErrOf (Ok found) (PageCursor (record { from = asked.from; total = wide_total plan }))) →
-    ReadsWide (told_all old.attached) plan asked.size asked.span false asked.pages asked.from old new → new.faults ≡ old.faults → AnswersOver (list_over asked) names plan old new (Err OutOfMemory)
-list_short asked names plan old new found many cursor reads quiet =
-    let none = found_allowed plan asked.from found many cursor in
+pub list_short : (asked : Listing) (names : ℕ) (plan : Plan) (old new : Seen) (found : List ListPage) → GivesPages plan asked.size asked.span asked.pages asked.from old new (Ok found) → AnswersOver (list_over asked) names plan old new (Err OutOfMemory)
+list_short asked names plan old new found gives =
+    let none = found_allowed plan asked.from found gives.many gives.cursor in
+    let reads = gives.reads in
     record {
       refuses = record { ends = tt; passes = tt };
       text = tt;
       order = order_allowed (page_refusal plan asked.from) old.sectors_read new.sectors_read None None (Err OutOfMemory) none;
       reads = record { ends = reads.ends; are = ends_made (told_all old.attached) plan asked.size asked.span true asked.pages asked.from reads.ends reads.are; few = reads.reads.sectors_read };
-      faults = stays ImageFault old.faults new.faults (Err OutOfMemory) quiet (λ e. absurd (cc));
+      faults = stays ImageFault old.faults new.faults (Err OutOfMemory) gives.quiet (λ e. absurd (cc));
       untaken = λ f. absurd (cc);
       unput = λ f. absurd (cc);
       unread = λ h. absurd (h refl);
@@ -187,37 +184,42 @@ not_many : (plan : Plan) (fault : PageFault) → (2 ^ 64 ≤ wide_total plan →
 not_many plan fault many other high = other (let e = many high in cc)
 
 -- why pages could not be made
-pub list_fault : (asked : Listing) (names : ℕ) (plan : Plan) (old new : Seen) (fault : PageFault) → (2 ^ 64 ≤ wide_total plan → IsErrOf {T = List ListPage} (Err fault) PageMany) →
-    (wide_total plan < 2 ^ 64 → wide_total plan < asked.from → IsErrOf {T = List ListPage} (Err fault) (PageCursor (record { from = asked.from; total = wide_total plan }))) → EndsBased plan asked.from old new fault →
-    ReadsWide (told_all old.attached) plan asked.size asked.span true asked.pages asked.from old new → AnswersOver (list_over asked) names plan old new (Err (stop_of_page fault))
-list_fault asked names plan old new PageMany many cursor ends reads = refused_page asked names plan old new Many ends.1 (many_first plan asked.from ends.0)
-list_fault asked names plan old new (PageCursor fault) many cursor ends reads =
-    let low : wide_total plan < 2 ^ 64 = elim (cases_lt (wide_total plan) (2 ^ 64)) [ inl low ↦ low | inr high ↦ absurd (not_many plan (PageCursor fault) many (λ e. cc) high) ] in
+pub list_fault : (asked : Listing) (names : ℕ) (plan : Plan) (old new : Seen) (fault : PageFault) → GivesPages plan asked.size asked.span asked.pages asked.from old new (Err fault) → AnswersOver (list_over asked) names plan old new (Err (stop_of_page fault))
+list_fault asked names plan old new PageMany gives =
+    let ends : EndsBased plan asked.from old new PageMany = gives.ends in
+    refused_page asked names plan old new Many ends.1 (many_first plan asked.from ends.0)
+list_fault asked names plan old new (PageCursor fault) gives =
+    let ends : EndsBased plan asked.from old new (PageCursor fault) = gives.ends in
+    let low : wide_total plan < 2 ^ 64 = elim (cases_lt (wide_total plan) (2 ^ 64)) [ inl low ↦ low | inr high ↦ absurd (not_many plan (PageCursor fault) gives.many (λ e. cc) high) ] in
     refused_page asked names plan old new (Cursor (record { from = fault.from; total = fault.total })) ends.2
     (cursor_first plan asked.from low ends.0 ∙ sym (ap (λ (f : CursorFault). Some (Cursor (record { from = f.from; total = f.total }))) ends.1))
-list_fault asked names plan old new ReadFault many cursor ends reads = record {
-  refuses = record { ends = tt; passes = tt };
-  text = tt;
-  order = order_allowed (page_refusal plan asked.from) old.sectors_read new.sectors_read None None (Err ImageFault)
-      (page_allowed plan asked.from (λ high. let e = many high in cc) (λ low past. let e = cursor low past in cc));
-  reads = record { ends = reads.ends; are = reads.are; few = reads.reads.sectors_read };
-  faults = rises ImageFault old.faults new.faults ends reads.reads.faults;
-  untaken = λ f. absurd (cc);
-  unput = λ f. absurd (cc);
-  unread = λ h. absurd (h tt);
-  world = reads.reads.world;
-  attached = reads.reads.attached;
-}
-list_fault asked names plan old new PageMemory many cursor ends reads = record {
-  refuses = record { ends = tt; passes = tt };
-  text = tt;
-  order = order_allowed (page_refusal plan asked.from) old.sectors_read new.sectors_read None None (Err OutOfMemory)
-      (page_allowed plan asked.from (λ high. let e = many high in cc) (λ low past. let e = cursor low past in cc));
-  reads = record { ends = reads.ends; are = reads.are; few = reads.reads.sectors_read };
-  faults = stays ImageFault old.faults new.faults (Err OutOfMemory) ends (λ e. absurd (cc));
-  untaken = λ f. absurd (cc);
-  unput = λ f. absurd (cc);
-  unread = λ h. absurd (h refl);
-  world = reads.reads.world;
-  attached = reads.reads.attached;
-}
+list_fault asked names plan old new ReadFault gives =
+    let reads = gives.reads in
+    record {
+      refuses = record { ends = tt; passes = tt };
+      text = tt;
+      order = order_allowed (page_refusal plan asked.from) old.sectors_read new.sectors_read None None (Err ImageFault)
+          (page_allowed plan asked.from (λ high. let e = gives.many high in cc) (λ low past. let e = gives.cursor low past in cc));
+      reads = record { ends = reads.ends; are = reads.are; few = reads.reads.sectors_read };
+      faults = rises ImageFault old.faults new.faults gives.ends reads.reads.faults;
+      untaken = λ f. absurd (cc);
+      unput = λ f. absurd (cc);
+      unread = λ h. absurd (h tt);
+      world = reads.reads.world;
+      attached = reads.reads.attached;
+    }
+list_fault asked names plan old new PageMemory gives =
+    let reads = gives.reads in
+    record {
+      refuses = record { ends = tt; passes = tt };
+      text = tt;
+      order = order_allowed (page_refusal plan asked.from) old.sectors_read new.sectors_read None None (Err OutOfMemory)
+          (page_allowed plan asked.from (λ high. let e = gives.many high in cc) (λ low past. let e = gives.cursor low past in cc));
+      reads = record { ends = reads.ends; are = reads.are; few = reads.reads.sectors_read };
+      faults = stays ImageFault old.faults new.faults (Err OutOfMemory) gives.ends (λ e. absurd (cc));
+      untaken = λ f. absurd (cc);
+      unput = λ f. absurd (cc);
+      unread = λ h. absurd (h refl);
+      world = reads.reads.world;
+      attached = reads.reads.attached;
+    }

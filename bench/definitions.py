@@ -22,8 +22,8 @@ USE = re.compile(r"^(?:ghost )?use Rattle\.(\w+)\.specs\.([\w.]+)\.\{(.*?)\}", r
 
 # The crates that run nothing: what another crate takes of them counts as offered.
 WORDS_ALONE = ("raid_terms", "search_terms")
-# A comment that begins so goes on from the one above it, which is then printed too.
-GOES_ON = re.compile(r"(and|its|the same|so|of|for|as) ")
+# Such a comment goes on from the one above it, which is then printed too.
+GOES_ON = re.compile(r"(and|its|the same|so|of|for|as) |.* of it\b")
 # The crates in which the promises of jobs and programs are put together from parts.
 PROMISES = ("run_ends", "reraid_cli", "reraid_nbd_cli")
 
@@ -112,7 +112,8 @@ def taken_by(path):
 
 
 def offered_definitions():
-    """The definitions, by file and name, that the promises of jobs and programs or a clause of an offered function, trait or type cites."""
+    """The definitions, by file and name, that the promises of jobs and programs or a clause of an offered function, trait or type cites, or a record
+    that stands for clauses."""
     found = {(str(it.file), it.name) for path in TOP.glob("crates/*/specs/*.antt") if path.parts[-3] in PROMISES for it in definitions_of(path)}
     for path in TOP.glob("crates/*/specs/*.antt"):
         found |= {(file, name) for _, file, name in taken_by(path) if file.split("/")[1] in WORDS_ALONE and file.split("/")[1] != path.parts[-3]}
@@ -122,7 +123,13 @@ def offered_definitions():
             continue
         clauses = clauses_of(path, offered)
         found |= {(file, name) for here, file, name in taken_by(path) if here in clauses}
-    return found
+    return found | {it for path in TOP.glob("crates/*/specs/*.antt") for record, cites in clause_records(path) if record in found for it in cites}
+
+
+def clause_records(path):
+    """The records of a file over the result of a call, which stand for its clauses, by file and name, and what each cites."""
+    names = set(re.findall(r"^pub record (\S+) [({].*\bResult\b", path.read_text(), re.M))
+    return [(record, cites) for record, cites in cited_in(path).items() if record[1] in names]
 
 
 def cited_in(path):

@@ -4,7 +4,7 @@ import concurrent.futures
 import dataclasses
 import re
 
-from . import checkers, plans, volumes
+from . import checkers, damage, plans, volumes
 
 SECTOR = 512
 MOST_CLASSED = 1024
@@ -117,6 +117,22 @@ class Tests:
                 if match[3] and match[2] != "gpt":
                     candidate.origins.append(int(match[3]))
         candidate.doubtful = candidate.doubtful or candidate.mostly_unsound
+
+    def unsound_rows(self, candidate, word):
+        """How many rows are unsound of a set like a candidate's."""
+        text, names, _ = candidate.hunt.asking(candidate)
+        answer = self.commands.run(["reraid", "check", f"set={word.text}", "--", *names], text, self.options.time)
+        match = re.search(r"^unsound (\d+)", answer.out, re.MULTILINE)
+        return int(match[1]) if match else candidate.unsound
+
+    def without_damaged(self, tested):
+        """The candidates with the fewest unsound rows once more, without the images that make these unsound; those that gain by it."""
+        found = []
+        for it in damage.doubted(tested):
+            lesser = [damage.lesser(it, images) for images in damage.choices(it, self.unsound_rows)]
+            self.side_by_side(self.read, lesser, "looks at the candidates without damaged images")
+            found += [one for one in lesser if one.verdict.gain > it.verdict.gain]
+        return found
 
     def read(self, candidate):
         """Looks at the volume of a candidate."""

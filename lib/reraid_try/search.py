@@ -149,6 +149,9 @@ class Search:
                 self.report.say("passed over", f"passed over: {shape.line()}: {' and '.join(names) or 'nothing loosened'}", loosened=list(names),
                                 shape=shape.line())
             return False
+        if listing.bad_rows is not None:
+            names = tuple(f"badrows {listing.bad_rows}" if name.startswith("badrows") else name for name in names)
+            request = request.having(badrows=listing.bad_rows)
         trial = self.told(shape, names, request, listing)
         return self.take(hunt, trial, [(rank, plans.read_word(word), hunt.word(word)) for rank, word in listing.sets])
 
@@ -176,7 +179,8 @@ class Search:
             return False
         tested = self.tests.test(fresh)
         told = hunt is not self.hunt or NO_LANDMARKS[0] not in trial.loosened
-        return self.keep([it for it in tested if told or it.verdict.findings or it.word.level in trial.shape.telling])
+        return self.keep([it for it in tested if told or it.verdict.findings or it.word.level in trial.shape.telling]) or \
+            self.keep(self.tests.without_damaged(tested))
 
     def keep(self, tested):
         """Keeps what was tested for the table; it says whether one is clean and whole."""

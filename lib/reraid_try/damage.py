@@ -1,0 +1,54 @@
+"""Damage that no map tells of: the images that make the rows of a set unsound, and the set without them."""
+
+import dataclasses
+
+from . import plans
+
+SURVIVES = {"5": 1, "6": 2}
+# So many sets of a trial are looked at without images, those with the fewest unsound rows.
+MOST_SETS = 3
+
+
+def without(word, images):
+    """A set without these images, whose slots are empty then."""
+    slots = ("-" if slot is None or slot in images else str(slot) for slot in word.slots)
+    return plans.read_word(":".join([word.text.rsplit(":", 1)[0], ",".join(slots)]))
+
+
+def spare(word):
+    """How many images more a set can lose."""
+    return SURVIVES.get(word.level, 0) - word.slots.count(None)
+
+
+def doubted(tested):
+    """The candidates of a trial that have unsound rows, but not most, and can lose an image, where none is whole."""
+    if any(it.verdict.score == 3 for it in tested):
+        return []
+    found = [it for it in tested if it.unsound and not it.mostly_unsound and it.listed and len(it.word.offsets) == 1 and spare(it.word) > 0]
+    return sorted(found, key=lambda it: (it.unsound, it.order))[:MOST_SETS]
+
+
+def blamed(candidate, unsound):
+    """The images without which fewer rows are unsound, that with the most first; `unsound` counts the unsound rows of a set. With one image left to
+    lose nothing tells them apart."""
+    images = [slot for slot in candidate.word.slots if slot is not None]
+    if spare(candidate.word) < 2:
+        return images
+    counts = {image: unsound(candidate, without(candidate.word, [image])) for image in images}
+    return sorted((image for image in images if counts[image] < candidate.unsound), key=counts.get)
+
+
+def choices(candidate, unsound):
+    """What may be left out of a candidate: the two images with the most of the unsound rows, or each one, where parity does not tell."""
+    images = blamed(candidate, unsound)
+    return [images[:2]] if spare(candidate.word) == 2 and images else [[image] for image in images]
+
+
+def lesser(candidate, images):
+    """A candidate without these images."""
+    word = without(candidate.word, images)
+    trial = candidate.trial
+    name = f"without {' and '.join(f'image {image}' for image in sorted(images))}"
+    lost = word.slots.count(None)
+    trial = dataclasses.replace(trial, shape=dataclasses.replace(trial.shape, missing=lost), loosened=(*trial.loosened, name))
+    return dataclasses.replace(candidate, word=word, listed=word, trial=trial, alike=[], fits=[], doubtful=False, unsound=None, origins=[], verdict=None)

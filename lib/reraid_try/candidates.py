@@ -128,11 +128,25 @@ class Tests:
     def without_damaged(self, tested):
         """The candidates with the fewest unsound rows once more, without the images that make these unsound; those that gain by it."""
         found = []
-        for it in damage.doubted(tested):
-            lesser = [damage.lesser(it, images) for images in damage.choices(it, self.unsound_rows)]
+        for it in damage.doubted(tested, bool(self.maps)):
+            lesser = [damage.lesser(it, images) for images in self.left_out(it)]
             self.side_by_side(self.read, lesser, "looks at the candidates without damaged images")
             found += [one for one in lesser if one.verdict.gain > it.verdict.gain]
         return found
+
+    def left_out(self, candidate):
+        """What may be left out of a candidate: the two images that make most rows unsound, or each one, where parity does not tell which that is."""
+        images = [slot for slot in candidate.word.slots if slot is not None]
+        if damage.spare(candidate.word) < 2:
+            return [[image] for image in images]
+        words = [damage.without(candidate.word, [image]) for image in images]
+        counts = self.side_by_side(lambda word: self.unsound_rows(candidate, word), words, "asks for the unsound rows without each image")
+        blamed = damage.blamed(candidate, dict(zip(images, counts)))
+        if blamed:
+            told = ", ".join(f"{candidate.unsound - counts[images.index(image)]} by image {image}" for image in blamed)
+            self.report.say("blamed", f"  {candidate.word.text}: {candidate.unsound} rows are unsound, {told}", set=candidate.word.text,
+                            unsound=candidate.unsound, images=blamed)
+        return [blamed[:2]] if blamed else []
 
     def read(self, candidate):
         """Looks at the volume of a candidate."""

@@ -20,28 +20,18 @@ def spare(word):
     return SURVIVES.get(word.level, 0) - word.slots.count(None)
 
 
-def doubted(tested):
-    """The candidates of a trial that have unsound rows, but not most, and can lose an image, where none is whole."""
-    if any(it.verdict.score == 3 for it in tested):
-        return []
+def doubted(tested, mapped):
+    """The candidates of a trial that have unsound rows, but not most, and can lose an image: those alone of which parity tells the images, where one is
+    whole already; none then where maps say what could not be read."""
     found = [it for it in tested if it.unsound and not it.mostly_unsound and it.listed and len(it.word.offsets) == 1 and spare(it.word) > 0]
+    if any(it.verdict.score == 3 for it in tested):
+        found = [it for it in found if spare(it.word) == 2 and it.verdict.score == 3 and not mapped]
     return sorted(found, key=lambda it: (it.unsound, it.order))[:MOST_SETS]
 
 
-def blamed(candidate, unsound):
-    """The images without which fewer rows are unsound, that with the most first; `unsound` counts the unsound rows of a set. With one image left to
-    lose nothing tells them apart."""
-    images = [slot for slot in candidate.word.slots if slot is not None]
-    if spare(candidate.word) < 2:
-        return images
-    counts = {image: unsound(candidate, without(candidate.word, [image])) for image in images}
-    return sorted((image for image in images if counts[image] < candidate.unsound), key=counts.get)
-
-
-def choices(candidate, unsound):
-    """What may be left out of a candidate: the two images with the most of the unsound rows, or each one, where parity does not tell."""
-    images = blamed(candidate, unsound)
-    return [images[:2]] if spare(candidate.word) == 2 and images else [[image] for image in images]
+def blamed(candidate, counts):
+    """The images without which fewer rows are unsound, that with the most first: `counts` has the unsound rows without each image."""
+    return sorted((image for image, count in counts.items() if count < candidate.unsound), key=counts.get)
 
 
 def lesser(candidate, images):

@@ -14,6 +14,8 @@ FEW_FILLED = 16
 LEAST_BAD = 128
 # Of so many rows, of all sets together, it is asked whether they are bad, where many may be.
 MOST_ASKED = 300_000_000
+# Of so many of the filled rows one may be bad at most, where that is loosened.
+MOST_BAD = 4
 # Where maps call more than one in so many of the filled sectors unread, so many bad rows are asked for only where nothing passes without.
 MOST_UNREAD = 4
 # A first mark so far behind the first of all is mostly a stray one: its offset is tried with more offsets alone.
@@ -214,21 +216,22 @@ class Hunt:
         values |= {"badrows": self.unread} if shape.parity and self.unread else {}
         return self.base.having(**values)
 
-    def most_bad(self):
-        """How many rows may be bad at most, where that is loosened: with landmarks, of which few sets are left to be asked for so many rows, a
-        fourth of the filled ones, and else fewer."""
+    def most_bad(self, quick):
+        """How many rows may be bad at most, where that is loosened: a fourth of the filled ones, quickly a 16th, and fewer without landmarks, where many
+        sets are left to be asked for so many rows."""
         told = self.unread or (self.bad[0].value if self.bad else 0)
-        few = max(LEAST_BAD, min(self.window // 64, self.filled // 16))
-        return told + (max(few, self.filled // MOST_UNREAD) if self.first_plan.groups else few)
+        part = self.filled // (FEW_FILLED if quick else MOST_BAD)
+        return told + max(LEAST_BAD, part if self.first_plan.groups else min(self.window // 64, self.filled // FEW_FILLED))
 
     def unread_name(self, shape, request):
         """What is loosened by the rows that maps call unread; nothing where the request has none of them, or more."""
         asked = shape.parity and request.get("badrows") == str(self.unread) if request else shape.levels == "10"
         return (f"badrows {self.unread} from the maps",) if self.unread and asked else ()
 
-    def cures(self, shape, every=False):
-        """What may be loosened for a shape, in order; where not every one is asked for, without what is mostly wrong."""
-        rows = self.most_bad()
+    def cures(self, shape, every=False, quick=False):
+        """What may be loosened for a shape, in order; where not every one is asked for, without what is mostly wrong. Quick ones have nothing loosened
+        that makes a listing long, nor, without landmarks, rows that may be bad where a member is missing, of which parity tells late."""
+        rows, late = self.most_bad(quick), shape.missing and not self.first_plan.groups
         offsets = [hint.value for hint in self.offset_hints[:24]] + hints.MORE_OFFSETS
         offsets = [offset for offset in offsets if offset < self.end and (every or self.has_weight(offset))]
         unlike = [it for it in self.unlike_offsets() if every or all(map(self.has_weight, it))]
@@ -239,15 +242,14 @@ class Hunt:
             found = [cure for cure in found if cure.family != "origins"]
         if not any(group.kind == "ntfs" for group in self.first_plan.groups):
             found = [cure for cure in found if not cure.name.startswith("file records")]
+        found = [cure for cure in found if not (quick and (cure.slow or late and cure.family == "badrows"))]
         return [cure for cure in found if not (shape.foreign and cure.slow)]
 
     def loosened(self, shape, count, every=False, quick=False):
         """The requests for a shape with so many things loosened at once, in order, each with their names. Where parity tells something, what
-        changes it is loosened only as far as parity needs it, and at the offsets that need it; all else too, where every one is asked for. Quick
-        ones have nothing loosened that makes a listing long, nor rows that may be bad where a member is missing, of which parity tells late."""
+        changes it is loosened only as far as parity needs it, and at the offsets that need it; all else too, where every one is asked for."""
         request = self.request(shape, every or count == 0)
-        cures = [cure for cure in self.cures(shape, every) if not (quick and (cure.slow or shape.missing and cure.family == "badrows"))]
-        for chosen in trials.choices(cures, count):
+        for chosen in trials.choices(self.cures(shape, every, quick), count):
             names, asked = tuple(cure.name for cure in chosen), trials.changed(request, chosen)
             if every or not shape.parity:
                 yield names, asked

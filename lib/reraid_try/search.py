@@ -91,6 +91,8 @@ class Search:
             return True
         hinted, told, rest = self.hunt.tiers()
         exact = [shape for shape in self.hunt.exact() if shape in told]
+        # The level that landmarks show may be one at which so many images make no sense.
+        hinted = hinted or exact
         steps = [(hinted, 0), (exact, 0), (hinted, 1), (hinted, 2), ([it for it in hinted if it.parity], 3), (told, 0), (told, 1), (told, 2)]
         for shapes, count in steps:
             if self.stage(self.hunt, shapes, count, quick=shapes is told) or (count and self.best() > 1):
@@ -179,8 +181,8 @@ class Search:
             return False
         tested = self.tests.test(fresh)
         told = hunt is not self.hunt or NO_LANDMARKS[0] not in trial.loosened
-        return self.keep([it for it in tested if told or it.verdict.findings or it.word.level in trial.shape.telling]) or \
-            self.keep(self.tests.without_damaged(tested))
+        whole = self.keep([it for it in tested if told or it.verdict.findings or it.word.level in trial.shape.telling])
+        return self.keep(self.tests.without_damaged(tested)) or whole
 
     def keep(self, tested):
         """Keeps what was tested for the table; it says whether one is clean and whole."""

@@ -245,10 +245,12 @@ def cures(plan, rows, telling, unlike, offsets, every):
 
 
 def goes_with(chosen):
-    """These cures can stand together. What stands at the end of the disks makes bad rows, too."""
-    families = [cure.family for cure in chosen]
-    ends = "badrows" in families and {"window", "end"} & set(families)
-    return len(set(families)) == len(families) and not ends and not ("group" in families and any(it.startswith("group ") for it in families))
+    """These cures can stand together. What stands at the end of the disks makes bad rows too, and where each image has an offset of its own only few
+    rows are tested, which bad ones would be most of."""
+    families = {cure.family for cure in chosen}
+    whole_group = "group" in families and any(it.startswith("group ") for it in families)
+    with_bad = "badrows" in families and any(cure.family in ("window", "end") or cure.slow for cure in chosen)
+    return len(families) == len(chosen) and not whole_group and not with_bad
 
 
 def choices(cure_list, count):

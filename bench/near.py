@@ -1,9 +1,10 @@
 #!/usr/bin/env python3
 """Runs reraid-try where the plain search finds nothing: an array that begins behind what is read first, one with a damaged image, one with
-two, and one whose landmarks mostly contradict it. For the last two it compares the diagnosis with what was done to the images. The last
-line counts them.
+two, one whose landmarks mostly contradict it, and arrays of which two images have bad areas that no map tells of. Of two damaged images and of
+wrong landmarks it compares the diagnosis with what was done to the images. The last line counts them, each line says how long it took.
 
-Usage: bench/near.py [--keep DIR] [CASE..], of far, one_damaged, two_damaged and wrong_group. It needs what bench/try.py needs.
+Usage: bench/near.py [--keep DIR] [CASE..], of far, one_damaged, two_damaged, wrong_group, areas_in_six, areas_in_four, areas_at_the_start and
+areas_with_one_lost. It needs what bench/try.py needs, and 5 GiB for files.
 """
 
 import argparse
@@ -16,6 +17,7 @@ import shutil
 import subprocess
 import sys
 import tempfile
+import time
 
 import try_arrays
 from try_arrays import SECTOR, Array
@@ -83,6 +85,61 @@ def wrong_group(folder, cache):
     return true in [it["set"] for it in near if it["unsound"] == 0 and re.search(r"misfits 12$", it["groups"][0])]
 
 
+def large(array, cache, folder):
+    """The images of an array that is mostly filled, and its true set."""
+    volume = f"{folder}/volume"
+    try_arrays.run("cp", "--sparse=always", try_arrays.large_volume(array.kind, cache), volume)
+    return try_arrays.make(array, cache, folder, DATA, volume)
+
+
+def bad_area(name, first, count, byte=None):
+    """Overwrites so many MiB of an image from one on, counted from the data's start, with one byte or with noise."""
+    area = NOISE.randbytes(count << 20) if byte is None else bytes([byte]) * (count << 20)
+    try_arrays.put(name, DATA + (first << 20) // SECTOR, area)
+
+
+def left_out(true, images):
+    """The true set without these images."""
+    head, slots = true.rsplit(":", 1)
+    return ":".join([head, ",".join("-" if slot in map(str, images) else slot for slot in slots.split(","))])
+
+
+def areas_in_six(folder, cache):
+    """Two of six images have bad areas, which no map tells: the set without them is among the best."""
+    order, true = large(Array("6", 6, (), "btrfs"), cache, folder)
+    bad_area(order[0], 40, 4, 0)
+    bad_area(order[3], 70, 4)
+    return left_out(true, (0, 3)) in best(search(order))
+
+
+def areas_at_the_start(folder, cache):
+    """The first MiB of two of six images are bad, and others: the set without them is among the best."""
+    order, true = large(Array("6", 6, (), "ext4"), cache, folder)
+    bad_area(order[1], 0, 3, 0)
+    bad_area(order[1], 90, 2, 255)
+    bad_area(order[4], 2, 4)
+    return left_out(true, (1, 4)) in best(search(order))
+
+
+def areas_in_four(folder, cache):
+    """Two of four images have bad areas: the true set is among the best."""
+    order, true = large(Array("5", 4, (), "xfs"), cache, folder)
+    bad_area(order[0], 40, 4, 0)
+    bad_area(order[2], 70, 4)
+    return true in best(search(order))
+
+
+def areas_with_one_lost(folder, cache):
+    """One of six disks is lost, and two images have bad areas: the true set is among the best."""
+    order, true = large(Array("6", 6, (2,), "xfs"), cache, folder)
+    bad_area(order[1], 40, 4, 0)
+    bad_area(order[4], 70, 4)
+    return true in best(search(order))
+
+
+CASES = (far, one_damaged, two_damaged, wrong_group, areas_in_six, areas_at_the_start, areas_in_four, areas_with_one_lost)
+
+
 def main():
     asking = argparse.ArgumentParser(description=__doc__, formatter_class=argparse.RawDescriptionHelpFormatter)
     asking.add_argument("--keep", metavar="DIR")
@@ -94,13 +151,14 @@ def main():
     os.makedirs(cache, exist_ok=True)
     try:
         try_arrays.tree(f"{cache}/tree")
-        cases = [case for case in (far, one_damaged, two_damaged, wrong_group) if not options.cases or case.__name__ in options.cases]
+        cases = [case for case in CASES if not options.cases or case.__name__ in options.cases]
         good = 0
         for case in cases:
+            began = time.monotonic()
             with tempfile.TemporaryDirectory(dir=base) as folder:
                 well = case(folder, cache)
             good += well
-            print(f"{'as stated' if well else 'NOT AS STATED'}: {case.__doc__}", flush=True)
+            print(f"{'as stated' if well else 'NOT AS STATED'}, {time.monotonic() - began:.0f} s: {case.__doc__}", flush=True)
         print(f"{good} of {len(cases)} are as stated")
         return 0 if good == len(cases) else 1
     finally:

@@ -231,7 +231,7 @@ class Hunt:
     def cures(self, shape, every=False, quick=False):
         """What may be loosened for a shape, in order; where not every one is asked for, without what is mostly wrong. Quick ones have nothing loosened
         that makes a listing long, nor, without landmarks, rows that may be bad where a member is missing, of which parity tells late."""
-        rows, late = self.most_bad(quick), shape.missing and not self.first_plan.groups
+        rows, late = self.most_bad(quick and shape not in self.exact()), shape.missing and not self.first_plan.groups
         offsets = [hint.value for hint in self.offset_hints[:24]] + hints.MORE_OFFSETS
         offsets = [offset for offset in offsets if offset < self.end and (every or self.has_weight(offset))]
         unlike = [it for it in self.unlike_offsets() if every or all(map(self.has_weight, it))]

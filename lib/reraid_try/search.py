@@ -91,8 +91,6 @@ class Search:
             return True
         hinted, told, rest = self.hunt.tiers()
         exact = [shape for shape in self.hunt.exact() if shape in told]
-        # The level that landmarks show may be one at which so many images make no sense.
-        hinted = hinted or exact
         steps = [(hinted, 0), (exact, 0), (hinted, 1), (hinted, 2), ([it for it in hinted if it.parity], 3), (told, 0), (told, 1), (told, 2)]
         for shapes, count in steps:
             if self.stage(self.hunt, shapes, count, quick=shapes is told) or (count and self.best() > 1):

@@ -14,6 +14,7 @@ import pathlib
 import random
 import re
 import shutil
+import signal
 import subprocess
 import sys
 import tempfile
@@ -31,6 +32,15 @@ def search(order, *words):
     """The events of a run, each with its fields."""
     done = subprocess.run(["reraid-try", "--json", "--time", "20", *words, *order], stdout=subprocess.PIPE, text=True, check=False)
     return [json.loads(line) for line in done.stdout.splitlines()]
+
+
+def nearest(order, wanted):
+    """What `wanted` says of the nearest sets that a run prints on its way, or at its end; it is ended where that is true."""
+    with subprocess.Popen(["reraid-try", "--json", "--time", "20", *order], stdout=subprocess.PIPE, text=True) as running:
+        well = any(it["event"] == "near" and wanted(it) for it in map(json.loads, running.stdout))
+        running.send_signal(signal.SIGINT)
+        running.communicate()
+    return well
 
 
 def best(events):
@@ -63,12 +73,11 @@ def one_damaged(folder, cache):
 
 
 def two_damaged(folder, cache):
-    """Two images have: the diagnosis has the true set, with as many unsound rows as were damaged, the first and the last."""
+    """Two images have: the nearest sets have the true one, with as many unsound rows as were damaged, the first and the last."""
     order, true = try_arrays.make(Array("5", 4, (), "xfs"), cache, folder)
     rows = damaged(order[0], 3, 7) + damaged(order[2], 4, 7)
-    near = [it for it in search(order) if it["event"] == "near"]
-    wanted = len(rows), min(rows), max(rows)
-    return true in [it["set"] for it in near if (it["unsound"], it["first"], it["last"]) == wanted]
+    wanted = true, len(rows), min(rows), max(rows)
+    return nearest(order, lambda it: (it["set"], it["unsound"], it["first"], it["last"]) == wanted)
 
 
 def wrong_group(folder, cache):

@@ -96,11 +96,12 @@ class Hunt:
         told = self.bad[0].value if self.bad else 0
         self.unread = told if MOST_UNREAD * told <= self.filled else 0
 
-    def weight(self, offset):
-        """How many of the sectors that are tested at an offset are filled: of zeros parity says nothing."""
+    def weight(self, offset, before=None):
+        """How many of the sectors that are tested at an offset are filled, or of those before another one: of zeros parity says nothing."""
+        last = min(offset + self.window, before or self.end)
         for first, counts in self.counts:
             if first <= offset < first + len(counts):
-                return counts[min(offset - first + self.window, len(counts) - 1)] - counts[offset - first]
+                return counts[min(last - first, len(counts) - 1)] - counts[offset - first]
         return 0
 
     def has_weight(self, offset):
@@ -216,12 +217,16 @@ class Hunt:
         values |= {"badrows": self.unread} if shape.parity and self.unread else {}
         return self.base.having(**values)
 
-    def most_bad(self, quick):
-        """How many rows may be bad at most, where that is loosened: a fourth of the filled ones, quickly a 16th, and fewer without landmarks, where many
-        sets are left to be asked for so many rows."""
+    def most_bad(self, shape):
+        """How many rows may be bad at most, where that is loosened: a fourth of the filled ones where hints speak for the shape, since landmarks leave few
+        sets then to be asked for so many rows, and else fewer."""
         told = self.unread or (self.bad[0].value if self.bad else 0)
-        part = self.filled // (FEW_FILLED if quick else MOST_BAD)
-        return told + max(LEAST_BAD, part if self.first_plan.groups else min(self.window // 64, self.filled // FEW_FILLED))
+        few = min(self.window // 64, self.filled // FEW_FILLED)
+        return told + max(LEAST_BAD, self.filled // MOST_BAD if self.speaks_for(shape) else few)
+
+    def speaks_for(self, shape):
+        """Hints say so many members, all of which are images or missing, at levels at which parity tells something."""
+        return shape.parity and not shape.foreign and shape in self.hinted()
 
     def unread_name(self, shape, request):
         """What is loosened by the rows that maps call unread; nothing where the request has none of them, or more."""
@@ -230,8 +235,8 @@ class Hunt:
 
     def cures(self, shape, every=False, quick=False):
         """What may be loosened for a shape, in order; where not every one is asked for, without what is mostly wrong. Quick ones have nothing loosened
-        that makes a listing long, nor, without landmarks, rows that may be bad where a member is missing, of which parity tells late."""
-        rows, late = self.most_bad(quick and shape not in self.exact()), shape.missing and not self.first_plan.groups
+        that makes a listing long, nor, where no hint speaks for them, rows that may be bad where a member is missing, of which parity tells late."""
+        rows, late = self.most_bad(shape), shape.missing and not self.speaks_for(shape)
         offsets = [hint.value for hint in self.offset_hints[:24]] + hints.MORE_OFFSETS
         offsets = [offset for offset in offsets if offset < self.end and (every or self.has_weight(offset))]
         unlike = [it for it in self.unlike_offsets() if every or all(map(self.has_weight, it))]
@@ -257,25 +262,36 @@ class Hunt:
                 yield names, asked.having(offsets=plans.listed(offsets))
 
     def needing(self, shape, chosen, asked):
-        """The offsets of a request that need these things loosened: parity allows no set there, nor at a smaller offset, with less. None where that
-        leaves no offset of the hints: behind damage parity allows what it would allow before it, and that says nothing of the offsets before. Half
-        the window counts for nothing here: what stands at the end of the disks is passed over by large chunks as well, which parity alone then
-        allows."""
+        """The offsets of a request that need these things loosened: parity allows no set there, nor at a smaller offset, with less. What it allows
+        behind damage says nothing of the offsets before, but that the images share an offset. None where that leaves no offset of the hints. Half the
+        window counts for nothing here: what stands at the end of the disks is passed over by large chunks as well, which parity alone then allows."""
         offsets = asked.numbers("offsets")
         free = [cure for cure in chosen if cure.family != "window"]
         request = self.request(shape)
         less = [part for count in range(len(chosen)) for part in itertools.combinations(chosen, count) if list(part) != free]
-        if self.first_plan.groups:
+        if self.speaks_for(shape):
             less = [part for part in less if not any(cure.family == "badrows" for cure in part)]
         try:
             for part in less:
                 first = self.first_allowed(trials.changed(request, part), shape)
-                offsets = [offset for offset in offsets if first is None or offset < first]
-                if first is not None and not {hint.value for hint in self.offset_hints} & set(offsets):
+                offsets = [offset for offset in offsets if first is None or self.far_before(offset, first, shape)]
+                told = {hint.value for hint in self.offset_hints} & set(offsets)
+                if first is not None and (not told or asked.get("mode") == "each"):
                     return []
         except surveys.Failed:
             pass
         return offsets
+
+    def far_before(self, offset, first, shape):
+        """So many rows are filled from an offset on to another one that bad rows alone cannot be all of them; else the two are the same to parity."""
+        return self.speaks_for(shape) and offset < first and self.weight(offset, first) > self.most_bad(shape)
+
+    def is_unsound(self, shape):
+        """Parity allows no set of a shape at some offset of the hints, nor before it, nor behind it before much is filled."""
+        request = self.request(shape)
+        first = self.first_allowed(request, shape)
+        told = {hint.value for hint in self.offset_hints} & set(request.numbers("offsets"))
+        return first is None or any(self.far_before(offset, first, shape) for offset in told)
 
     def first_allowed(self, request, shape):
         """The smallest offset at which parity alone allows a set of a request; None where it allows none."""
@@ -316,7 +332,7 @@ class Hunt:
 
     def has_bad_rows(self, plan, shape):
         """More rows may be bad than the maps say, and landmarks leave few sets to be asked for theirs. Parity alone is not asked about so many."""
-        return shape.parity and plan.groups and int(plan.values["badrows"]) > self.unread
+        return plan.groups and self.speaks_for(shape) and int(plan.values["badrows"]) > self.unread
 
     def climb(self, plan):
         """The sets of a plan that pass with some bad rows: few of these at first, and then four times as many, up to the plan's, until some set

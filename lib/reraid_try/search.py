@@ -95,6 +95,8 @@ class Search:
         for shapes, count in steps:
             if self.stage(self.hunt, shapes, count, quick=shapes is told) or (count and self.best() > 1):
                 return True
+        if self.best() < 1:
+            diagnosis.Diagnosis(self.hunt, self.report).show_on_the_way()
         if (self.wants("10") and self.mirrors(1)) or self.stage(self.hunt, rest, 0) or self.best() > 1:
             return True
         return self.stage(self.hunt, told + rest, 1) or self.best() > 1

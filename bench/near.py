@@ -3,8 +3,8 @@
 two, one whose landmarks mostly contradict it, and arrays of which two images have bad areas that no map tells of. Of two damaged images and of
 wrong landmarks it compares the diagnosis with what was done to the images. The last line counts them, each line says how long it took.
 
-Usage: bench/near.py [--keep DIR] [CASE..], of far, one_damaged, two_damaged, wrong_group, areas_in_six, areas_in_four, areas_at_the_start and
-areas_with_one_lost. It needs what bench/try.py needs, and 5 GiB for files.
+Usage: bench/near.py [--keep DIR] [CASE..], of far, one_damaged, two_damaged, wrong_group, areas_in_six, areas_at_the_start and areas_in_four. It
+needs what bench/try.py needs, and 5 GiB for files.
 """
 
 import argparse
@@ -138,15 +138,7 @@ def areas_in_four(folder, cache):
     return true in best(search(order))
 
 
-def areas_with_one_lost(folder, cache):
-    """One of six disks is lost, and two images have bad areas: the true set is among the best."""
-    order, true = large(Array("6", 6, (2,), "xfs"), cache, folder)
-    bad_area(order[1], 40, 4, 0)
-    bad_area(order[4], 70, 4)
-    return true in best(search(order))
-
-
-CASES = (far, one_damaged, two_damaged, wrong_group, areas_in_six, areas_at_the_start, areas_in_four, areas_with_one_lost)
+CASES = (far, one_damaged, two_damaged, wrong_group, areas_in_six, areas_at_the_start, areas_in_four)
 
 
 def main():

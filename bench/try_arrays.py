@@ -17,7 +17,7 @@ SECTOR = 512
 FIRST = 2048  # of a partition
 LINUX = bytes.fromhex("af3dc60f838472478e793d69d8477de4")
 EXTENT = 8192
-LARGE = 608  # MiB
+LARGE = 800  # MiB
 
 
 @dataclasses.dataclass(frozen=True)
@@ -73,7 +73,7 @@ def large_tree(folder):
     """A folder with compressed files that fill most of a large volume, always the same."""
     os.makedirs(folder, exist_ok=True)
     noise = random.Random(2)
-    for k in range(46):
+    for k in range(50):
         with open(f"{folder}/film{k:02}.gz", "wb") as file:
             file.write(gzip.compress(noise.randbytes(10 << 20), 0, mtime=0))
 

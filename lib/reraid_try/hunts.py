@@ -294,12 +294,12 @@ class Hunt:
         return first is None or any(self.far_before(offset, first, shape) for offset in told)
 
     def first_allowed(self, request, shape):
-        """The smallest offset at which parity alone allows a set of a request; None where it allows none."""
+        """The smallest offset at which parity alone allows a set of a request, or some where no hint speaks for the shape; None where it allows none."""
         plan, first = self.surveys.plan(request), None
         offsets = plan.numbers("offsets")
         while offsets and (found := self.parity_allows(plan.having(offsets=plans.listed(offsets)), shape)):
             first = min(offsets) if found == LATE or plan.version == 2 else plans.read_word(found).offset
-            offsets = [offset for offset in offsets if offset < first]
+            offsets = [offset for offset in offsets if offset < first and self.speaks_for(shape)]
         return first
 
     def unlike_offsets(self):

@@ -1,9 +1,10 @@
 #!/usr/bin/env python3
 """Runs reraid-try where the plain search finds nothing: an array that begins behind what is read first, one with a damaged image, one with
-two, and one whose landmarks mostly contradict it. For the last two it compares the diagnosis with what was done to the images. The last
-line counts them.
+two, one whose landmarks mostly contradict it, and arrays of which two images have bad areas that no map tells of. Of two damaged images and of
+wrong landmarks it compares the diagnosis with what was done to the images. The last line counts them, each line says how long it took.
 
-Usage: bench/near.py [--keep DIR] [CASE..], of far, one_damaged, two_damaged and wrong_group. It needs what bench/try.py needs.
+Usage: bench/near.py [--keep DIR] [CASE..], of far, one_damaged, two_damaged, wrong_group, areas_in_six, areas_at_the_start and areas_in_four. It
+needs what bench/try.py needs, and 5 GiB for files.
 """
 
 import argparse
@@ -13,9 +14,11 @@ import pathlib
 import random
 import re
 import shutil
+import signal
 import subprocess
 import sys
 import tempfile
+import time
 
 import try_arrays
 from try_arrays import SECTOR, Array
@@ -29,6 +32,15 @@ def search(order, *words):
     """The events of a run, each with its fields."""
     done = subprocess.run(["reraid-try", "--json", "--time", "20", *words, *order], stdout=subprocess.PIPE, text=True, check=False)
     return [json.loads(line) for line in done.stdout.splitlines()]
+
+
+def nearest(order, wanted):
+    """What `wanted` says of the nearest sets that a run prints on its way, or at its end; it is ended where that is true."""
+    with subprocess.Popen(["reraid-try", "--json", "--time", "20", *order], stdout=subprocess.PIPE, text=True) as running:
+        well = any(it["event"] == "near" and wanted(it) for it in map(json.loads, running.stdout))
+        running.send_signal(signal.SIGINT)
+        running.communicate()
+    return well
 
 
 def best(events):
@@ -61,12 +73,11 @@ def one_damaged(folder, cache):
 
 
 def two_damaged(folder, cache):
-    """Two images have: the diagnosis has the true set, with as many unsound rows as were damaged, the first and the last."""
+    """Two images have: the nearest sets have the true one, with as many unsound rows as were damaged, the first and the last."""
     order, true = try_arrays.make(Array("5", 4, (), "xfs"), cache, folder)
     rows = damaged(order[0], 3, 7) + damaged(order[2], 4, 7)
-    near = [it for it in search(order) if it["event"] == "near"]
-    wanted = len(rows), min(rows), max(rows)
-    return true in [it["set"] for it in near if (it["unsound"], it["first"], it["last"]) == wanted]
+    wanted = true, len(rows), min(rows), max(rows)
+    return nearest(order, lambda it: (it["set"], it["unsound"], it["first"], it["last"]) == wanted)
 
 
 def wrong_group(folder, cache):
@@ -83,6 +94,53 @@ def wrong_group(folder, cache):
     return true in [it["set"] for it in near if it["unsound"] == 0 and re.search(r"misfits 12$", it["groups"][0])]
 
 
+def large(array, cache, folder):
+    """The images of an array that is mostly filled, and its true set."""
+    volume = f"{folder}/volume"
+    try_arrays.run("cp", "--sparse=always", try_arrays.large_volume(array.kind, cache), volume)
+    return try_arrays.make(array, cache, folder, DATA, volume)
+
+
+def bad_area(name, first, count, byte=None):
+    """Overwrites so many MiB of an image from one on, counted from the data's start, with one byte or with noise."""
+    area = NOISE.randbytes(count << 20) if byte is None else bytes([byte]) * (count << 20)
+    try_arrays.put(name, DATA + (first << 20) // SECTOR, area)
+
+
+def left_out(true, images):
+    """The true set without these images."""
+    head, slots = true.rsplit(":", 1)
+    return ":".join([head, ",".join("-" if slot in map(str, images) else slot for slot in slots.split(","))])
+
+
+def areas_in_six(folder, cache):
+    """Two of six images have bad areas, which no map tells: the set without them is among the best."""
+    order, true = large(Array("6", 6, (), "btrfs"), cache, folder)
+    bad_area(order[0], 40, 4, 0)
+    bad_area(order[3], 70, 4)
+    return left_out(true, (0, 3)) in best(search(order))
+
+
+def areas_at_the_start(folder, cache):
+    """The first MiB of two of six images are bad, and others: the set without them is among the best."""
+    order, true = large(Array("6", 6, (), "ext4"), cache, folder)
+    bad_area(order[1], 0, 3, 0)
+    bad_area(order[1], 90, 2, 255)
+    bad_area(order[4], 2, 4)
+    return left_out(true, (1, 4)) in best(search(order))
+
+
+def areas_in_four(folder, cache):
+    """Two of four images have bad areas: the true set is among the best."""
+    order, true = large(Array("5", 4, (), "xfs"), cache, folder)
+    bad_area(order[0], 40, 4, 0)
+    bad_area(order[2], 70, 4)
+    return true in best(search(order))
+
+
+CASES = (far, one_damaged, two_damaged, wrong_group, areas_in_six, areas_at_the_start, areas_in_four)
+
+
 def main():
     asking = argparse.ArgumentParser(description=__doc__, formatter_class=argparse.RawDescriptionHelpFormatter)
     asking.add_argument("--keep", metavar="DIR")
@@ -94,13 +152,14 @@ def main():
     os.makedirs(cache, exist_ok=True)
     try:
         try_arrays.tree(f"{cache}/tree")
-        cases = [case for case in (far, one_damaged, two_damaged, wrong_group) if not options.cases or case.__name__ in options.cases]
+        cases = [case for case in CASES if not options.cases or case.__name__ in options.cases]
         good = 0
         for case in cases:
+            began = time.monotonic()
             with tempfile.TemporaryDirectory(dir=base) as folder:
                 well = case(folder, cache)
             good += well
-            print(f"{'as stated' if well else 'NOT AS STATED'}: {case.__doc__}", flush=True)
+            print(f"{'as stated' if well else 'NOT AS STATED'}, {time.monotonic() - began:.0f} s: {case.__doc__}", flush=True)
         print(f"{good} of {len(cases)} are as stated")
         return 0 if good == len(cases) else 1
     finally:

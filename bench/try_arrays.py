@@ -17,6 +17,7 @@ SECTOR = 512
 FIRST = 2048  # of a partition
 LINUX = bytes.fromhex("af3dc60f838472478e793d69d8477de4")
 EXTENT = 8192
+LARGE = 800  # MiB
 
 
 @dataclasses.dataclass(frozen=True)
@@ -68,15 +69,24 @@ def tree(folder):
             file.write(noise.randbytes(3000 + 700 * k))
 
 
+def large_tree(folder):
+    """A folder with compressed files that fill most of a large volume, always the same."""
+    os.makedirs(folder, exist_ok=True)
+    noise = random.Random(2)
+    for k in range(50):
+        with open(f"{folder}/film{k:02}.gz", "wb") as file:
+            file.write(gzip.compress(noise.randbytes(10 << 20), 0, mtime=0))
+
+
 def make_ext(path, folder, block, megabytes):
     """An ext4 with the files of a folder."""
     sparse(path, megabytes)
     run("mke2fs", "-q", "-F", "-t", "ext4", "-b", str(block), "-d", folder, path)
 
 
-def make_xfs(path, folder):
+def make_xfs(path, folder, megabytes=97):
     """An XFS with the files of a folder, smaller than the tools think wise, whose groups do not all begin on one disk."""
-    sparse(path, 97)
+    sparse(path, megabytes)
     names = sorted(os.listdir(folder))
     with open(path + ".files", "w", encoding="utf-8") as file:
         file.write("/\n0 0\nd--755 0 0\n" + "".join(f"{name} ---644 0 0 {folder}/{name}\n" for name in names) + "$\n")
@@ -92,9 +102,9 @@ def make_ntfs(path, folder):
         run("ntfscp", "-q", "-f", path, f"{folder}/{name}", name)
 
 
-def make_btrfs(path, folder):
+def make_btrfs(path, folder, megabytes=160):
     """A btrfs with the files of a folder."""
-    sparse(path, 160)
+    sparse(path, megabytes)
     run("mkfs.btrfs", "-q", "-f", "--rootdir", folder, path)
 
 
@@ -377,6 +387,18 @@ def plain_volume(kind, cache):
     plain = f"{cache}/{kind.replace(' ', '-')}"
     if not os.path.exists(plain):
         make_volume(kind, plain, f"{cache}/tree")
+    return plain
+
+
+def large_volume(kind, cache):
+    """A volume of a kind that is mostly filled, made once: of six disks of a RAID 6 so much is filled that some of it lies behind every usual offset."""
+    plain, folder = f"{cache}/large-{kind}", f"{cache}/large-tree"
+    if not os.path.exists(plain):
+        large_tree(folder)
+        if kind == "ext4":
+            make_ext(plain, folder, 4096, LARGE)
+        else:
+            {"xfs": make_xfs, "btrfs": make_btrfs}[kind](plain, folder, LARGE)
     return plain
 
 

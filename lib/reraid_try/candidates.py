@@ -4,7 +4,7 @@ import concurrent.futures
 import dataclasses
 import re
 
-from . import checkers, plans, volumes
+from . import checkers, damage, plans, volumes
 
 SECTOR = 512
 MOST_CLASSED = 1024
@@ -117,6 +117,36 @@ class Tests:
                 if match[3] and match[2] != "gpt":
                     candidate.origins.append(int(match[3]))
         candidate.doubtful = candidate.doubtful or candidate.mostly_unsound
+
+    def unsound_rows(self, candidate, word):
+        """How many rows are unsound of a set like a candidate's."""
+        text, names, _ = candidate.hunt.asking(candidate)
+        answer = self.commands.run(["reraid", "check", f"set={word.text}", "--", *names], text, self.options.time)
+        match = re.search(r"^unsound (\d+)", answer.out, re.MULTILINE)
+        return int(match[1]) if match else candidate.unsound
+
+    def without_damaged(self, tested):
+        """The candidates with the fewest unsound rows once more, without the images that make these unsound; those that gain by it."""
+        found = []
+        for it in damage.doubted(tested, bool(self.maps)):
+            lesser = [damage.lesser(it, images) for images in self.left_out(it)]
+            self.side_by_side(self.read, lesser, "looks at the candidates without damaged images")
+            found += [one for one in lesser if one.verdict.gain > it.verdict.gain]
+        return found
+
+    def left_out(self, candidate):
+        """What may be left out of a candidate: the two images that make most rows unsound, or each one, where parity does not tell which that is."""
+        images = [slot for slot in candidate.word.slots if slot is not None]
+        if damage.spare(candidate.word) < 2:
+            return [[image] for image in images]
+        words = [damage.without(candidate.word, [image]) for image in images]
+        counts = self.side_by_side(lambda word: self.unsound_rows(candidate, word), words, "asks for the unsound rows without each image")
+        blamed = damage.blamed(candidate, dict(zip(images, counts)))
+        if blamed:
+            told = ", ".join(f"{candidate.unsound - counts[images.index(image)]} by image {image}" for image in blamed)
+            self.report.say("blamed", f"  {candidate.word.text}: {candidate.unsound} rows are unsound, {told}", set=candidate.word.text,
+                            unsound=candidate.unsound, images=blamed)
+        return [blamed[:2]] if blamed else []
 
     def read(self, candidate):
         """Looks at the volume of a candidate."""

@@ -69,6 +69,11 @@ class Verdict:
             return 0
         return 3 if self.whole or self.summed else 2 if self.clean else 1
 
+    @property
+    def gain(self):
+        """What two volumes of one set are compared by: how much speaks for them, and how many files are whole."""
+        return self.score, self.files.whole
+
     def text(self):
         """What is said of the volume."""
         said = [finding.text() for finding in self.findings] or ["nothing known"]

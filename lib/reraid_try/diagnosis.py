@@ -24,6 +24,7 @@ class Near:
     fits: int = 0
     groups: tuple = ()
     seconds: float = 0
+    bounds: tuple | None = None
 
     @property
     def doubtful(self):
@@ -69,7 +70,11 @@ class Diagnosis:
 
     def __init__(self, hunt, report):
         self.hunt, self.report = hunt, report
-        self.until = time.monotonic() + 4 * hunt.options.time
+        self.begin()
+
+    def begin(self):
+        """From now on so long."""
+        self.until = time.monotonic() + 4 * self.hunt.options.time
 
     def ask(self, near, window=None):
         """How many of the first rows of a set are unsound, and how many were tested; its groups are kept where no window is given."""
@@ -112,10 +117,11 @@ class Diagnosis:
         return rows_in_words(near, *self.bounds(near))
 
     def bounds(self, near):
-        """The first and the last unsound row of a set; None where there is none, or where it takes long to find them."""
+        """The first and the last unsound row of a set, looked for once; None where there is none, or where it takes long to find them."""
         if not near.unsound or near.seconds >= SLOW:
             return None, None
-        return self.row_of(near, 1), self.row_of(near, near.unsound)
+        near.bounds = near.bounds or (self.row_of(near, 1), self.row_of(near, near.unsound))
+        return near.bounds
 
     def sets(self, plan, most):
         """The first sets of a plan that pass; none after the diagnosis's time."""
@@ -153,11 +159,11 @@ class Diagnosis:
         """The shapes of which parity tells something, with what is asked for."""
         return [(shape, self.hunt.request(shape)) for shape in self.hunt.shapes() if shape.parity][:6]
 
-    def by_rows(self):
+    def by_rows(self, shapes):
         """Of the sets that landmarks allow, all or some of them, those with about the fewest unsound rows, none with more than twice as many as
         others. Those that most marks of a group speak against are the last; what chunks leave over at the end of the disks makes no difference."""
         found, most = {}, self.hunt.end
-        for shape, request in self.shapes():
+        for shape, request in shapes:
             changed = [cure.of(request) for cure in self.hunt.cures(shape) if cure.family in ("records", "group") or cure.family[:6] == "group "]
             for it in [request, *changed]:
                 plan = self.hunt.surveys.plan(it).having(levels=shape.telling)
@@ -183,9 +189,21 @@ class Diagnosis:
                     found.setdefault(word, Near(word, whole.having(misfits=misfits)))
         return self.asked(found, lambda it: (it.lacking, it.misfits, it.empty, -it.fits))
 
+    def show_on_the_way(self):
+        """Prints the sets with the fewest unsound rows of the shapes that hints speak for, where parity allows none at the offsets of the hints."""
+        shapes = [(shape, self.hunt.request(shape)) for shape in self.hunt.shapes() if self.hunt.speaks_for(shape) and self.hunt.is_unsound(shape)]
+        if self.hunt.first_plan.groups and (rows := self.by_rows(shapes)):
+            self.report.say("on the way", "  so far no set is sound. Of the sets that landmarks allow these have the fewest unsound rows, as the true one may "
+                            "have where images are damaged. It goes on; reraid-mount SET DIR IMAGE.. shows the volume of one of them, and - in a slot "
+                            "leaves its image out")
+            self.lines(rows[:SHOWN])
+
     def show(self):
         """Prints the nearest sets."""
-        rows, marks = self.by_rows(), self.by_marks()
+        self.begin()
+        rows = self.by_rows(self.shapes())
+        self.begin()
+        marks = self.by_marks()
         if not rows and not marks:
             self.report.say("diagnosis", "diagnosis: no set is near: landmarks and parity each allow none")
         if rows:

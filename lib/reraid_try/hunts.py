@@ -12,10 +12,16 @@ MOST_WINDOW = 524288
 FEW_FILLED = 16
 # How many rows may be bad at least, where that is loosened.
 LEAST_BAD = 128
+# Of so many rows, of all sets together, it is asked whether they are bad, where many may be.
+MOST_ASKED = 300_000_000
+# Of so many of the filled rows one may be bad at most, where that is loosened.
+MOST_BAD = 4
 # Where maps call more than one in so many of the filled sectors unread, so many bad rows are asked for only where nothing passes without.
 MOST_UNREAD = 4
 # A first mark so far behind the first of all is mostly a stray one: its offset is tried with more offsets alone.
 FAR = 8192
+# What stands for a set where time was up before one was known.
+LATE = "late"
 
 
 @dataclasses.dataclass
@@ -35,7 +41,7 @@ class Hunt:
     def __init__(self, options, commands, images, late, pairs=None):
         self.options, self.commands, self.images, self.late, self.pairs = options, commands, images, late, pairs
         self.surveys = surveys.Surveys(commands, images)
-        self.tried, self.allows, self.passed_over, self.repeated = set(), {}, 0, False
+        self.tried, self.allows, self.numbers_allowed, self.passed_over, self.repeated = set(), {}, {}, 0, False
         self.hints, self.filled, self.counts, self.unread = [], 0, [], 0
         self.names = [image.name for image in images]
         self.end = min(min(image.sectors for image in images), options.first // SECTOR)
@@ -90,11 +96,12 @@ class Hunt:
         told = self.bad[0].value if self.bad else 0
         self.unread = told if MOST_UNREAD * told <= self.filled else 0
 
-    def weight(self, offset):
-        """How many of the sectors that are tested at an offset are filled: of zeros parity says nothing."""
+    def weight(self, offset, before=None):
+        """How many of the sectors that are tested at an offset are filled, or of those before another one: of zeros parity says nothing."""
+        last = min(offset + self.window, before or self.end)
         for first, counts in self.counts:
             if first <= offset < first + len(counts):
-                return counts[min(offset - first + self.window, len(counts) - 1)] - counts[offset - first]
+                return counts[min(last - first, len(counts) - 1)] - counts[offset - first]
         return 0
 
     def has_weight(self, offset):
@@ -210,47 +217,90 @@ class Hunt:
         values |= {"badrows": self.unread} if shape.parity and self.unread else {}
         return self.base.having(**values)
 
+    def most_bad(self, shape):
+        """How many rows may be bad at most, where that is loosened: a fourth of the filled ones where hints speak for the shape, since landmarks leave few
+        sets then to be asked for so many rows, and else fewer."""
+        told = self.unread or (self.bad[0].value if self.bad else 0)
+        few = min(self.window // 64, self.filled // FEW_FILLED)
+        return told + max(LEAST_BAD, self.filled // MOST_BAD if self.speaks_for(shape) else few)
+
+    def speaks_for(self, shape):
+        """Hints say so many members, all of which are images or missing, at levels at which parity tells something."""
+        return shape.parity and not shape.foreign and shape in self.hinted()
+
     def unread_name(self, shape, request):
         """What is loosened by the rows that maps call unread; nothing where the request has none of them, or more."""
         asked = shape.parity and request.get("badrows") == str(self.unread) if request else shape.levels == "10"
         return (f"badrows {self.unread} from the maps",) if self.unread and asked else ()
 
-    def cures(self, shape, every=False):
-        """What may be loosened for a shape, in order; where not every one is asked for, without what is mostly wrong."""
-        rows = max(LEAST_BAD, min(self.window // 64, self.filled // 16))
-        rows += self.unread or (self.bad[0].value if self.bad else 0)
+    def cures(self, shape, every=False, quick=False):
+        """What may be loosened for a shape, in order; where not every one is asked for, without what is mostly wrong. Quick ones have nothing loosened
+        that makes a listing long, nor, where no hint speaks for them, rows that may be bad where a member is missing, of which parity tells late."""
+        rows, late = self.most_bad(shape), shape.missing and not self.speaks_for(shape)
         offsets = [hint.value for hint in self.offset_hints[:24]] + hints.MORE_OFFSETS
         offsets = [offset for offset in offsets if offset < self.end and (every or self.has_weight(offset))]
         unlike = [it for it in self.unlike_offsets() if every or all(map(self.has_weight, it))]
-        found = trials.cures(self.first_plan, self.request(shape), rows, unlike, offsets, every)
+        found = trials.cures(self.first_plan, rows, [it for it in self.offsets() if self.weight(it) >= 2 * rows], unlike, offsets, every)
         if not shape.parity:
             found = [cure for cure in found if cure.family not in ("window", "badrows")]
         if not self.first_plan.groups:
             found = [cure for cure in found if cure.family != "origins"]
         if not any(group.kind == "ntfs" for group in self.first_plan.groups):
             found = [cure for cure in found if not cure.name.startswith("file records")]
+        found = [cure for cure in found if not (quick and (cure.slow or late and cure.family == "badrows"))]
         return [cure for cure in found if not (shape.foreign and cure.slow)]
 
     def loosened(self, shape, count, every=False, quick=False):
         """The requests for a shape with so many things loosened at once, in order, each with their names. Where parity tells something, what
-        changes it is loosened only as far as parity needs it; all else too, where every one is asked for. Quick ones have nothing loosened that
-        makes a listing long, nor rows that may be bad where a member is missing, of which parity tells late."""
+        changes it is loosened only as far as parity needs it, and at the offsets that need it; all else too, where every one is asked for."""
         request = self.request(shape, every or count == 0)
-        cures = [cure for cure in self.cures(shape, every) if not (quick and (cure.slow or shape.missing and cure.family == "badrows"))]
-        for chosen in trials.choices(cures, count):
-            if every or not shape.parity or self.is_needed(shape, [cure for cure in chosen if cure.rows]):
-                yield tuple(cure.name for cure in chosen), trials.changed(request, chosen)
+        for chosen in trials.choices(self.cures(shape, every, quick), count):
+            names, asked = tuple(cure.name for cure in chosen), trials.changed(request, chosen)
+            if every or not shape.parity:
+                yield names, asked
+            elif offsets := self.needing(shape, [cure for cure in chosen if cure.rows], asked):
+                yield names, asked.having(offsets=plans.listed(offsets))
 
-    def is_needed(self, shape, chosen):
-        """Parity allows no set with less loosened than this. Half the window counts for nothing here: what stands at the end of the disks is
-        passed over by large chunks as well, which parity alone then allows."""
+    def needing(self, shape, chosen, asked):
+        """The offsets of a request that need these things loosened: parity allows no set there, nor at a smaller offset, with less. What it allows
+        behind damage says nothing of the offsets before, but that the images share an offset. None where that leaves no offset of the hints. Half the
+        window counts for nothing here: what stands at the end of the disks is passed over by large chunks as well, which parity alone then allows."""
+        offsets = asked.numbers("offsets")
         free = [cure for cure in chosen if cure.family != "window"]
         request = self.request(shape)
         less = [part for count in range(len(chosen)) for part in itertools.combinations(chosen, count) if list(part) != free]
+        if self.speaks_for(shape):
+            less = [part for part in less if not any(cure.family == "badrows" for cure in part)]
         try:
-            return not any(self.parity_allows(self.surveys.plan(trials.changed(request, part)), shape) for part in less)
+            for part in less:
+                first = self.first_allowed(trials.changed(request, part), shape)
+                offsets = [offset for offset in offsets if first is None or self.far_before(offset, first, shape)]
+                told = {hint.value for hint in self.offset_hints} & set(offsets)
+                if first is not None and (not told or asked.get("mode") == "each"):
+                    return []
         except surveys.Failed:
-            return True
+            pass
+        return offsets
+
+    def far_before(self, offset, first, shape):
+        """So many rows are filled from an offset on to another one that bad rows alone cannot be all of them; else the two are the same to parity."""
+        return self.speaks_for(shape) and offset < first and self.weight(offset, first) > self.most_bad(shape)
+
+    def is_unsound(self, shape):
+        """Parity allows no set of a shape at some offset of the hints, nor before it, nor behind it before much is filled."""
+        request = self.request(shape)
+        first = self.first_allowed(request, shape)
+        told = {hint.value for hint in self.offset_hints} & set(request.numbers("offsets"))
+        return first is None or any(self.far_before(offset, first, shape) for offset in told)
+
+    def first_allowed(self, request, shape):
+        """The smallest offset at which parity alone allows a set of a request, or some where no hint speaks for the shape; None where it allows none."""
+        plan, first = self.surveys.plan(request), None
+        offsets = plan.numbers("offsets")
+        while offsets and (found := self.parity_allows(plan.having(offsets=plans.listed(offsets)), shape)):
+            first = min(offsets) if found == LATE or plan.version == 2 else plans.read_word(found).offset
+            offsets = [offset for offset in offsets if offset < first and self.speaks_for(shape)]
+        return first
 
     def unlike_offsets(self):
         """Offsets of which each image may have another one: the first two of the hints, and the first with one 2,048 sectors away."""
@@ -276,26 +326,53 @@ class Hunt:
             self.passed_over, self.repeated = self.passed_over + 1, False
             return None
         self.tell(request)
+        if self.has_bad_rows(plan, shape):
+            return self.climb(plan)
         return trials.list_plan(self.commands, self.names, plan, self.options.time, self.options.jobs)
+
+    def has_bad_rows(self, plan, shape):
+        """More rows may be bad than the maps say, and landmarks leave few sets to be asked for theirs. Parity alone is not asked about so many."""
+        return plan.groups and self.speaks_for(shape) and int(plan.values["badrows"]) > self.unread
+
+    def climb(self, plan):
+        """The sets of a plan that pass with some bad rows: few of these at first, and then four times as many, up to the plan's, until some set
+        passes. The more sets landmarks allow, the fewer rows are asked for, so that no listing is long."""
+        most = min(int(plan.values["badrows"]), max(LEAST_BAD, MOST_ASKED // self.allowed_by_landmarks(plan)) + self.unread)
+        step = LEAST_BAD
+        while True:
+            rows = min(most, self.unread + step)
+            listing = trials.list_plan(self.commands, self.names, plan.having(badrows=rows), self.options.time, self.options.jobs)
+            if listing.sets or rows == most or not listing.whole:
+                return dataclasses.replace(listing, bad_rows=rows)
+            step *= 4
+
+    def allowed_by_landmarks(self, plan):
+        """About how many sets landmarks alone allow, at least one."""
+        text = plan.having(window=1, badrows=1).text()
+        if text not in self.numbers_allowed:
+            answer = trials.list_span(self.commands, self.names, text, 0, trials.LAST, self.options.time)
+            self.numbers_allowed[text] = max(1, trials.estimate(answer.out))
+        return self.numbers_allowed[text]
 
     def may_list(self, plan, shape):
         """Landmarks alone allow a set, and so does parity alone; each is asked once for all trials that agree in it."""
         if plan.groups and not self.has_set(plan.having(window=1, badrows=1).text(), "landmarks alone allow"):
             return False
-        return not shape.parity or self.parity_allows(plan, shape)
+        return not shape.parity or self.has_bad_rows(plan, shape) or self.parity_allows(plan, shape)
 
     def parity_allows(self, plan, shape):
-        """Parity alone allows a set. What is asked of landmarks says nothing there, and makes no other question of the same one."""
+        """The first set that parity alone allows. What is asked of landmarks says nothing there, and makes no other question of the same one."""
         alone = plan.having(levels=shape.telling, origins=0, misfits=0).without([group.place for group in plan.groups])
         return self.has_set(alone.text(), "parity alone allows")
 
     def has_set(self, text, what):
-        """Some set of a plan passes, or its time was up before that was known. `what` says what allows it."""
+        """The first set of a plan that passes, or LATE where its time was up before that was known. `what` says what allows it."""
         if text not in self.allows:
             answer = trials.list_span(self.commands, self.names, text, 0, trials.LAST, self.options.time, 1)
             if answer.status is None:
                 self.late(what)
-            self.allows[text] = answer.status is None or bool(trials.read_page(answer.out)[0])
+            found = trials.read_page(answer.out)[0]
+            self.allows[text] = LATE if answer.status is None else found[0][1] if found else ""
         return self.allows[text]
 
     def tell(self, request):

@@ -95,6 +95,8 @@ class Search:
         for shapes, count in steps:
             if self.stage(self.hunt, shapes, count, quick=shapes is told) or (count and self.best() > 1):
                 return True
+        if self.best() < 1:
+            diagnosis.Diagnosis(self.hunt, self.report).show_on_the_way()
         if (self.wants("10") and self.mirrors(1)) or self.stage(self.hunt, rest, 0) or self.best() > 1:
             return True
         return self.stage(self.hunt, told + rest, 1) or self.best() > 1
@@ -149,6 +151,9 @@ class Search:
                 self.report.say("passed over", f"passed over: {shape.line()}: {' and '.join(names) or 'nothing loosened'}", loosened=list(names),
                                 shape=shape.line())
             return False
+        if listing.bad_rows is not None:
+            names = tuple(f"badrows {listing.bad_rows}" if name.startswith("badrows") else name for name in names)
+            request = request.having(badrows=listing.bad_rows)
         trial = self.told(shape, names, request, listing)
         return self.take(hunt, trial, [(rank, plans.read_word(word), hunt.word(word)) for rank, word in listing.sets])
 
@@ -176,7 +181,8 @@ class Search:
             return False
         tested = self.tests.test(fresh)
         told = hunt is not self.hunt or NO_LANDMARKS[0] not in trial.loosened
-        return self.keep([it for it in tested if told or it.verdict.findings or it.word.level in trial.shape.telling])
+        whole = self.keep([it for it in tested if told or it.verdict.findings or it.word.level in trial.shape.telling])
+        return self.keep(self.tests.without_damaged(tested)) or whole
 
     def keep(self, tested):
         """Keeps what was tested for the table; it says whether one is clean and whole."""

@@ -28,6 +28,10 @@ class Request:
         """The value of an operand."""
         return dict(self.operands).get(name, default)
 
+    def numbers(self, name):
+        """The numbers of an operand."""
+        return [int(number) for number in self.get(name).split(",")]
+
     def words(self, images):
         """The survey that prints this plan, before anything is taken out."""
         drop = [f"drop={','.join(f'{image}:{sector}' for image, sector in self.drop)}"] if self.drop else []

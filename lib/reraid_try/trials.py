@@ -91,12 +91,14 @@ class Trial:
 
 @dataclasses.dataclass
 class Listing:
-    """What a trial listed: its ranks and sets, how many sets the plan has, whether all of them were looked at."""
+    """What a trial listed: its ranks and sets, how many sets the plan has, whether all of them were looked at, and how many rows might be bad, where
+    that was not known before."""
 
     sets: list
     total: int
     whole: bool
     note: str = ""
+    bad_rows: int | None = None
 
     def line(self):
         """What is said of it."""
@@ -113,6 +115,13 @@ def read_page(text):
         elif line.startswith("next "):
             following = int(line.split()[1])
     return found, following
+
+
+def estimate(text):
+    """How many sets a plan has that pass, by the part of it that a page had room for."""
+    found, _ = read_page(text)
+    match = re.search(r"^next (\d+) of (\d+)$", text, re.MULTILINE)
+    return len(found) * int(match[2]) // max(1, int(match[1])) if match else len(found)
 
 
 def total_of(commands, names, text):
@@ -213,13 +222,21 @@ def misfits(request):
     return request.having(misfits=8)
 
 
-def cures(plan, request, rows, unlike, offsets, every):
-    """What may be loosened, in the order in which it is tried: so many bad rows, unlike offsets out of these lists, and more offsets."""
+def bad_rows(rows, offsets):
+    """So many bad rows, at those of these offsets that are asked for: the others have too few filled ones."""
+    def change(request):
+        return request.having(badrows=rows, offsets=plans.listed(set(request.numbers("offsets")) & set(offsets)) or request.get("offsets"))
+    return change
+
+
+def cures(plan, rows, telling, unlike, offsets, every):
+    """What may be loosened, in the order in which it is tried: so many bad rows, at the offsets where these tell something, unlike offsets out of these
+    lists, and more offsets."""
     found = [Cure("half the window", "window", half_window(plan)), Cure("an end before a superblock", "end", before_superblock(plan))]
     found.append(Cure("file records of number 0 left out", "records", lambda it: dataclasses.replace(it, records=True)))
     found += group_cures(plan, every)
     found.append(Cure("8 misfits", "records", misfits))
-    found.append(Cure(f"badrows {rows}", "badrows", lambda it: it.having(badrows=rows)))
+    found.append(Cure(f"badrows {rows}", "badrows", bad_rows(rows, telling)))
     found.append(Cure("more offsets", "offsets", more_offsets(offsets)))
     found.append(Cure("more origins", "origins", more_origins))
     for offsets in unlike:
@@ -228,9 +245,12 @@ def cures(plan, request, rows, unlike, offsets, every):
 
 
 def goes_with(chosen):
-    """These cures can stand together."""
-    families = [cure.family for cure in chosen]
-    return len(set(families)) == len(families) and not ("group" in families and any(it.startswith("group ") for it in families))
+    """These cures can stand together. What stands at the end of the disks makes bad rows too, and where each image has an offset of its own only few
+    rows are tested, which bad ones would be most of."""
+    families = {cure.family for cure in chosen}
+    whole_group = "group" in families and any(it.startswith("group ") for it in families)
+    with_bad = "badrows" in families and any(cure.family in ("window", "end") or cure.slow for cure in chosen)
+    return len(families) == len(chosen) and not whole_group and not with_bad
 
 
 def choices(cure_list, count):

@@ -198,20 +198,28 @@ class Diagnosis:
                             "leaves its image out")
             self.lines(rows[:SHOWN])
 
-    def show(self):
-        """Prints the nearest sets."""
+    def show(self, was_late):
+        """Prints the nearest sets. `was_late` says that not all was looked at within its time."""
         self.begin()
         rows = self.by_rows(self.shapes())
         self.begin()
         marks = self.by_marks()
         if not rows and not marks:
-            self.report.say("diagnosis", "diagnosis: no set is near: landmarks and parity each allow none")
+            self.report.say("diagnosis", f"diagnosis: {self.none_near(was_late)}")
         if rows:
             self.report.say("diagnosis", "diagnosis: of the sets that landmarks allow these have the fewest unsound rows")
             self.lines(rows[:SHOWN])
         if marks:
             self.report.say("diagnosis", "diagnosis: of the sets that parity allows these have the most groups and marks that fit")
             self.lines(marks[:SHOWN])
+
+    def none_near(self, was_late):
+        """What is said where no set is near."""
+        if not self.shapes():
+            return "none by parity, of which what was searched has none"
+        if was_late:
+            return "no set is known to be near: not all was looked at within its time (--time gives more)"
+        return "no set is near: landmarks and parity each allow none"
 
     def lines(self, found):
         """A line for each of these sets."""

@@ -20,7 +20,7 @@ class Search:
     def __init__(self, options, commands, report, room):
         self.options, self.commands, self.report, self.room = options, commands, report, room
         self.images, self.tested, self.known = [], [], set()
-        self.number, self.said_on = 0, False
+        self.number, self.said_on, self.was_late = 0, False, False
 
     def run(self):
         """Does all of it; it says whether there are candidates."""
@@ -33,7 +33,7 @@ class Search:
         if self.best() < 1:
             self.without_landmarks()
         if self.best() < 2:
-            diagnosis.Diagnosis(self.hunt, self.report).show()
+            diagnosis.Diagnosis(self.hunt, self.report).show(self.was_late)
         for _, it in ending.best(kin.in_order(self.tested, self.images))[:ending.MOST_TOLD]:
             it.rows = diagnosis.Diagnosis(it.hunt, self.report).whole(it)
         return bool(self.tested)
@@ -87,7 +87,8 @@ class Search:
     def first_trials(self):
         """What the hints say, with up to three things loosened where parity tells something, what parity tells of with up to two that are soon
         told, and the rest with up to one; it says whether the search is at its end."""
-        if self.wants("10") and self.mirrors(0):
+        lost_early = len(self.images) % 2
+        if self.wants("10") and (self.mirrors(0) or lost_early and self.mirrors(1)):
             return True
         hinted, told, rest = self.hunt.tiers()
         exact = [shape for shape in self.hunt.exact() if shape in told]
@@ -97,7 +98,7 @@ class Search:
                 return True
         if self.best() < 1:
             diagnosis.Diagnosis(self.hunt, self.report).show_on_the_way()
-        if (self.wants("10") and self.mirrors(1)) or self.stage(self.hunt, rest, 0) or self.best() > 1:
+        if (self.wants("10") and not lost_early and self.mirrors(1)) or self.stage(self.hunt, rest, 0) or self.best() > 1:
             return True
         return self.stage(self.hunt, told + rest, 1) or self.best() > 1
 
@@ -167,6 +168,7 @@ class Search:
 
     def say_late(self, what):
         """Says that a question ran out of its time."""
+        self.was_late = True
         self.report.say("late", f"  {self.options.time} s were up before it was known whether {what} a set: goes on as if so (--time gives more)",
                         what=what, seconds=self.options.time)
 
@@ -192,36 +194,51 @@ class Search:
                 self.report.say("sound", f"  {it.word.text}: {it.verdict.text()}", set=it.word.text, said=it.verdict.text())
         return any(it.verdict.score == 3 for it in tested)
 
-    def mirror_words(self, members, missing, window, size):
+    def mirror_words(self, members, missing, offsets, window):
         """The command that lists the sets of a RAID 10. With an even number of members the copies do not tell the chunk, so one is enough."""
-        words = ["reraid", "mirrors", f"members={members}", f"offsets={plans.listed(self.hunt.offsets())}", f"end={self.hunt.end}"]
+        words = ["reraid", "mirrors", f"members={members}", f"offsets={plans.listed(offsets)}", f"end={self.hunt.end}"]
         words += ["missing=1"] if missing else []
         words += [f"badrows={self.hunt.unread}"] if self.hunt.unread else []
         words += ["chunks=8"] if members % 2 == 0 else []
-        return [*words, f"window={window}", f"size={size}", "--", *self.hunt.names]
+        return [*words, f"window={window}", f"size={trials.MOST_LINES}", "--", *self.hunt.names]
 
     def mirrors(self, missing):
-        """RAID 10 by its copies: the pairs, and then the RAID 0 of one image of each. What fails in a small window fails in a large one."""
+        """RAID 10 by its copies: the pairs, and then the RAID 0 of one image of each."""
         members = len(self.images) + missing
         if members < 2 or (self.options.members and members not in self.options.members):
             return False
-        small, large = min(self.hunt.window, SMALL_WINDOW), self.mirror_words(members, missing, self.hunt.window, trials.MOST_LINES)
-        answer = self.commands.run(self.mirror_words(members, missing, small, 1), seconds=self.options.time)
-        self.commands.tell(commands.quoted(large))
-        if trials.read_page(answer.out)[0]:
-            answer = self.commands.run(large, seconds=self.options.time)
-        sets, following = trials.read_page(answer.out)
-        note = f"its time of {self.options.time} s was up before all were looked at" if answer.status is None else ""
-        trial = self.told(Shape("10", members, missing), (), None, trials.Listing(sets, following or 0, not note, note))
-        if not sets:
+        listing = self.mirror_sets(members, missing)
+        trial = self.told(Shape("10", members, missing), (), None, listing)
+        if not listing.sets:
             return False
         if members % 2 or members == 2:
-            return self.take(self.hunt, trial, [(rank, None, plans.read_word(word)) for rank, word in sets])
-        return any([self.paired(pairing, offsets) for pairing, offsets in list(self.pairings(sets).items())[:8]])
+            return self.take(self.hunt, trial, [(rank, None, plans.read_word(word)) for rank, word in listing.sets])
+        return any([self.paired(pairing, offsets) for pairing, offsets in list(self.pairings(listing.sets).items())[:8]])
+
+    def mirror_sets(self, members, missing):
+        """The sets of a RAID 10. What fails in a small window fails in a large one, so that is asked of the offsets that are left alone; where its time
+        is up, the sets of the small window stand."""
+        small = min(self.hunt.window, max(SMALL_WINDOW, 4 * self.hunt.unread))
+        answer = self.commands.run(self.mirror_words(members, missing, self.hunt.offsets(), small), seconds=self.options.time)
+        sets, following = trials.read_page(answer.out)
+        late = f"its time of {self.options.time} s was up before all were looked at"
+        if answer.status is None:
+            return trials.Listing(sets, following or 0, False, late)
+        told = len(sets) < trials.MOST_LINES
+        offsets = {plans.read_word(word).offset for _, word in sets} if told else self.hunt.offsets()
+        large = self.mirror_words(members, missing, offsets or self.hunt.offsets(), self.hunt.window)
+        self.commands.tell(commands.quoted(large))
+        if not sets or small == self.hunt.window:
+            return trials.Listing(sets, following or 0, True)
+        answer = self.commands.run(large, seconds=self.options.time)
+        if answer.status is None:
+            return trials.Listing(sets, following or 0, False, f"in the first {small} rows alone: {late}") if told else trials.Listing([], 0, False, late)
+        sets, following = trials.read_page(answer.out)
+        return trials.Listing(sets, following or 0, True)
 
     def told(self, shape, names, request, listing):
         """A trial, with what it listed, after it is printed."""
-        self.number += 1
+        self.number, self.was_late = self.number + 1, self.was_late or not listing.whole
         names = (*names, *self.hunt.unread_name(shape, request))
         trial = Trial(shape, names, request, self.number)
         self.report.say("trial", f"trial {self.number}: {trial.line()}: {listing.line()}", number=self.number, shape=shape.line(),

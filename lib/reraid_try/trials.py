@@ -34,7 +34,7 @@ class Shape:
     @property
     def telling(self):
         """The levels at which parity tells something."""
-        return ",".join(level for level in self.levels.split(",") if {"0": False, "5": self.missing < 1, "6": self.missing < 2}[level])
+        return ",".join(level for level in self.levels.split(",") if {"5": self.missing < 1, "6": self.missing < 2}.get(level))
 
     @property
     def parity(self):

@@ -20,6 +20,8 @@ MOST_BAD = 4
 MOST_UNREAD = 4
 # A first mark so far behind the first of all is mostly a stray one: its offset is tried with more offsets alone.
 FAR = 8192
+# So many rows are tested alone, none of them bad, where maps tell of bad ones.
+FIRST_ROWS = 65536
 # What stands for a set where time was up before one was known.
 LATE = "late"
 
@@ -216,6 +218,10 @@ class Hunt:
         values |= {"foreign": shape.foreign} if shape.foreign else {}
         values |= {"badrows": self.unread} if shape.parity and self.unread else {}
         return self.base.having(**values)
+
+    def first_rows(self, shape):
+        """What is asked for of the first rows alone, none of them bad."""
+        return self.request(shape).having(window=min(FIRST_ROWS, self.window), badrows=0)
 
     def most_bad(self, shape):
         """How many rows may be bad at most, where that is loosened: a fourth of the filled ones where hints speak for the shape, since landmarks leave few

@@ -91,6 +91,8 @@ class Search:
         if self.wants("10") and (self.mirrors(0) or lost_early and self.mirrors(1)):
             return True
         hinted, told, rest = self.hunt.tiers()
+        if self.before_damage(hinted + told):
+            return True
         exact = [shape for shape in self.hunt.exact() if shape in told]
         steps = [(hinted, 0), (exact, 0), (hinted, 1), (hinted, 2), ([it for it in hinted if it.parity], 3), (told, 0), (told, 1), (told, 2)]
         for shapes, count in steps:
@@ -101,6 +103,24 @@ class Search:
         if (self.wants("10") and not lost_early and self.mirrors(1)) or self.stage(self.hunt, rest, 0) or self.best() > 1:
             return True
         return self.stage(self.hunt, told + rest, 1) or self.best() > 1
+
+    def before_damage(self, shapes):
+        """Where maps tell of bad rows, some may be bad that no map tells of: the first rows alone, none of them bad, with all groups of landmarks and then
+        without each. Such sets are tested as others are, over all rows. It says whether the search is at its end."""
+        if not self.hunt.unread or not self.hunt.first_plan.groups:
+            return False
+        return any(self.first_rows(shape, cure) for cure in [None, *trials.group_cures(self.hunt.first_plan, True)] for shape in shapes if shape.parity)
+
+    def first_rows(self, shape, cure):
+        """One such trial; it says whether a candidate is clean and whole."""
+        chosen = [cure] if cure else []
+        request = trials.changed(self.hunt.first_rows(shape), chosen)
+        listing = self.hunt.listing(shape, request)
+        if listing is None:
+            return False
+        names = (f"the first {hunts.FIRST_ROWS} rows alone", *(cure.name for cure in chosen))
+        trial = dataclasses.replace(self.told(shape, names, request, listing), request=trials.changed(self.hunt.request(shape), chosen))
+        return self.take(self.hunt, trial, [(rank, plans.read_word(word), self.hunt.word(word)) for rank, word in listing.sets])
 
     def further_trials(self):
         """With two and three things loosened: what parity tells of first, and then all else with two."""

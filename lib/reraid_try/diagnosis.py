@@ -199,7 +199,7 @@ class Diagnosis:
             self.lines(rows[:SHOWN])
 
     def show(self, was_late):
-        """Prints the nearest sets. `was_late` says that not all was looked at within its time."""
+        """Prints the nearest sets. `was_late` says that some trial or question did not come to its end."""
         self.begin()
         rows = self.by_rows(self.shapes())
         self.begin()
@@ -218,7 +218,7 @@ class Diagnosis:
         if not self.shapes():
             return "none by parity, of which what was searched has none"
         if was_late:
-            return "no set is known to be near: not all was looked at within its time (--time gives more)"
+            return "no set is known to be near, as not all was looked at (--time gives more)"
         return "no set is near: landmarks and parity each allow none"
 
     def lines(self, found):

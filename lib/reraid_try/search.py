@@ -109,18 +109,14 @@ class Search:
         without each. Such sets are tested as others are, over all rows. It says whether the search is at its end."""
         if not self.hunt.unread or not self.hunt.first_plan.groups:
             return False
-        return any(self.first_rows(shape, cure) for cure in [None, *trials.group_cures(self.hunt.first_plan, True)] for shape in shapes if shape.parity)
-
-    def first_rows(self, shape, cure):
-        """One such trial; it says whether a candidate is clean and whole."""
-        chosen = [cure] if cure else []
-        request = trials.changed(self.hunt.first_rows(shape), chosen)
-        listing = self.hunt.listing(shape, request)
-        if listing is None:
-            return False
-        names = (f"the first {hunts.FIRST_ROWS} rows alone", *(cure.name for cure in chosen))
-        trial = dataclasses.replace(self.told(shape, names, request, listing), request=trials.changed(self.hunt.request(shape), chosen))
-        return self.take(self.hunt, trial, [(rank, plans.read_word(word), self.hunt.word(word)) for rank, word in listing.sets])
+        for cure in [None, *trials.group_cures(self.hunt.first_plan, True)]:
+            chosen = [cure] if cure else []
+            names = (f"the first {hunts.FIRST_ROWS} rows alone", *(it.name for it in chosen))
+            for shape in filter(lambda it: it.parity, shapes):
+                few, all_rows = (trials.changed(request, chosen) for request in (self.hunt.first_rows(shape), self.hunt.request(shape)))
+                if self.attempt(self.hunt, shape, names, few, tested_by=all_rows):
+                    return True
+        return False
 
     def further_trials(self):
         """With two and three things loosened: what parity tells of first, and then all else with two."""
@@ -157,8 +153,8 @@ class Search:
                     return True
         return False
 
-    def attempt(self, hunt, shape, names, request, last=False):
-        """One trial; it says whether a candidate is clean and whole."""
+    def attempt(self, hunt, shape, names, request, last=False, tested_by=None):
+        """One trial; it says whether a candidate is clean and whole. `tested_by` is the request by which its sets are tested, where that is another."""
         self.why_on()
         self.report.doing = f"{shape.line()}: {' and '.join(names) or 'nothing loosened'}: "
         self.report.bar.show(self.report.doing)
@@ -176,6 +172,7 @@ class Search:
             names = tuple(f"badrows {listing.bad_rows}" if name.startswith("badrows") else name for name in names)
             request = request.having(badrows=listing.bad_rows)
         trial = self.told(shape, names, request, listing)
+        trial = dataclasses.replace(trial, request=tested_by or request)
         return self.take(hunt, trial, [(rank, plans.read_word(word), hunt.word(word)) for rank, word in listing.sets])
 
     def why_on(self):

@@ -1,9 +1,9 @@
 #!/usr/bin/env python3
-"""Compares the tables of docs/WRONG-BODIES.md with the edits that must fail, of which they are made: an edit says in a line `wrong:` what
+"""Compares the lists of docs/WRONG-BODIES.md with the edits that must fail, of which they are made: an edit says in a line `wrong:` what
 is wrong with its body and, if bodies like it once passed, in a line `refused by:` which clause refuses it now. Prints what the page
 ought to say otherwise, and the edits that have no such line, or that the page speaks of and that are gone; status 1 where there are some.
 
-Usage: bench/edits.py [--write], which makes the tables anew
+Usage: bench/edits.py [--write], which makes the lists anew
 """
 
 import pathlib
@@ -33,28 +33,27 @@ class Edit:
 
 
 def by_crate(edits):
-    """The table of each crate, in the order of the alphabet."""
+    """The list of each crate, in the order of the alphabet."""
     text, crate = "", None
     for edit in edits:
         if edit.crate != crate:
             crate = edit.crate
-            text += f"\n## `{crate}`\n\n| edit | in | what is wrong |\n|---|---|---|\n"
-        text += f"| `{edit.name}` | `{edit.function}` | {edit.wrong} |\n"
+            text += f"\n## `{crate}`\n\n"
+        text += f"- `{edit.name}`, `{edit.function}`: {edit.wrong}\n"
     return text + "\n"
 
 
 def passed_once(edits):
-    """The table of those of which bodies like them once passed."""
-    rows = [f"| `{edit.crate}/{edit.name}` | {edit.refused_by} |\n" for edit in edits if edit.refused_by]
-    return "\n| edit | refused by |\n|---|---|\n" + "".join(rows) + "\n"
+    """The list of those of which bodies like them once passed."""
+    return "\n" + "".join(f"- `{edit.crate}/{edit.name}`: {edit.refused_by}\n" for edit in edits if edit.refused_by) + "\n"
 
 
-def with_tables(page, edits):
-    """The page with each table in its place."""
-    for place, table in (("by crate", by_crate(edits)), ("passed once", passed_once(edits))):
+def with_lists(page, edits):
+    """The page with each list in its place."""
+    for place, made in (("by crate", by_crate(edits)), ("passed once", passed_once(edits))):
         begin = BEGIN.format(place)
         before, rest = page.split(begin)
-        page = before + begin + table + END + rest.split(END, 1)[1]
+        page = before + begin + made + END + rest.split(END, 1)[1]
     return page
 
 
@@ -64,7 +63,7 @@ def main():
     there = {(edit.crate, edit.name) for edit in edits}
     faults = [f"{edit.crate}/{edit.name}: {what}" for edit in edits
               for what, bad in (("its old text is gone", edit.function is None), ("has no line `wrong:`", edit.wrong is None)) if bad]
-    new = with_tables(page, edits)
+    new = with_lists(page, edits)
     text_alone = "".join(part.split(END, 1)[-1] for part in re.split(r"<!-- (?:by crate|passed once) -->\n", page))
     faults += [f"{'/'.join(key)} is spoken of and gone" for key in sorted({found.groups() for found in CITED.finditer(text_alone)} - there)]
     if "--write" in sys.argv[1:]:

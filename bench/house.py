@@ -1,7 +1,8 @@
 #!/usr/bin/env python3
 """Prints how heavy each crate is, and how much of the house stands above it.
 
-    bench/house.py              a table for docs/ARCHITECTURE.md
+    bench/house.py              the table of docs/ARCHITECTURE.md: the crates on which a fifth of the house or more stands
+    bench/house.py --all        all crates
     bench/house.py --chain      the longest chain of crates below the program, by what they weigh
 
 Lines are those that are not empty. Code is what runs, without comments and contracts; clauses are the lines of contracts; specs
@@ -95,7 +96,8 @@ def main():
     print("|---|---|---|---|---|---|")
     for name, (code, clauses, specs, proofs) in weights.items():
         share = 100 * sum(sum(weights[it]) for it in stand[name]) // total
-        print(f"| `{name}` | {code} | {clauses} | {specs} | {proofs} | {share}% |")
+        if share >= 20 or "--all" in sys.argv:
+            print(f"| `{name}` | {code} | {clauses} | {specs} | {proofs} | {share}% |")
     print(f"| all | {' | '.join(str(sum(it[k] for it in weights.values())) for k in range(4))} | |")
 
 

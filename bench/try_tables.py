@@ -1,9 +1,11 @@
 #!/usr/bin/env python3
-"""Prints the lines of bench/try.py as the three tables of docs/REAL-DISKS.md: each level with each volume, each trait, and each two traits.
+"""Prints of the lines of bench/try.py what docs/REAL-DISKS.md has: a table of each level with each volume, one of each trait, and what its
+sentences say of them and of each two traits.
 
 Usage: bench/try.py > lines; bench/try_tables.py < lines
 """
 
+import collections
 import re
 import sys
 
@@ -11,16 +13,16 @@ KINDS = ["ext4", "btrfs", "xfs", "ntfs", "lvm2", "gpt", "mbr"]
 TRAITS = ["stray on parity", "superblock at the end", "lengths differ", "earlier file system", "disk image inside", "used earlier", "offsets differ",
           "offset 0", "odd offset", "unreadable areas", "foreign image"]
 SHORT = {"nothing loosened": "", "file records of number 0 left out": "records 0", "offsets 2048,4096, each image its own": "own offsets"}
-LETTERS = {"half the window": "H", "records 0": "R", "own offsets": "O"}
 
 
 class Row:
-    """A line: the array's words, how many sets the defaults list, the candidates, what was loosened, and the seconds of the processors."""
+    """A line: the array's words, how many sets the defaults list, whether the true one is there, the candidates, what was loosened, and the
+    seconds of the processors."""
 
     def __init__(self, fields):
         self.words = fields[0].split(", ")
         count, there = fields[1].split(", ")
-        self.listed = count + ("" if there == "listed" else "*")
+        self.listed, self.there = int(count), there == "listed"
         self.found, _, how = fields[2].partition(": ")
         self.how = [short(it) for it in how.split("; ") if short(it)]
         self.seconds = float(fields[5])
@@ -29,15 +31,6 @@ class Row:
         """The candidates, and what was loosened."""
         return self.found + (f": {'; '.join(self.how)}" if self.how else "")
 
-    def letters(self):
-        """The volume, the candidates, and a letter for each that was loosened."""
-        return " ".join([" ".join(self.words[2:-2]), self.found, *map(letter, self.how)])
-
-
-def letter(text):
-    """One letter for what was loosened: B for rows that may be bad, A for all groups but one, G for a group that was left out."""
-    return LETTERS.get(text, "B" if text.startswith("badrows") else "A" if text.endswith(" alone") else "G")
-
 
 def short(text):
     """What was loosened, in fewer words."""
@@ -45,9 +38,15 @@ def short(text):
     return SHORT.get(text, text)
 
 
+def sort(text):
+    """What was loosened, without its numbers."""
+    return "groups" if text.startswith("without ") or text.endswith(" alone") else "badrows" if text.startswith("badrows") else text
+
+
 def table(head, rows):
     """The lines of a table."""
-    return "\n".join(f"| {' | '.join(cells)} |" for cells in [head, ["---"] * len(head), *rows]).replace("| --- ", "|---").replace("--- |", "---|").replace("|  |", "| |", 1)
+    lines = "\n".join(f"| {' | '.join(cells)} |" for cells in [head, ["---"] * len(head), *rows])
+    return lines.replace("| --- ", "|---").replace("--- |", "---|").replace("|  |", "| |")
 
 
 def of_levels(rows):
@@ -56,28 +55,29 @@ def of_levels(rows):
     for row in rows:
         kind = next(it for it in KINDS if it in row.words)
         found.setdefault(", ".join(it for it in row.words if it != kind), {})[kind] = row
-    lines = []
-    for name, kinds in found.items():
-        seconds = [row.seconds for row in kinds.values()]
-        lines.append([name, *(f"{kinds[it].listed} / {kinds[it].cell()}" for it in KINDS), f"{min(seconds)} to {max(seconds)}"])
-    return table(["array", *KINDS, "seconds"], lines)
+    return table(["array", *KINDS], [[name, *(kinds[it].cell() for it in KINDS)] for name, kinds in found.items()])
 
 
-def of_traits(rows):
-    """Each trait alone, and those of a RAID 6."""
-    lines = []
+def of_traits(rows, others):
+    """Each trait alone, and beside it that of a RAID 6: the candidates, and what was loosened where that differs."""
+    beside, lines = {row.words[-1]: row for row in others}, []
     for row in rows:
-        name = f"RAID 6 of five, one lost: xfs, {row.words[-1]}" if row.words[0] == "level 6" else ", ".join(row.words[2:])
-        lines.append([name, row.listed, row.cell(), str(row.seconds)])
-    return table(["volume, trait", "the defaults", "candidates: loosened", "seconds"], lines)
+        other = beside.get(row.words[-1])
+        lines.append([", ".join(row.words[2:]), row.cell(), "" if other is None else other.found if other.how == row.how else other.cell()])
+    return table(["volume, trait", "candidates: loosened", "RAID 6, 1 lost"], lines)
 
 
-def of_pairs(rows):
-    """Each two traits."""
-    by_pair = {frozenset(row.words[-2:]): row for row in rows}
-    lines = [[one] + [by_pair[frozenset((one, other))].letters() if TRAITS.index(one) < TRAITS.index(other) and frozenset((one, other)) in by_pair else ""
-                      for other in TRAITS[1:]] for one in TRAITS[:-1]]
-    return table(["", *TRAITS[1:]], lines)
+def said(name, rows):
+    """Of these arrays how many there are, the most candidates, the seconds, what was loosened how often, and what the defaults list."""
+    seconds = sorted(row.seconds for row in rows)
+    most = max((int(row.found) for row in rows if row.found.isdigit()), default=0)
+    loosened = [{sort(it) for it in row.how} for row in rows]
+    often = ", ".join(f"{it} ({times})" for it, times in collections.Counter(it for some in loosened for it in some).most_common())
+    there = "; ".join(f"{', '.join(row.words)} ({row.listed})" for row in rows if row.there) or "none"
+    wrong = max((row.listed for row in rows if not row.there), default=0)
+    return (f"{name}: {len(rows)} arrays, at most {most} candidates, in {seconds[0]} to {seconds[-2:][0]} seconds, the slowest in {seconds[-1]}. "
+            f"Loosened: {often or 'nothing'}; two and more in {sum(len(some) > 1 for some in loosened)}. The defaults list the true set of {there}; "
+            f"of the others up to {wrong} sets.")
 
 
 def main():
@@ -85,10 +85,12 @@ def main():
     rows = [Row(it) for it in fields]
     plain = [row for row in rows if not set(row.words) & set(TRAITS) and any(it in row.words for it in KINDS)]
     pairs = [row for row in rows if len(set(row.words) & set(TRAITS)) == 2]
-    rest = sorted((row for row in rows if row not in plain and row not in pairs), key=lambda row: row.words[0])
-    print(of_levels(plain), of_traits(rest), of_pairs(pairs), sep="\n\n")
-    seconds = [row.seconds for row in pairs]
-    print(f"\nEach two traits took {min(seconds)} to {max(seconds)} seconds.")
+    rest = [row for row in rows if row not in plain and row not in pairs]
+    traits, others = [[row for row in rest if (row.words[0] == "level 6") == six] for six in (False, True)]
+    print(of_levels(plain), of_traits(traits, others), sep="\n\n", end="\n\n")
+    for name, some in [("Levels", plain), ("Traits", traits), ("Traits at level 6", others), ("Each two traits", pairs)]:
+        if some:
+            print(said(name, some))
 
 
 if __name__ == "__main__":

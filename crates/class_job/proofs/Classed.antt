@@ -1,10 +1,10 @@
 -- The answer of the job: what the text of its source says.
-use Rattle.std.proofs.Common.{◌≡◌, ℕ, ◌≤◌, ◌<◌, Bool, cond, List, [], length, None, Some, Option, Result, Ok, Err, IfSome, IfOk, IfErr, IsErrOf, MatchResult, refl, sym, ap, ◌∙◌, subst, arith}
+use Rattle.std.proofs.Common.{◌≡◌, ℕ, ◌≤◌, ◌<◌, Bool, cond, List, length, Some, Option, Result, Ok, Err, IfSome, IsErrOf, MatchResult, refl, sym, ap, ◌∙◌, subst, arith}
 use Rattle.std.specs.Io.KnownBytes.{IsAtEnd}
 use Rattle.std.proofs.lemmas.Bool.{lt-ltb, le-ltb}
 use Rattle.outside.specs.Seen.{Seen}
 use Rattle.outside.specs.Streams.{Stream}
-use Rattle.run_ends.proofs.Printed.{keeps_itself, no_raise, raises_same}
+use Rattle.run_ends.proofs.Printed.{no_raise, raises_same}
 use Rattle.run_ends.specs.Counts.{Raises}
 use Rattle.run_ends.specs.Jobs.{Answers, Named, around}
 use Rattle.run_ends.specs.Source.{TakesFew}

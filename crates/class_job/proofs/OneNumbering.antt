@@ -1,11 +1,11 @@
 -- The sets of a list have one numbering of their classes.
-use Rattle.std.proofs.Common.{◌≡◌, ℕ, zero, suc, ◌+◌, ◌<◌, ◌≤◌, ◌⊎◌, inl, inr, List, length, Some, sym, ap, ◌∙◌, subst, arith}
+use Rattle.std.proofs.Common.{◌≡◌, ℕ, zero, suc, ◌<◌, ◌≤◌, inl, inr, List, length, Some, sym, ◌∙◌, subst, arith}
 use Rattle.std.proofs.lemmas.Bool.{cases_lt}
 use Rattle.std.proofs.lemmas.Grind.{same_number_lists}
 use Rattle.std.proofs.lemmas.Option.{slice_get_cases}
 use Rattle.std.specs.Prelude.{slice_get, slice_index}
 use Rattle.raid_params.specs.declared.types.Geometry.{Geometry}
-use Rattle.volume_classes.specs.Classes.{AreClasses, StandsBelow}
+use Rattle.volume_classes.specs.Classes.{AreClasses}
 
 there : (sets : List Geometry) (i : ℕ) → i < length sets → (set : Geometry) × (slice_get sets i ≡ Some set)
 there sets i within = elim (slice_get_cases sets i).1 [

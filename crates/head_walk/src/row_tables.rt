@@ -92,7 +92,8 @@ pub(crate) fn keep_needed<I: Images>(
     Ok(())
 }
 
-/// What is to be kept of an offset, where some head of the plan needs a table or samples.
+/// What is to be kept of an offset: tables of rows where some head of the plan needs one, with samples of the rows that are read
+/// for them, and samples alone where they are asked for some head.
 fn entry_of<I: Images>(
     alloc: Global,
     images: &mut I,
@@ -110,62 +111,21 @@ fn entry_of<I: Images>(
     ensures ends { IfErr result (EndsTest (I.seen images.old) (I.seen images.new)) }
     ensures reads { OnlyReads (I.seen images.old) (I.seen images.new) (offset_reads plan.now offset) }
 {
-    if asks_tables(plan) {
-        return tabled_entry(alloc, images, plan, offset);
-    }
-    sampled_entry(alloc, images, plan, offset)
-}
-
-/// Tables of rows, with samples of the rows that are read for them.
-fn tabled_entry<I: Images>(
-    alloc: Global,
-    images: &mut I,
-    plan: &Plan,
-    offset: u64,
-) -> Result<OffsetTables, WalkFault>
-    requires plan { IsPlan plan.now }
-    requires lengths { AgreeWith plan.now (I.seen images.old).attached }
-    requires asks { plan_asks_tables plan.now ≡ true }
-    requires near { offset < 2 ^ 55 }
-    ensures offset { IfOk result (λ entry. entry.offset ≡ offset) }
-    ensures kept { IfOk result (IsKept (told_all (I.seen images.old).attached) plan.now) }
-    ensures quiet { IfOk result (λ entry. (I.seen images.new).faults ≡ (I.seen images.old).faults) }
-    ensures ends { IfErr result (EndsTest (I.seen images.old) (I.seen images.new)) }
-    ensures reads { OnlyReads (I.seen images.old) (I.seen images.new) (offset_reads plan.now offset) }
-{
     let chunks = plan.bounds.chunks.as_slice();
+    if !asks_tables(plan) {
+        let rows = most_rows(plan, chunks, offset);
+        let samples = Samples::read(alloc, images, plan, rows, offset)?;
+        return Ok(OffsetTables {
+            offset,
+            tables: Vec::new(alloc),
+            samples,
+        });
+    }
     let mut samples = Samples::new(alloc, plan.lengths.len())?;
     let tables = EarlyTable::build_each(alloc, images, plan, chunks, offset, &mut samples)?;
     Ok(OffsetTables {
         offset,
         tables,
-        samples,
-    })
-}
-
-/// Samples alone.
-fn sampled_entry<I: Images>(
-    alloc: Global,
-    images: &mut I,
-    plan: &Plan,
-    offset: u64,
-) -> Result<OffsetTables, WalkFault>
-    requires plan { IsPlan plan.now }
-    requires lengths { AgreeWith plan.now (I.seen images.old).attached }
-    requires unasked { plan_asks_tables plan.now ≡ false }
-    requires asks { asks_samples plan.now ≡ true }
-    requires begins { offset ≤ plan.now.end }
-    ensures offset { IfOk result (λ entry. entry.offset ≡ offset) }
-    ensures kept { IfOk result (IsKept (told_all (I.seen images.old).attached) plan.now) }
-    ensures quiet { IfOk result (λ entry. (I.seen images.new).faults ≡ (I.seen images.old).faults) }
-    ensures ends { IfErr result (EndsTest (I.seen images.old) (I.seen images.new)) }
-    ensures reads { OnlyReads (I.seen images.old) (I.seen images.new) (offset_reads plan.now offset) }
-{
-    let rows = most_rows(plan, plan.bounds.chunks.as_slice(), offset);
-    let samples = Samples::read(alloc, images, plan, rows, offset)?;
-    Ok(OffsetTables {
-        offset,
-        tables: Vec::new(alloc),
         samples,
     })
 }

@@ -1,5 +1,5 @@
 -- Where a set passes, each prefix of its slots is hopeful.
-use Rattle.std.proofs.Common.{ℕ, ◌≡◌, ◌-◌, ◌&&◌, Bool, true, false, nat_le, min, List, [], ◌∷◌, length, map, filter, take, sym, ap, ◌∙◌, refl, subst, Option, Some, slice_get}
+use Rattle.std.proofs.Common.{ℕ, ◌≡◌, ◌-◌, ◌&&◌, Bool, true, false, nat_le, min, List, [], ◌∷◌, length, map, filter, take, sym, ap, ◌∙◌, refl, subst, Some, slice_get}
 use Rattle.std.proofs.lemmas.Bool.{and_parts}
 use Rattle.std.specs.List.{flat_map, AllByRecursion}
 use Rattle.landmark_rules.specs.Groups.{groups_hold}

@@ -15,7 +15,6 @@ use Rattle.mark_tables.specs.Marks.{groups_may_hold}
 use Rattle.padded_images.proofs.Lengths.{as_many}
 use Rattle.padded_images.specs.Plans.{padded_plan}
 use Rattle.page_loop.specs.Parts.{Whole}
-use Rattle.prune_filters.specs.Hopeful.{is_hopeful}
 use Rattle.raid_params.specs.Bases.{greatest_base}
 use Rattle.raid_params.specs.Size.{redundancy, rows}
 use Rattle.raid_params.specs.declared.types.Head.{Head}

@@ -1,10 +1,10 @@
 -- What the words ask for, by their two readings.
-use Rattle.std.proofs.Common.{◌≡◌, ℕ, zero, suc, ◌+◌, ◌-◌, ◌≤◌, ◌⊎◌, max, inl, inr, List, [], ◌∷◌, ◌++◌, length, map, drop, codes, Option, None, Some, Result, Ok, Err, true, false, Bool, cond, if◌then◌else◌, IfSome, refl, sym, ap, ◌∙◌, subst, arith}
+use Rattle.std.proofs.Common.{◌≡◌, ℕ, zero, suc, ◌+◌, ◌-◌, ◌≤◌, List, [], ◌∷◌, length, map, drop, codes, Option, None, Some, true, false, Bool, if◌then◌else◌, refl, sym, ap, ◌∙◌, subst, arith}
 use Rattle.std.proofs.lemmas.Bool.{false≢true}
 use Rattle.std.proofs.lemmas.Slice.Eq.{bytes_eq-Decides}
 use Rattle.std.specs.Option.{option_map}
 use Rattle.std.specs.Str.{bytes_eq}
-use Rattle.command_words.specs.Commands.{EndsInNames, IsCommandLine, IsRefusedWord, command_of, names_after, names_of, number_in, set_in, mirror_in, verb_word}
+use Rattle.command_words.specs.Commands.{EndsInNames, IsCommandLine, command_of, names_after, number_in, set_in, mirror_in, verb_word}
 use Rattle.command_words.specs.Operands.{value_of}
 use Rattle.command_words.specs.declared.command.Command.{Command}
 use Rattle.command_words.specs.declared.command.Command.TheVariants.{Survey as SurveyCommand, List as ListCommand, Check as CheckCommand, Map as MapCommand, Write as WriteCommand, Rebuild as RebuildCommand, Sample as SampleCommand, Classes as ClassesCommand, Mirrors as MirrorsCommand, MirrorWrite as MirrorWriteCommand, Salvage as SalvageCommand}

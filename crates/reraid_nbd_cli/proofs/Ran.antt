@@ -1,10 +1,9 @@
 -- A run, by what was shown once the images were attached.
-use Rattle.std.proofs.Common.{◌≡◌, ℕ, ◌≤◌, ◌<◌, ◌^◌, min, List, [], ◌∷◌, length, All, Option, None, Some, Result, Ok, Err, IfSome, IsErrOf, ◌⊎◌, inl, inr, refl, sym, ap, ◌∙◌, subst, arith}
+use Rattle.std.proofs.Common.{◌≡◌, ℕ, ◌≤◌, ◌<◌, ◌^◌, min, List, [], ◌∷◌, length, All, Option, Result, Ok, Err, IfSome, IsErrOf, ◌⊎◌, inl, inr, refl, sym, ap, ◌∙◌, subst, arith}
 use Rattle.std.proofs.lemmas.List.Elements.{All-cons, All-nil}
 use Rattle.command_words.specs.declared.command.Command.{Command}
 use Rattle.nbd_server.specs.Served.{Serves}
 use Rattle.nbd_server.specs.Turns.{wire}
-use Rattle.nbd_server.specs.declared.stop.NbdStop.TheVariants.{SourceFault, OutFault}
 use Rattle.nbd_text.specs.Dialogue.{dialogue}
 use Rattle.outside.specs.Attached.{AreImagesOf}
 use Rattle.outside.specs.Causes.{HasCause, Rose}
@@ -15,7 +14,7 @@ use Rattle.std.specs.Io.KnownBytes.{Appends}
 use Rattle.run_ends.specs.Jobs.{named}
 use Rattle.run_ends.specs.declared.stop.Refusal.{Refusal}
 use Rattle.run_ends.specs.declared.stop.Refusal.TheVariants.{Word}
-use Rattle.reraid_nbd_cli.specs.Runs.{Ends, HasImages, Leaves, Place, Runs, Shows, place, refusal, sectors, volume}
+use Rattle.reraid_nbd_cli.specs.Runs.{Ends, HasImages, Runs, Shows, place, refusal, sectors, volume}
 use Rattle.reraid_nbd_cli.specs.declared.ends.NbdEnd.{NbdEnd}
 use Rattle.reraid_nbd_cli.specs.declared.ends.NbdEnd.TheVariants.{Refused, ImageFault, Long, Stopped}
 

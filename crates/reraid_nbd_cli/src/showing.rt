@@ -1,5 +1,5 @@
 //! Serving a volume over attached images.
-ghost use Rattle.std.specs.Prelude.{◌≡◌, ◌<◌, ◌^◌, IfSome, None};
+ghost use Rattle.std.specs.Prelude.{◌<◌, ◌^◌, IfSome, None};
 ghost use Rattle.outside.specs.Attached.{told_all};
 ghost use Rattle.raid_params.specs.Size.{volume_sectors as volume_sectors_of};
 ghost use Rattle.near_mirror.specs.Copies.{near_sectors};

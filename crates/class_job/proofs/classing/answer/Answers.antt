@@ -1,7 +1,7 @@
 use Rattle.std.proofs.Common.{ℕ, List, MatchResult, subst}
 use Rattle.volume_classes.specs.Classes.{IsClassed}
 use Rattle.class_job.specs.Classing.{IsListless}
-use Rattle.run_ends.specs.Jobs.{around, stream}
+use Rattle.run_ends.specs.Jobs.{stream}
 use Rattle.class_job.proofs.Classed.{answers, textless}
 use Rattle.class_job.proofs.classing.answer.Goals as goal
 

@@ -1,5 +1,4 @@
 use Rattle.run_ends.specs.Jobs.{named, stream}
-use Rattle.reraid_cli.proofs.Mirrors.{are_words}
 use Rattle.reraid_cli.proofs.running.serve.Goals as goal
 
 pub returns-in-Survey-clause-does : goal.returns-in-Survey-clause-does

@@ -1,4 +1,3 @@
-use Rattle.std.proofs.Common.{ℕ}
 use Rattle.std.proofs.lemmas.Result.{err_from_is_err_and}
 use Rattle.near_jobs.specs.MirrorWriting.{mirror_output, mirror_reads, mirror_refusal}
 use Rattle.near_mirror.specs.Copies.{near_sectors}

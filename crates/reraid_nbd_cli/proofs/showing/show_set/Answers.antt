@@ -1,4 +1,3 @@
-use Rattle.std.proofs.Common.{ℕ}
 use Rattle.std.proofs.lemmas.Result.{err_from_is_err_and}
 use Rattle.raid_params.specs.Size.{volume_sectors}
 use Rattle.set_jobs.specs.Mapping.{set_refusal}

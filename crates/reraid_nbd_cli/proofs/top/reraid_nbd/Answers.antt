@@ -1,4 +1,4 @@
-use Rattle.std.proofs.Common.{◌≡◌, ◌∙◌, List, ℕ, Ok, Err, refl}
+use Rattle.std.proofs.Common.{◌≡◌, ◌∙◌, Ok, Err, refl}
 use Rattle.run_ends.specs.Jobs.{stream}
 use Rattle.reraid_nbd_cli.specs.Ends.{end_notice}
 use Rattle.reraid_nbd_cli.proofs.Ran.{noted}

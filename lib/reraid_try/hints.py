@@ -129,11 +129,10 @@ def data_disks(plan, most):
 
 
 def level(plan, heads):
-    """The level, by how many images show a mark of one group, or a head, at one sector: one at level 0, two at 5, three at 6."""
+    """The level, by how many images show a mark or a head at one sector: one at level 0, two at 5, three at 6."""
     shown = collections.defaultdict(set)
-    for group in plan.groups:
-        for mark in group.marks:
-            shown[group.place, mark.rule, mark.sector].add(mark.image)
+    for mark in plan.marks():
+        shown[mark.kind, mark.rule, mark.sector].add(mark.image)
     for head in heads:
         shown[head.kind, "", head.sector].add(head.image)
     most = max(map(len, shown.values()), default=0)

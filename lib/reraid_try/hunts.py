@@ -18,7 +18,7 @@ MOST_ASKED = 300_000_000
 MOST_BAD = 4
 # Where maps call more than one in so many of the filled sectors unread, so many bad rows are asked for only where nothing passes without.
 MOST_UNREAD = 4
-# A first mark so far behind one that as many images show is mostly a stray one: its offset is tried with more offsets alone.
+# A first mark so far behind one of a group that as many images show is mostly a stray one: its offset is tried with more offsets alone.
 FAR = 8192
 # So many rows are tested alone, none of them bad, where maps tell of bad ones.
 FIRST_ROWS = 65536
@@ -161,8 +161,8 @@ class Hunt:
         return sorted({value for value in values if value < self.end})[:64] or [0]
 
     def is_far(self, hint):
-        """An offset lies far behind one that as many images show, and of whose group as many show marks."""
-        return any(hint.value > it.value + FAR and it.shown >= hint.shown and it.spread >= hint.spread for it in self.offset_hints)
+        """An offset lies far behind one of whose group as many images show marks."""
+        return any(hint.value > it.value + FAR and it.spread >= hint.spread for it in self.offset_hints)
 
     def data_told(self, alone=False):
         """The numbers of data disks that hints say: those that file systems on several images say, or else those of a file system on one image alone,

@@ -1,10 +1,11 @@
 #!/usr/bin/env python3
 """Runs reraid-try where the plain search finds nothing: an array that begins behind what is read first, one with a damaged image, one with
-two, one whose landmarks mostly contradict it, and arrays of which two images have bad areas that no map tells of. Of two damaged images and of
-wrong landmarks it compares the diagnosis with what was done to the images. The last line counts them, each line says how long it took.
+two, one whose landmarks mostly contradict it, arrays of which two images have bad areas that no map tells of, and one beside a disk
+with marks of its own. Of two damaged images and of wrong landmarks it compares the diagnosis with what was done to the images. The last line
+counts them, each line says how long it took.
 
-Usage: bench/near.py [--keep DIR] [CASE..], of far, one_damaged, two_damaged, wrong_group, areas_in_six, areas_at_the_start and areas_in_four. It
-needs what bench/try.py needs, and 5 GiB for files.
+Usage: bench/near.py [--keep DIR] [CASE..], of far, one_damaged, two_damaged, wrong_group, areas_in_six, areas_at_the_start, areas_in_four,
+areas_one_lost, areas_in_ntfs and foreign_disk. It needs what bench/try.py needs, and 5 GiB for files.
 """
 
 import argparse
@@ -25,7 +26,7 @@ from try_arrays import SECTOR, Array
 
 TOP = pathlib.Path(__file__).resolve().parent.parent
 DATA = 2048
-NOISE = random.Random(39)
+NOISE = random.Random()
 
 
 def search(order, *words):
@@ -138,7 +139,40 @@ def areas_in_four(folder, cache):
     return true in best(search(order))
 
 
-CASES = (far, one_damaged, two_damaged, wrong_group, areas_in_six, areas_at_the_start, areas_in_four)
+def small_areas(name, areas):
+    """Overwrites so many sectors of an image from each of these rows on with noise, or the first of them with zeros."""
+    for place, (row, count) in enumerate(areas):
+        try_arrays.put(name, DATA + row, NOISE.randbytes(count * SECTOR) if place else bytes(count * SECTOR))
+
+
+def areas_one_lost(folder, cache):
+    """Of six disks one is lost and two images have bad areas: the set without that whose start is bad is among the best."""
+    order, true = large(Array("6", 6, (2,), "ext4"), cache, folder)
+    small_areas(order[0], [(0, 300), (100000, 500), (200000, 200)])
+    small_areas(order[3], [(30000, 400), (150000, 300)])
+    return left_out(true, (0,)) in best(search(order))
+
+
+def areas_in_ntfs(folder, cache):
+    """Two of five images have bad areas, and file records are wrongly numbered: the true set is among the best, and that without them."""
+    order, true = large(Array("6", 5, (), "ntfs"), cache, folder)
+    small_areas(order[0], [(9000, 300), (100000, 500), (200000, 200)])
+    small_areas(order[2], [(30000, 400), (150000, 300)])
+    found = best(search(order))
+    return true in found and left_out(true, (0, 2)) in found
+
+
+def foreign_disk(folder, cache):
+    """A disk with a table and an NTFS of its own, which has most of the marks and begins elsewhere: the true set is among the best."""
+    order, true = try_arrays.make(Array("5", 4, (), "xfs"), cache, folder, 34816)
+    name = f"{folder}/z.img"
+    try_arrays.moved(try_arrays.plain_volume("ntfs", cache), name, DATA, 48)
+    os.truncate(name, os.path.getsize(order[0]))
+    try_arrays.gpt(name, SECTOR, DATA)
+    return true in best(search([*order, name]))
+
+
+CASES = (far, one_damaged, two_damaged, wrong_group, areas_in_six, areas_at_the_start, areas_in_four, areas_one_lost, areas_in_ntfs, foreign_disk)
 
 
 def main():
@@ -155,6 +189,7 @@ def main():
         cases = [case for case in CASES if not options.cases or case.__name__ in options.cases]
         good = 0
         for case in cases:
+            NOISE.seed(case.__name__)
             began = time.monotonic()
             with tempfile.TemporaryDirectory(dir=base) as folder:
                 well = case(folder, cache)

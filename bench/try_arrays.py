@@ -93,10 +93,10 @@ def make_xfs(path, folder, megabytes=97):
     run("mkfs.xfs", "-q", "-f", "--unsupported", "-d", "agcount=4", "-p", path + ".files", path)
 
 
-def make_ntfs(path, folder):
+def make_ntfs(path, folder, megabytes=40):
     """An NTFS with the files of a folder. The file is one sector longer than the file system says, and the copy of its boot sector
     stands there."""
-    sparse(path, 40)
+    sparse(path, megabytes)
     run("mkntfs", "-q", "-F", "-f", "-s", "512", "-p", "0", "-H", "0", "-S", "0", path)
     for name in sorted(os.listdir(folder)):
         run("ntfscp", "-q", "-f", path, f"{folder}/{name}", name)
@@ -398,7 +398,7 @@ def large_volume(kind, cache):
         if kind == "ext4":
             make_ext(plain, folder, 4096, LARGE)
         else:
-            {"xfs": make_xfs, "btrfs": make_btrfs}[kind](plain, folder, LARGE)
+            {"xfs": make_xfs, "btrfs": make_btrfs, "ntfs": make_ntfs}[kind](plain, folder, LARGE)
     return plain
 
 

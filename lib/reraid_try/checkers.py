@@ -56,6 +56,12 @@ class Verdict:
         return any(finding.kind == "btrfs" and finding.clean for finding in self.findings)
 
     @property
+    def wholly_summed(self):
+        """All that was found is btrfs with the sums of all data right: files say nothing more, and those in several pieces would count as broken."""
+        systems = [finding for finding in self.findings if finding.kind != "LVM2_member" and not finding.kind.startswith(("GPT", "MBR"))]
+        return bool(systems) and all(finding.kind == "btrfs" and finding.clean for finding in systems)
+
+    @property
     def refuted(self):
         """Some checker found fault."""
         return any(finding.clean is False for finding in self.findings)
@@ -77,7 +83,8 @@ class Verdict:
     def text(self):
         """What is said of the volume."""
         said = [finding.text() for finding in self.findings] or ["nothing known"]
-        return "; ".join(said + [self.files.text()] + ([self.note] if self.note else []))
+        files = [] if self.wholly_summed else [self.files.text()]
+        return "; ".join(said + files + ([self.note] if self.note else []))
 
 
 def sniff(head):
@@ -171,6 +178,7 @@ class Checkers:
             return finding, []
         finding.clean = None if answer.good and kind == "LVM2_member" else answer.good
         finding.said = f"{name} clean" if answer.good else f"{name} status {answer.status}"
+        finding.said += ", the sums of all data right" if finding.clean and kind == "btrfs" else ""
         inner = volumes.logical_volumes(answer.out, region) if kind == "LVM2_member" else []
         return finding, [it for it in inner if all(first + length <= volume.length for first, length in it.pieces)]
 
@@ -194,7 +202,7 @@ class Checkers:
             seen.add(region.first)
         if verdict.findings and all(finding.kind in (kind, "LVM2_member") for finding in verdict.findings):
             verdict.empty, verdict.findings[-1].said = True, "nothing known in it"
-        if verdict.findings:
+        if verdict.findings and not verdict.wholly_summed:
             most = min(volume.length, self.most)
             verdict.files = wholes.count(volume.path, 0, most, 2 * self.seconds)
             if verdict.clean and verdict.files.more and not verdict.whole and not verdict.summed:

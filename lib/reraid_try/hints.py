@@ -18,11 +18,13 @@ MOST_MARKS, MOST_STEPS, MOST_PLACED = 64, 64, 6
 
 @dataclasses.dataclass(frozen=True)
 class Hint:
-    """A value for something that is searched, and what it was taken from."""
+    """A value for something that is searched, what it was taken from, and how many images show that, and the group that it is of."""
 
     what: str
     value: int
     why: str
+    shown: int = 1
+    spread: int = 1
 
     def line(self):
         """What is said of it."""
@@ -41,7 +43,7 @@ def rules_of(plan):
 def offsets(plan, heads):
     """Offsets: where the first mark of each rule stands, less its distance; those that several images show come first, then those of groups
     with many marks."""
-    shown, why, size = collections.defaultdict(set), {}, collections.Counter()
+    shown, why, size, spread = collections.defaultdict(set), {}, collections.Counter(), collections.Counter()
     for (group, kind, _), marks in rules_of(plan).items():
         if kind in ("agf", "agi"):
             continue
@@ -49,13 +51,20 @@ def offsets(plan, heads):
         if first.sector >= first.nearest:
             value = first.sector - first.nearest
             shown[value].update(mark.image for mark in marks if mark.sector == first.sector)
-            size[value] = max(size[value], len(group.marks))
+            size[value], spread[value] = max(size[value], len(group.marks)), max(spread[value], len(group.images()))
             why.setdefault(value, f"mark {kind} of image {first.image} at sector {first.sector}, less {first.nearest}")
     for head in heads:
         shown[head.sector].add(head.image)
         why.setdefault(head.sector, f"what looks like the head of {head.kind} on image {head.image}")
     order = sorted(shown, key=lambda value: (-len(shown[value]), -size[value], value))
-    return [Hint("offset", value, f"{why[value]}; on {counted(len(shown[value]), 'image')}") for value in order]
+    return [Hint("offset", value, f"{why[value]}; on {counted(len(shown[value]), 'image')}", len(shown[value]), max(spread[value], len(shown[value])))
+            for value in order]
+
+
+def by_images(found):
+    """Of these hints one for each value, those that more images show first."""
+    order = sorted(found, key=lambda hint: -hint.shown)
+    return [hint for place, hint in enumerate(order) if hint.value not in {it.value for it in order[:place]}]
 
 
 def distances(mark):
@@ -78,12 +87,13 @@ def placed_offsets(plan, data, origins, told):
                 votes.update({sector - (place // (chunk * disks) * chunk + place % chunk) for place in (origin + it for it in distances(mark))})
             for value, count in votes.items():
                 if value >= 0 and count > 2 and 4 * count >= 3 * len(marks) and count > here.get(value, (0, ""))[0]:
-                    here[value] = count, f"{count} places of {group.name()}, for {disks} data disks and chunks of {chunk}"
-        most = max((count for count, _ in here.values()), default=0)
+                    here[value] = count, f"{count} places of {group.name()}, for {disks} data disks and chunks of {chunk}", group
+        most = max((count for count, *_ in here.values()), default=0)
         if not any(here.get(value, (0, ""))[0] == most for value in told):
             found = here | found
     order = sorted(found, key=lambda value: (-found[value][0], value))
-    return [Hint("offset", value, found[value][1]) for value in order if value not in told][:MOST_PLACED]
+    images = {value: len(found[value][2].images()) for value in order}
+    return [Hint("offset", value, found[value][1], images[value], images[value]) for value in order if value not in told][:MOST_PLACED]
 
 
 def ratios(marks):
@@ -104,15 +114,18 @@ def ratios(marks):
 
 
 def data_disks(plan, most):
-    """The number of data disks, by the distances of landmarks on the images."""
-    votes, why = collections.Counter(), {}
-    for group in plan.groups:
+    """The number of data disks, by the distances of landmarks on the images: first what groups say that many images show, and of these what many
+    distances say. A file system on a disk by itself says 1, which is no array's."""
+    votes, why, shown = collections.Counter(), {}, collections.Counter()
+    for group in sorted(plan.groups, key=lambda group: -len(group.images())):
         for ratio in ratios(group.marks):
             near = round(ratio)
-            if 1 <= near <= most and abs(ratio - near) <= 0.2 * near:
+            if 2 <= near <= most and abs(ratio - near) <= 0.2 * near:
                 votes[near] += 1
+                shown[near] = max(shown[near], len(group.images()))
                 why.setdefault(near, f"the distances of the marks of {group.name()}")
-    return [Hint("data disks", value, why[value]) for value, _ in votes.most_common(3)]
+    order = sorted(votes, key=lambda value: (-shown[value], -votes[value]))
+    return [Hint("data disks", value, why[value], shown[value]) for value in order[:3]]
 
 
 def level(plan, heads):
@@ -165,7 +178,8 @@ def table_origins(images, starts):
 
 
 def logical(plan, images):
-    """Blocks of 4,096 bytes, where the protective MBR stands eight sectors before a header of a partition table."""
+    """Blocks of 4,096 bytes, where on most images with a header of a partition table the protective MBR stands eight sectors before it."""
+    large, small = {}, set()
     for mark in plan.marks():
         if mark.kind == "gpt" and mark.nearest == 1 and mark.sector >= 8:
             with open(images[mark.image].name, "rb") as file:
@@ -173,9 +187,11 @@ def logical(plan, images):
                 far = seen.read_mbr(file.read(SECTOR), 1 << 33)
                 file.seek((mark.sector - 1) * SECTOR)
                 near = seen.read_mbr(file.read(SECTOR), 1 << 33)
-            if far and not near:
-                return [Hint("logical", 4096, f"an MBR eight sectors before a table's header on image {mark.image}")]
-    return []
+            if near:
+                small.add(mark.image)
+            elif far:
+                large[mark.image] = f"an MBR eight sectors before a table's header on image {mark.image}"
+    return [Hint("logical", 4096, next(iter(large.values())), len(large))] if len(large) > len(small) else []
 
 
 def bad_sectors(images, end):

@@ -18,7 +18,7 @@ MOST_ASKED = 300_000_000
 MOST_BAD = 4
 # Where maps call more than one in so many of the filled sectors unread, so many bad rows are asked for only where nothing passes without.
 MOST_UNREAD = 4
-# A first mark so far behind the first of all is mostly a stray one: its offset is tried with more offsets alone.
+# A first mark so far behind one of a group that as many images show is mostly a stray one: its offset is tried with more offsets alone.
 FAR = 8192
 # So many rows are tested alone, none of them bad, where maps tell of bad ones.
 FIRST_ROWS = 65536
@@ -59,7 +59,7 @@ class Hunt:
             plan = self.surveys.plan(self.base)
         self.first_plan, plan = plan, self.told(plan)
         heads = sorted((head for image in self.images for head in image.heads), key=lambda head: head.sector)
-        self.offset_hints = self.pairs_offsets() or self.own_offsets() + hints.offsets(plan, heads)
+        self.offset_hints = self.pairs_offsets() or hints.by_images(self.own_offsets() + hints.offsets(plan, heads))
         starts = {hint.value for hint in self.offset_hints} | set(hints.USUAL_OFFSETS)
         origins = hints.lvm_origins(plan, self.numbered()) + hints.table_origins(self.images, starts)
         # Where images are copies of one another, how many show a mark at one place tells of mirrors, not of a level.
@@ -147,24 +147,35 @@ class Hunt:
         found = {}
         for image in self.images:
             for it in image.partitions[:4] if image.own else ():
-                found.setdefault(it.first, hints.Hint("offset", it.first, f"the start of a partition of image {image.number}"))
-        return list(found.values())
+                found.setdefault(it.first, set()).add(image.number)
+        return [hints.Hint("offset", first, f"the start of a partition of image {min(those)}; on {plans.counted(len(those), 'image')}",
+                           len(those), len(those)) for first, those in found.items()]
 
     def offsets(self):
         """The offsets that are tried from the start: those of the hints, and the usual ones."""
         values = [hint.value for hint in self.offset_hints]
         if not self.pairs:
-            values = [value for value in values if value <= min(values) + FAR][:8]
+            values = [hint.value for hint in self.offset_hints if not self.is_far(hint)][:8]
             starts = {it.first for image in self.images if image.own for it in image.partitions[:2]}
             values += [*hints.USUAL_OFFSETS, *(start + usual for start in starts for usual in hints.USUAL_OFFSETS)]
         return sorted({value for value in values if value < self.end})[:64] or [0]
 
-    def hinted(self):
-        """What the hints say: the number of data disks with each level, those levels first that are hints themselves."""
+    def is_far(self, hint):
+        """An offset lies far behind one of whose group as many images show marks."""
+        return any(hint.value > it.value + FAR and it.spread >= hint.spread for it in self.offset_hints)
+
+    def data_told(self, alone=False):
+        """The numbers of data disks that hints say: those that file systems on several images say, or else those of a file system on one image alone,
+        which may be foreign."""
+        most = max((hint.shown for hint in self.data_hints), default=0)
+        return [hint.value for hint in self.data_hints if (hint.shown == 1 < most) == alone]
+
+    def hinted(self, alone=False):
+        """What the hints say: the number of data disks with each level, those levels first that are hints themselves; or what one image alone says."""
         count, found = len(self.images), []
         levels = [str(hint.value) for hint in self.level_hints]
         for level in levels + [it for it in "560" if it not in levels]:
-            for data in (hint.value for hint in self.data_hints):
+            for data in self.data_told(alone):
                 lost = {"0": 0, "5": 1, "6": 2}[level]
                 members = data + lost
                 if 0 <= members - count <= lost:
@@ -189,7 +200,7 @@ class Hunt:
         second += [trials.Shape("6", count + 1, 1), trials.Shape("5,6", count - 1, 0, 1)]
         third = [trials.Shape("0", count), trials.Shape("5", count + 1, 1), *(shape for shape in hinted if not shape.foreign)]
         third += [trials.Shape("6", count + 2, 2), trials.Shape("0", count - 1, 0, 1), trials.Shape("5", count, 1, 1)]
-        third += [trials.Shape("6", count, 2, 1), *hinted]
+        third += [trials.Shape("6", count, 2, 1), *hinted, *self.hinted(True)]
         seen, tiers = set(), []
         for tier in (first, second, third):
             kept = [it for it in map(self.allowed, tier) if it]
@@ -241,12 +252,14 @@ class Hunt:
 
     def cures(self, shape, every=False, quick=False):
         """What may be loosened for a shape, in order; where not every one is asked for, without what is mostly wrong. Quick ones have nothing loosened
-        that makes a listing long, nor, where no hint speaks for them, rows that may be bad where a member is missing, of which parity tells late."""
-        rows, late = self.most_bad(shape), shape.missing and not self.speaks_for(shape)
+        that makes a listing long, nor, where no hint speaks for them, rows that may be bad where a member is missing or an image foreign, of which
+        parity tells late."""
+        rows, late = self.most_bad(shape), (shape.missing or shape.foreign) and not self.speaks_for(shape)
         offsets = [hint.value for hint in self.offset_hints[:24]] + hints.MORE_OFFSETS
         offsets = [offset for offset in offsets if offset < self.end and (every or self.has_weight(offset))]
         unlike = [it for it in self.unlike_offsets() if every or all(map(self.has_weight, it))]
-        found = trials.cures(self.first_plan, rows, [it for it in self.offsets() if self.weight(it) >= 2 * rows], unlike, offsets, every)
+        telling = [it for it in self.offsets() if self.weight(it) >= 2 * rows]
+        found = trials.cures(self.first_plan, rows, telling, unlike, offsets, every, shape.foreign)
         if not shape.parity:
             found = [cure for cure in found if cure.family not in ("window", "badrows")]
         if not self.first_plan.groups:

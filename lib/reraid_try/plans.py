@@ -49,6 +49,10 @@ class Group:
         """Its lines in a plan."""
         return f"group {self.kind}\n" + "".join(mark.text() for mark in self.marks)
 
+    def images(self):
+        """The images that show it."""
+        return {mark.image for mark in self.marks}
+
     def name(self):
         """What it is called in a report."""
         return f"group {self.place} ({self.kind}, {counted(len(self.marks), 'mark')})"

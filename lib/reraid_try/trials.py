@@ -163,20 +163,30 @@ def list_plan(commands, names, plan, seconds, jobs):
     return Listing(found, total, whole, note)
 
 
-def with_out(place):
-    """The cure that leaves a group out."""
-    return lambda request: dataclasses.replace(request, out=tuple(sorted({*request.out, place})))
+def with_out(places):
+    """The cure that leaves groups out."""
+    return lambda request: dataclasses.replace(request, out=tuple(sorted({*request.out, *places})))
 
 
 def group_cures(plan, every):
     """Each group left out, small ones first; then each large one alone. One with most of all marks is left out where every one is asked for."""
     order, most = sorted(plan.groups, key=lambda group: (len(group.marks), group.place)), len(plan.marks()) / 2
-    found = [Cure(f"without {group.name()}", f"group {group.place}", with_out(group.place)) for group in order
+    found = [Cure(f"without {group.name()}", f"group {group.place}", with_out({group.place})) for group in order
              if every or len(group.marks) <= most]
     if len(order) > 2:
         for group in [group for group in reversed(order[-2:]) if 2 * len(group.marks) >= len(order[-1].marks)]:
             rest = tuple(sorted(it.place for it in plan.groups if it is not group))
             found.append(Cure(f"{group.name()} alone", "group", lambda request, rest=rest: dataclasses.replace(request, out=rest)))
+    return found
+
+
+def alone_cures(plan):
+    """What each image alone shows left out, where others show something: a foreign image may hold a file system by itself, or a part of another one."""
+    found = []
+    for image in sorted({mark.image for mark in plan.marks()}):
+        places = {group.place for group in plan.groups if group.images() == {image}}
+        if 0 < len(places) < len(plan.groups):
+            found.append(Cure(f"without what image {image} alone shows", f"group of image {image}", with_out(places)))
     return found
 
 
@@ -229,10 +239,11 @@ def bad_rows(rows, offsets):
     return change
 
 
-def cures(plan, rows, telling, unlike, offsets, every):
+def cures(plan, rows, telling, unlike, offsets, every, foreign):
     """What may be loosened, in the order in which it is tried: so many bad rows, at the offsets where these tell something, unlike offsets out of these
-    lists, and more offsets."""
-    found = [Cure("half the window", "window", half_window(plan)), Cure("an end before a superblock", "end", before_superblock(plan))]
+    lists, and more offsets; where images may be foreign first what one alone shows."""
+    found = alone_cures(plan) if foreign else []
+    found += [Cure("half the window", "window", half_window(plan)), Cure("an end before a superblock", "end", before_superblock(plan))]
     found.append(Cure("file records of number 0 left out", "records", lambda it: dataclasses.replace(it, records=True)))
     found += group_cures(plan, every)
     found.append(Cure("8 misfits", "records", misfits))

@@ -21,7 +21,7 @@ MOST_UNSOUND = 2
 @dataclasses.dataclass
 class Candidate:
     """A set that passed a trial. `alike` has the other sets of its class, `fits` what `check` says of each group, `rows` in which rows parity holds,
-    `same` and `inside` which other candidates have its volume."""
+    `same` and `inside` which other candidates have its volume, `whole` the candidate with the images that are left out of it for their bad rows."""
 
     word: plans.Word
     rank: int
@@ -37,6 +37,7 @@ class Candidate:
     rows: str = ""
     same: int | None = None
     inside: tuple | None = None
+    whole: object = None
 
     @property
     def mostly_unsound(self):
@@ -85,7 +86,7 @@ class Tests:
         self.end = min(image.sectors for image in images)
         self.checks = checkers.Checkers(commands, room, options.time, options.first)
         self.maps = volumes.maps_text(images)
-        self.put_off, self.late = [], False
+        self.put_off, self.late, self.told = [], False, set()
 
     def begins(self, candidate):
         """The volume of a candidate begins with something known, or a group of landmarks holds where something known begins."""
@@ -160,13 +161,21 @@ class Tests:
                 candidate.verdict = self.checks.look(volume, candidate.origins, int(word.data * word.chunk) * SECTOR)
         return candidate
 
-    def side_by_side(self, work, found, what):
-        """Does something for all candidates, so many at a time."""
+    def tell(self, it):
+        """Says of a candidate that a checker is content with it, once."""
+        if it.verdict.score > 1 and it.word.text not in self.told:
+            self.told.add(it.word.text)
+            self.report.say("sound", f"  {it.word.text}: {it.verdict.text()}", set=it.word.text, said=it.verdict.text())
+
+    def side_by_side(self, work, found, what, then=None):
+        """Does something for all candidates, so many at a time, and then something with each result in their order."""
         done = []
         with concurrent.futures.ThreadPoolExecutor(self.options.jobs) as pool:
             for number, result in enumerate(pool.map(work, found), 1):
                 self.report.bar.show(what, number, len(found))
                 done.append(result)
+                if then:
+                    then(result)
         return done
 
     def test(self, found):
@@ -184,7 +193,7 @@ class Tests:
             classes = in_classes(self.commands, part, len(self.names), self.end)
             if len(classes) > MOST_CLASSED:
                 self.report.say("many", f"  of {len(classes)} classes the first {MOST_CLASSED} are looked at", classes=len(classes))
-            tested += self.side_by_side(self.read, classes[:MOST_CLASSED], "looks at the candidates")
+            tested += self.side_by_side(self.read, classes[:MOST_CLASSED], "looks at the candidates", self.tell)
             if any(it.verdict.score > 1 for it in tested):
                 break
         return tested

@@ -96,6 +96,8 @@ class Commands:
         late = threading.Event()
         timer = threading.Timer(seconds, self.late, [children, late]) if seconds else None
         if timer:
+            # A run that is ended waits for no time that is not up.
+            timer.daemon = True
             timer.start()
         feeder = threading.Thread(target=feed, args=(children[0], text or ""), daemon=True)
         feeder.start()

@@ -41,4 +41,5 @@ def lesser(candidate, images):
     name = f"without {' and '.join(f'image {image}' for image in sorted(images))}"
     lost = word.slots.count(None)
     trial = dataclasses.replace(trial, shape=dataclasses.replace(trial.shape, missing=lost), loosened=(*trial.loosened, name))
-    return dataclasses.replace(candidate, word=word, listed=word, trial=trial, alike=[], fits=[], doubtful=False, unsound=None, origins=[], verdict=None)
+    fresh = {"alike": [], "fits": [], "doubtful": False, "unsound": None, "origins": [], "verdict": None}
+    return dataclasses.replace(candidate, word=word, listed=word, trial=trial, whole=candidate, **fresh)

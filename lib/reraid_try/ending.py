@@ -44,11 +44,13 @@ def short(names):
     return last if len(set(last)) == len(names) else names
 
 
-def in_words(word, names):
-    """A set, said with the names of the images."""
+def in_words(word, names, whole=None):
+    """A set, said with the names of the images; those that are left out of it for their bad rows with their slots in the whole one."""
     names = [shlex.quote(name) for name in short(names)]
     slots = " ".join("-" if slot is None else names[slot] for slot in word.slots)
-    unused = " ".join(name for number, name in enumerate(names) if number not in word.slots) or "none"
+    out = [(slot, place) for place, slot in enumerate(whole.slots) if slot is not None and slot not in word.slots] if whole else []
+    unused = " ".join(name for number, name in enumerate(names) if number not in word.slots and number not in dict(out)) or "none"
+    unused += "; left out for bad rows: " + ", ".join(f"{names[slot]} (slot {place})" for slot, place in out) if out else ""
     empty = ", ".join(f"slot {place}" for place, slot in enumerate(word.slots) if slot is None)
     missing = f"{empty} of 0 to {len(word.slots) - 1}" if empty else "none"
     return f"{layout(word)}, chunks of {size(word.chunk)}, {begins(word, names)}; slots: {slots}; in no slot: {unused}; missing: {missing}"
@@ -87,11 +89,11 @@ def show(report, order, images):
     """For each of the best classes what it is, what was loosened for it, and what to type; it chooses none."""
     told, names, end = best(order), [image.name for image in images], min((image.sectors for image in images), default=0)
     for number, it in told[:MOST_TOLD]:
-        said, lines = in_words(it.word, names), commands(number, it, names, end)
+        said, lines = in_words(it.word, names, it.whole and it.whole.word), commands(number, it, names, end)
         loosened = "loosened: " + (" and ".join(it.trial.loosened) or "nothing") + (f"; {it.rows}" if it.rows else "")
         kin_said = [f"  {kin.text(it)}"] if kin.text(it) else []
         text = "\n".join([f"class {number}: {said}", f"  {loosened}", *kin_said, "  to look into it, as root:", *("    " + line for line in lines)])
-        if any(image.map for image in images):
+        if any(images[slot].map for slot in it.word.slots if slot is not None):
             text += "\n  (this shows zeros where a map says unread; reraid salvage finds what parity has of it)"
         report.say("words", text, **{"class": number, "set": it.word.text, "words": said, "rows": it.rows, "commands": lines})
     if len(told) > MOST_TOLD:

@@ -15,9 +15,10 @@ From images of the disks of a lost array to its candidates. It looks at the imag
 lists the parameter sets that pass, loosens one thing after another where none does, and lets the checkers of file systems read the volume
 of each candidate. It reads the images alone, and chooses nothing: the last table has all that was found."""
 
-INTERRUPTED = """interrupted, and no candidate until then is good: a checker found fault in each, or nothing is known in it. A run that comes
-to its end prints the sets that are nearest, with the rows in which parity does not hold. --levels and --members, with what you
-know of the array, bring it there sooner."""
+AT_ITS_END = """A run that comes to its end prints the sets that are nearest, with the rows in which parity does not hold. --levels and --members, with
+what you know of the array, bring it there sooner."""
+INTERRUPTED = f"interrupted, and no candidate until then is good: a checker found fault in each, or nothing is known in it. {AT_ITS_END}"
+NOT_TESTED = f"interrupted before a volume was looked at. {AT_ITS_END}"
 STATUSES = "status: 0 where there are candidates, 1 where there are none, 2 where the words are wrong, 130 where it was interrupted"
 
 
@@ -122,7 +123,7 @@ def run_once(words):
         return 0 if found else 1
     except KeyboardInterrupt:
         table.show(out, [it for it in run.tested if it.verdict], run.images)
-        out.say("interrupted", "interrupted" if run.best() else INTERRUPTED, interrupted=True)
+        out.say("interrupted", "interrupted" if run.best() else INTERRUPTED if run.tested else NOT_TESTED, interrupted=True)
         return 130
     finally:
         ran.kill()

@@ -80,7 +80,7 @@ class Search:
     def try_all(self):
         """All trials, in order, until the volume of a candidate says enough for itself."""
         if not self.first_trials() and not self.further_trials() and self.best() < 1:
-            self.keep(self.tests.test_late())
+            self.keep(self.looked_at(self.tests.put_off, self.tests.test_late))
         if self.hunt.passed_over:
             self.commands.note(f"# passed over {plans.counted(self.hunt.passed_over, 'trial')}: landmarks alone, or parity alone, allow no set", 0, 0)
 
@@ -186,7 +186,7 @@ class Search:
     def say_late(self, what):
         """Says that a question ran out of its time."""
         self.was_late = True
-        self.report.say("late", f"  {self.options.time} s were up before it was known whether {what} a set: goes on as if so (--time gives more)",
+        self.report.say("late", f"  {self.options.time} s were up before it was known whether {what} a set: goes on as if so, and leaves nothing out (--time gives more)",
                         what=what, seconds=self.options.time)
 
     def take(self, hunt, trial, sets):
@@ -198,17 +198,24 @@ class Search:
                 fresh.append(candidates.Candidate(word, rank, trial, hunt, listed=listed))
         if not fresh:
             return False
-        tested = self.tests.test(fresh)
+        tested = self.looked_at(fresh, lambda: self.tests.test(fresh))
         told = hunt is not self.hunt or NO_LANDMARKS[0] not in trial.loosened
         whole = self.keep([it for it in tested if told or it.verdict.findings or it.word.level in trial.shape.telling])
         return self.keep(self.tests.without_damaged(tested)) or whole
+
+    def looked_at(self, found, test):
+        """What a test gives of these; where the run is ended meanwhile, what was looked at until then is kept."""
+        try:
+            return test()
+        except KeyboardInterrupt:
+            self.tested += [it for it in found if it.verdict]
+            raise
 
     def keep(self, tested):
         """Keeps what was tested for the table; it says whether one is clean and whole."""
         self.tested += tested
         for it in tested:
-            if it.verdict.score > 1:
-                self.report.say("sound", f"  {it.word.text}: {it.verdict.text()}", set=it.word.text, said=it.verdict.text())
+            self.tests.tell(it)
         return any(it.verdict.score == 3 for it in tested)
 
     def mirror_words(self, members, missing, offsets, window):

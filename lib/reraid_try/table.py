@@ -4,7 +4,7 @@ from . import ending, kin
 
 HEAD = ("", "class", "set", "loosened", "fits", "volume")
 LAST = """reraid-try does not choose. These sets passed, by what was loosened and by rank. + stands where a checker is content and none found
-fault, ++ where long files are whole besides, or the sums of all data are right."""
+fault (it may be wrong: read files by name), ++ where long files are whole besides, or the sums of all data are right."""
 NONE = "no candidates"
 MANY = 24
 

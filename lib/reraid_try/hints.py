@@ -138,7 +138,8 @@ def level(plan, heads):
     most = max(map(len, shown.values()), default=0)
     if not 1 <= most <= 3:
         return []
-    return [Hint("level", {1: 0, 2: 5, 3: 6}[most], f"a sector of one kind that {counted(most, 'image')} show{'s' * (most == 1)} at one place")]
+    why = f"a sector of one kind that {counted(most, 'image')} show{'s' * (most == 1)} at one place"
+    return [Hint("level", {1: 0, 2: 5, 3: 6}[most], why + (", as two copies of RAID 10 do too" if most == 2 else ""))]
 
 
 PE_START = re.compile(rb"pe_start = (\d+)")

@@ -106,10 +106,10 @@ class Diagnosis:
         word, request = candidate.listed, candidate.trial.request
         if word is None or request is None or candidate.word.level == "near2":
             return ""
-        if candidate.whole:
-            return f"with what is left out for bad rows {candidate.whole.unsound} rows are unsound in what was tested"
         lost = sum(slot is None for slot in word.slots)
         if lost >= {"5": 1, "6": 2}.get(word.level, 0):
+            if candidate.whole:
+                return f"with what is left out for bad rows {candidate.whole.unsound} rows are unsound in what was tested"
             return "parity tells nothing" + (f" with {plans.counted(lost, 'disk')} missing" if word.level != "0" else " at level 0")
         plan = self.hunt.surveys.plan(request)
         plan = plan.without([group.place for group in plan.groups]).having(window=self.hunt.window, badrows=0)

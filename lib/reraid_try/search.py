@@ -186,8 +186,8 @@ class Search:
     def say_late(self, what):
         """Says that a question ran out of its time."""
         self.was_late = True
-        self.report.say("late", f"  {self.options.time} s were up before it was known whether {what} a set: goes on as if so, and leaves nothing out (--time gives more)",
-                        what=what, seconds=self.options.time)
+        self.report.say("late", f"  {self.options.time} s were up before it was known whether {what} a set: goes on as if so, and passes over no trial for it "
+                        "(--time gives more)", what=what, seconds=self.options.time)
 
     def take(self, hunt, trial, sets):
         """Tests the new sets of a trial; it says whether one of them is clean and whole."""

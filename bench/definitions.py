@@ -21,7 +21,7 @@ HEAD = re.compile(r"^(?:abbrev |unfoldable )?pub (?:record |data )?(?P<name>[^\s
 USE = re.compile(r"^(?:ghost )?use Rattle\.(\w+)\.specs\.([\w.]+)\.\{(.*?)\}", re.M | re.S)
 
 # The crates that run nothing: what another crate takes of them counts as offered.
-WORDS_ALONE = ("raid_terms", "search_terms")
+WORDS_ALONE = ("raid_terms", "search_terms", "plan_sets")
 # Such a comment goes on from the one above it, which is then printed too.
 GOES_ON = re.compile(r"(and|its|the same|so|of|for|as) |.* of it\b")
 # The crates in which the promises of jobs and programs are put together from parts.

@@ -10,10 +10,10 @@ use crate::counts::ROW;
 use crate::family::Family;
 use crate::leaf::Leaf;
 use crate::search::{Search, meets_range};
+use crate::steps::Steps;
 use crate::walk::Walk;
 use raid_params::Slots;
 use std::sync::ledger::Ledger;
-use step_count::Steps;
 
 /// A copy of the list.
 #[inline]

@@ -12,11 +12,11 @@ use crate::counts::{ROW, counts_of};
 use crate::family::Family;
 use crate::leaf::Leaf;
 use crate::search::Search;
+use crate::steps::Steps;
 use crate::walk::Walk;
 use raid_params::MOST;
 use std::marker::Model;
 use std::sync::ledger::Ledger;
-use step_count::Steps;
 
 /// A walk over the lists of a family's space of ranks from `from` up to and not including `stop`:
 /// it gives those whose every prefix, the empty and the whole one included, the family admits, in

@@ -1,4 +1,4 @@
--- The images of a plan, read as members each in the slot of its number.
+-- The images of a scope, read as members each in the slot of its number.
 use Rattle.std.proofs.Common.{◌≡◌, ℕ, zero, suc, ◌+◌, ◌*◌, ◌<◌, ◌≤◌, ◌^◌, List, [], ◌∷◌, ◌++◌, length, map, get_or, arith, ap, sym, refl, subst, ◌∙◌, IsSomeAnd, Option, Some, None}
 use Rattle.std.proofs.lemmas.List.FromFn.{get_or-map-range_with_len, length-map-range_with_len, map-range_with_len_more}
 use Rattle.std.specs.List.{count_by, range_with_len, slice_get}
@@ -10,8 +10,8 @@ use Rattle.raid_layouts.proofs.Counts.{count_cons}
 use Rattle.raid_terms.specs.Parity.{member_byte}
 use Rattle.member_regions.specs.Members.{held, Reaches}
 use Rattle.member_regions.specs.Regions.{HoldRead, Room}
-use Rattle.search_plan.specs.Plans.{IsPlan, AgreeWith}
-use Rattle.search_plan.specs.declared.plan.Plan.{Plan}
+use Rattle.search_scope.specs.Scopes.{IsScope, AgreeWith}
+use Rattle.search_scope.specs.declared.scope.Scope.{Scope}
 use Rattle.column_screen.specs.Samples.{HoldSector}
 
 -- the images in the slots of their numbers
@@ -49,23 +49,23 @@ length_mapped : (attached : List Image) → length (map (λ image. image.sectors
 length_mapped [] = refl
 length_mapped (image ∷ attached) = ap (λ n. suc n) (length_mapped attached)
 
--- so each slot's reaches to the end of the plan
-pub order_reaches : (plan : Plan) (attached : List Image) (slots : List (Option ℕ)) (to k : ℕ) (d : Option ℕ) → IsPlan plan → AgreeWith plan attached → slots ≡ in_order (length plan.lengths.items) →
-    to ≤ plan.end → k < length slots → Reaches attached to (get_or slots k d)
-order_reaches plan attached slots to k d is_plan are e within lt =
-    let count : length slots ≡ length plan.lengths.items = ap length e ∙ order_length (length plan.lengths.items) in
-    let few : length plan.lengths.items ≡ length attached = ap length (sym are) ∙ length_mapped attached in
-    let below : k < length plan.lengths.items = omega arith in
-    let ends : plan.end ≤ get_or plan.lengths.items k 0 = is_plan.ends k 0 below in
-    let same : get_or (map (λ image. image.sectors) attached) k 0 ≡ get_or plan.lengths.items k 0 = ap (λ (l : List ℕ). get_or l k 0) are in
-    let here : get_or slots k d ≡ Some k = ap (λ (l : List (Option ℕ)). get_or l k d) e ∙ order_at (length plan.lengths.items) k d below in
+-- so each slot's reaches to the end of the scope
+pub order_reaches : (scope : Scope) (attached : List Image) (slots : List (Option ℕ)) (to k : ℕ) (d : Option ℕ) → IsScope scope → AgreeWith scope attached → slots ≡ in_order (length scope.lengths.items) →
+    to ≤ scope.end → k < length slots → Reaches attached to (get_or slots k d)
+order_reaches scope attached slots to k d is_scope are e within lt =
+    let count : length slots ≡ length scope.lengths.items = ap length e ∙ order_length (length scope.lengths.items) in
+    let few : length scope.lengths.items ≡ length attached = ap length (sym are) ∙ length_mapped attached in
+    let below : k < length scope.lengths.items = omega arith in
+    let ends : scope.end ≤ get_or scope.lengths.items k 0 = is_scope.ends k 0 below in
+    let same : get_or (map (λ image. image.sectors) attached) k 0 ≡ get_or scope.lengths.items k 0 = ap (λ (l : List ℕ). get_or l k 0) are in
+    let here : get_or slots k d ≡ Some k = ap (λ (l : List (Option ℕ)). get_or l k d) e ∙ order_at (length scope.lengths.items) k d below in
     subst (Reaches attached to) (sym here) (at_mapped attached k to (omega arith) (omega arith))
 
-pub plan_near : (plan : Plan) → IsPlan plan → plan.end < 2 ^ 55
-plan_near plan is_plan =
-    let some = is_plan.lengths.some in
-    let ends = is_plan.ends 0 0 (omega arith) in
-    let short = is_plan.lengths.short 0 0 (omega arith) in
+pub scope_near : (scope : Scope) → IsScope scope → scope.end < 2 ^ 55
+scope_near scope is_scope =
+    let some = is_scope.lengths.some in
+    let ends = is_scope.ends 0 0 (omega arith) in
+    let short = is_scope.lengths.short 0 0 (omega arith) in
     omega arith
 
 -- what was read of the members are sectors of the images

@@ -74,7 +74,7 @@ few_broken images count rows tested geo samples shaped are =
     (keys_pass images count rows tested geo samples shaped (recursion_from_All (IsSampleOf images count geo.head.offset rows) samples are.each))
 
 pub screened_sets_fail : ScreenedSetsFail
-screened_sets_fail images plan geo rows samples shaped are screened =
-    let few = few_broken images (length plan.lengths.items) rows (tested_rows geo plan.end plan.limits.window) geo samples shaped are in
-    let more = lt_true plan.limits.badrows (broken_samples samples (tested_rows geo plan.end plan.limits.window) geo) screened in
-    le_false (unsound_rows images geo (tested_rows geo plan.end plan.limits.window)) plan.limits.badrows (omega arith)
+screened_sets_fail images scope geo rows samples shaped are screened =
+    let few = few_broken images (length scope.lengths.items) rows (tested_rows geo scope.end scope.limits.window) geo samples shaped are in
+    let more = lt_true scope.limits.badrows (broken_samples samples (tested_rows geo scope.end scope.limits.window) geo) screened in
+    le_false (unsound_rows images geo (tested_rows geo scope.end scope.limits.window)) scope.limits.badrows (omega arith)

@@ -8,8 +8,8 @@ use Rattle.raid_params.specs.declared.types.Geometry.{Geometry}
 use Rattle.raid_params.specs.declared.types.Head.{Head}
 use Rattle.raid_terms.specs.Cells.{row_cells}
 use Rattle.raid_terms.specs.Parity.{is_sound_column, tested_rows}
-use Rattle.search_plan.specs.Rows.{tested_with}
-use Rattle.search_plan.specs.declared.plan.Plan.{Plan}
+use Rattle.search_scope.specs.Rows.{tested_with}
+use Rattle.search_scope.specs.declared.scope.Scope.{Scope}
 use Rattle.column_screen.specs.declared.samples.TheConstants.{COLUMNS}
 use Rattle.column_screen.specs.declared.samples.Sample.{Sample}
 use Rattle.column_screen.specs.Samples.{Kept, sample_byte}
@@ -33,8 +33,8 @@ abbrev pub broken_samples : List Sample → ℕ → Geometry → ℕ
 broken_samples samples tested geo = count_by (λ sample. nat_lt sample.row tested && breaks geo sample) samples
 
 -- the samples settle a set: more of its tested rows are seen to be unsound than may be
-abbrev pub is_screened : List Sample → Plan → Geometry → Bool
-is_screened samples plan geo = nat_lt plan.limits.badrows (broken_samples samples (tested_rows geo plan.end plan.limits.window) geo)
+abbrev pub is_screened : List Sample → Scope → Geometry → Bool
+is_screened samples scope geo = nat_lt scope.limits.badrows (broken_samples samples (tested_rows geo scope.end scope.limits.window) geo)
 
 -- the set of a head with these slots
 abbrev pub set_of : Head → List (Option ℕ) → Geometry
@@ -48,9 +48,9 @@ pub record Screening : Type 0 where
   pub tested : ℕ
   pub badrows : ℕ
 
--- that of a plan and a head
-abbrev pub screening_of : Kept → Plan → Head → Screening
-screening_of kept plan head = record { kept = kept; head = head; tested = tested_with plan head.chunk head.offset; badrows = plan.limits.badrows }
+-- that of a scope and a head
+abbrev pub screening_of : Kept → Scope → Head → Screening
+screening_of kept scope head = record { kept = kept; head = head; tested = tested_with scope.end scope.limits.window head.chunk head.offset; badrows = scope.limits.badrows }
 
 -- it settles the set with these slots
 abbrev pub settles : Screening → List (Option ℕ) → Bool

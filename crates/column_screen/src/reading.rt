@@ -6,7 +6,7 @@ ghost use Rattle.outside.specs.Causes.{HasCause};
 ghost use Rattle.outside.specs.Seen.{OnlyReads};
 ghost use Rattle.raid_params.specs.declared.limits.TheConstants.{MOST};
 ghost use Rattle.member_regions.specs.Regions.{IsRoomFor};
-ghost use Rattle.search_plan.specs.Plans.{IsPlan, AgreeWith};
+ghost use Rattle.search_scope.specs.Scopes.{IsScope, AgreeWith};
 ghost use Rattle.column_screen.specs.Reading.{EndsSamples};
 ghost use Rattle.column_screen.specs.Samples.{AreSamples};
 ghost use Rattle.column_screen.specs.declared.samples.TheConstants.{SAMPLES};
@@ -15,7 +15,7 @@ use crate::samples::{SAMPLES, Samples};
 use member_regions::Regions;
 use outside::{Failed, Images};
 use raid_params::{MOST, Slots};
-use search_plan::Plan;
+use search_scope::Scope;
 use std::alloc::Global;
 use thiserror::Error;
 
@@ -34,31 +34,33 @@ pub enum SampleFault {
 }
 
 impl Samples {
-    /// Reads samples of the images of a plan, spread over the first `rows` rows of sectors from an offset on: one sector of each
+    /// Reads samples of the images of a scope, spread over the first `rows` rows of sectors from an offset on: one sector of each
     /// image for each of them, in the order of the rows. Memory is taken before the first reading. `ReadFault` comes
     /// only where the images failed.
     pub fn read<I: Images>(
         alloc: Global,
         images: &mut I,
-        plan: &Plan,
+        scope: &Scope,
         rows: u64,
         offset: u64,
     ) -> Result<Samples, SampleFault>
-        requires plan { IsPlan plan.now }
-        requires images { AgreeWith plan.now (I.seen images.old).attached }
-        requires within { offset + rows ≤ plan.now.end }
-        ensures images { IfOk result (λ samples. samples.images ≡ length plan.now.lengths.items) }
+        requires scope { IsScope scope.now }
+        requires images { AgreeWith scope.now (I.seen images.old).attached }
+        requires within { offset + rows ≤ scope.now.end }
+        ensures images { IfOk result (λ samples. samples.images ≡ length scope.now.lengths.items) }
         ensures told { IfOk result (λ samples. IfSome (told_all (I.seen images.old).attached)
-            (λ bytes. AreSamples bytes (length plan.now.lengths.items) offset rows samples.list)) }
-        ensures reads { OnlyReads (I.seen images.old) (I.seen images.new) (length plan.now.lengths.items * min SAMPLES rows) }
+            (λ bytes. AreSamples bytes (length scope.now.lengths.items) offset rows samples.list)) }
+        ensures reads { OnlyReads (I.seen images.old) (I.seen images.new) (length scope.now.lengths.items * min SAMPLES rows) }
         ensures ends { IfErr result (EndsSamples (I.seen images.old) (I.seen images.new)) }
         ensures stays { OnOk result ((I.seen images.new).faults ≡ (I.seen images.old).faults) }
     {
-        let mut samples = Samples::new(alloc, plan.lengths.len()).map_err(|_| SampleFault::Memory)?;
-        let mut regions = Regions::new(alloc, plan.lengths.len(), 1).map_err(
+        let mut samples = Samples::new(alloc, scope.lengths.len()).map_err(
             |_| SampleFault::Memory,
         )?;
-        fill(&mut samples, images, &mut regions, plan, rows, offset).map_err(
+        let mut regions = Regions::new(alloc, scope.lengths.len(), 1).map_err(
+            |_| SampleFault::Memory,
+        )?;
+        fill(&mut samples, images, &mut regions, scope, rows, offset).map_err(
             |_| SampleFault::ReadFault,
         )?;
         Ok(samples)
@@ -70,22 +72,22 @@ fn fill<I: Images>(
     samples: &mut Samples,
     images: &mut I,
     regions: &mut Regions,
-    plan: &Plan,
+    scope: &Scope,
     rows: u64,
     offset: u64,
 ) -> Result<(), Failed>
-    requires plan { IsPlan plan.now }
-    requires images { AgreeWith plan.now (I.seen images.old).attached }
-    requires within { offset + rows ≤ plan.now.end }
-    requires room { IsRoomFor (length plan.now.lengths.items) 1 regions.old }
-    requires none { samples.old ≡ record { images = length plan.now.lengths.items; list = [] } }
-    ensures images { samples.new.images ≡ length plan.now.lengths.items }
+    requires scope { IsScope scope.now }
+    requires images { AgreeWith scope.now (I.seen images.old).attached }
+    requires within { offset + rows ≤ scope.now.end }
+    requires room { IsRoomFor (length scope.now.lengths.items) 1 regions.old }
+    requires none { samples.old ≡ record { images = length scope.now.lengths.items; list = [] } }
+    ensures images { samples.new.images ≡ length scope.now.lengths.items }
     ensures told { OnOk result (IfSome (told_all (I.seen images.old).attached)
-        (λ bytes. AreSamples bytes (length plan.now.lengths.items) offset rows samples.new.list)) }
-    ensures reads { OnlyReads (I.seen images.old) (I.seen images.new) (length plan.now.lengths.items * min SAMPLES rows) }
+        (λ bytes. AreSamples bytes (length scope.now.lengths.items) offset rows samples.new.list)) }
+    ensures reads { OnlyReads (I.seen images.old) (I.seen images.new) (length scope.now.lengths.items * min SAMPLES rows) }
     ensures cause { HasCause (I.seen images.old).faults (I.seen images.new).faults result }
 {
-    let slots = all_images(plan.lengths.len());
+    let slots = all_images(scope.lengths.len());
     let count = rows.min(SAMPLES as u64);
     for number in 0..count {
         let row = spread_row(rows, count, number);

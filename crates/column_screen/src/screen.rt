@@ -15,7 +15,7 @@ use crate::roles::{Roles, lost_test, roles_of, whole_test};
 use crate::samples::{SAMPLES, Samples};
 use crate::tests::{Test, passes, sum};
 use raid_params::{Head, Level};
-use search_plan::{Plan, tested_rows};
+use search_scope::{Scope, tested_rows};
 use std::marker::Model;
 use std::simd::prelude::*;
 
@@ -46,16 +46,16 @@ impl<'a> Model for Screen<'a> {
 }
 
 impl<'a> Screen<'a> {
-    /// The test of the sets of a head of a plan, by samples of the head's offset. It takes no memory.
-    pub fn new(samples: &'a Samples, plan: &Plan, head: &Head) -> Screen<'a>
+    /// The test of the sets of a head of a scope, by samples of the head's offset. It takes no memory.
+    pub fn new(samples: &'a Samples, scope: &Scope, head: &Head) -> Screen<'a>
         requires head { IsTrue (is_valid_head head.now) }
-        ensures { result ≡ screening_of samples.now plan.now head.now }
+        ensures { result ≡ screening_of samples.now scope.now head.now }
     {
         Screen {
             samples,
             head: *head,
-            tested: tested_rows(plan, head.chunk, head.offset),
-            badrows: plan.limits.badrows,
+            tested: tested_rows(scope.end, scope.limits, head.chunk, head.offset),
+            badrows: scope.limits.badrows,
             roles: sample_roles(samples, head),
         }
     }

@@ -14,8 +14,9 @@ use Rattle.near_mirror.specs.Words.{HasNearWord}
 use Rattle.near_mirror.specs.declared.types.NearSet.{NearSet}
 use Rattle.value_text.specs.Bounded.{AreMembers}
 use Rattle.value_text.specs.SetText.{HasWord}
-use Rattle.raid_params.specs.Places.{level_place, pattern_place, syndrome_place}
-use Rattle.search_plan.specs.Plans.{AreBounds, AreRising, AreTests}
+use Rattle.raid_params.specs.Places.{level_place, pattern_place, syndrome_place, AreRising}
+use Rattle.landmark_rules.specs.Tests.{AreTests}
+use Rattle.search_scope.specs.Scopes.{AreBounds}
 use Rattle.command_words.specs.Commands.{AreAsked, IsCommandLine, IsWithin, bounds_of, can_move, chunks_or, command_of, drops_or, each_or, kinds_or, large_or, levels_or, members_or, mirror_in, mirrors_of, number_in, number_or, offsets_or, patterns_or, plain_survey, sectors_or, set_in, survey_of, syndromes_or, tests_of, unit_of}
 use Rattle.mark_kinds.proofs.Asked.{among_some}
 use Rattle.mark_kinds.specs.Table.{group_place, some_asked}

@@ -6,9 +6,11 @@ use Rattle.std.proofs.lemmas.List.Elements.{All-head, All-tail}
 use Rattle.raid_params.specs.declared.types.Level.{Level}
 use Rattle.raid_params.specs.declared.types.Pattern.{Pattern}
 use Rattle.raid_params.specs.declared.types.Syndrome.{Syndrome}
-use Rattle.value_text.specs.DropLaws.{drop_law}
-use Rattle.value_text.specs.NameLaws.{byte_law, group_law, in_lists, level_law, number_law, pattern_law, syndrome_law}
-use Rattle.value_text.specs.Spelling.{IsDrop, drop_name, drop_place, group_name, level_name, pattern_name, syndrome_name}
+use Rattle.landmark_text.specs.DropLaws.{drop_law}
+use Rattle.value_text.specs.NameLaws.{byte_law, in_lists, level_law, number_law, pattern_law, syndrome_law}
+use Rattle.landmark_text.specs.KindLaws.{group_law}
+use Rattle.value_text.specs.Spelling.{level_name, pattern_name, syndrome_name}
+use Rattle.landmark_text.specs.Names.{IsDrop, drop_name, drop_place, group_name}
 use Rattle.value_text.proofs.Fits.{chunks_are_short, members_are_bytes, offsets_are_short}
 use Rattle.value_text.proofs.Lists.{some_value}
 use Rattle.value_text.proofs.SetWords.{one_spelling}

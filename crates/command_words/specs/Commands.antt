@@ -19,7 +19,8 @@ use Rattle.near_mirror.specs.Words.{HasNearWord}
 use Rattle.near_mirror.specs.declared.types.NearSet.{NearSet}
 use Rattle.value_text.specs.Bounded.{AreChunks, AreMembers, AreSectors}
 use Rattle.value_text.specs.SetText.{HasWord}
-use Rattle.search_plan.specs.Plans.{AreBounds, AreTests}
+use Rattle.landmark_rules.specs.Tests.{AreTests}
+use Rattle.search_scope.specs.Scopes.{AreBounds}
 use Rattle.mark_kinds.specs.declared.looking.DropAt.{DropAt}
 use Rattle.mark_kinds.specs.declared.looking.Kinds.{Kinds}
 use Rattle.mark_kinds.specs.Table.{usual_kinds, kinds_among, some_asked}

@@ -14,9 +14,9 @@ use Rattle.near_mirror.specs.Words.{HasNearWord, near_word}
 use Rattle.near_mirror.specs.declared.types.NearSet.{NearSet}
 use Rattle.value_text.specs.SetText.{HasWord, set_word}
 use Rattle.value_text.specs.Bounded.{AreChunks, AreMembers, AreSectors}
-use Rattle.value_text.specs.Spelling.{IsDrop, level_name, pattern_name, syndrome_name, group_name, commas, drop_name, drop_place}
-use Rattle.raid_params.specs.Places.{level_place, pattern_place, syndrome_place}
-use Rattle.search_plan.specs.Plans.{AreRising}
+use Rattle.value_text.specs.Spelling.{level_name, pattern_name, syndrome_name, commas}
+use Rattle.landmark_text.specs.Names.{IsDrop, group_name, drop_name, drop_place}
+use Rattle.raid_params.specs.Places.{level_place, pattern_place, syndrome_place, AreRising}
 use Rattle.mark_kinds.specs.declared.looking.DropAt.{DropAt}
 use Rattle.mark_kinds.specs.Table.{group_place}
 use Rattle.mark_kinds.specs.declared.groups.TheConstants.{GROUP_COUNT}

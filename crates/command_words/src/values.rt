@@ -7,6 +7,7 @@ ghost use Rattle.command_words.specs.declared.values.Value.{Value as ValueOf};
 use crate::command::Form;
 use crate::table::ValueKind;
 use arrayvec::ArrayVec;
+use landmark_text::{read_drops, read_groups};
 use mark_kinds::{DropAt, GROUP_COUNT, GroupKind, MOST_DROPS};
 use near_mirror::{NearSet, read_near};
 use raid_params::{
@@ -66,8 +67,8 @@ pub fn read_value(kind: ValueKind, text: &[u8]) -> Option<Value>
         ValueKind::Syndromes => Some(Value::Syndromes(rising(text)?)),
         ValueKind::Chunks => Some(Value::Chunks(read_chunks(text)?)),
         ValueKind::Sectors => Some(Value::Sectors(read_sectors(text)?)),
-        ValueKind::Landmarks => Some(Value::Landmarks(rising(text)?)),
-        ValueKind::Drops => Some(Value::Drops(rising(text)?)),
+        ValueKind::Landmarks => Some(Value::Landmarks(read_groups(text)?)),
+        ValueKind::Drops => Some(Value::Drops(read_drops(text)?)),
         ValueKind::Form => Some(Value::Form(read_form(text)?)),
         ValueKind::Salvaged => Some(Value::Salvaged(read_salvaged(text)?)),
         ValueKind::Marks => Some(Value::Marks(read_marks(text)?)),

@@ -8,7 +8,7 @@ use Rattle.raid_params.specs.declared.types.Geometry.{Geometry}
 use Rattle.raid_params.specs.declared.types.Head.{Head}
 use Rattle.search_terms.specs.Product.{heads}
 use Rattle.search_plan.specs.Plans.{IsPlan}
-use Rattle.search_plan.specs.Sets.{sets_of, total_of}
+use Rattle.plan_sets.specs.Sets.{sets_of, total_of}
 use Rattle.search_plan.specs.declared.plan.Plan.{Plan}
 use Rattle.slot_math.proofs.Nested.{get_high, get_low, get-map, length-map}
 use Rattle.slot_math.specs.Space.{lists_of}

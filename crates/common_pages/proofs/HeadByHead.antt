@@ -6,11 +6,10 @@ use Rattle.std.proofs.lemmas.List.Elements.{All-nil}
 use Rattle.outside.specs.Attached.{told_all}
 use Rattle.outside.specs.Seen.{Image, Seen}
 use Rattle.search_terms.specs.Page.{passing, stop_of, IsPage}
-use Rattle.search_plan.specs.Sets.{passes_at, total_of}
+use Rattle.plan_sets.specs.Sets.{passes_at, total_of}
 use Rattle.search_plan.specs.declared.plan.Plan.{Plan}
 use Rattle.set_product.specs.declared.heads.HeadSets.{HeadSets}
-use Rattle.head_walk.specs.Walk.{HoldsSet}
-use Rattle.head_walk.specs.Walk.{AddsAll, ended_at, FillsPage, Finishes, Gathers, GoesOn, IsHeadOf, IsPart, left_after, left_reads, ReadsRange, spared_by, StandsAt, tested_by}
+use Rattle.head_walk.specs.Walk.{HoldsSet, AddsAll, ended_at, FillsPage, Finishes, Gathers, GoesOn, IsHeadOf, IsPart, left_after, left_reads, ReadsRange, spared_by, StandsAt, tested_by}
 use Rattle.head_walk.specs.declared.gathering.Gathered.{Gathered}
 use Rattle.head_walk.specs.declared.parts.Line.{Line}
 use Rattle.head_walk.specs.declared.parts.WalkFault.{WalkFault}
@@ -20,8 +19,7 @@ use Rattle.common_pages.specs.declared.page_parts.PageFault.{PageFault}
 use Rattle.head_walk.specs.declared.row_tables.OffsetTables.{OffsetTables}
 use Rattle.head_walk.proofs.OneHead.{finishes_on, gathers_all, gathers_full, goes_join, goes_still, reads_all, scans_finish}
 use Rattle.common_pages.proofs.Ahead.{at_end, at_head, Ahead}
-use Rattle.page_loop.proofs.RankByRank.{full, short}
-use Rattle.page_loop.proofs.RankByRank.{passes_more}
+use Rattle.page_loop.proofs.RankByRank.{full, short, passes_more}
 use Rattle.head_walk.proofs.Scanned.{scans_none, scans_on}
 
 -- a walk over the heads that stands at a rank

@@ -6,7 +6,7 @@ use Rattle.std.proofs.lemmas.List.{map-append}
 use Rattle.outside.proofs.Reading.{reads_up}
 use Rattle.outside.specs.Seen.{Seen}
 use Rattle.search_terms.specs.Page.{page_next, stop_of}
-use Rattle.search_plan.specs.Sets.{passes_at, total_of}
+use Rattle.plan_sets.specs.Sets.{passes_at, total_of}
 use Rattle.search_plan.specs.declared.plan.Plan.{Plan}
 use Rattle.common_pages.specs.Pages.{ArePageEnds, ArePagesFrom, IsPageEnd, IsPageFrom, IsPageOf, ReadsPages, scans, scans_to, table_reads}
 use Rattle.head_walk.specs.Counts.{most_scanned}

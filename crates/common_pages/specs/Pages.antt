@@ -4,7 +4,7 @@ use Rattle.std.specs.declared.option.Option.{Option}
 use Rattle.outside.specs.Causes.{Rose}
 use Rattle.outside.specs.Seen.{OnlyReads, Seen}
 use Rattle.search_terms.specs.Page.{page_next, stop_of, IsPage}
-use Rattle.search_plan.specs.Sets.{passes_at, total_of}
+use Rattle.plan_sets.specs.Sets.{passes_at, total_of}
 use Rattle.search_plan.specs.declared.plan.Plan.{Plan}
 use Rattle.common_pages.specs.declared.page_parts.ListPage.{ListPage}
 use Rattle.common_pages.specs.declared.page_parts.PageFault.{PageFault}

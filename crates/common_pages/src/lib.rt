@@ -6,7 +6,7 @@
 //! A page is walked head by head; `head_walk` gathers the sets of each, and tests them. The tables of rows are made where
 //! the first head needs them and kept for all pages of a call.
 //!
-//! `plan_jobs` prints pages for `list`. The sets of a plan stand in `Sets` of `search_plan`, a page by
+//! `plan_jobs` prints pages for `list`. The sets of a plan stand in `Sets` of `plan_sets`, a page by
 //! its ranks in `Page` of `search_terms`, and pages with what is read for them in `specs/Pages`.
 #![tactic(auto)]
 

@@ -5,7 +5,7 @@ ghost use Rattle.outside.specs.Attached.{told_all};
 ghost use Rattle.outside.specs.Seen.{OnlyReads};
 ghost use Rattle.search_terms.specs.Page.{stop_of};
 ghost use Rattle.search_plan.specs.Plans.{IsPlan, AgreeWith};
-ghost use Rattle.search_plan.specs.Sets.{total_of};
+ghost use Rattle.plan_sets.specs.Sets.{total_of};
 ghost use Rattle.common_pages.specs.Pages.{ArePagesFrom, EndsOrFull, EndsPage, IsPageOf, page_reads, ReadsPages, tested_to};
 ghost use Rattle.head_walk.specs.Walk.{HoldsSet, IsKept, left_after, left_reads, ReadsRange};
 ghost use Rattle.common_pages.specs.declared.page_parts.PageFault.TheVariants.{Cursor, Many};

@@ -1,7 +1,7 @@
 //! A walk over the ranks of a plan, head by head.
 ghost use Rattle.std.specs.Prelude.{◌≡◌, ◌<◌, ◌≤◌, All, IfErr, IfOk};
 ghost use Rattle.outside.specs.Attached.{told_all};
-ghost use Rattle.search_plan.specs.Sets.{total_of};
+ghost use Rattle.plan_sets.specs.Sets.{total_of};
 ghost use Rattle.head_walk.specs.Faults.{EndsTest};
 ghost use Rattle.head_walk.specs.Walk.{CanPage, Gathers, IsKept, left_after, left_reads, ReadsRange, spared_by, StandsAt, tested_by};
 

@@ -8,7 +8,7 @@ use Rattle.raid_params.specs.Validity.{is_valid_head}
 use Rattle.raid_params.specs.declared.types.Geometry.{Geometry}
 use Rattle.raid_params.specs.declared.types.Head.{Head}
 use Rattle.search_terms.specs.SlotLists.{all_lists, is_kept}
-use Rattle.search_plan.specs.Sets.{passes, sets_of}
+use Rattle.plan_sets.specs.Sets.{passes, sets_of}
 use Rattle.search_plan.specs.Plans.{IsPlan}
 use Rattle.search_plan.specs.declared.plan.Plan.{Plan}
 use Rattle.set_product.proofs.Shaped.{set_at}

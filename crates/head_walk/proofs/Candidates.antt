@@ -10,21 +10,21 @@ use Rattle.raid_params.specs.Size.{rows}
 use Rattle.raid_params.specs.declared.types.Geometry.{Geometry}
 use Rattle.raid_terms.specs.Parity.{passes_parity}
 use Rattle.candidate_enum.specs.Survivors.{all_admitted}
-use Rattle.row_scan.proofs.Unbroken.{unbreakable_passes}
-use Rattle.row_scan.specs.Scan.{is_unbreakable}
-use Rattle.row_scan.specs.Tallies.{AllTallies, BeginsAs, has_passed, is_open, KeepSettled, NoneOpen}
-use Rattle.row_scan.specs.declared.tally.Tally.{Tally}
-use Rattle.row_scan.specs.declared.tally.Tally.TheVariants.{Passes}
+use Rattle.parity_scan.proofs.Unbroken.{unbreakable_passes}
+use Rattle.parity_scan.specs.Scan.{is_unbreakable}
+use Rattle.parity_scan.specs.Tallies.{AllTallies, BeginsAs, has_passed, is_open, KeepSettled, NoneOpen}
+use Rattle.parity_scan.specs.declared.tally.Tally.{Tally}
+use Rattle.parity_scan.specs.declared.tally.Tally.TheVariants.{Passes}
 use Rattle.prune_filters.proofs.Law.{decide}
 use Rattle.prune_filters.specs.Hopeful.{is_hopeful}
 use Rattle.prune_filters.specs.Marks.{groups_may_hold}
 use Rattle.prune_filters.specs.Rows.{rows_decide, rows_may_hold}
-use Rattle.search_plan.specs.Plans.{IsPlan, AgreeWith}
-use Rattle.search_plan.specs.Sets.{sets_of, total_of}
+use Rattle.search_plan.specs.Plans.{IsPlan, AgreeWith, scope_of}
+use Rattle.plan_sets.specs.Sets.{sets_of, total_of}
 use Rattle.std.proofs.lemmas.Option.{slice_get_within}
 use Rattle.search_plan.specs.declared.plan.Plan.{Plan}
 use Rattle.head_walk.specs.Counts.{is_decided, is_hopeful_at, most_scanned}
-use Rattle.row_scan.specs.Verdicts.{verdicts_of}
+use Rattle.parity_scan.specs.Verdicts.{verdicts_of}
 use Rattle.head_walk.specs.Walk.{AddsAll, AreWaiting, ended_at, Finishes, first_tally, GoesOn, HavePassed, IsCandidate, IsPast, known_first, lines_of, ReadsRange, spared_by, StandsAt, tested_by, Wait}
 use Rattle.head_walk.specs.declared.gathering.Gathered.{Gathered}
 use Rattle.head_walk.specs.declared.parts.Line.{Line}
@@ -82,25 +82,25 @@ decided_passes attached plan line is_plan agrees tells is decided = elim (cases_
         sym (decide bytes plan line.rank line.geo known.set decides) ∙ rest.1
 
 -- the tallies of sets that wait begin as those of a scan
-begins_as : (attached : List Image) (plan : Plan) (line : Line) → IsPlan plan → AgreeWith plan attached → All TellsBytes attached → IsCandidate (told_all attached) plan line → BeginsAs (told_all attached) plan line.geo (first_tally plan line.geo)
+begins_as : (attached : List Image) (plan : Plan) (line : Line) → IsPlan plan → AgreeWith plan attached → All TellsBytes attached → IsCandidate (told_all attached) plan line → BeginsAs (told_all attached) (scope_of plan) line.geo (first_tally plan line.geo)
 begins_as attached plan line is_plan agrees tells is = elim (cases_Bool (is_decided plan line.geo)) [
   | inl t ↦ subst P (sym (first_passes plan line.geo t)) (decided_passes attached plan line is_plan agrees tells is t)
   | inr f ↦ subst P (sym (first_left plan line.geo f)) refl
 ]
   where
     P : Tally → Type 0
-    P tally = BeginsAs (told_all attached) plan line.geo tally
+    P tally = BeginsAs (told_all attached) (scope_of plan) line.geo tally
 
 -- so do those of all that wait
 pub all_begin : (attached : List Image) (plan : Plan) (waiting : Waiting) (tallies : List Tally) → IsPlan plan → AgreeWith plan attached → All TellsBytes attached → AreWaiting plan waiting → tallies ≡ waiting.tallies.items →
-    All (IsCandidate (told_all attached) plan) (lines_of waiting.ranks waiting.sets) → AllTallies (BeginsAs (told_all attached) plan) waiting.sets tallies
+    All (IsCandidate (told_all attached) plan) (lines_of waiting.ranks waiting.sets) → AllTallies (BeginsAs (told_all attached) (scope_of plan)) waiting.sets tallies
 all_begin attached plan waiting tallies is_plan agrees tells are same all = λ i d e below.
     let none : Line = record { rank = 0; geo = e } in
     let long = lines_long waiting.ranks waiting.sets are.ranks in
     let here : get_or (lines_of waiting.ranks waiting.sets) i none ≡ record { rank = get_or waiting.ranks i 0; geo = get_or waiting.sets i e } = line_at waiting.ranks waiting.sets i none 0 e are.ranks below in
     let tally : get_or tallies i d ≡ first_tally plan (get_or waiting.sets i e) = ap (λ (l : List Tally). get_or l i d) (same ∙ are.tallies) ∙ get_or-map (first_tally plan) waiting.sets i e d below in
     let is : IsCandidate (told_all attached) plan (record { rank = get_or waiting.ranks i 0; geo = get_or waiting.sets i e }) = subst (IsCandidate (told_all attached) plan) here (all i none (omega arith)) in
-    let P : Tally → Type 0 = λ t. BeginsAs (told_all attached) plan (get_or waiting.sets i e) t in
+    let P : Tally → Type 0 = λ t. BeginsAs (told_all attached) (scope_of plan) (get_or waiting.sets i e) t in
     subst P (sym tally) (begins_as attached plan (record { rank = get_or waiting.ranks i 0; geo = get_or waiting.sets i e }) is_plan agrees tells is)
 
 -- where all of them are known to pass, none has rows to be tested
@@ -133,9 +133,9 @@ written old new len long = take_at new (drop (length new) old) len long
 
 -- the verdicts that they say
 pub written_told : (told : Option (List (List ℕ))) (plan : Plan) (old new : List Tally) (sets waiting : List Geometry) (len : ℕ) → length new ≡ len → sets ≡ waiting →
-    IfSome told (λ bytes. map has_passed new ≡ verdicts_of bytes plan sets) → IfSome told (λ bytes. map has_passed (take len (new ++ drop (length new) old)) ≡ verdicts_of bytes plan waiting)
+    IfSome told (λ bytes. map has_passed new ≡ verdicts_of bytes (scope_of plan) sets) → IfSome told (λ bytes. map has_passed (take len (new ++ drop (length new) old)) ≡ verdicts_of bytes (scope_of plan) waiting)
 written_told None plan old new sets waiting len long same known = tt
-written_told (Some bytes) plan old new sets waiting len long same known = ap (map has_passed) (written old new len long) ∙ known ∙ ap (verdicts_of bytes plan) same
+written_told (Some bytes) plan old new sets waiting len long same known = ap (map has_passed) (written old new len long) ∙ known ∙ ap (verdicts_of bytes (scope_of plan)) same
 
 -- those that were known to pass among them
 pub written_known : (plan : Plan) (waiting : Waiting) (old new : List Tally) (len : ℕ) → AreWaiting plan waiting → old ≡ waiting.tallies.items → length new ≡ len → KeepSettled old new → HavePassed waiting.known (take len (new ++ drop (length new) waiting.tallies.items))

@@ -4,7 +4,7 @@ use Rattle.std.specs.List.{range_with_len, sum_by}
 use Rattle.std.specs.Option.{option_map_or}
 use Rattle.std.proofs.lemmas.List.Sums.{sum_by-cons}
 use Rattle.raid_params.specs.declared.types.Geometry.{Geometry}
-use Rattle.search_plan.specs.Sets.{sets_of}
+use Rattle.plan_sets.specs.Sets.{sets_of}
 use Rattle.search_plan.specs.declared.plan.Plan.{Plan}
 use Rattle.head_walk.specs.Counts.{hopeful_ranks, is_decided, is_hopeful_at, is_open_at, open_ranks}
 use Rattle.head_walk.specs.Walk.{AreScans, IsCandidate, Wait}

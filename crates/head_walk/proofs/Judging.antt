@@ -11,10 +11,10 @@ use Rattle.outside.proofs.Reading.{reads_up}
 use Rattle.outside.specs.Seen.{Image, OnlyReads, Seen}
 use Rattle.raid_params.specs.declared.limits.TheConstants.{MOST}
 use Rattle.raid_params.specs.declared.types.Geometry.{Geometry}
-use Rattle.row_scan.specs.Scan.{IsScannable}
-use Rattle.row_scan.specs.Verdicts.{offsets_of}
-use Rattle.row_scan.specs.Windows.{is_in_window, scan_reads, sectors_below, window_sectors}
-use Rattle.row_scan.specs.declared.samples.TheConstants.{SAMPLES}
+use Rattle.parity_scan.specs.Scan.{IsScannable}
+use Rattle.parity_scan.specs.Verdicts.{offsets_of}
+use Rattle.parity_scan.specs.Windows.{is_in_window, scan_reads, sectors_below, window_sectors}
+use Rattle.parity_scan.specs.declared.samples.TheConstants.{SAMPLES}
 use Rattle.search_plan.specs.Plans.{IsPlan, AgreeWith}
 use Rattle.search_plan.specs.declared.plan.Plan.{Plan}
 use Rattle.head_walk.specs.Counts.{most_scanned}

@@ -3,9 +3,9 @@ use Rattle.std.proofs.Common.{ℕ, zero, suc, ◌≡◌, ◌<◌, ◌≤◌, ◌
 use Rattle.std.proofs.lemmas.Bool.{cases_Bool, cases_lt, eq-eqb, eqb-true}
 use Rattle.raid_params.specs.declared.types.Geometry.{Geometry}
 use Rattle.search_plan.specs.declared.plan.Plan.{Plan}
-use Rattle.row_scan.specs.Tallies.{is_open, NoneOpen}
-use Rattle.row_scan.specs.declared.tally.Tally.{Tally}
-use Rattle.row_scan.specs.declared.tally.Tally.TheVariants.{Left, Passes}
+use Rattle.parity_scan.specs.Tallies.{is_open, NoneOpen}
+use Rattle.parity_scan.specs.declared.tally.Tally.{Tally}
+use Rattle.parity_scan.specs.declared.tally.Tally.TheVariants.{Left, Passes}
 use Rattle.head_walk.specs.Counts.{is_decided}
 use Rattle.head_walk.specs.Walk.{first_tally, known_first}
 

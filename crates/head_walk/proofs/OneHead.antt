@@ -4,7 +4,7 @@ use Rattle.std.proofs.lemmas.Option.{slice_get-get_or}
 use Rattle.outside.specs.Attached.{told_all}
 use Rattle.outside.specs.Seen.{Image, Seen}
 use Rattle.raid_params.specs.Size.{rows}
-use Rattle.search_plan.specs.Sets.{passes_at, sets_of}
+use Rattle.plan_sets.specs.Sets.{passes_at, sets_of}
 use Rattle.search_plan.specs.declared.plan.Plan.{Plan}
 use Rattle.set_product.specs.declared.heads.HeadSets.{HeadSets}
 use Rattle.slot_math.specs.Space.{lists_of}

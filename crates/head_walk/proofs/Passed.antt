@@ -4,10 +4,10 @@ use Rattle.std.specs.Option.{is_some}
 use Rattle.std.proofs.lemmas.Bool.{cases_lt}
 use Rattle.std.proofs.lemmas.List.{drop_more, get_or-map, length-map}
 use Rattle.raid_terms.specs.Parity.{passes_parity}
-use Rattle.row_scan.specs.Tallies.{has_passed}
-use Rattle.row_scan.specs.Verdicts.{verdicts_of}
-use Rattle.row_scan.specs.declared.tally.Tally.{Tally}
-use Rattle.search_plan.specs.Sets.{passes_at}
+use Rattle.parity_scan.specs.Tallies.{has_passed}
+use Rattle.parity_scan.specs.Verdicts.{verdicts_of}
+use Rattle.parity_scan.specs.declared.tally.Tally.{Tally}
+use Rattle.plan_sets.specs.Sets.{passes_at}
 use Rattle.search_plan.specs.declared.plan.Plan.{Plan}
 use Rattle.raid_params.specs.declared.types.Geometry.{Geometry}
 use Rattle.head_walk.specs.Walk.{AddsAll, AddsPassed, AddsRange, AddsWaiting, FillsPage, Gathers, GoesOn, HavePassed, IsCandidate, IsPast, lines_of, NonePass, Wait}
@@ -17,10 +17,11 @@ use Rattle.head_walk.specs.declared.waiting.Waiting.{Waiting}
 use Rattle.head_walk.proofs.Ranges.{adds_line, adds_none, adds_past}
 use Rattle.head_walk.proofs.SetTests.{candidate_passes}
 use Rattle.head_walk.proofs.Waits.{line_at, lines_geos, lines_long, none_join, NoneWaits, stands_anew, wait_ends, wait_nothing}
+use Rattle.search_plan.specs.Plans.{scope_of}
 
 -- the verdicts are those on the sets of some lines, over the bytes of the images where they are known
 abbrev pub Judged : Option (List (List ℕ)) → Plan → List Line → List Bool → Type 0
-Judged told plan waiting verdicts = IfSome told (λ bytes. verdicts ≡ verdicts_of bytes plan (map (λ line. line.geo) waiting))
+Judged told plan waiting verdicts = IfSome told (λ bytes. verdicts ≡ verdicts_of bytes (scope_of plan) (map (λ line. line.geo) waiting))
 
 -- the first k of those that waited are tested
 pub record Passed (told : Option (List (List ℕ))) (plan : Plan) (from at : ℕ) (waiting : List Line) (verdicts : List Bool) (k : ℕ) (old lines : List Line) : Type 0 where
@@ -80,8 +81,8 @@ next_of told plan from at waiting verdicts k old lines d e below long passed =
         IfSome known (λ bytes. passes_at bytes plan line.rank ≡ v) × Judged known plan ls vs
     judged_first None line ls v vs is judged = (tt, tt)
     judged_first (Some bytes) line ls v vs is judged = (
-      candidate_passes bytes plan line told is ∙ sym (heads_are v (passes_parity bytes line.geo plan.end plan.limits.window plan.limits.badrows) vs (verdicts_of bytes plan (map (λ (l : Line). l.geo) ls)) judged),
-      tails_are v (passes_parity bytes line.geo plan.end plan.limits.window plan.limits.badrows) vs (verdicts_of bytes plan (map (λ (l : Line). l.geo) ls)) judged,
+      candidate_passes bytes plan line told is ∙ sym (heads_are v (passes_parity bytes line.geo plan.end plan.limits.window plan.limits.badrows) vs (verdicts_of bytes (scope_of plan) (map (λ (l : Line). l.geo) ls)) judged),
+      tails_are v (passes_parity bytes line.geo plan.end plan.limits.window plan.limits.badrows) vs (verdicts_of bytes (scope_of plan) (map (λ (l : Line). l.geo) ls)) judged,
     )
 
 -- one rank of which the set does not pass
@@ -208,9 +209,9 @@ gathers_some told plan size at old new lines None some same added = absurd (cc)
 gathers_some told plan size at old new lines (Some next) some same added = let Q : List Line → Type 0 = λ l. FillsPage told plan old.tested at size next old.lines l in subst Q (sym same) added
 
 -- verdicts on the sets of these lines
-pub judged_lines : (told : Option (List (List ℕ))) (plan : Plan) (ranks : List ℕ) (sets : List Geometry) (verdicts : List Bool) → length ranks ≡ length sets → IfSome told (λ bytes. verdicts ≡ verdicts_of bytes plan sets) → Judged told plan (lines_of ranks sets) verdicts
+pub judged_lines : (told : Option (List (List ℕ))) (plan : Plan) (ranks : List ℕ) (sets : List Geometry) (verdicts : List Bool) → length ranks ≡ length sets → IfSome told (λ bytes. verdicts ≡ verdicts_of bytes (scope_of plan) sets) → Judged told plan (lines_of ranks sets) verdicts
 judged_lines told plan ranks sets verdicts same judged =
-    let P : List Geometry → Type 0 = λ l. IfSome told (λ bytes. verdicts ≡ verdicts_of bytes plan l) in
+    let P : List Geometry → Type 0 = λ l. IfSome told (λ bytes. verdicts ≡ verdicts_of bytes (scope_of plan) l) in
     subst P (sym (lines_geos ranks sets same)) judged
 
 -- the first k of those that waited are appended where they have passed, and the page is not full
@@ -328,10 +329,10 @@ adds_end size waiting k old lines same past adds =
 
 -- what was added of those that waited before a scan
 pub waiting_added : (told : Option (List (List ℕ))) (plan : Plan) (from at size : ℕ) (before after : Waiting) (old new : List Line) (full : Option ℕ) → after.ranks ≡ before.ranks → after.sets ≡ before.sets → Wait told plan from at (lines_of before.ranks before.sets) →
-    IfSome told (λ bytes. map has_passed after.tallies.items ≡ verdicts_of bytes plan before.sets) → AddsPassed size after old new full → AddsWaiting told plan from at size old new full
+    IfSome told (λ bytes. map has_passed after.tallies.items ≡ verdicts_of bytes (scope_of plan) before.sets) → AddsPassed size after old new full → AddsWaiting told plan from at size old new full
 waiting_added told plan from at size before after old new full ranks sets wait judged adds =
     let P : List Line → Type 0 = λ l. Wait told plan from at l in
-    let Q : List Geometry → Type 0 = λ l. IfSome told (λ bytes. map has_passed after.tallies.items ≡ verdicts_of bytes plan l) in
+    let Q : List Geometry → Type 0 = λ l. IfSome told (λ bytes. map has_passed after.tallies.items ≡ verdicts_of bytes (scope_of plan) l) in
     adds.added told plan from at (subst P (sym (ap₂ lines_of ranks sets)) wait) (subst Q (sym sets) judged)
 
 -- where the page was full

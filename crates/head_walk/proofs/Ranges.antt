@@ -5,12 +5,11 @@ use Rattle.std.proofs.lemmas.List.Elements.{All-append, All-cons, All-nil}
 use Rattle.std.proofs.lemmas.List.{map-append}
 use Rattle.search_terms.specs.Page.{passing}
 use Rattle.search_terms.proofs.Pages.{passing-split}
-use Rattle.search_plan.specs.Sets.{passes_at, sets_of}
+use Rattle.plan_sets.specs.Sets.{passes_at, sets_of}
 use Rattle.search_plan.specs.declared.plan.Plan.{Plan}
 use Rattle.set_product.specs.declared.heads.HeadSets.{HeadSets}
 use Rattle.candidate_enum.specs.Survivors.{all_admitted, question}
-use Rattle.head_walk.specs.Walk.{HoldsSet}
-use Rattle.head_walk.specs.Walk.{AddsRange, IsHeadOf, LeavesOutNone, NonePass}
+use Rattle.head_walk.specs.Walk.{HoldsSet, AddsRange, IsHeadOf, LeavesOutNone, NonePass}
 use Rattle.head_walk.specs.declared.parts.Line.{Line}
 use Rattle.head_walk.proofs.Leaves.{Refused}
 use Rattle.page_loop.proofs.RankByRank.{passes_more, passes_not}

@@ -13,8 +13,8 @@ use Rattle.raid_params.specs.declared.types.Geometry.{Geometry}
 use Rattle.raid_params.specs.declared.types.Head.{Head}
 use Rattle.raid_terms.specs.Parity.{passes_parity}
 use Rattle.landmark_rules.specs.Groups.{groups_hold}
-use Rattle.search_plan.specs.Plans.{IsPlan}
-use Rattle.search_plan.specs.Sets.{passes, passes_at, sets_of}
+use Rattle.search_plan.specs.Plans.{IsPlan, scope_of}
+use Rattle.plan_sets.specs.Sets.{passes, passes_at, sets_of}
 use Rattle.search_plan.specs.declared.plan.Plan.{Plan}
 use Rattle.set_product.specs.declared.heads.HeadSets.{HeadSets}
 use Rattle.set_product.proofs.Shaped.{set_at, shaped_set}
@@ -80,29 +80,29 @@ set_shaped plan rank geo is_plan stands = shaped_set plan geo (set_at plan rank 
 
 -- one that passes is settled by no samples of its offset
 pub never_screened : (bytes : List (List ℕ)) (plan : Plan) (rank rows : ℕ) (geo : Geometry) (samples : List Sample) → IsPlan plan → slice_get (sets_of plan) rank ≡ Some geo → passes bytes plan geo ≡ true →
-    AreSamples bytes (length plan.lengths.items) geo.head.offset rows samples → is_screened samples plan geo ≡ false
+    AreSamples bytes (length plan.lengths.items) geo.head.offset rows samples → is_screened samples (scope_of plan) geo ≡ false
 never_screened bytes plan rank count geo samples is_plan stands holds are =
-    elim (cases_Bool (is_screened samples plan geo)) [
+    elim (cases_Bool (is_screened samples (scope_of plan) geo)) [
       | inl settled ↦
           (let parts = and_parts (nat_le 1 (rows geo.head plan.end)) (passes_parity bytes geo plan.end plan.limits.window plan.limits.badrows && groups_hold geo plan.end plan.tests plan.groups) holds in
           let tests = and_parts (passes_parity bytes geo plan.end plan.limits.window plan.limits.badrows) (groups_hold geo plan.end plan.tests plan.groups) parts.1 in
-          let fails = screened_sets_fail bytes plan geo count samples (set_shaped plan rank geo is_plan stands) are settled in
+          let fails = screened_sets_fail bytes (scope_of plan) geo count samples (set_shaped plan rank geo is_plan stands) are settled in
           absurd (let no : true ≡ false = sym tests.0 ∙ fails in cc))
       | inr left ↦ left
     ]
 
 -- what a screen leaves of a prefix
 abbrev pub unsettled : Screened → List (Option ℕ) → Bool
-unsettled s prefix = not ((length prefix == s.asked.head.members) && is_screened s.samples s.asked.plan (set_of s.asked.head prefix))
+unsettled s prefix = not ((length prefix == s.asked.head.members) && is_screened s.samples (scope_of s.asked.plan) (set_of s.asked.head prefix))
 
 -- where the set of all slots is not settled, no prefix of them is
-unsettled_front : (s : Screened) (slots : List (Option ℕ)) (k : ℕ) → length slots ≡ s.asked.head.members → is_screened s.samples s.asked.plan (set_of s.asked.head slots) ≡ false → unsettled s (take k slots) ≡ true
+unsettled_front : (s : Screened) (slots : List (Option ℕ)) (k : ℕ) → length slots ≡ s.asked.head.members → is_screened s.samples (scope_of s.asked.plan) (set_of s.asked.head slots) ≡ false → unsettled s (take k slots) ≡ true
 unsettled_front s slots k long left =
     elim (cases_Bool (length (take k slots) == s.asked.head.members)) [
       | inl whole ↦
           (let same : take k slots ≡ slots = front_whole k slots (eqb-true (length (take k slots)) s.asked.head.members whole ∙ sym long) in
-          ap₂ (λ (a b : Bool). not (a && b)) whole (ap (λ (l : List (Option ℕ)). is_screened s.samples s.asked.plan (set_of s.asked.head l)) same ∙ left))
-      | inr short ↦ ap (λ (b : Bool). not (b && is_screened s.samples s.asked.plan (set_of s.asked.head (take k slots)))) short
+          ap₂ (λ (a b : Bool). not (a && b)) whole (ap (λ (l : List (Option ℕ)). is_screened s.samples (scope_of s.asked.plan) (set_of s.asked.head l)) same ∙ left))
+      | inr short ↦ ap (λ (b : Bool). not (b && is_screened s.samples (scope_of s.asked.plan) (set_of s.asked.head (take k slots)))) short
     ]
 
 -- a walk that asks a screen too leaves out none that passes, and gives hopeful sets
@@ -166,16 +166,16 @@ none_below b = grind (arith, nat_tests)
 
 -- what a screen settles, where there is one
 pub settled_by : (plan : Plan) (head : Head) (screen : Option Screening) (members : ℕ) (prefix : List (Option ℕ)) → IfSome screen (IsScreenOf plan head) →
-    option_map_or (λ s. (length prefix == members) && settles s prefix) screen false ≡ ((length prefix == members) && is_screened (samples_of screen) plan (set_of head prefix))
+    option_map_or (λ s. (length prefix == members) && settles s prefix) screen false ≡ ((length prefix == members) && is_screened (samples_of screen) (scope_of plan) (set_of head prefix))
 settled_by plan head None members prefix is = never (length prefix == members)
   where
-    never : (b : Bool) → false ≡ (b && is_screened [] plan (set_of head prefix))
+    never : (b : Bool) → false ≡ (b && is_screened [] (scope_of plan) (set_of head prefix))
     never true = sym (none_below plan.limits.badrows)
     never false = refl
 settled_by plan head (Some s) members prefix is = ap (λ (t : Screening). (length prefix == members) && settles t prefix) is.0
 
 -- the samples of the screen that is made of some
-pub samples_made : {X : Type 0} (f : X → Kept) (plan : Plan) (head : Head) (samples : Option X) → samples_of (option_map (λ s. screening_of (f s) plan head) samples) ≡ option_map_or (λ s. (f s).list) samples []
+pub samples_made : {X : Type 0} (f : X → Kept) (plan : Plan) (head : Head) (samples : Option X) → samples_of (option_map (λ s. screening_of (f s) (scope_of plan) head) samples) ≡ option_map_or (λ s. (f s).list) samples []
 samples_made f plan head None = refl
 samples_made f plan head (Some s) = refl
 
@@ -248,7 +248,7 @@ lists_shaped plan sets is_plan is_head slots (k, low, at) =
 
 -- a screen that is made of samples of all images
 pub screen_made : {X : Type 0} (f : X → Kept) (plan : Plan) (head : Head) (samples : Option X) → IfSome samples (λ s. (f s).images ≡ length plan.lengths.items) →
-    IfSome (option_map (λ s. screening_of (f s) plan head) samples) (IsScreenOf plan head)
+    IfSome (option_map (λ s. screening_of (f s) (scope_of plan) head) samples) (IsScreenOf plan head)
 screen_made f plan head None are = tt
 screen_made f plan head (Some s) are = (refl, are)
 

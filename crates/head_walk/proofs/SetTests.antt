@@ -10,10 +10,10 @@ use Rattle.raid_params.specs.Size.{rows}
 use Rattle.raid_params.specs.Validity.{fewest, has_members, has_pattern, has_syndrome, is_chunk, is_shaped, is_valid_head}
 use Rattle.raid_terms.specs.Parity.{passes_parity}
 use Rattle.landmark_rules.specs.Groups.{groups_hold}
-use Rattle.row_scan.specs.Scan.{IsScannable}
+use Rattle.parity_scan.specs.Scan.{IsScannable}
 use Rattle.search_plan.specs.Plans.{IsPlan, AgreeWith}
 use Rattle.search_plan.specs.declared.plan.Plan.{Plan}
-use Rattle.search_plan.specs.Sets.{passes, passes_at, sets_of}
+use Rattle.plan_sets.specs.Sets.{passes, passes_at, sets_of}
 use Rattle.head_walk.specs.Walk.{IsCandidate}
 use Rattle.head_walk.specs.declared.parts.Line.{Line}
 use Rattle.set_product.proofs.Shaped.{set_at, shaped_set}

@@ -11,12 +11,12 @@ use Rattle.raid_params.specs.declared.types.Pattern.{Pattern}
 use Rattle.raid_params.specs.declared.types.Syndrome.{Syndrome}
 use Rattle.search_terms.specs.Product.{heads}
 use Rattle.candidate_enum.specs.Survivors.{all_admitted}
-use Rattle.row_scan.specs.Scan.{is_unbreakable}
-use Rattle.row_scan.specs.Windows.{scan_reads}
+use Rattle.parity_scan.specs.Scan.{is_unbreakable}
+use Rattle.parity_scan.specs.Windows.{scan_reads}
 use Rattle.prune_filters.specs.Hopeful.{is_hopeful}
 use Rattle.prune_filters.specs.Rows.{needs_samples, needs_table, rows_decide}
 use Rattle.prune_filters.specs.Xors.{most_tested}
-use Rattle.search_plan.specs.Sets.{sets_of}
+use Rattle.plan_sets.specs.Sets.{sets_of}
 use Rattle.search_plan.specs.declared.plan.Plan.{Plan}
 
 -- a set of the plan is hopeful: each prefix of its slots is, over the bytes of the images. Where some are not known, any is

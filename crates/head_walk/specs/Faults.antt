@@ -4,8 +4,8 @@ use Rattle.outside.specs.Causes.{Rose}
 use Rattle.outside.specs.Seen.{Seen}
 use Rattle.column_screen.specs.declared.reading.SampleFault.{SampleFault}
 use Rattle.column_screen.specs.declared.reading.SampleFault.TheVariants.{ReadFault as SampleReadFault, Memory as SampleMemory}
-use Rattle.row_scan.specs.declared.one_set.ScanFault.{ScanFault}
-use Rattle.row_scan.specs.declared.one_set.ScanFault.TheVariants.{ReadFault as ScanReadFault, Memory as ScanMemory}
+use Rattle.parity_scan.specs.declared.one_set.ScanFault.{ScanFault}
+use Rattle.parity_scan.specs.declared.one_set.ScanFault.TheVariants.{ReadFault as ScanReadFault, Memory as ScanMemory}
 use Rattle.xor_tables.specs.declared.xor_table.TableFault.{TableFault}
 use Rattle.xor_tables.specs.declared.xor_table.TableFault.TheVariants.{ReadFault as TableReadFault, Memory as TableMemory}
 use Rattle.head_walk.specs.declared.parts.WalkFault.{WalkFault}

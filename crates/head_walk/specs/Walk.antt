@@ -12,10 +12,10 @@ use Rattle.raid_params.specs.declared.types.Head.{Head}
 use Rattle.search_terms.specs.Page.{passing}
 use Rattle.search_terms.specs.Product.{heads}
 use Rattle.landmark_rules.specs.Groups.{groups_hold}
-use Rattle.search_plan.specs.Sets.{passes_at, sets_of, total_of}
+use Rattle.plan_sets.specs.Sets.{passes_at, sets_of, total_of}
 use Rattle.search_plan.specs.declared.plan.Plan.{Plan}
 use Rattle.set_product.specs.declared.heads.HeadSets.{HeadSets}
-use Rattle.search_plan.specs.Plans.{AgreeWith, IsPlan}
+use Rattle.search_plan.specs.Plans.{AgreeWith, IsPlan, scope_of}
 use Rattle.slot_math.specs.declared.space.Space.{Space}
 use Rattle.slot_math.specs.Space.{lists_of}
 use Rattle.candidate_enum.specs.Survivors.{all_admitted}
@@ -28,10 +28,10 @@ use Rattle.prune_filters.specs.Xors.{most_tested, RowTable}
 use Rattle.column_screen.specs.Samples.{AreSamples}
 use Rattle.column_screen.specs.Screens.{is_screened, screening_of, set_of, Screening}
 use Rattle.column_screen.specs.declared.samples.Sample.{Sample}
-use Rattle.row_scan.specs.Tallies.{has_passed}
-use Rattle.row_scan.specs.Verdicts.{verdicts_of}
-use Rattle.row_scan.specs.declared.tally.Tally.{Tally}
-use Rattle.row_scan.specs.declared.tally.Tally.TheVariants.{Left, Passes}
+use Rattle.parity_scan.specs.Tallies.{has_passed}
+use Rattle.parity_scan.specs.Verdicts.{verdicts_of}
+use Rattle.parity_scan.specs.declared.tally.Tally.{Tally}
+use Rattle.parity_scan.specs.declared.tally.Tally.TheVariants.{Left, Passes}
 use Rattle.head_walk.specs.declared.gathering.Gathered.{Gathered}
 use Rattle.head_walk.specs.declared.waiting.Waiting.{Waiting}
 use Rattle.head_walk.specs.declared.parts.Line.{Line}
@@ -84,7 +84,7 @@ pub record Screened : Type 0 where
 -- a prefix is admitted: it is hopeful by the tables, and no whole slot list of which the samples settle that it fails
 abbrev pub is_admitted : Screened → List (Option ℕ) → Bool
 is_admitted s prefix = is_hopeful_by s.asked.xors s.asked.plan s.asked.head prefix
-    && not ((length prefix == s.asked.head.members) && is_screened s.samples s.asked.plan (set_of s.asked.head prefix))
+    && not ((length prefix == s.asked.head.members) && is_screened s.samples (scope_of s.asked.plan) (set_of s.asked.head prefix))
 
 -- the samples of a screen, which has none where there is no screen
 abbrev pub samples_of : Option Screening → List Sample
@@ -92,7 +92,7 @@ samples_of screen = option_map_or (λ s. s.kept.list) screen []
 
 -- a screen is that of a plan and a head, by samples of all images
 abbrev pub IsScreenOf : Plan → Head → Screening → Type 0
-IsScreenOf plan head screen = (screen ≡ screening_of screen.kept plan head) × (screen.kept.images ≡ length plan.lengths.items)
+IsScreenOf plan head screen = (screen ≡ screening_of screen.kept (scope_of plan) head) × (screen.kept.images ≡ length plan.lengths.items)
 
 -- each slot list of a space makes a set of a sensible shape with a head
 abbrev pub AreShaped : Plan → Head → Space → Type 0
@@ -250,7 +250,7 @@ pub record IsPast (ranks : List ℕ) (known next : ℕ) : Type 0 where
 -- first of them, which have all passed, fill it; and it is full no earlier than `known` of them could fill it
 pub record AddsPassed (size : ℕ) (waiting : Waiting) (old new : List Line) (full : Option ℕ) : Type 0 where
   pub added : (told : Option (List (List ℕ))) (plan : Plan) (from at : ℕ) → Wait told plan from at (lines_of waiting.ranks waiting.sets) →
-      IfSome told (λ bytes. map has_passed waiting.tallies.items ≡ verdicts_of bytes plan waiting.sets) → AddsWaiting told plan from at size old new full
+      IfSome told (λ bytes. map has_passed waiting.tallies.items ≡ verdicts_of bytes (scope_of plan) waiting.sets) → AddsWaiting told plan from at size old new full
   pub fills : (known : ℕ) → known ≤ length waiting.sets → HavePassed known waiting.tallies.items → size ≤ length old + known → is_some full ≡ true
   pub past : IfSome full (λ next. (known : ℕ) → length old + known < size → IsPast waiting.ranks known next)
 

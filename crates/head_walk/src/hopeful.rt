@@ -2,7 +2,7 @@
 ghost use Rattle.std.specs.Prelude.{◌≡◌, ◌==◌, ◌<◌, ◌≤◌, ◌-◌, ◌&&◌, [], All, IfOk, IfSome, IsSome, IsTrue, false, length, take, true};
 ghost use Rattle.std.specs.Option.{option_map, option_map_or};
 ghost use Rattle.raid_params.specs.Validity.{is_shaped, is_valid_head};
-ghost use Rattle.search_plan.specs.Plans.{IsPlan};
+ghost use Rattle.search_plan.specs.Plans.{IsPlan, scope_of};
 ghost use Rattle.prune_filters.specs.Rows.{needs_table as head_needs_table};
 ghost use Rattle.column_screen.specs.KeptSums.{KeepsSums};
 ghost use Rattle.column_screen.specs.Screens.{screening_of, set_of, settles as samples_settle};
@@ -72,10 +72,13 @@ impl<'a> Hopeful<'a> {
 /// The screen of a head's sets by these samples, if there are some.
 fn screen_of<'a>(samples: Option<&'a Samples>, plan: &Plan, head: &Head) -> Option<Screen<'a>>
     requires { IsTrue (is_valid_head head.now) }
-    ensures { result ≡ option_map (λ s. screening_of s.now plan.now head.now) samples.entry }
+    ensures { result ≡ option_map (λ s. screening_of s.now (scope_of plan.now) head.now) samples.entry }
 {
     match samples {
-        Some(samples) => Some(Screen::new(samples, plan, head)),
+        Some(samples) => {
+            let scope = plan.scope();
+            Some(Screen::new(samples, &scope, head))
+        }
         None => None,
     }
 }

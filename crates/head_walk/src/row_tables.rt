@@ -1,8 +1,11 @@
 //! What a walk keeps of each offset: tables of rows, and samples.
-ghost use Rattle.std.specs.Prelude.{◌≡◌, ◌==◌, ◌<◌, ◌≤◌, ◌^◌, ◌||◌, All, Contains, IfErr, IfOk, IfSome, IsSome, ℕ, List, None, OnOk, Some, false, length, position, slice_get, slice_index, true};
+ghost use Rattle.std.specs.Prelude.{◌≡◌, ◌==◌, ◌<◌, ◌≤◌, ◌^◌, ◌||◌, All, Contains, IfErr, IfOk, IfSome, IsSome, ℕ, List, None, OnOk, Some, false, length, min, position, slice_get, slice_index, true};
 ghost use Rattle.std.specs.Option.{option_map};
 ghost use Rattle.outside.specs.Attached.{told_all};
 ghost use Rattle.outside.specs.Seen.{OnlyReads};
+ghost use Rattle.column_screen.specs.Reading.{EndsSamples};
+ghost use Rattle.column_screen.specs.Samples.{AreSamples};
+ghost use Rattle.column_screen.specs.declared.samples.TheConstants.{SAMPLES};
 ghost use Rattle.prune_filters.specs.Early.{AreEarlyTables, HasEarlyTable};
 ghost use Rattle.prune_filters.specs.Rows.{needs_samples as head_needs_samples, needs_table as head_needs_table};
 ghost use Rattle.search_plan.specs.Plans.{IsPlan, AgreeWith};
@@ -12,7 +15,7 @@ ghost use Rattle.head_walk.specs.Walk.{has_entry, HasTables, IsHeadOf, IsKept, l
 
 use crate::asking::asks_tables;
 use crate::parts::WalkFault;
-use column_screen::Samples;
+use column_screen::{SampleFault, Samples};
 use outside::{Images, ListOf};
 use prune_filters::{EarlyTable, most_rows, needs_samples, needs_table};
 use raid_params::Head;
@@ -114,7 +117,7 @@ fn entry_of<I: Images>(
     let chunks = plan.bounds.chunks.as_slice();
     if !asks_tables(plan) {
         let rows = most_rows(plan, chunks, offset);
-        let samples = Samples::read(alloc, images, plan, rows, offset)?;
+        let samples = read_samples(alloc, images, plan, rows, offset)?;
         return Ok(OffsetTables {
             offset,
             tables: Vec::new(alloc),
@@ -128,6 +131,28 @@ fn entry_of<I: Images>(
         tables,
         samples,
     })
+}
+
+/// Samples of the images of a plan, spread over the first `rows` rows of sectors from an offset on.
+fn read_samples<I: Images>(
+    alloc: Global,
+    images: &mut I,
+    plan: &Plan,
+    rows: u64,
+    offset: u64,
+) -> Result<Samples, SampleFault>
+    requires plan { IsPlan plan.now }
+    requires images { AgreeWith plan.now (I.seen images.old).attached }
+    requires within { offset + rows ≤ plan.now.end }
+    ensures images { IfOk result (λ samples. samples.images ≡ length plan.now.lengths.items) }
+    ensures told { IfOk result (λ samples. IfSome (told_all (I.seen images.old).attached)
+        (λ bytes. AreSamples bytes (length plan.now.lengths.items) offset rows samples.list)) }
+    ensures reads { OnlyReads (I.seen images.old) (I.seen images.new) (length plan.now.lengths.items * min SAMPLES rows) }
+    ensures ends { IfErr result (EndsSamples (I.seen images.old) (I.seen images.new)) }
+    ensures stays { OnOk result ((I.seen images.new).faults ≡ (I.seen images.old).faults) }
+{
+    let scope = plan.scope();
+    Samples::read(alloc, images, &scope, rows, offset)
 }
 
 /// What is kept of an offset.

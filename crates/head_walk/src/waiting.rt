@@ -1,6 +1,6 @@
 //! The sets of a page that wait for the parity test.
 ghost use Rattle.std.specs.Prelude.{◌≡◌, ◌==◌, ◌+◌, ◌++◌, ◌∷◌, [], ◌≤◌, ◌<◌, ◌^◌, ◌⊎◌, if◌then◌else◌, length, OnOk};
-ghost use Rattle.row_scan.specs.Tallies.{is_open as is_open_tally};
+ghost use Rattle.parity_scan.specs.Tallies.{is_open as is_open_tally};
 ghost use Rattle.head_walk.specs.Walk.{AreWaiting, first_tally as first_tally_of};
 
 use outside::{ListOf, Memory};

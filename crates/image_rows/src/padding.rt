@@ -2,9 +2,9 @@
 ghost use Rattle.std.specs.Prelude.{◌≡◌, ◌<◌, ◌≤◌, All, length};
 ghost use Rattle.outside.specs.Seen.{OnlyReads};
 
+use image_padding::{BASES_END, Padded};
 use image_source::MemImages;
 use outside::Images;
-use padded_images::{BASES_END, Padded};
 use raid_params::MOST;
 use std::alloc::Global;
 use std::test::Fail;

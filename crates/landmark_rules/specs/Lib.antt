@@ -1,3 +1,4 @@
 pub mod Rules
 pub mod Marks
 pub mod Groups
+pub mod Tests

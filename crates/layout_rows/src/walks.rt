@@ -4,14 +4,13 @@ ghost use Rattle.std.specs.List.{starts_with};
 ghost use Rattle.candidate_enum.specs.Survivors.{question};
 ghost use Rattle.candidate_enum.specs.Tests.{tests};
 
-use candidate_enum::{Family, Leaf, Survivors};
+use candidate_enum::{Family, Leaf, Steps, Survivors};
 use raid_params::Slots;
 use slot_math::Space;
 use std::cell::Cell;
 use std::marker::Brand;
 use std::process::Abort;
 use std::sync::ledger::{Blank, Ledger};
-use step_count::Steps;
 
 /// Three images in three places, without the lists that begin with image 1.
 #[derive(Drop)]

@@ -5,7 +5,7 @@ use Rattle.std.proofs.lemmas.List.Elements.{All-nil, All-cons, All-head, All-tai
 use Rattle.std.specs.Option.{option_map}
 use Rattle.std.specs.declared.option.Option.{Option}
 use Rattle.outside.specs.Seen.{Image, lengths_of}
-use Rattle.padded_images.specs.Padded.{greatest_base, padded_images, padded_to}
+use Rattle.image_padding.specs.Padded.{greatest_base, padded_images, padded_to}
 use Rattle.padded_images.specs.Plans.{lengths_to}
 
 -- there are as many as before

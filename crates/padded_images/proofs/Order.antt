@@ -10,7 +10,7 @@ use Rattle.std.specs.List.{AllPairs, Contains, sum_by}
 use Rattle.std.specs.List.Sorted.{IsNonDecreasingBy, IsPermutation, IsStrictlyIncreasing}
 use Rattle.landmark_rules.specs.Groups.{mark_place}
 use Rattle.landmark_rules.specs.declared.marks.Mark.{Mark}
-use Rattle.padded_images.specs.Padded.{padding}
+use Rattle.image_padding.specs.Padded.{padding}
 use Rattle.padded_images.specs.Plans.{in_order, padded_mark, with_mark}
 use Rattle.raid_params.specs.declared.limits.TheConstants.{MOST}
 

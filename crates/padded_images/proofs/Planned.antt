@@ -10,9 +10,9 @@ use Rattle.std.specs.declared.option.Option.{Option}
 use Rattle.landmark_rules.specs.Groups.{AreGroups, IsMark, group_place, kind_place, mark_place, marks_in}
 use Rattle.landmark_rules.specs.declared.marks.Group.{Group}
 use Rattle.landmark_rules.specs.declared.marks.Mark.{Mark}
-use Rattle.padded_images.specs.Padded.{greatest_base, padding}
+use Rattle.image_padding.specs.Padded.{greatest_base, padding}
 use Rattle.padded_images.specs.Plans.{in_order, lengths_to, padded_group, padded_mark, padded_marks, padded_plan}
-use Rattle.padded_images.proofs.Images.{fold_below}
+use Rattle.image_padding.proofs.Images.{fold_below}
 use Rattle.padded_images.proofs.Lengths.{as_many, grown, there}
 use Rattle.padded_images.proofs.Marks.{few_images}
 use Rattle.padded_images.proofs.Order.{order_permutes, order_rises, rising_from}

@@ -1,3 +1,1 @@
-pub mod Padded
-pub mod Tells
 pub mod Plans

@@ -3,7 +3,7 @@ use Rattle.std.specs.Prelude.{ℕ, false, ◌+◌, ◌-◌, nat_le, if◌then◌
 use Rattle.landmark_rules.specs.Groups.{mark_place}
 use Rattle.landmark_rules.specs.declared.marks.Group.{Group}
 use Rattle.landmark_rules.specs.declared.marks.Mark.{Mark}
-use Rattle.padded_images.specs.Padded.{greatest_base, padding}
+use Rattle.image_padding.specs.Padded.{greatest_base, padding}
 use Rattle.search_plan.specs.declared.plan.Plan.{Plan}
 
 -- each length that has a base grows by what the base lacks of `greatest`

@@ -2,13 +2,13 @@
 ghost use Rattle.std.specs.Prelude.{◌≡◌, ◌≤◌, ◌<◌, ◌^◌, All, IfOk, List, length, map};
 ghost use Rattle.landmark_rules.specs.Groups.{mark_place};
 ghost use Rattle.outside.specs.Seen.{Image};
-ghost use Rattle.padded_images.specs.Padded.{greatest_base, padded_images, padding as padding_of};
+ghost use Rattle.image_padding.specs.Padded.{greatest_base, padded_images, padding as padding_of};
 ghost use Rattle.padded_images.specs.Plans.{lengths_to, padded_group, padded_mark, padded_marks as padded_marks_of, padded_plan};
 ghost use Rattle.std.specs.List.Sorted.{IsStrictlyIncreasing};
 ghost use Rattle.search_plan.specs.Plans.{AgreeWith, IsPlan};
 
-use crate::padded::{BASES_END, greatest_of};
 use arrayvec::ArrayVec;
+use image_padding::{BASES_END, greatest_of};
 use landmark_rules::{Group, Groups, Mark, MarkTests, Marks};
 use outside::Memory;
 use raid_params::{Bounds, MOST};

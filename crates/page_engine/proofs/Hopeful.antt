@@ -16,7 +16,7 @@ use Rattle.raid_params.specs.declared.types.Geometry.{Geometry}
 use Rattle.raid_params.specs.declared.types.Head.{Head}
 use Rattle.raid_params.specs.declared.types.Level.{Level}
 use Rattle.raid_params.specs.declared.types.Level.TheVariants.{Raid0, Raid5, Raid6}
-use Rattle.search_plan.specs.Sets.{sets_of}
+use Rattle.plan_sets.specs.Sets.{sets_of}
 use Rattle.search_plan.specs.declared.plan.Plan.{Plan}
 use Rattle.slot_math.specs.Space.{lists_of}
 use Rattle.wide_product.proofs.Aligned.{Aligned}

@@ -17,7 +17,7 @@ use Rattle.raid_params.specs.declared.types.Bounds.{Bounds}
 use Rattle.raid_params.specs.declared.types.Geometry.{Geometry}
 use Rattle.raid_params.specs.declared.types.Head.{Head}
 use Rattle.raid_terms.specs.Parity.{passes_parity}
-use Rattle.search_plan.specs.Sets.{passes, sets_of}
+use Rattle.plan_sets.specs.Sets.{passes, sets_of}
 use Rattle.search_plan.specs.declared.plan.Plan.{Plan}
 use Rattle.search_terms.specs.Product.{fits, sets_of as sets_of_head}
 use Rattle.search_terms.specs.SlotLists.{all_lists}

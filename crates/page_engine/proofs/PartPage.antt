@@ -9,11 +9,11 @@ use Rattle.head_walk.specs.Walk.{HoldsSet}
 use Rattle.head_walk.specs.declared.parts.Line.{Line as SharedLine}
 use Rattle.outside.specs.Attached.{told_all}
 use Rattle.outside.specs.Seen.{Image}
-use Rattle.padded_images.specs.Padded.{greatest_base, padded_images, padded_to}
+use Rattle.image_padding.specs.Padded.{greatest_base, padded_images, padded_to}
 use Rattle.common_pages.specs.Pages.{EndsOrFull, IsPageOf}
 use Rattle.common_pages.specs.declared.page_parts.ListPage.{ListPage}
 use Rattle.page_loop.specs.Parts.{Whole}
-use Rattle.search_plan.specs.Sets.{passes_at, total_of}
+use Rattle.plan_sets.specs.Sets.{passes_at, total_of}
 use Rattle.search_plan.specs.declared.plan.Plan.{Plan}
 use Rattle.search_terms.proofs.Pages.{spans}
 use Rattle.search_terms.specs.Page.{passing, stop_of, IsPage}

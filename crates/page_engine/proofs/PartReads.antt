@@ -5,13 +5,13 @@ use Rattle.std.specs.Option.{option_map}
 use Rattle.outside.proofs.Reading.{reads_none, reads_up}
 use Rattle.outside.specs.Attached.{told_all}
 use Rattle.outside.specs.Seen.{lengths_of, Image, OnlyReads, Seen}
-use Rattle.padded_images.specs.Padded.{greatest_base, padded_images, padded_to}
+use Rattle.image_padding.specs.Padded.{greatest_base, padded_images, padded_to}
 use Rattle.padded_images.specs.Plans.{lengths_to}
 use Rattle.common_pages.specs.Pages.{page_reads, EndsOrFull}
 use Rattle.common_pages.specs.declared.page_parts.ListPage.{ListPage}
 use Rattle.search_plan.specs.Plans.{AgreeWith, AreMovable, IsPlan}
 use Rattle.search_terms.specs.Page.{stop_of}
-use Rattle.search_plan.specs.Sets.{total_of}
+use Rattle.plan_sets.specs.Sets.{total_of}
 use Rattle.search_plan.specs.declared.plan.Plan.{Plan}
 use Rattle.wide_product.proofs.Aligned.{aligned}
 use Rattle.wide_product.specs.Moved.{moved_plan, IsMoved}

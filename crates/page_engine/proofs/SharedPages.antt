@@ -15,7 +15,7 @@ use Rattle.common_pages.specs.declared.page_parts.ListPage.{ListPage as SharedPa
 use Rattle.common_pages.specs.declared.page_parts.PageFault.{PageFault}
 use Rattle.common_pages.specs.declared.page_parts.PageFault.TheVariants.{Many, Cursor, ReadFault, Memory}
 use Rattle.raid_params.specs.declared.types.Geometry.{Geometry}
-use Rattle.search_plan.specs.Sets.{passes, passes_at, sets_of, total_of}
+use Rattle.plan_sets.specs.Sets.{passes, passes_at, sets_of, total_of}
 use Rattle.search_plan.specs.declared.plan.Plan.{Plan}
 use Rattle.slot_math.proofs.Nested.{get-map}
 use Rattle.wide_product.proofs.Products.{shared_are, shared_total}

@@ -8,7 +8,7 @@ use Rattle.std.specs.List.{range_with_len}
 use Rattle.head_walk.specs.Walk.{HoldsSet}
 use Rattle.head_walk.specs.declared.parts.Line.{Line as SharedLine}
 use Rattle.raid_params.specs.declared.types.Geometry.{Geometry}
-use Rattle.search_plan.specs.Sets.{sets_of}
+use Rattle.plan_sets.specs.Sets.{sets_of}
 use Rattle.search_plan.specs.declared.plan.Plan.{Plan}
 use Rattle.slot_math.specs.Space.{lists_of}
 use Rattle.wide_product.specs.Moved.{IsMoved}

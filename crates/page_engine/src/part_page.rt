@@ -2,12 +2,12 @@
 ghost use Rattle.std.specs.Prelude.{◌≡◌, ◌+◌, ◌-◌, ◌<◌, ◌≤◌, ◌^◌, true, All, IfErr, IfOk, IfSome, List, length, map};
 ghost use Rattle.outside.specs.Attached.{told_all};
 ghost use Rattle.outside.specs.Seen.{Image, OnlyReads};
-ghost use Rattle.padded_images.specs.Padded.{padded_images};
+ghost use Rattle.image_padding.specs.Padded.{padded_images};
 ghost use Rattle.common_pages.specs.Pages.{EndsOrFull, IsPageOf, page_reads, tested_to};
 ghost use Rattle.head_walk.specs.Walk.{HoldsSet};
 ghost use Rattle.search_terms.specs.Page.{stop_of};
 ghost use Rattle.search_plan.specs.Plans.{AgreeWith, IsPlan};
-ghost use Rattle.search_plan.specs.Sets.{total_of};
+ghost use Rattle.plan_sets.specs.Sets.{total_of};
 ghost use Rattle.wide_product.specs.Parts.{IsPartOf};
 ghost use Rattle.wide_product.specs.Sets.{wide_total};
 ghost use Rattle.raid_params.specs.Bases.{greatest_base};

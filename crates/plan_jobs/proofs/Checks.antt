@@ -7,8 +7,8 @@ use Rattle.std.specs.Option.{option_map}
 use Rattle.outside.specs.Attached.{told_all}
 use Rattle.outside.specs.Seen.{Image, Seen, lengths_of}
 use Rattle.head_walk.proofs.SetTests.{all_reach, end_near}
-use Rattle.padded_images.specs.Padded.{greatest_base, padded, padded_images, padded_to}
-use Rattle.padded_images.proofs.Images.{padded_length}
+use Rattle.image_padding.specs.Padded.{greatest_base, padded, padded_images, padded_to}
+use Rattle.image_padding.proofs.Images.{padded_length}
 use Rattle.search_plan.specs.Plans.{IsPlan}
 use Rattle.value_text.specs.SetText.{HasWord}
 use Rattle.search_plan.specs.declared.plan.Plan.{Plan}
@@ -40,7 +40,7 @@ reach_padded greatest end (base ∷ bases) (image ∷ images) all =
     All-cons (λ (one : Image). end ≤ one.sectors) (padded (greatest - base) image) (padded_to greatest bases images) (omega arith) (reach_padded greatest end bases images (All-tail (λ (one : Image). end ≤ one.sectors) image images all))
 
 -- a set that is not refused can be tested
-pub tested : (plan : Plan) (set : Wide) (names : ℕ) (attached : List Image) → IsPlan plan → HasWord set → length attached ≡ min names 65536 → plan_fault plan names attached ≡ None → long_refusal set attached ≡ None → wide_fault set names plan.end ≡ None →
+pub tested : (plan : Plan) (set : Wide) (names : ℕ) (attached : List Image) → IsPlan plan → HasWord set → length attached ≡ min names 65536 → plan_fault plan.lengths.items names attached ≡ None → long_refusal set attached ≡ None → wide_fault set names plan.end ≡ None →
     IsTestedBy set plan attached
 tested plan set names attached is word long none short rules =
     let agrees : lengths_of attached ≡ plan.lengths.items = images_agree plan names attached is long none in

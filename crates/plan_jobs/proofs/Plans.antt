@@ -68,7 +68,7 @@ not_a_plan (Some bytes) names attached text number is short reads =
 
 -- the images do not agree
 pub disagrees : (left : Option (List ℕ)) (names : ℕ) (attached : List Image) (text : List ℕ) (plan : Plan) (fault : Disagreement) → IfSome left (λ bytes. text ≡ bytes) → length text ≤ PLAN_BYTES → ReadsPlan text (Ok plan) →
-    plan_fault plan names attached ≡ Some fault → EndsPreparing left names attached (Refused (Images fault))
+    plan_fault plan.lengths.items names attached ≡ Some fault → EndsPreparing left names attached (Refused (Images fault))
 disagrees None names attached text plan fault is short reads different = tt
 disagrees (Some bytes) names attached text plan fault is short reads different =
     let P : List ℕ → Type 0 = λ xs. (read : PlanReading) (further : Plan → List (Option Refusal)) → IsTextOf xs read → plan_refusal xs read names attached further ≡ Some (Images fault) in
@@ -78,7 +78,7 @@ disagrees (Some bytes) names attached text plan fault is short reads different =
 
 -- they agree
 pub is_prepared : (left : Option (List ℕ)) (names : ℕ) (attached : List Image) (text : List ℕ) (plan : Plan) → IfSome left (λ bytes. text ≡ bytes) → length text ≤ PLAN_BYTES → ReadsPlan text (Ok plan) →
-    plan_fault plan names attached ≡ None → IsPrepared left names attached plan
+    plan_fault plan.lengths.items names attached ≡ None → IsPrepared left names attached plan
 is_prepared None names attached text plan is short reads same = tt
 is_prepared (Some bytes) names attached text plan is short reads same =
     let P : List ℕ → Type 0 = λ xs. (read : PlanReading) → IsTextOf xs read →

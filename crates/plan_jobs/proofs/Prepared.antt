@@ -41,7 +41,7 @@ lengths_agree given planned same none =
     same_number_lists given planned same (λ k lt. let z : 0 + k ≡ k = omega arith in
     subst (λ (m : ℕ). slice_index given m ≡ slice_index planned m) z (no_other given planned 0 (length planned) k none (omega arith)))
 
-agreed_count : (plan : Plan) (names : ℕ) (attached : List Image) → plan_fault plan names attached ≡ None → (names ≡ length plan.lengths.items) × (other_length (lengths_of attached) plan.lengths.items ≡ None)
+agreed_count : (plan : Plan) (names : ℕ) (attached : List Image) → plan_fault plan.lengths.items names attached ≡ None → (names ≡ length plan.lengths.items) × (other_length (lengths_of attached) plan.lengths.items ≡ None)
 agreed_count plan names attached none = by_count (nat_eq names (length plan.lengths.items)) refl none
   where
     by_length : (r : Option ℕ) → option_map (length_fault (lengths_of attached) plan.lengths.items) r ≡ None → r ≡ None
@@ -55,11 +55,11 @@ agreed_count plan names attached none = by_count (nat_eq names (length plan.leng
     by_count true is h = (eqb-true names (length plan.lengths.items) is, by_length (other_length (lengths_of attached) plan.lengths.items) h)
 
 -- images that do not disagree with a plan are as many as planned
-pub names_agree : (plan : Plan) (names : ℕ) (attached : List Image) → plan_fault plan names attached ≡ None → names ≡ length plan.lengths.items
+pub names_agree : (plan : Plan) (names : ℕ) (attached : List Image) → plan_fault plan.lengths.items names attached ≡ None → names ≡ length plan.lengths.items
 names_agree plan names attached none = (agreed_count plan names attached none).0
 
 -- and have the planned lengths
-pub images_agree : (plan : Plan) (names : ℕ) (attached : List Image) → IsPlan plan → length attached ≡ min names 65536 → plan_fault plan names attached ≡ None → AgreeWith plan attached
+pub images_agree : (plan : Plan) (names : ℕ) (attached : List Image) → IsPlan plan → length attached ≡ min names 65536 → plan_fault plan.lengths.items names attached ≡ None → AgreeWith plan attached
 images_agree plan names attached is long none =
     let parts = agreed_count plan names attached none in
     let most = is.lengths.most in

@@ -4,12 +4,12 @@ use Rattle.std.specs.Prelude.{option_and_then}
 use Rattle.std.specs.Option.{option_map}
 use Rattle.outside.specs.Attached.{told_all}
 use Rattle.outside.specs.Seen.{Image, Seen}
-use Rattle.padded_images.specs.Padded.{greatest_base, padded_images, padded_to, seen_padded}
+use Rattle.image_padding.specs.Padded.{greatest_base, padded_images, padded_to, seen_padded}
 use Rattle.padded_images.specs.Plans.{padded_plan}
-use Rattle.padded_images.proofs.Images.{padded_length}
-use Rattle.padded_images.proofs.Within.{reads_within}
+use Rattle.image_padding.proofs.Images.{padded_length}
+use Rattle.image_padding.proofs.Within.{reads_within}
 use Rattle.raid_params.specs.declared.types.Geometry.{Geometry}
-use Rattle.row_scan.specs.Scan.{read_rows}
+use Rattle.parity_scan.specs.Scan.{read_rows}
 use Rattle.search_plan.specs.declared.plan.Plan.{Plan}
 use Rattle.run_ends.specs.Cuts.{CutsShort}
 use Rattle.run_ends.specs.declared.stop.Stop.{Stop}

@@ -9,14 +9,14 @@ use Rattle.raid_params.specs.declared.wide.Wide.{Wide}
 use Rattle.raid_params.specs.declared.wide.WideFault.{WideFault}
 use Rattle.raid_params.specs.declared.wide.WideFault.TheVariants.{Geo, Bases as WideBases}
 use Rattle.raid_params.specs.Wide.{wide_fault}
-use Rattle.raid_terms.specs.Parity.{unsound_rows}
+use Rattle.raid_terms.specs.Parity.{tested_rows, unsound_rows}
 use Rattle.landmark_rules.specs.Groups.{fits_of, groups_hold, held_origin, misfits_of}
 use Rattle.landmark_rules.specs.declared.marks.Group.{Group}
 use Rattle.padded_images.specs.Plans.{padded_plan}
 use Rattle.search_plan.specs.declared.plan.Plan.{Plan}
-use Rattle.plan_text.specs.Spelling.{group_name, line}
-use Rattle.row_scan.specs.ImageRows.{rows_of}
-use Rattle.row_scan.specs.Scan.{read_rows}
+use Rattle.plan_text.specs.Spelling.{line}
+use Rattle.plan_text.specs.Names.{group_name}
+use Rattle.parity_scan.specs.Scan.{read_rows}
 use Rattle.wide_product.specs.Sets.{based, padded_bytes, wide_rank}
 use Rattle.plan_jobs.specs.Plans.{OverPlan, many_refusal, plan_job}
 use Rattle.run_ends.specs.Agreement.{long_fault}
@@ -87,12 +87,12 @@ tests_hold plan set unsound = nat_le unsound plan.limits.badrows && groups_hold 
 -- what `check` prints of a set with this rank, of which `unsound` rows are unsound
 unfoldable pub report : Option ℕ → Plan → Geometry → ℕ → List ℕ
 report rank plan set unsound =
-    rank_line rank ++ unsound_line unsound (rows_of plan set)
+    rank_line rank ++ unsound_line unsound (tested_rows set plan.end plan.limits.window)
     ++ group_lines plan set 0 plan.groups ++ verdict_line (tests_hold plan set unsound)
 
 -- the same, over the bytes of the images
 abbrev pub tests_text : Option ℕ → List (List ℕ) → Plan → Geometry → List ℕ
-tests_text rank images plan set = report rank plan set (unsound_rows images set (rows_of plan set))
+tests_text rank images plan set = report rank plan set (unsound_rows images set (tested_rows set plan.end plan.limits.window))
 
 -- the plan over which a set with these bases is tested: where there are bases, that of the padded images
 abbrev pub plan_with : List ℕ → Plan → Plan

@@ -30,7 +30,7 @@ IsTextOf text (NoPlan number) = IsRefusedLine text number
 
 -- the images against the plan, then what else the command refuses
 abbrev pub agreed_refusal : Plan → ℕ → List Image → List (Option Refusal) → Option Refusal
-agreed_refusal plan names attached further = first_of (option_map (λ fault. Images fault) (plan_fault plan names attached) ∷ further)
+agreed_refusal plan names attached further = first_of (option_map (λ fault. Images fault) (plan_fault plan.lengths.items names attached) ∷ further)
 
 abbrev pub read_refusal : PlanReading → ℕ → List Image → (Plan → List (Option Refusal)) → Option Refusal
 read_refusal (NoPlan number) names attached further = Some (PlanLine number)

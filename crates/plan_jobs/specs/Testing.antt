@@ -2,10 +2,10 @@
 use Rattle.std.specs.Prelude.{ℕ, ◌≡◌, ◌≤◌, ◌<◌, ◌^◌, All, IfErr, IfOk, IfSome, List, OnOk, Result, length}
 use Rattle.std.specs.declared.option.Option.{Option}
 use Rattle.outside.specs.Seen.{Image, OnlyReads, Seen}
-use Rattle.padded_images.specs.Padded.{padded_images}
+use Rattle.image_padding.specs.Padded.{padded_images}
 use Rattle.raid_params.specs.declared.limits.TheConstants.{MOST}
 use Rattle.raid_params.specs.declared.wide.Wide.{Wide}
-use Rattle.row_scan.specs.Scan.{IsScannable}
+use Rattle.parity_scan.specs.Scan.{IsScannable}
 use Rattle.run_ends.specs.Cuts.{CutsShort}
 use Rattle.run_ends.specs.declared.stop.Stop.{Stop}
 use Rattle.search_plan.specs.Plans.{AgreeWith}

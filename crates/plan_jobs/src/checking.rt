@@ -10,7 +10,7 @@ ghost use Rattle.outside.specs.Attached.{told_all};
 ghost use Rattle.search_plan.specs.Plans.{IsPlan};
 ghost use Rattle.value_text.specs.SetText.{HasWord};
 ghost use Rattle.raid_params.specs.Wide.{wide_fault};
-ghost use Rattle.row_scan.specs.Scan.{IsScannable};
+ghost use Rattle.parity_scan.specs.Scan.{IsScannable};
 ghost use Rattle.padded_images.specs.Plans.{padded_plan};
 ghost use Rattle.wide_product.specs.Sets.{padded_bytes, wide_total};
 
@@ -64,7 +64,7 @@ fn text_over<I: Images>(
     requires attached { length (I.seen images.old).attached ≡ min names MOST_ATTACHED }
     requires set { HasWord set.now }
     requires plan { IsPlan plan.now }
-    requires agrees { plan_fault_of plan.now names (I.seen images.old).attached ≡ None }
+    requires agrees { plan_fault_of plan.now.lengths.items names (I.seen images.old).attached ≡ None }
     ensures { AnswersOver (check_over set.now) names plan.now (I.seen images.old) (I.seen images.new) result }
 {
     match refused(images, names, set, plan) {

@@ -24,7 +24,7 @@ pub(crate) fn prepare<S: Source, I: Images>(
 ) -> Result<Plan, Stop>
     requires attached { length (I.seen images.now).attached ≡ min names MOST_ATTACHED }
     ensures plan { IfOk result IsPlan }
-    ensures agrees { IfOk result (λ plan. plan_fault_of plan names (I.seen images.now).attached ≡ None) }
+    ensures agrees { IfOk result (λ plan. plan_fault_of plan.lengths.items names (I.seen images.now).attached ≡ None) }
     ensures prepared { IfOk result (IsPrepared (S.left source.old) names (I.seen images.now).attached) }
     ensures ends { IfErr result (EndsPreparing (S.left source.old) names (I.seen images.now).attached) }
     ensures takes { TakesFew PLAN_BYTES (S.left source.old) (S.left source.new) }
@@ -33,7 +33,7 @@ pub(crate) fn prepare<S: Source, I: Images>(
 {
     let text = text_left(alloc, source, PLAN_BYTES, Refusal::PlanIsLong)?;
     let plan = plan_in(alloc, &text)?;
-    match plan_fault(images, names, &plan) {
+    match plan_fault(images, names, &plan.lengths) {
         Some(fault) => Err(Stop::Refused(Refusal::Images(fault))),
         None => Ok(plan),
     }

@@ -2,7 +2,6 @@
 ghost use Rattle.std.specs.Prelude.{◌≡◌, ◌<◌, ◌+◌, ◌++◌, ◌^◌, length, IfOk, OnOk, IsTrue, ℕ, Option};
 ghost use Rattle.landmark_rules.specs.Groups.{held_origin as first_origin};
 ghost use Rattle.plan_jobs.specs.Checking.{group_line, group_lines, held_text, rank_line, report as report_of, tests_hold, verdict_line};
-ghost use Rattle.row_scan.specs.ImageRows.{rows_of};
 ghost use Rattle.raid_params.specs.Validity.{is_shaped};
 ghost use Rattle.search_plan.specs.Plans.{IsPlan};
 ghost use Rattle.plan_jobs.specs.Reporting.{IsReported};

@@ -11,9 +11,10 @@ use Rattle.landmark_rules.specs.Rules.{IsRule}
 use Rattle.plan_text.specs.declared.entry.Entry.{Entry}
 use Rattle.plan_text.specs.declared.entry.Entry.TheVariants.{Done, Group as GroupEntry, Mark as MarkEntry}
 use Rattle.plan_text.specs.Drafts.{IsEntry, IsSpelledMark, entry_line}
-use Rattle.value_text.specs.NameLaws.{group_law, kind_law, byte_law, number_law}
+use Rattle.value_text.specs.NameLaws.{byte_law, number_law}
+use Rattle.landmark_text.specs.KindLaws.{group_law, kind_law}
 use Rattle.plan_text.specs.PlanText.{mark_text, rule_text}
-use Rattle.value_text.specs.Spelling.{group_name, kind_name}
+use Rattle.landmark_text.specs.Names.{group_name, kind_name}
 use Rattle.value_text.proofs.Spellings.{next_value}
 
 abbrev Same : ℕ → ℕ → Type 0
@@ -98,9 +99,9 @@ no_rule text a b c (Either d f) is e = b (decimal d ++ 58 ∷ decimal f) e
 no_rule text a b c (Every s n p) is e = c (decimal s ++ 58 ∷ (decimal n ++ 58 ∷ decimal p)) e
 
 -- the parts of a mark, one after the other
-pub after_kind : (mark : Mark) (text : List ℕ) (kind : Kind) (rest : List ℕ) → Unit {0} × (text ≡ kind_name kind ++ 32 ∷ rest) → text ≡ mark_text mark →
+pub after_kind : (mark : Mark) (text : List ℕ) (kind : Kind) (rest : List ℕ) → text ≡ kind_name kind ++ 32 ∷ rest → text ≡ mark_text mark →
     (kind ≡ mark.kind) × (rest ≡ decimal mark.image ++ 32 ∷ (decimal mark.sector ++ 32 ∷ rule_text mark.rule))
-after_kind mark text kind rest read e = next_value kind_name (λ k. Unit {0}) kind_law 32 text kind mark.kind rest _ refl read tt e
+after_kind mark text kind rest read e = next_value kind_name (λ k. Unit {0}) kind_law 32 text kind mark.kind rest _ refl (tt, read) tt e
 
 pub after_image : (mark : Mark) → IsSpelledMark mark → (text : List ℕ) (image : ℕ) (rest : List ℕ) → (image < 2 ^ 8) × (text ≡ decimal image ++ 32 ∷ rest) → text ≡ decimal mark.image ++ 32 ∷ (decimal mark.sector ++ 32 ∷ rule_text mark.rule) →
     (image ≡ mark.image) × (rest ≡ decimal mark.sector ++ 32 ∷ rule_text mark.rule)
@@ -119,7 +120,7 @@ eq_mark m n a b c d = let same : mark_with m.kind m.image m.sector m.rule ≡ ma
 
 pub same_mark : (m n : Mark) → IsSpelledMark m → IsSpelledMark n → mark_text m ≡ mark_text n → m ≡ n
 same_mark m n p q e =
-    let one = after_kind n (mark_text m) m.kind (decimal m.image ++ 32 ∷ (decimal m.sector ++ 32 ∷ rule_text m.rule)) (tt, refl) e in
+    let one = after_kind n (mark_text m) m.kind (decimal m.image ++ 32 ∷ (decimal m.sector ++ 32 ∷ rule_text m.rule)) refl e in
     let two = after_image n q (decimal m.image ++ 32 ∷ (decimal m.sector ++ 32 ∷ rule_text m.rule)) m.image (decimal m.sector ++ 32 ∷ rule_text m.rule) (p.image, refl) one.1 in
     let three = after_sector n q (decimal m.sector ++ 32 ∷ rule_text m.rule) m.sector (rule_text m.rule) (p.sector, refl) two.1 in
     eq_mark m n one.0 two.0 three.0 (same_rule m.rule n.rule p.rule q.rule three.1)
@@ -136,9 +137,9 @@ same_entry (MarkEntry m) (GroupEntry k) p q h = let no : Same 109 103 = ap (byte
 same_entry (MarkEntry m) (MarkEntry n) p q h = ap MarkEntry (same_mark m n p q (append_cancel_left (codes "mark ") (mark_text m) (mark_text n) h))
 
 -- a line that is none of groups
-pub no_group : (line name : List ℕ) → line ≡ codes "group " ++ name → ((kind : GroupKind) → Unit {0} → name ≢ group_name kind) → (entry : Entry) → IsEntry entry → line ≢ entry_line entry
+pub no_group : (line name : List ℕ) → line ≡ codes "group " ++ name → ((kind : GroupKind) → name ≢ group_name kind) → (entry : Entry) → IsEntry entry → line ≢ entry_line entry
 no_group line name w none Done is e = let no : Same 103 100 = ap (byte_at 0) (sym w ∙ e) in absurd (omega arith)
-no_group line name w none (GroupEntry kind) is e = none kind tt (append_cancel_left (codes "group ") name (group_name kind) (sym w ∙ e))
+no_group line name w none (GroupEntry kind) is e = none kind (append_cancel_left (codes "group ") name (group_name kind) (sym w ∙ e))
 no_group line name w none (MarkEntry mark) is e = let no : Same 103 109 = ap (byte_at 0) (sym w ∙ e) in absurd (omega arith)
 
 pub no_mark : (line text : List ℕ) → line ≡ codes "mark " ++ text → ((mark : Mark) → IsSpelledMark mark → text ≢ mark_text mark) → (entry : Entry) → IsEntry entry → line ≢ entry_line entry

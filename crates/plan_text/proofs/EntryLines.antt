@@ -10,9 +10,11 @@ use Rattle.landmark_rules.specs.Rules.{IsRule}
 use Rattle.plan_text.specs.declared.entry.Entry.{Entry}
 use Rattle.plan_text.specs.declared.entry.Entry.TheVariants.{Done, Group as GroupEntry, Mark as MarkEntry}
 use Rattle.plan_text.specs.Drafts.{IsEntry, IsSpelledMark, entry_line}
-use Rattle.value_text.specs.NameLaws.{kind_law, without_separator}
+use Rattle.value_text.specs.NameLaws.{without_separator}
+use Rattle.landmark_text.specs.KindLaws.{kind_law}
 use Rattle.plan_text.specs.PlanText.{IsLine, mark_text, rule_text}
-use Rattle.value_text.specs.Spelling.{group_name, kind_name, named}
+use Rattle.value_text.specs.Spelling.{named}
+use Rattle.landmark_text.specs.Names.{group_name, kind_name}
 use Rattle.value_text.proofs.Lists.{decimal_line}
 use Rattle.plan_text.proofs.OneLine.{a_line}
 

@@ -8,7 +8,8 @@ use Rattle.mark_kinds.specs.declared.groups.GroupKind.{GroupKind}
 use Rattle.landmark_rules.specs.declared.marks.Mark.{Mark}
 use Rattle.plan_text.specs.Drafts.{IsSpelledMark}
 use Rattle.plan_text.specs.PlanText.{group_lines, groups_lines, mark_line, mark_text}
-use Rattle.value_text.specs.Spelling.{group_name, named}
+use Rattle.value_text.specs.Spelling.{named}
+use Rattle.landmark_text.specs.Names.{group_name}
 use Rattle.plan_text.proofs.Entries.{same_group, same_mark}
 
 abbrev Same : ℕ → ℕ → Type 0

@@ -8,7 +8,7 @@ use Rattle.raid_params.specs.declared.types.Pattern.{Pattern}
 use Rattle.raid_params.specs.declared.types.Syndrome.{Syndrome}
 use Rattle.landmark_rules.specs.declared.marks.Group.{Group}
 use Rattle.landmark_rules.specs.declared.marks.MarkTests.{MarkTests}
-use Rattle.search_plan.specs.declared.plan.Limits.{Limits}
+use Rattle.search_scope.specs.declared.scope.Limits.{Limits}
 use Rattle.search_plan.specs.declared.plan.Plan.{Plan}
 use Rattle.search_plan.specs.Places.{level_place, pattern_place, syndrome_place}
 use Rattle.search_plan.specs.Plans.{IsPlan}

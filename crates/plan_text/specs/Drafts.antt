@@ -13,7 +13,8 @@ use Rattle.plan_text.specs.declared.draft.Draft.{Draft}
 use Rattle.plan_text.specs.declared.entry.Entry.{Entry}
 use Rattle.plan_text.specs.declared.entry.Entry.TheVariants.{Done, Group as GroupEntry, Mark as MarkEntry}
 use Rattle.plan_text.specs.PlanText.{mark_line}
-use Rattle.value_text.specs.Spelling.{group_name, named}
+use Rattle.value_text.specs.Spelling.{named}
+use Rattle.landmark_text.specs.Names.{group_name}
 
 -- a group of no marks
 abbrev pub empty_group : GroupKind → Group

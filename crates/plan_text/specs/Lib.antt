@@ -5,5 +5,7 @@ pub mod Drafts
 pub mod Laws
 pub use Rattle.value_text.specs.Spelling
 pub use Rattle.value_text.specs.NameLaws
-pub use Rattle.value_text.specs.DropLaws
+pub use Rattle.landmark_text.specs.Names
+pub use Rattle.landmark_text.specs.KindLaws
+pub use Rattle.landmark_text.specs.DropLaws
 pub use Rattle.value_text.specs.SetText

@@ -7,12 +7,13 @@ use Rattle.landmark_rules.specs.declared.marks.Mark.{Mark}
 use Rattle.landmark_rules.specs.declared.marks.MarkTests.{MarkTests}
 use Rattle.landmark_rules.specs.declared.marks.Rule.{Rule}
 use Rattle.landmark_rules.specs.declared.marks.Rule.TheVariants.{At, Either, Every}
-use Rattle.search_plan.specs.declared.plan.Limits.{Limits}
+use Rattle.search_scope.specs.declared.scope.Limits.{Limits}
 use Rattle.search_plan.specs.declared.plan.Plan.{Plan}
 use Rattle.search_plan.specs.Plans.{IsPlan}
 use Rattle.plan_text.specs.declared.fault.PlanFault.{PlanFault}
 use Rattle.plan_text.specs.declared.fault.PlanFault.TheVariants.{Line, Memory}
-use Rattle.value_text.specs.Spelling.{level_name, pattern_name, syndrome_name, group_name, kind_name, commas, colons, spaces, named, line}
+use Rattle.value_text.specs.Spelling.{level_name, pattern_name, syndrome_name, commas, colons, spaces, named, line}
+use Rattle.landmark_text.specs.Names.{group_name, kind_name}
 
 -- the version of the text: 2 where each image has an offset of its own, and 1 where all share one
 abbrev pub version_number : Bool → ℕ

@@ -32,13 +32,13 @@ mod writer;
 
 pub use fault::PlanFault;
 pub use json_lines::{json_line, json_next};
+pub use landmark_text::group_name;
 pub use laws::{one_refused_line, one_spelling};
 pub use plan::read_plan;
 pub use search_plan::{Limits, Placed, Plan};
 pub use value_text::{
     Field, LEVELS, Listed, PATTERNS, SYNDROMES, Spelled, Text, add_number, after, common_set_line,
-    cut, group_name, pattern_name, read_chunks, read_common_set, read_members, read_number,
-    read_sectors, read_set, rising, set_line, set_words_have_one_spelling, syndrome_name,
-    write_set,
+    cut, pattern_name, read_chunks, read_common_set, read_members, read_number, read_sectors,
+    read_set, rising, set_line, set_words_have_one_spelling, syndrome_name, write_set,
 };
 pub use writer::write_plan;

@@ -9,9 +9,10 @@ ghost use Rattle.plan_text.specs.Drafts.{IsEntry, IsSpelledMark, entry_line};
 ghost use Rattle.plan_text.specs.PlanText.{mark_text, rule_text};
 
 use crate::entry::Entry;
-use landmark_rules::{GroupKind, Mark, Rule};
+use landmark_rules::{Mark, Rule};
+use landmark_text::{kind_until, read_group};
 use raid_params::SECTORS_END;
-use value_text::{Spelled, after, read_number, value_until};
+use value_text::{after, read_number, value_until};
 
 /// The line of groups that a line is.
 pub fn read_entry(line: &[u8]) -> Option<Entry>
@@ -23,7 +24,7 @@ pub fn read_entry(line: &[u8]) -> Option<Entry>
         return Some(Entry::Done);
     }
     if let Some(name) = after(line, b"group ") {
-        return Some(Entry::Group(GroupKind::read(name)?));
+        return Some(Entry::Group(read_group(name)?));
     }
     let text = after(line, b"mark ")?;
     Some(Entry::Mark(read_mark(text)?))
@@ -35,7 +36,7 @@ fn read_mark(text: &[u8]) -> Option<Mark>
         ((mark : MarkOf) → IsSpelledMark mark → text.now ≢ mark_text mark)
         (λ mark. IsSpelledMark mark × (text.now ≡ mark_text mark)) }
 {
-    let (kind, after_kind) = value_until(text, b' ')?;
+    let (kind, after_kind) = kind_until(text, b' ')?;
     let (image, after_image) = value_until(after_kind, b' ')?;
     let (sector, after_sector) = value_until(after_image, b' ')?;
     let rule = read_rule(after_sector)?;

@@ -2,15 +2,17 @@
 ghost use Rattle.std.specs.Prelude.{◌≡◌, ◌∷◌, ◌++◌, [], IfOk, OnOk, codes, decimal, map};
 ghost use Rattle.std.specs.List.{flat_map};
 ghost use Rattle.plan_text.specs.PlanText.{plan_text, image_lines, search_lines, arrays_lines, sizes_lines, counts_lines, groups_lines, mark_line, mark_text, rule_text};
-ghost use Rattle.value_text.specs.Spelling.{commas, group_name as group_spelling, line as line_of, named};
+ghost use Rattle.value_text.specs.Spelling.{commas, line as line_of, named};
+ghost use Rattle.landmark_text.specs.Names.{group_name as group_spelling};
 
 use crate::version::version_number;
 use landmark_rules::{Group, GroupKind, Mark, MarkTests, Rule};
+use landmark_text::group_name;
 use outside::Memory;
 use raid_params::Bounds;
 use search_plan::{Limits, Plan};
 use std::alloc::Global;
-use value_text::{Field, Text, add_list, add_number, group_name};
+use value_text::{Field, Text, add_list, add_number};
 
 /// The one text of a plan, from which `read_plan` gives the plan again. It fails only out of memory.
 pub fn write_plan(alloc: Global, plan: &Plan) -> Result<Text, Memory>
@@ -117,7 +119,7 @@ fn add_marks(text: &mut Text, marks: &[Mark]) -> Result<(), Memory>
 fn add_mark(text: &mut Text, mark: &Mark) -> Result<(), Memory>
     ensures { OnOk result (text.new ≡ text.old ++ mark_text mark.now) }
 {
-    mark.kind.add_to(text)?;
+    text.extend_from_slice(mark.kind.name().as_bytes())?;
     text.push(b' ')?;
     mark.image.add_to(text)?;
     text.push(b' ')?;

@@ -4,7 +4,7 @@ use Rattle.std.specs.declared.option.Option.TheVariants.{Some}
 use Rattle.raid_params.specs.declared.types.Geometry.{Geometry}
 use Rattle.landmark_rules.specs.Groups.{groups_hold}
 use Rattle.raid_terms.specs.Parity.{passes_parity}
-use Rattle.search_plan.specs.Sets.{passes, sets_of}
+use Rattle.plan_sets.specs.Sets.{passes, sets_of}
 use Rattle.search_plan.specs.declared.plan.Plan.{Plan}
 use Rattle.prune_filters.specs.Hopeful.{is_hopeful}
 use Rattle.mark_tables.specs.Marks.{groups_may_hold}

@@ -3,8 +3,8 @@ use Rattle.std.proofs.Common.{◌≡◌, ℕ, List, Option, None, Some, Result, 
 use Rattle.nbd_server.specs.declared.stop.NbdStop.TheVariants.{SourceFault, OutFault}
 use Rattle.outside.specs.Seen.{OnlyReads, Seen}
 use Rattle.outside.specs.Streams.{Stream}
-use Rattle.padded_images.specs.Padded.{seen_padded}
-use Rattle.padded_images.proofs.Within.{reads_within}
+use Rattle.image_padding.specs.Padded.{seen_padded}
+use Rattle.image_padding.proofs.Within.{reads_within}
 use Rattle.run_ends.specs.Counts.{Raises}
 use Rattle.run_ends.specs.declared.stop.Refusal.{Refusal}
 use Rattle.reraid_nbd_cli.specs.Runs.{Ends, IsUntouched, Leaves, Place, Shows, place}

@@ -8,9 +8,9 @@ use Rattle.outside.specs.Seen.{Image, OnlyReads, Seen}
 use Rattle.outside.proofs.Reading.{reads_none}
 use Rattle.member_regions.proofs.Sets.{images_reach}
 use Rattle.member_regions.specs.Members.{IsTestable, Reaches}
-use Rattle.padded_images.proofs.Images.{padded_length}
-use Rattle.padded_images.proofs.Within.{reads_within}
-use Rattle.padded_images.specs.Padded.{greatest_base, padded, padded_images, padded_to, seen_padded}
+use Rattle.image_padding.proofs.Images.{padded_length}
+use Rattle.image_padding.proofs.Within.{reads_within}
+use Rattle.image_padding.specs.Padded.{greatest_base, padded, padded_images, padded_to, seen_padded}
 use Rattle.raid_params.specs.Bases.{leaves_out}
 use Rattle.raid_params.specs.Size.{rows}
 use Rattle.raid_params.specs.Validity.{first_fault, is_shaped, row_fault, shape_fault}

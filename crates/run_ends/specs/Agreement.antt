@@ -6,7 +6,6 @@ use Rattle.std.specs.declared.option.Option.{Option}
 use Rattle.std.specs.declared.option.Option.TheVariants.{None, Some}
 use Rattle.outside.specs.Seen.{Image, lengths_of}
 use Rattle.raid_params.specs.declared.limits.TheConstants.{MOST}
-use Rattle.search_plan.specs.declared.plan.Plan.{Plan}
 use Rattle.run_ends.specs.declared.agreement.Disagreement.{Disagreement}
 use Rattle.run_ends.specs.declared.agreement.Kind.TheVariants.{Count, Length, End, Long}
 
@@ -21,12 +20,12 @@ other_length given planned = find (λ i. not (nat_eq (slice_index given i) (slic
 abbrev pub length_fault : List ℕ → List ℕ → ℕ → Disagreement
 length_fault given planned i = record { kind = Length i; given = slice_index given i; planned = slice_index planned i }
 
--- how the images of `names` names disagree with a plan: by their number, or by the first length that
--- differs
-abbrev pub plan_fault : Plan → ℕ → List Image → Option Disagreement
-plan_fault plan names attached =
-    if not (nat_eq names (length plan.lengths.items)) then Some (count_fault names (length plan.lengths.items))
-    else option_map (length_fault (lengths_of attached) plan.lengths.items) (other_length (lengths_of attached) plan.lengths.items)
+-- how the images of `names` names disagree with a plan of images of these lengths: by their number, or by the first
+-- length that differs
+abbrev pub plan_fault : List ℕ → ℕ → List Image → Option Disagreement
+plan_fault lengths names attached =
+    if not (nat_eq names (length lengths)) then Some (count_fault names (length lengths))
+    else option_map (length_fault (lengths_of attached) lengths) (other_length (lengths_of attached) lengths)
 
 -- the length of the shortest of these
 abbrev pub shortest : List ℕ → ℕ

@@ -1,14 +1,12 @@
 -- What a stop says: its status and its line.
-use Rattle.std.specs.Prelude.{ℕ, ◌≡◌, ◌<◌, ◌^◌, nat_le, if◌then◌else◌, List, [], ◌∷◌, ◌++◌, codes, decimal, length, IfSome}
+use Rattle.std.specs.Prelude.{ℕ, ◌≡◌, ◌<◌, List, [], ◌∷◌, ◌++◌, codes, decimal, length, IfSome}
 use Rattle.std.specs.declared.option.Option.{Option}
 use Rattle.std.specs.declared.option.Option.TheVariants.{None, Some}
 use Rattle.raid_params.specs.declared.types.GeoFault.{GeoFault}
 use Rattle.raid_params.specs.declared.types.GeoFault.TheVariants.{Members, Pattern, Syndrome, Chunk, Image, Repeat, Missing, NoRow}
 use Rattle.near_mirror.specs.declared.types.NearRule.{NearRule}
 use Rattle.near_mirror.specs.declared.types.NearRule.TheVariants.{Members as NearMembers, Chunk as NearChunk, Image as NearImage, Repeat as NearRepeat, Missing as NearMissing, NoRow as NearNoRow}
-use Rattle.search_plan.specs.Places.{pattern_place, syndrome_place}
-use Rattle.search_plan.specs.Sets.{total_of}
-use Rattle.search_plan.specs.declared.plan.Plan.{Plan}
+use Rattle.raid_params.specs.Places.{pattern_place, syndrome_place}
 use Rattle.run_ends.specs.declared.agreement.Kind.{Kind}
 use Rattle.run_ends.specs.declared.agreement.Kind.TheVariants.{Count, Length, End, Long}
 use Rattle.run_ends.specs.declared.stop.Refusal.{Refusal}
@@ -124,7 +122,3 @@ abbrev pub first_of : List (Option Refusal) → Option Refusal
 first_of [] = None
 first_of (None ∷ refusals) = first_of refusals
 first_of (Some refusal ∷ refusals) = Some refusal
-
--- the product has more sets than ranks
-abbrev pub many_refusal : Plan → Option Refusal
-many_refusal plan = if nat_le (2 ^ 64) (total_of plan) then Some Many else None

@@ -7,7 +7,6 @@ ghost use Rattle.run_ends.specs.Agreement.{count_fault as count_fault_of, end_of
 
 use outside::{Images, MOST_ATTACHED};
 use raid_params::MOST;
-use search_plan::Plan;
 
 /// An image of as many sectors is too long for an offset of its own: 2^54.
 const LONG: u64 = 1 << 54;
@@ -37,13 +36,12 @@ pub struct Disagreement {
     pub planned: u64,
 }
 
-/// How the images of `names` names disagree with the plan: by their number, or by the first length that
-/// is not the planned one.
-pub fn plan_fault<I: Images>(images: &I, names: usize, plan: &Plan) -> Option<Disagreement>
-    requires few { length plan.now.lengths.items ≤ MOST }
-    ensures { result ≡ plan_fault_of plan.now names (I.seen images.now).attached }
+/// How the images of `names` names disagree with a plan of images of these lengths, in sectors: by their number, or by the
+/// first length that is not the planned one.
+pub fn plan_fault<I: Images>(images: &I, names: usize, lengths: &[u64]) -> Option<Disagreement>
+    requires few { length lengths.now ≤ MOST }
+    ensures { result ≡ plan_fault_of lengths.now names (I.seen images.now).attached }
 {
-    let lengths = plan.lengths.as_slice();
     if names != lengths.len() {
         return Some(count_fault(names, lengths.len()));
     }

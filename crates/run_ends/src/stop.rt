@@ -8,8 +8,7 @@ use arrayvec::ArrayString;
 use itoa::Buffer;
 use near_mirror::NearRule;
 use outside::Memory;
-use raid_params::GeoFault;
-use search_plan::Placed;
+use raid_params::{GeoFault, Placed};
 
 /// A rank asked for, which is past the total.
 #[derive(Clone, Copy)]

@@ -12,17 +12,17 @@ use Rattle.std.specs.Option.{option_map_or}
 use Rattle.raid_params.specs.declared.types.Geometry.{Geometry}
 use Rattle.raid_params.specs.declared.wide.Wide.{Wide}
 use Rattle.run_ends.specs.Jobs.{Refuses}
-use Rattle.run_ends.specs.Stops.{first_of, many_refusal}
+use Rattle.run_ends.specs.Stops.{first_of}
+use Rattle.sample_job.specs.Sampling.{many_refusal, array_refusals, found_text, is_among, sample_ask, sample_output, sample_plan, sample_refusal, sample_text, sampled_images}
 use Rattle.run_ends.specs.declared.stop.Refusal.{Refusal}
 use Rattle.run_ends.specs.declared.stop.Refusal.TheVariants.{Many}
 use Rattle.run_ends.specs.declared.stop.Stop.{Stop}
 use Rattle.sample_arrays.specs.Arrays.{end_of, sampled, IsFile}
-use Rattle.search_plan.specs.Sets.{rank_of, total_of}
+use Rattle.plan_sets.specs.Sets.{rank_of, total_of}
 use Rattle.search_plan.specs.declared.plan.Plan.{Plan}
 use Rattle.survey_job.specs.Surveying.{survey_plan}
 use Rattle.sample_job.proofs.Attached.{all_told}
 use Rattle.sample_arrays.specs.Laws.{sampled_bytes}
-use Rattle.sample_job.specs.Sampling.{array_refusals, found_text, is_among, sample_ask, sample_output, sample_plan, sample_refusal, sample_text, sampled_images}
 
 -- the images that are attached are known whole
 pub told : (number : ℕ) (set : Geometry) (rows : ℕ) (xfs : Bool) (attached : List Image) → All (IsFile (end_of set.head rows)) (sampled number set rows xfs) →

@@ -1,5 +1,5 @@
 -- What `sample` refuses and prints.
-use Rattle.std.specs.Prelude.{ℕ, ◌*◌, ◌-◌, ◌^◌, Bool, false, ◌==◌, nat_eq, nat_lt, ◌&&◌, if◌then◌else◌, List, [], ◌∷◌, ◌++◌, codes, decimal, length, map, sum_by}
+use Rattle.std.specs.Prelude.{ℕ, ◌*◌, ◌-◌, ◌^◌, Bool, false, ◌==◌, nat_eq, nat_le, nat_lt, ◌&&◌, if◌then◌else◌, List, [], ◌∷◌, ◌++◌, codes, decimal, length, map, sum_by}
 use Rattle.std.specs.List.{list_any}
 use Rattle.std.specs.Option.{option_map, option_map_or}
 use Rattle.std.specs.declared.option.Option.{Option}
@@ -13,7 +13,7 @@ use Rattle.raid_params.specs.Validity.{first_fault}
 use Rattle.raid_params.specs.declared.types.Geometry.{Geometry}
 use Rattle.raid_params.specs.declared.wide.Wide.{Wide}
 use Rattle.search_terms.specs.Page.{page_next, page_ranks}
-use Rattle.search_plan.specs.Sets.{passes_at, rank_of, total_of}
+use Rattle.plan_sets.specs.Sets.{passes_at, rank_of, total_of}
 use Rattle.search_plan.specs.declared.plan.Plan.{Plan}
 use Rattle.plan_text.specs.Spelling.{line}
 use Rattle.common_pages.specs.declared.page_parts.ListPage.{ListPage}
@@ -24,9 +24,9 @@ use Rattle.sample_arrays.specs.Arrays.{end_of, sampled}
 use Rattle.sample_arrays.specs.Laws.{sampled_bytes}
 use Rattle.run_ends.specs.Jobs.{Job, imageless}
 use Rattle.run_ends.specs.Printing.{share_line}
-use Rattle.run_ends.specs.Stops.{first_of, many_refusal}
+use Rattle.run_ends.specs.Stops.{first_of}
 use Rattle.run_ends.specs.declared.stop.Refusal.{Refusal}
-use Rattle.run_ends.specs.declared.stop.Refusal.TheVariants.{Set, ArraySectors, VolumeSectors, Bases}
+use Rattle.run_ends.specs.declared.stop.Refusal.TheVariants.{Set, Many, ArraySectors, VolumeSectors, Bases}
 
 -- the images of the array as they are attached
 unfoldable pub sampled_images : ℕ → Geometry → ℕ → Bool → List Image
@@ -48,6 +48,10 @@ sample_ask set end =
 unfoldable pub sample_plan : ℕ → Geometry → ℕ → Bool → Plan
 sample_plan number set rows xfs =
     survey_plan (sample_ask set (end_of set.head rows)) (sampled_images number set rows xfs) (sampled_bytes number set rows xfs)
+
+-- the product has more sets than ranks
+abbrev pub many_refusal : Plan → Option Refusal
+many_refusal plan = if nat_le (2 ^ 64) (total_of plan) then Some Many else None
 
 -- the members are too large together: above 1 GiB
 abbrev pub array_refusal : Geometry → ℕ → Option Refusal

@@ -1,4 +1,3 @@
 pub mod Plans
-pub mod Sets
 pub mod Rows
 pub use Rattle.raid_params.specs.Places

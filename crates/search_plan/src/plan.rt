@@ -1,16 +1,12 @@
 //! The plan of a search.
+ghost use Rattle.std.specs.Prelude.{◌≡◌};
+ghost use Rattle.search_plan.specs.Plans.{IsPlan, scope_of};
+ghost use Rattle.search_scope.specs.Scopes.{IsScope};
+
 use arrayvec::ArrayVec;
 use landmark_rules::{Groups, MarkTests};
 use raid_params::{Bounds, MOST};
-
-/// How much of the members is tested, and how much of it may be unsound.
-#[derive(Clone, Copy)]
-pub struct Limits {
-    /// The most tested sector rows that may be unsound.
-    pub badrows: u64,
-    /// Only member sectors below this are tested.
-    pub window: u64,
-}
+use search_scope::{Limits, Scope};
 
 /// What a search goes through.
 #[derive(Drop)]
@@ -29,4 +25,23 @@ pub struct Plan {
     pub groups: Groups,
     /// Whether each image has an offset of its own out of those to try. Otherwise all images of a set share one.
     pub each: bool,
+}
+
+impl Plan {
+    /// What of the images the plan tests, as what needs no landmark takes it.
+    #[tactic(auto, using(crate::proofs::Scopes::plan_scope))]
+    pub fn scope(&self) -> Scope
+        ensures scope { result ≡ scope_of self.now }
+        ensures is { IsPlan self.now → IsScope result }
+    {
+        let mut lengths = ArrayVec::new();
+        lengths
+            .try_extend_from_slice(self.lengths.as_slice())
+            .unwrap();
+        Scope {
+            lengths,
+            end: self.end,
+            limits: self.limits,
+        }
+    }
 }

@@ -16,5 +16,5 @@ pub fn tested_rows(plan: &Plan, chunk: u64, offset: u64) -> u64
     ensures within { result ≤ plan.now.end - offset }
     ensures short { result ≤ plan.now.limits.window }
 {
-    (plan.end.saturating_sub(offset) / chunk * chunk).min(plan.limits.window)
+    search_scope::tested_rows(plan.end, plan.limits, chunk, offset)
 }

@@ -5,7 +5,7 @@ use Rattle.std.proofs.lemmas.List.Elements.{All-cons, All-nil}
 use Rattle.outside.specs.Seen.{Image}
 use Rattle.raid_params.specs.Validity.{is_shaped}
 use Rattle.raid_params.specs.declared.types.Geometry.{Geometry}
-use Rattle.row_scan.specs.Scan.{IsScannable}
+use Rattle.parity_scan.specs.Scan.{IsScannable}
 
 -- the image reaches to the end
 abbrev IsLong : List Image → ℕ → ℕ → Type 0

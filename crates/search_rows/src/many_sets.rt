@@ -1,7 +1,7 @@
 //! Scans of many sets over images in memory.
 ghost use Rattle.std.specs.Prelude.{◌≡◌, ◌+◌, ◌≤◌, ◌<◌, ◌^◌, length, vec_len, All, IfOk, IsTrue, true};
 ghost use Rattle.raid_params.specs.Validity.{is_shaped};
-ghost use Rattle.row_scan.specs.declared.many_sets.TheConstants.{MOST_SETS};
+ghost use Rattle.parity_scan.specs.declared.many_sets.TheConstants.{MOST_SETS};
 
 use crate::objects::{three_images, three_reach};
 use crate::plans::three_rows;

@@ -1,7 +1,7 @@
 //! Small products whose sets are known.
 ghost use Rattle.std.specs.Prelude.{◌<◌, ◌^◌};
 ghost use Rattle.search_plan.specs.Plans.{IsPlan};
-ghost use Rattle.search_plan.specs.Sets.{total_of};
+ghost use Rattle.plan_sets.specs.Sets.{total_of};
 
 use crate::plans::{largest, one_missing, two_levels};
 use raid_params::{Geometry, Head, Level, Pattern};

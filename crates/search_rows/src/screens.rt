@@ -34,10 +34,11 @@ fn settled<R: Abort + AllocGlobal>(rt: &R, bytes: [u8; 3]) -> Result<Option<bool
     let geo = three_members(1);
     assert!(rt; geo.is_shaped(plan.lengths.len() as u8));
     assert!(rt; geo.head.is_valid());
-    let Ok(samples) = Samples::read(rt.alloc(), &mut images, &plan, 2, 0) else {
+    let scope = plan.scope();
+    let Ok(samples) = Samples::read(rt.alloc(), &mut images, &scope, 2, 0) else {
         return Ok(None);
     };
-    let screen = Screen::new(&samples, &plan, &geo.head);
+    let screen = Screen::new(&samples, &scope, &geo.head);
     Ok(Some(settles_by_slot(&screen, geo.slots.as_slice())))
 }
 

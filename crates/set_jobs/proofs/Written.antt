@@ -6,9 +6,9 @@ use Rattle.std.proofs.lemmas.List.Elements.{All-cons, All-head, All-nil, All-tai
 use Rattle.outside.specs.Seen.{Image, Seen, World, lengths_of}
 use Rattle.outside.specs.Streams.{AppendsFront, AppendsSectors, Stream}
 use Rattle.raid_params.specs.declared.wide.Wide.{Wide}
-use Rattle.padded_images.specs.Padded.{greatest_base, padded, padded_images, padded_to, seen_padded}
-use Rattle.padded_images.proofs.Images.{padded_length}
-use Rattle.padded_images.proofs.Within.{reads_within}
+use Rattle.image_padding.specs.Padded.{greatest_base, padded, padded_images, padded_to, seen_padded}
+use Rattle.image_padding.proofs.Images.{padded_length}
+use Rattle.image_padding.proofs.Within.{reads_within}
 use Rattle.raid_params.specs.Validity.{first_fault}
 use Rattle.value_text.specs.SetText.{HasWord}
 use Rattle.virtual_volume.specs.Served.{Faults}

@@ -12,7 +12,7 @@ use Rattle.raid_params.specs.declared.wide.Wide.{Wide}
 use Rattle.raid_params.specs.Size.{volume_sectors}
 use Rattle.raid_terms.specs.Volume.{member, volume}
 use Rattle.outside.specs.Attached.{told_all}
-use Rattle.padded_images.specs.Padded.{padded_images}
+use Rattle.image_padding.specs.Padded.{padded_images}
 use Rattle.virtual_volume.specs.Served.{Faults, IsServed}
 use Rattle.virtual_volume.specs.declared.volume.VolumeFault.{VolumeFault}
 use Rattle.virtual_volume.specs.declared.volume.VolumeFault.TheVariants.{ReadFault, Memory}

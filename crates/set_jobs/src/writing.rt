@@ -14,8 +14,8 @@ ghost use Rattle.member_rebuild.specs.Sectors.{IsAheadBy};
 ghost use Rattle.virtual_volume.specs.Gained.{IsAhead, most_ahead};
 
 use crate::mapping::{allowed_end, bases_fault, suited_end};
+use image_padding::Padded;
 use outside::{Images, MOST_ATTACHED, Sink};
-use padded_images::Padded;
 use raid_params::{Geometry, Wide};
 use run_ends::{Refusal, Stop};
 use std::alloc::Global;

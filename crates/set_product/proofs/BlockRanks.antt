@@ -14,7 +14,7 @@ use Rattle.search_plan.specs.Places.{level_place, pattern_place, syndrome_place}
 use Rattle.search_plan.specs.declared.plan.Plan.{Plan}
 use Rattle.set_product.specs.Blocks.{heads_with, sets_with, IsBlock}
 use Rattle.set_product.specs.Pairs.{pairs, joined}
-use Rattle.search_plan.specs.Sets.{is_same_head, is_same_set}
+use Rattle.plan_sets.specs.Sets.{is_same_head, is_same_set}
 use Rattle.set_product.specs.declared.block.Block.{Block}
 use Rattle.set_product.proofs.Blocks.{heads_are, head_of, sets_are, set_of, Choice}
 use Rattle.set_product.proofs.Pairs.{length_pairs, pair_found, place_within, position_map, position_never, position_same, position_pairs}

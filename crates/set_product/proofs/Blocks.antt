@@ -20,7 +20,7 @@ use Rattle.search_plan.specs.Plans.{IsPlan}
 use Rattle.search_plan.specs.declared.plan.Plan.{Plan}
 use Rattle.set_product.specs.Blocks.{heads_with, sets_with, suits, IsBlock}
 use Rattle.set_product.specs.Pairs.{pairs}
-use Rattle.search_plan.specs.Sets.{sets_of}
+use Rattle.plan_sets.specs.Sets.{sets_of}
 use Rattle.set_product.specs.declared.block.Block.{Block}
 use Rattle.set_product.proofs.Pairs.{filter_pairs, flat_pairs}
 

@@ -11,7 +11,7 @@ use Rattle.raid_params.specs.declared.types.Syndrome.{Syndrome}
 use Rattle.raid_params.specs.declared.types.Syndrome.TheVariants.{NoQ, AfterQ, ByData, BySlot}
 use Rattle.slot_math.specs.Space.{same_place, same_slots}
 use Rattle.search_plan.specs.Places.{level_place, pattern_place, syndrome_place}
-use Rattle.search_plan.specs.Sets.{is_same_head, is_same_set}
+use Rattle.plan_sets.specs.Sets.{is_same_head, is_same_set}
 
 -- what stands at a place of its kind
 level_at : ℕ → Level

@@ -10,7 +10,7 @@ use Rattle.raid_params.specs.declared.types.Level.{Level}
 use Rattle.raid_params.specs.Validity.{is_valid_head}
 use Rattle.search_terms.specs.Product.{heads, sets_of as sets_of_head}
 use Rattle.search_plan.specs.Plans.{IsPlan}
-use Rattle.search_plan.specs.Sets.{sets_of, total_of}
+use Rattle.plan_sets.specs.Sets.{sets_of, total_of}
 use Rattle.search_plan.specs.declared.plan.Plan.{Plan}
 use Rattle.slot_math.proofs.Listed.{each_map}
 use Rattle.slot_math.proofs.Nested.{get_low, get_high, length-map}

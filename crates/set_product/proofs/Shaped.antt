@@ -19,7 +19,7 @@ use Rattle.slot_math.proofs.Listed.{each_flat, each_get, each_kept, each_list, e
 use Rattle.slot_math.specs.Ways.{AllImages}
 use Rattle.search_plan.specs.Plans.{IsPlan}
 use Rattle.search_plan.specs.declared.plan.Plan.{Plan}
-use Rattle.search_plan.specs.Sets.{sets_of}
+use Rattle.plan_sets.specs.Sets.{sets_of}
 
 find_none : {A : Type 0} (p : A → Bool) (xs : List A) → ((x : A) → p x ≡ false) → find p xs ≡ None
 find_none p [] h = refl

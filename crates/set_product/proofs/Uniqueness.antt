@@ -24,7 +24,7 @@ use Rattle.search_plan.specs.declared.plan.Plan.{Plan}
 use Rattle.set_product.specs.Blocks.{heads_with, sets_with, suits, IsBlock}
 use Rattle.set_product.specs.Heads.{space_of}
 use Rattle.set_product.specs.Pairs.{pairs, joined}
-use Rattle.search_plan.specs.Sets.{is_same_head, is_same_set, rank_of, sets_of}
+use Rattle.plan_sets.specs.Sets.{is_same_head, is_same_set, rank_of, sets_of}
 use Rattle.set_product.specs.declared.block.Block.{Block}
 use Rattle.set_product.proofs.BlockRanks.{block_heads, choices, other_head, set_place}
 use Rattle.set_product.proofs.Blocks.{head_of, product_is, set_of, sets_are, Choice}

@@ -11,7 +11,7 @@ use Rattle.slot_math.proofs.Nested.{get_low, get_high}
 use Rattle.search_plan.specs.declared.plan.Plan.{Plan}
 use Rattle.set_product.specs.Blocks.{sets_with, shapes}
 use Rattle.set_product.specs.Pairs.{pairs}
-use Rattle.search_plan.specs.Sets.{is_same_set, rank_of, sets_of, total_of}
+use Rattle.plan_sets.specs.Sets.{is_same_set, rank_of, sets_of, total_of}
 use Rattle.set_product.proofs.Blocks.{product_is}
 use Rattle.set_product.proofs.Pairs.{length_pairs, or_later, place_within, position_append}
 

@@ -7,7 +7,7 @@ use Rattle.raid_params.specs.declared.types.Geometry.{Geometry}
 use Rattle.raid_params.specs.declared.types.Head.{Head}
 use Rattle.raid_params.specs.declared.types.Level.{Level}
 use Rattle.search_terms.specs.Product.{heads}
-use Rattle.search_plan.specs.Sets.{sets_of}
+use Rattle.plan_sets.specs.Sets.{sets_of}
 use Rattle.search_plan.specs.declared.plan.Plan.{Plan}
 use Rattle.slot_math.specs.Space.{lists_of}
 use Rattle.slot_math.specs.declared.space.Space.{Space}

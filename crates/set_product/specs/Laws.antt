@@ -4,7 +4,7 @@ use Rattle.std.specs.declared.option.Option.TheVariants.{Some}
 use Rattle.raid_params.specs.declared.types.Geometry.{Geometry}
 use Rattle.search_plan.specs.Plans.{IsPlan}
 use Rattle.search_plan.specs.declared.plan.Plan.{Plan}
-use Rattle.search_plan.specs.Sets.{is_same_set, rank_of, sets_of}
+use Rattle.plan_sets.specs.Sets.{is_same_set, rank_of, sets_of}
 
 -- two sets are the same exactly where they are equal
 abbrev pub SameSetsAreEqual : Type 0

@@ -6,7 +6,7 @@ ghost use Rattle.search_plan.specs.Plans.{IsPlan};
 ghost use Rattle.slot_math.specs.Space.{lists_of};
 ghost use Rattle.set_product.specs.Blocks.{heads_with, sets_with, suits as suits_level, IsBlock};
 ghost use Rattle.set_product.specs.Pairs.{pairs};
-ghost use Rattle.search_plan.specs.Sets.{is_same_head, is_same_set};
+ghost use Rattle.plan_sets.specs.Sets.{is_same_head, is_same_set};
 
 use crate::digits::{COUNT_END, count_pairs, join_rank, pair_at, split_rank};
 use crate::slot_space::space_of;

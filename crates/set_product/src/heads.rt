@@ -2,7 +2,7 @@
 ghost use Rattle.std.specs.Prelude.{◌≡◌, ◌≤◌, ◌+◌, ◌*◌, ◌<◌, ◌^◌, ◌⊎◌, nat_lt, filter};
 ghost use Rattle.std.specs.Iterator.{YieldsFirst, item_count};
 ghost use Rattle.search_plan.specs.Plans.{IsPlan};
-ghost use Rattle.search_plan.specs.Sets.{total_of};
+ghost use Rattle.plan_sets.specs.Sets.{total_of};
 ghost use Rattle.set_product.specs.Heads.{count_in, end_of, heads_of, numbered};
 ghost use Rattle.set_product.specs.Left.{left_heads, MayBeOpened};
 
@@ -38,7 +38,7 @@ pub struct Heads<'a> {
 impl<'a> Model for Heads<'a> {
     ghost use Rattle.std.specs.Prelude.{◌≡◌, ◌+◌, ◌<◌, ◌^◌, List};
     ghost use Rattle.search_plan.specs.Plans.{IsPlan};
-    ghost use Rattle.search_plan.specs.Sets.{total_of};
+    ghost use Rattle.plan_sets.specs.Sets.{total_of};
     ghost use Rattle.set_product.specs.Heads.{count_in, numbered};
     ghost use Rattle.set_product.specs.Left.{left_heads, MayBeOpened};
     ghost use Rattle.set_product.specs.declared.heads.HeadSets.{HeadSets as HeadSetsOf};

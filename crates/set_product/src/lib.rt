@@ -4,7 +4,7 @@
 //! ranked, from the numbers of values and of slot lists: no set is kept, and none is walked past. A rank is a number
 //! whose digits are the places of a set's values and of its slot list, and counts stop where no rank is as large.
 //!
-//! `page_engine` makes pages of the sets that pass. The sets of a plan stand in `Sets` of `search_plan`.
+//! `page_engine` makes pages of the sets that pass. The sets of a plan stand in `Sets` of `plan_sets`.
 //! The laws: ranks and sets undo each other, and two sets are the same exactly where they are equal.
 #![tactic(auto)]
 

@@ -1,7 +1,7 @@
 //! Blocks with heads, one after another.
 ghost use Rattle.std.specs.Prelude.{◌≡◌, ◌+◌, ◌<◌, ◌≤◌, ◌^◌, IfSome, length};
 ghost use Rattle.search_plan.specs.Plans.{IsPlan};
-ghost use Rattle.search_plan.specs.Sets.{total_of};
+ghost use Rattle.plan_sets.specs.Sets.{total_of};
 ghost use Rattle.set_product.specs.Blocks.{heads_with};
 ghost use Rattle.set_product.specs.Left.{heads_after, heads_from, left_heads, IsOpened, MayBeOpened};
 

@@ -4,7 +4,7 @@ ghost use Rattle.raid_params.specs.declared.limits.TheConstants.{MOST_LEVELS, MO
 ghost use Rattle.search_plan.specs.Plans.{IsPlan};
 ghost use Rattle.set_product.specs.Blocks.{IsBlock};
 ghost use Rattle.set_product.specs.Pairs.{pairs};
-ghost use Rattle.search_plan.specs.Sets.{rank_of, sets_of, total_of};
+ghost use Rattle.plan_sets.specs.Sets.{rank_of, sets_of, total_of};
 
 use crate::block::Block;
 use crate::digits::{count_both, pair_at};

@@ -11,7 +11,7 @@ use Rattle.outside.proofs.Reading.{reads_join, reads_up}
 use Rattle.mark_kinds.specs.declared.sectors.Kind.TheVariants.{Gpt as GptKind}
 use Rattle.std.specs.Prelude.{count_by}
 use Rattle.std.proofs.lemmas.List.Sums.{sum_by-le-sum_by, sum_by_more, sum_by-take-le}
-use Rattle.image_blocks.proofs.Reading.{told_bytes}
+use Rattle.survey_engine.proofs.Reading.{told_bytes}
 use Rattle.gpt_marks.specs.Entry.{first_lbas}
 use Rattle.landmark_rules.specs.declared.limits.TheConstants.{MOST_MARKS, MOST_ORIGINS}
 use Rattle.survey_engine.specs.Kept.{with_number}

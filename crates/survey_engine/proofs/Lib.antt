@@ -1,3 +1,6 @@
+pub mod Blocks
+pub mod Reading
+pub mod Advancing
 pub mod FourthByte
 pub mod Landmarks
 pub mod Rules

@@ -6,7 +6,7 @@ use Rattle.std.proofs.lemmas.List.Concat.{flat_map-append}
 use Rattle.std.proofs.lemmas.List.Elements.{filter_map-append, All-head, All-tail, All-weaker}
 use Rattle.std.proofs.lemmas.List.FromFn.{map-range_with_len_more}
 use Rattle.std.proofs.lemmas.List.Sums.{fold-append}
-use Rattle.image_blocks.specs.Sweep.{Swept}
+use Rattle.survey_engine.specs.Sweep.{Swept}
 use Rattle.survey_engine.specs.Blocks.{found_at, found_in_block, found_in_row}
 use Rattle.survey_engine.specs.Kept.{kept_with}
 use Rattle.survey_engine.specs.Landmarks.{IsSound}

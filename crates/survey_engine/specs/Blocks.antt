@@ -1,7 +1,7 @@
 -- The sightings in the blocks of a sweep.
 use Rattle.std.specs.Prelude.{ℕ, ◌+◌, List, [], length, slice_index, slice_index_or, Option}
 use Rattle.std.specs.List.{filter_map, flat_map, range_with_len}
-use Rattle.image_blocks.specs.Sweep.{Swept}
+use Rattle.survey_engine.specs.Sweep.{Swept}
 use Rattle.survey_engine.specs.Sightings.{sector_of, sighting_in}
 use Rattle.survey_engine.specs.declared.ask.Ask.{Ask}
 use Rattle.survey_engine.specs.declared.sighting.Sighting.{Sighting}

@@ -1,3 +1,4 @@
+pub mod Sweep
 pub mod Kept
 pub mod Landmarks
 pub mod Exclusion

@@ -1,7 +1,7 @@
 //! The sightings of images.
 ghost use Rattle.std.specs.Prelude.{◌≡◌, ◌+◌, ◌-◌, ◌*◌, ◌^◌, ◌<◌, ◌≤◌, fold, length, slice_index, All, IfErr, IfOk, OnOk, IfSome};
 ghost use Rattle.gpt_marks.specs.Header.{IsUnit};
-ghost use Rattle.image_blocks.specs.Sweep.{next_of};
+ghost use Rattle.survey_engine.specs.Sweep.{next_of};
 ghost use Rattle.outside.specs.Attached.{told_all};
 ghost use Rattle.outside.specs.Seen.{OnlyReads, lengths_of};
 ghost use Rattle.survey_engine.specs.Blocks.{found_in_block, found_in_row};
@@ -13,7 +13,7 @@ use crate::ask::Ask;
 use crate::count::Counter;
 use crate::planning::SurveyFault;
 use crate::sighting::{Sighting, first_sector, sighting_in};
-use image_blocks::Sweep;
+use crate::sweep::Sweep;
 use outside::{Images, ListOf, Memory};
 use raid_params::MOST;
 use std::alloc::Global;

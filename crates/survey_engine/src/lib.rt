@@ -7,6 +7,9 @@
 //! header say at which volume sectors a file system may begin. The blocks of a partition table have 512 bytes or
 //! 4,096, as is asked.
 //!
+//! The sweep takes its memory once, 128 KiB an image however long the images are, reads a block of each image in one call an
+//! image, and each sector once: `specs/Sweep`.
+//!
 //! What a sector may be stands in `specs/Landmarks`, which are sightings and count in `specs/Sightings`,
 //! groups and the rules of their marks in `specs/Owners`, the origins in `specs/Origins`, and the plan in
 //! `specs/Surveys`. Each filters one list of all sectors; the code looks at each sector once. That no sector is by its
@@ -23,6 +26,7 @@ mod landmark;
 mod owner;
 mod planning;
 mod sighting;
+mod sweep;
 
 pub use ask::Ask;
 pub use excluding::no_sector_is_of_two_kinds;

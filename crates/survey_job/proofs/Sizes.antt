@@ -27,8 +27,9 @@ use Rattle.landmark_rules.specs.declared.marks.MarkTests.{MarkTests}
 use Rattle.landmark_rules.specs.declared.marks.Rule.{Rule}
 use Rattle.landmark_rules.specs.declared.marks.Rule.TheVariants.{At, Either, Every}
 use Rattle.search_plan.specs.Plans.{AreBounds, AreLengths, AreLimits, AreTests}
-use Rattle.search_plan.specs.declared.plan.Limits.{Limits}
-use Rattle.value_text.specs.Spelling.{level_name, pattern_name, syndrome_name, group_name, kind_name, commas, named, line}
+use Rattle.search_scope.specs.declared.scope.Limits.{Limits}
+use Rattle.value_text.specs.Spelling.{level_name, pattern_name, syndrome_name, commas, named, line}
+use Rattle.landmark_text.specs.Names.{group_name, kind_name}
 use Rattle.value_text.proofs.Fits.{chunks_are_short, chunks_fit, levels_fit, members_fit, patterns_fit, syndromes_fit}
 use Rattle.plan_text.specs.PlanText.{group_lines, groups_lines, image_lines, mark_line, rule_text, search_lines, version_line, version_number}
 use Rattle.survey_job.specs.Laws.{NoPlanIsTooLong}

@@ -6,12 +6,7 @@ use Rattle.raid_params.specs.declared.types.Pattern.{Pattern}
 use Rattle.raid_params.specs.declared.types.Pattern.TheVariants.{Plain, La, Ra, Ls, Rs, ParityFirst, ParityLast, NRestart, NContinue, La6, Ra6, Ls6, Rs6, ParityFirst6}
 use Rattle.raid_params.specs.declared.types.Syndrome.{Syndrome}
 use Rattle.raid_params.specs.declared.types.Syndrome.TheVariants.{NoQ, AfterQ, ByData, BySlot}
-use Rattle.mark_kinds.specs.declared.groups.GroupKind.{GroupKind}
-use Rattle.mark_kinds.specs.declared.sectors.Kind.{Kind}
-use Rattle.value_text.specs.Spelling.{group_name, level_name, pattern_name, syndrome_name, kind_name}
-use Rattle.mark_kinds.specs.declared.groups.TheConstants.{GROUPS}
-use Rattle.mark_kinds.specs.declared.sectors.TheConstants.{KINDS}
-use Rattle.mark_kinds.proofs.Places.{each_group, each_kind}
+use Rattle.value_text.specs.Spelling.{level_name, pattern_name, syndrome_name}
 use Rattle.value_text.specs.declared.names.TheConstants.{LEVELS, PATTERNS, SYNDROMES}
 
 -- what reading gives: the value of the name, or none where no value has it
@@ -56,11 +51,3 @@ any_syndrome text None none = λ x spelled. other x
     other AfterQ = none 1 NoQ (omega arith)
     other ByData = none 2 NoQ (omega arith)
     other BySlot = none 3 NoQ (omega arith)
-
-pub any_kind : (text : List ℕ) (r : Option Kind) → MatchOption r (All (λ x. text ≢ kind_name x) KINDS) (λ x. text ≡ kind_name x) → Reads kind_name text r
-any_kind text (Some x) found = (tt, found)
-any_kind text None none = λ x spelled. each_kind (λ x. text ≢ kind_name x) none x
-
-pub any_group : (text : List ℕ) (r : Option GroupKind) → MatchOption r (All (λ x. text ≢ group_name x) GROUPS) (λ x. text ≡ group_name x) → Reads group_name text r
-any_group text (Some x) found = (tt, found)
-any_group text None none = λ x spelled. each_group (λ x. text ≢ group_name x) none x

@@ -6,5 +6,4 @@ pub mod Lists
 pub mod Offsets
 pub mod Fits
 pub mod Examples
-pub mod Drops
 pub mod AllValues

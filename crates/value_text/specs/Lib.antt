@@ -1,6 +1,5 @@
 pub mod Spelling
 pub mod NameLaws
-pub mod DropLaws
 pub mod Bounded
 pub mod SetText
 pub mod Laws

@@ -16,11 +16,7 @@ use Rattle.raid_params.specs.declared.types.Pattern.{Pattern}
 use Rattle.raid_params.specs.declared.types.Pattern.TheVariants.{Plain, La, Ra, Ls, Rs, ParityFirst, ParityLast, NRestart, NContinue, La6, Ra6, Ls6, Rs6, ParityFirst6}
 use Rattle.raid_params.specs.declared.types.Syndrome.{Syndrome}
 use Rattle.raid_params.specs.declared.types.Syndrome.TheVariants.{NoQ, AfterQ, ByData, BySlot}
-use Rattle.mark_kinds.specs.declared.groups.GroupKind.{GroupKind}
-use Rattle.mark_kinds.specs.declared.groups.GroupKind.TheVariants.{Gpt as GptGroup, Ntfs, Xfs, Btrfs as BtrfsGroup, Lvm as LvmGroup, Ext as ExtGroup}
-use Rattle.mark_kinds.specs.declared.sectors.Kind.{Kind}
-use Rattle.mark_kinds.specs.declared.sectors.Kind.TheVariants.{Gpt, Boot, FileRecord, Super, Agf, Agi, Btrfs, Lvm, Ext}
-use Rattle.value_text.specs.Spelling.{level_name, pattern_name, syndrome_name, group_name, kind_name, slot_name, is_separator, is_plain, IsFieldName, IsListName, IsSpelling}
+use Rattle.value_text.specs.Spelling.{level_name, pattern_name, syndrome_name, slot_name, is_separator, is_plain, IsFieldName, IsListName, IsSpelling}
 
 abbrev IsOther : ℕ → ℕ → Type 0
 IsOther separator byte = byte ≢ separator
@@ -141,79 +137,6 @@ syndrome_has_no_separator BySlot = refl
 
 pub syndrome_law : IsFieldName syndrome_name (λ syndrome. Unit {0})
 syndrome_law = record { one_value = λ x y p q. one_syndrome x y; has_no_separator = λ x p. syndrome_has_no_separator x }
-
--- the kind of group with a name whose first byte this is
-group_at : ℕ → GroupKind
-group_at first =
-    cond (eqb first 103) GptGroup
-    (cond (eqb first 110) Ntfs
-    (cond (eqb first 120) Xfs
-    (cond (eqb first 98) BtrfsGroup
-    (cond (eqb first 108) LvmGroup ExtGroup))))
-
-group_back : (kind : GroupKind) → group_at (get_or (group_name kind) 0 0) ≡ kind
-unfolding group_at
-group_back GptGroup = refl
-group_back Ntfs = refl
-group_back Xfs = refl
-group_back BtrfsGroup = refl
-group_back LvmGroup = refl
-group_back ExtGroup = refl
-
-one_group : (x y : GroupKind) → group_name x ≡ group_name y → x ≡ y
-one_group x y e = sym (group_back x) ∙ ap (λ (name : List ℕ). group_at (get_or name 0 0)) e ∙ group_back y
-
-group_has_no_separator : (x : GroupKind) → list_all is_plain (group_name x) ≡ true
-group_has_no_separator GptGroup = refl
-group_has_no_separator Ntfs = refl
-group_has_no_separator Xfs = refl
-group_has_no_separator BtrfsGroup = refl
-group_has_no_separator LvmGroup = refl
-group_has_no_separator ExtGroup = refl
-
-pub group_law : IsFieldName group_name (λ kind. Unit {0})
-group_law = record { one_value = λ x y p q. one_group x y; has_no_separator = λ x p. group_has_no_separator x }
-
--- the kind of landmark with a name whose bytes have this sum
-kind_at : ℕ → Kind
-kind_at weight =
-    cond (eqb weight 331) Gpt
-    (cond (eqb weight 436) Boot
-    (cond (eqb weight 639) FileRecord
-    (cond (eqb weight 559) Super
-    (cond (eqb weight 302) Agf
-    (cond (eqb weight 305) Agi
-    (cond (eqb weight 545) Btrfs
-    (cond (eqb weight 335) Lvm Ext)))))))
-
-kind_back : (kind : Kind) → kind_at (sum (kind_name kind)) ≡ kind
-unfolding kind_at
-kind_back Gpt = refl
-kind_back Boot = refl
-kind_back FileRecord = refl
-kind_back Super = refl
-kind_back Agf = refl
-kind_back Agi = refl
-kind_back Btrfs = refl
-kind_back Lvm = refl
-kind_back Ext = refl
-
-one_kind : (x y : Kind) → kind_name x ≡ kind_name y → x ≡ y
-one_kind x y e = sym (kind_back x) ∙ ap (λ (name : List ℕ). kind_at (sum name)) e ∙ kind_back y
-
-kind_has_no_separator : (x : Kind) → list_all is_plain (kind_name x) ≡ true
-kind_has_no_separator Gpt = refl
-kind_has_no_separator Boot = refl
-kind_has_no_separator FileRecord = refl
-kind_has_no_separator Super = refl
-kind_has_no_separator Agf = refl
-kind_has_no_separator Agi = refl
-kind_has_no_separator Btrfs = refl
-kind_has_no_separator Lvm = refl
-kind_has_no_separator Ext = refl
-
-pub kind_law : IsFieldName kind_name (λ kind. Unit {0})
-kind_law = record { one_value = λ x y p q. one_kind x y; has_no_separator = λ x p. kind_has_no_separator x }
 
 plain_digit : (digit : ℕ) → IsInRange 48 57 digit → is_plain digit ≡ true
 plain_digit digit within = grind (arith, nat_tests)

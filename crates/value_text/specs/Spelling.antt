@@ -10,10 +10,6 @@ use Rattle.raid_params.specs.declared.types.Pattern.{Pattern}
 use Rattle.raid_params.specs.declared.types.Pattern.TheVariants.{Plain, La, Ra, Ls, Rs, ParityFirst, ParityLast, NRestart, NContinue, La6, Ra6, Ls6, Rs6, ParityFirst6}
 use Rattle.raid_params.specs.declared.types.Syndrome.{Syndrome}
 use Rattle.raid_params.specs.declared.types.Syndrome.TheVariants.{NoQ, AfterQ, ByData, BySlot}
-use Rattle.mark_kinds.specs.declared.groups.GroupKind.{GroupKind}
-use Rattle.mark_kinds.specs.declared.sectors.Kind.{Kind}
-use Rattle.mark_kinds.specs.Table.{group_row, kind_row}
-use Rattle.mark_kinds.specs.declared.looking.DropAt.{DropAt}
 
 abbrev pub level_name : Level → List ℕ
 level_name Raid0 = codes "0"
@@ -41,12 +37,6 @@ syndrome_name NoQ = codes "none"
 syndrome_name AfterQ = codes "after-q"
 syndrome_name ByData = codes "by-data"
 syndrome_name BySlot = codes "by-slot"
-
-abbrev pub group_name : GroupKind → List ℕ
-group_name kind = (group_row kind).name
-
-abbrev pub kind_name : Kind → List ℕ
-kind_name kind = (kind_row kind).name
 
 -- a slot: the number of its image, or a dash
 abbrev pub slot_name : Option ℕ → List ℕ
@@ -98,15 +88,3 @@ IsSpelling name IsSpelled = IsListName 44 name IsSpelled
 pub record IsFieldName {A : Type 0} (name : A → List ℕ) (IsSpelled : A → Type 0) : Type 0 where
   pub one_value : (x y : A) → IsSpelled x → IsSpelled y → name x ≡ name y → x ≡ y
   pub has_no_separator : (x : A) → IsSpelled x → list_all is_plain (name x) ≡ true
-
--- a sector of an image, IMAGE:SECTOR
-abbrev pub drop_name : DropAt → List ℕ
-drop_name at = decimal at.image ++ 58 ∷ decimal at.sector
-
--- sectors go by image, then sector
-abbrev pub drop_place : DropAt → ℕ
-drop_place at = at.image * 2 ^ 64 + at.sector
-
-pub record IsDrop (at : DropAt) : Type 0 where
-  pub image : at.image < MOST
-  pub sector : at.sector < 2 ^ 55

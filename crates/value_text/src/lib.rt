@@ -6,13 +6,12 @@
 //! bounded numbers, [`add_list`] writes them; [`read_set`], [`write_set`] and [`set_line`] do the same for sets,
 //! [`read_common_set`] and [`common_set_line`] for those with an offset that is common to all images.
 //!
-//! Plans and the words of the command line are made of these texts. How values are spelled stands in
+//! Plans and the words of the command line are made of these texts, and of those of landmarks, which `landmark_text` adds. How values are spelled stands in
 //! `specs/Spelling`, the word of a set in `specs/SetText`, and that a set has one word in `specs/Laws`.
 #![tactic(auto)]
 
 mod bounded;
 mod front;
-mod group_names;
 mod laws;
 mod listed;
 mod names;
@@ -27,7 +26,6 @@ mod text;
 
 pub use bounded::{read_chunks, read_members, read_sectors};
 pub use front::cut;
-pub use group_names::group_name;
 pub use laws::set_words_have_one_spelling;
 pub use names::{LEVELS, PATTERNS, SYNDROMES, pattern_name, syndrome_name};
 pub use number::{after, read_number};

@@ -1,13 +1,12 @@
-//! The names of levels, patterns, orders of Q, kinds of landmark sectors, slots and numbers.
+//! The names of levels, patterns, orders of Q, slots and numbers.
 ghost use Rattle.std.specs.Prelude.{◌≡◌, ◌<◌, ◌^◌, ◌≢◌, ℕ, List, decimal, All, IfSome, MatchOption};
 ghost use Rattle.raid_params.specs.declared.limits.TheConstants.{MOST as MOST_IMAGES};
-ghost use Rattle.value_text.specs.Spelling.{level_name, pattern_name as pattern_spelling, syndrome_name as syndrome_spelling, kind_name, slot_name};
-ghost use Rattle.value_text.specs.NameLaws.{in_lists, level_law, pattern_law, syndrome_law, kind_law, byte_law, number_law, slot_law};
+ghost use Rattle.value_text.specs.Spelling.{level_name, pattern_name as pattern_spelling, syndrome_name as syndrome_spelling, slot_name};
+ghost use Rattle.value_text.specs.NameLaws.{in_lists, level_law, pattern_law, syndrome_law, byte_law, number_law, slot_law};
 
 use crate::number::read_number;
 use crate::spelled::{Field, Spelled};
 use crate::text::{Text, add_number};
-use mark_kinds::{KINDS, Kind};
 use outside::Memory;
 use raid_params::{Level, MOST, MOST_LEVELS, MOST_PATTERNS, MOST_SYNDROMES, Pattern, Syndrome};
 
@@ -184,35 +183,6 @@ pub fn syndrome_name(syndrome: Syndrome) -> &'static str
         Syndrome::ByData => "by-data",
         Syndrome::BySlot => "by-slot",
     }
-}
-
-impl Named for Kind {
-    ghost called = { kind_name };
-
-    fn name(self) -> &'static str {
-        Kind::name(self)
-    }
-}
-
-impl Spelled for Kind {
-    ghost name = { kind_name };
-
-    ghost IsSpelled = { λ kind. Unit {0} };
-
-    #[tactic(auto, using(crate::proofs::AllValues::any_kind))]
-    fn read(text: &[u8]) -> Option<Kind> {
-        find_named(&KINDS, text)
-    }
-
-    ghost law = { in_lists kind_name (λ kind. Unit {0}) kind_law };
-}
-
-impl Field for Kind {
-    fn add_to(&self, text: &mut Text) -> Result<(), Memory> {
-        text.extend_from_slice(self.name().as_bytes())
-    }
-
-    ghost law = { kind_law };
 }
 
 impl Spelled for u64 {

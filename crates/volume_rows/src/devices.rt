@@ -2,10 +2,10 @@
 //! images hold was worked out by `bench/disks.py`, a byte for each sector.
 use crate::objects::{NO, are_sectors, images_of, pad, serve, serve_mirror, set_of};
 use block_device::BlockDevice;
+use image_padding::Padded;
 use image_source::MemImages;
 use near_mirror::{NearSet, read_near};
 use outside::{Images, SECTOR};
-use padded_images::Padded;
 use raid_params::{Geometry, Level, Pattern, Syndrome};
 use std::alloc::Global;
 use std::process::Abort;

@@ -5,10 +5,10 @@ ghost use Rattle.rescue_map.specs.Damaged.{IsDamaged};
 ghost use Rattle.rescue_map.specs.Salvaged.{IsSalvaged};
 ghost use Rattle.virtual_volume.specs.Served.{IsServed};
 
+use image_padding::BASES_END;
 use image_source::{MemImages, MemSink};
 use near_mirror::NearSet;
 use outside::{Failed, Images, SECTOR, Sink};
-use padded_images::BASES_END;
 use raid_params::{Geometry, Head, Level, Pattern, Slots, Syndrome, Wide};
 use std::alloc::Global;
 use std::process::Abort;

@@ -12,7 +12,7 @@ use Rattle.raid_params.specs.declared.types.Bounds.{Bounds}
 use Rattle.raid_params.specs.declared.types.Head.{Head}
 use Rattle.search_terms.specs.Product.{heads}
 use Rattle.search_plan.specs.Plans.{IsPlan}
-use Rattle.search_plan.specs.Sets.{is_same_set, total_of}
+use Rattle.plan_sets.specs.Sets.{is_same_set, total_of}
 use Rattle.search_plan.specs.declared.plan.Plan.{Plan}
 use Rattle.slot_math.proofs.Listed.{each_flat, each_get, each_kept}
 use Rattle.slot_math.proofs.Nested.{get-map}

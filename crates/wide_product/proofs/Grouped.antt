@@ -8,7 +8,7 @@ use Rattle.raid_params.specs.Bases.{greatest_base}
 use Rattle.raid_params.specs.declared.types.Geometry.{Geometry}
 use Rattle.raid_params.specs.declared.types.Head.{Head}
 use Rattle.search_plan.specs.Places.{level_place, pattern_place, syndrome_place}
-use Rattle.search_plan.specs.Sets.{is_same_set}
+use Rattle.plan_sets.specs.Sets.{is_same_set}
 use Rattle.search_plan.specs.declared.plan.Plan.{Plan}
 use Rattle.slot_math.proofs.Nested.{get_high, get_low}
 use Rattle.slot_math.specs.Space.{same_slots}

@@ -5,7 +5,7 @@ use Rattle.std.proofs.lemmas.List.Elements.{All-contains_itself, All-cons, All-n
 use Rattle.std.proofs.lemmas.Option.{slice_get_read, slice_get_within, slice_get-get_or}
 use Rattle.std.specs.List.{flat_map, AllByRecursion}
 use Rattle.std.specs.Option.{option_map_or}
-use Rattle.padded_images.proofs.Images.{fold_below}
+use Rattle.image_padding.proofs.Images.{fold_below}
 use Rattle.padded_images.proofs.Lengths.{as_many}
 use Rattle.padded_images.proofs.Planned.{is_plan as padded_is}
 use Rattle.padded_images.specs.Plans.{padded_plan}
@@ -19,7 +19,7 @@ use Rattle.raid_params.specs.declared.types.Level.{Level}
 use Rattle.raid_params.specs.declared.types.Pattern.{Pattern}
 use Rattle.raid_params.specs.declared.types.Syndrome.{Syndrome}
 use Rattle.search_plan.specs.Plans.{AreMovable, AreRising, IsPlan}
-use Rattle.search_plan.specs.Sets.{passes, passes_at, rank_of, sets_of, total_of}
+use Rattle.plan_sets.specs.Sets.{passes, passes_at, rank_of, sets_of, total_of}
 use Rattle.search_plan.specs.declared.plan.Plan.{Plan}
 use Rattle.search_terms.specs.Product.{heads}
 use Rattle.slot_math.proofs.Listed.{each_flat, each_get, each_kept}

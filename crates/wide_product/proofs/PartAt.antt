@@ -7,7 +7,7 @@ use Rattle.std.specs.List.{flat_map, AllByRecursion}
 use Rattle.raid_params.specs.Bases.{greatest_base}
 use Rattle.raid_params.specs.declared.types.Head.{Head}
 use Rattle.search_plan.specs.Plans.{IsPlan}
-use Rattle.search_plan.specs.Sets.{sets_of, total_of}
+use Rattle.plan_sets.specs.Sets.{sets_of, total_of}
 use Rattle.search_plan.specs.declared.plan.Plan.{Plan}
 use Rattle.slot_math.proofs.Listed.{each_flat, each_get, each_map, each_more}
 use Rattle.slot_math.specs.Space.{lists_of}

@@ -15,7 +15,7 @@ use Rattle.raid_params.specs.declared.types.Head.{Head}
 use Rattle.raid_params.specs.declared.types.Level.{Level}
 use Rattle.search_terms.specs.Product.{sets_of as sets_of_head}
 use Rattle.search_plan.specs.Plans.{IsPlan}
-use Rattle.search_plan.specs.Sets.{is_same_set, rank_of, sets_of, total_of}
+use Rattle.plan_sets.specs.Sets.{is_same_set, rank_of, sets_of, total_of}
 use Rattle.search_plan.specs.declared.plan.Plan.{Plan}
 use Rattle.slot_math.proofs.Listed.{each_flat, each_get, each_kept, each_map, each_more}
 use Rattle.slot_math.proofs.Nested.{get-map, length-map}

@@ -11,7 +11,7 @@ use Rattle.search_terms.specs.Product.{fits, heads, sets_of as sets_of_head}
 use Rattle.search_terms.specs.SlotLists.{all_lists}
 use Rattle.slot_math.proofs.Nested.{length-map}
 use Rattle.slot_math.specs.Space.{lists_of}
-use Rattle.search_plan.specs.Sets.{sets_of}
+use Rattle.plan_sets.specs.Sets.{sets_of}
 use Rattle.search_plan.specs.declared.plan.Plan.{Plan}
 use Rattle.set_product.proofs.Pairs.{length_pairs}
 use Rattle.set_product.proofs.Spaces.{lists_fit}

@@ -15,7 +15,7 @@ use Rattle.raid_params.specs.declared.types.Level.{Level}
 use Rattle.raid_params.specs.declared.types.Pattern.{Pattern}
 use Rattle.raid_params.specs.declared.types.Syndrome.{Syndrome}
 use Rattle.search_plan.specs.Plans.{IsPlan}
-use Rattle.search_plan.specs.Sets.{is_same_set, sets_of}
+use Rattle.plan_sets.specs.Sets.{is_same_set, sets_of}
 use Rattle.search_plan.specs.declared.plan.Plan.{Plan}
 use Rattle.slot_math.proofs.Listed.{each_get, each_kept, each_map, each_more}
 use Rattle.slot_math.proofs.Positions.{rank_of_element}

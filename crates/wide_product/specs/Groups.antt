@@ -7,7 +7,7 @@ use Rattle.std.specs.declared.option.Option.TheVariants.{Some}
 use Rattle.raid_params.specs.Bases.{greatest_base}
 use Rattle.set_product.specs.Heads.{space_of}
 use Rattle.slot_math.specs.Space.{lists_of}
-use Rattle.search_plan.specs.Sets.{rank_of}
+use Rattle.plan_sets.specs.Sets.{rank_of}
 use Rattle.search_plan.specs.declared.plan.Plan.{Plan}
 use Rattle.raid_params.specs.declared.types.Geometry.{Geometry}
 use Rattle.wide_product.specs.Bases.{base_lists, same_bases}

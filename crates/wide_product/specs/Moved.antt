@@ -5,7 +5,7 @@ use Rattle.std.specs.declared.option.Option.TheVariants.{Some}
 use Rattle.padded_images.specs.Plans.{padded_plan}
 use Rattle.raid_params.specs.declared.types.Head.{Head}
 use Rattle.search_plan.specs.Plans.{IsPlan}
-use Rattle.search_plan.specs.Sets.{passes_at, sets_of, total_of}
+use Rattle.plan_sets.specs.Sets.{passes_at, sets_of, total_of}
 use Rattle.search_plan.specs.declared.plan.Plan.{Plan}
 use Rattle.slot_math.specs.Space.{lists_of}
 use Rattle.wide_product.specs.Sets.{padded_bytes, wide_passes_at}

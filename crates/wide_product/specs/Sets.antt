@@ -10,7 +10,7 @@ use Rattle.raid_params.specs.declared.types.Head.{Head}
 use Rattle.raid_params.specs.declared.wide.Wide.{Wide}
 use Rattle.search_terms.specs.Product.{heads, sets_of as sets_of_head}
 use Rattle.padded_images.specs.Plans.{padded_plan}
-use Rattle.search_plan.specs.Sets.{is_same_set, passes, sets_of}
+use Rattle.plan_sets.specs.Sets.{is_same_set, passes, sets_of}
 use Rattle.search_plan.specs.declared.plan.Plan.{Plan}
 use Rattle.wide_product.specs.Bases.{base_lists, same_bases}
 

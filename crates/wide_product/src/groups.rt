@@ -1,7 +1,7 @@
 //! Heads that differ in their offset alone.
 ghost use Rattle.std.specs.Prelude.{◌≡◌, ◌+◌, ◌*◌, ◌<◌, ◌≤◌, ◌^◌, nat_lt, filter, Some, length, position, slice_get, ◌==◌};
 ghost use Rattle.search_plan.specs.Plans.{IsPlan};
-ghost use Rattle.search_plan.specs.Sets.{total_of};
+ghost use Rattle.plan_sets.specs.Sets.{total_of};
 ghost use Rattle.set_product.specs.Heads.{end_of, heads_of};
 ghost use Rattle.wide_product.specs.Groups.{IsGroup};
 

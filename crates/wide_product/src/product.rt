@@ -1,7 +1,7 @@
 //! The parameter sets of a plan, by rank.
 ghost use Rattle.std.specs.Prelude.{◌≡◌, ◌≤◌, ◌<◌, ◌^◌, MatchOption, Some, length, min, position, true, slice_get};
 ghost use Rattle.search_plan.specs.Plans.{IsPlan};
-ghost use Rattle.search_plan.specs.Sets.{total_of};
+ghost use Rattle.plan_sets.specs.Sets.{total_of};
 ghost use Rattle.wide_product.specs.Bases.{same_bases};
 ghost use Rattle.wide_product.specs.Groups.{bases_of, with_first};
 ghost use Rattle.wide_product.specs.Sets.{based, wide_rank, wide_sets, wide_total};

@@ -1,5 +1,5 @@
 -- Samples of rows that were read.
-use Rattle.std.proofs.Common.{rules, ◌≡◌, ℕ, ◌+◌, ◌<◌, ◌≤◌, List, [], arith, ap, sym, ◌∙◌, subst, IfSome, Option}
+use Rattle.std.proofs.Common.{rules, ◌≡◌, ℕ, ◌+◌, ◌<◌, ◌≤◌, List, [], arith, sym, subst, IfSome, Option}
 use Rattle.column_screen.specs.Samples.{AreBelow, AreSamples, AreUpTo, HoldSector, Kept}
 use Rattle.column_screen.specs.declared.samples.Sample.{Sample}
 use Rattle.member_regions.proofs.IfTold.{if_any}

@@ -9,7 +9,7 @@ use Rattle.search_terms.specs.Product.{fits, heads, sets_of as sets_of_head}
 use Rattle.search_terms.specs.SlotLists.{all_lists}
 use Rattle.slot_math.proofs.Listed.{each_flat, each_get, each_kept, each_list, each_map, each_more}
 use Rattle.slot_math.specs.Ways.{AllImages}
-use Rattle.search_plan.specs.Sets.{sets_of}
+use Rattle.plan_sets.specs.Sets.{sets_of}
 use Rattle.search_plan.specs.declared.plan.Plan.{Plan}
 
 pub record IsSetOf (plan : Plan) (geo : Geometry) : Type 0 where

@@ -3,10 +3,10 @@ use Rattle.outside.specs.Attached.{told_all}
 use Rattle.outside.specs.Seen.{Image}
 use Rattle.member_regions.proofs.IfTold.{if_both}
 use Rattle.member_regions.specs.Regions.{HoldRead}
-use Rattle.search_plan.specs.Plans.{AgreeWith}
+use Rattle.search_scope.specs.Scopes.{AgreeWith}
 use Rattle.column_screen.specs.Samples.{AreSamples, HoldSector}
 use Rattle.column_screen.specs.declared.samples.TheConstants.{SAMPLES}
-use Rattle.column_screen.proofs.Ordered.{in_order, order_length, order_reaches, plan_near, reads_images, reads_more, reads_within, sector_held}
+use Rattle.column_screen.proofs.Ordered.{in_order, order_length, order_reaches, scope_near, reads_images, reads_more, reads_within, sector_held}
 use Rattle.column_screen.proofs.reading.fill.Goals as goal
 
 pub read-requires-clause-room : goal.read-requires-clause-room
@@ -21,20 +21,20 @@ pub read-requires-clause-held : goal.read-requires-clause-held
 read-requires-clause-held g c = λ k d lt.
     let within = c.requires.within in
     let row = c.spread_row-row.ensures.within in
-    order_reaches c.args.plan.now (g.I.Images.seen c.loop-number.images).attached c.deref.result.now
-    (c.args.offset + (c.spread_row-row.result + 1)) k d c.requires.plan (subst (λ (l : List Image). AgreeWith c.args.plan.now l) (sym c.loop-number.invariant.reads.attached) c.requires.images)
+    order_reaches c.args.scope.now (g.I.Images.seen c.loop-number.images).attached c.deref.result.now
+    (c.args.offset + (c.spread_row-row.result + 1)) k d c.requires.scope (subst (λ (l : List Image). AgreeWith c.args.scope.now l) (sym c.loop-number.invariant.reads.attached) c.requires.images)
     (c.deref.ensures.0 ∙ c.all_images-slots.ensures ∙ ap in_order c.len.ensures.value) (omega arith) lt
 
 pub read-requires-clause-near : goal.read-requires-clause-near
 read-requires-clause-near g c =
-    let near = plan_near c.args.plan.now c.requires.plan in
+    let near = scope_near c.args.scope.now c.requires.scope in
     let within = c.requires.within in
     let row = c.spread_row-row.ensures.within in
     omega arith
 
 pub returns-in_err-read-clause-reads : goal.returns-in_err-read-clause-reads
 returns-in_err-read-clause-reads g c =
-    let n = length c.args.plan.now.lengths.items in
+    let n = length c.args.scope.now.lengths.items in
     let within : c.loop-number.number + 1 ≤ min SAMPLES c.args.rows = let value = c.min-count.ensures in let lt = c.loop-number-test.true in omega arith in
     reads_within (g.I.Images.seen c.args.images.now) (g.I.Images.seen c.read.new.images) n (c.loop-number.number + 1) (min SAMPLES c.args.rows) n refl within
     (reads_more (g.I.Images.seen c.args.images.now) (g.I.Images.seen c.loop-number.images) (g.I.Images.seen c.read.new.images) n c.loop-number.number 1 c.loop-number.invariant.reads
@@ -43,7 +43,7 @@ returns-in_err-read-clause-reads g c =
 
 pub loop-number-preserved : goal.loop-number-preserved
 loop-number-preserved g c =
-    let n = length c.args.plan.now.lengths.items in
+    let n = length c.args.scope.now.lengths.items in
     let slots = c.deref.result.now in
     let ordered : slots ≡ in_order n = c.deref.ensures.0 ∙ c.all_images-slots.ensures ∙ ap in_order c.len.ensures.value in
     let now : IfSome (told_all (g.I.Images.seen c.loop-number.images).attached) (λ bytes.

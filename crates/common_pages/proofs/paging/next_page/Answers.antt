@@ -1,5 +1,5 @@
 use Rattle.std.proofs.Common.{List, rules, ◌≡◌, ◌≤◌, ℕ, Ok, ap, refl, sym, subst, arith}
-use Rattle.search_plan.specs.Sets.{total_of}
+use Rattle.plan_sets.specs.Sets.{total_of}
 use Rattle.search_terms.specs.Page.{stop_of}
 use Rattle.outside.specs.Attached.{told_all}
 use Rattle.outside.specs.Seen.{Image, Seen}

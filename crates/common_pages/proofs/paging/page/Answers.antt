@@ -2,12 +2,11 @@ use Rattle.std.proofs.Common.{◌≤◌, List, All, sym, subst}
 use Rattle.outside.specs.Attached.{told_all}
 use Rattle.std.proofs.lemmas.List.Elements.{All-nil}
 use Rattle.search_terms.specs.Page.{stop_of}
-use Rattle.search_plan.specs.Sets.{total_of}
+use Rattle.plan_sets.specs.Sets.{total_of}
 use Rattle.common_pages.specs.Pages.{table_reads, tested_to}
 use Rattle.head_walk.specs.Walk.{left_after, left_reads, IsKept}
 use Rattle.head_walk.specs.declared.row_tables.OffsetTables.{OffsetTables}
-use Rattle.common_pages.proofs.PageReads.{left_all}
-use Rattle.common_pages.proofs.PageReads.{page_scans}
+use Rattle.common_pages.proofs.PageReads.{left_all, page_scans}
 use Rattle.common_pages.proofs.paging.page.Goals as goal
 
 pub next_page-requires-clause-kept : goal.next_page-requires-clause-kept

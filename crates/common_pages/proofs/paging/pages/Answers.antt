@@ -5,7 +5,7 @@ use Rattle.std.proofs.lemmas.List.Elements.{All-nil}
 use Rattle.outside.specs.Attached.{told_all}
 use Rattle.outside.specs.Seen.{Image}
 use Rattle.search_terms.specs.Page.{stop_of}
-use Rattle.search_plan.specs.Sets.{total_of}
+use Rattle.plan_sets.specs.Sets.{total_of}
 use Rattle.common_pages.specs.Pages.{ArePagesFrom, IsPageFrom, scans_to}
 use Rattle.head_walk.specs.Counts.{most_scanned}
 use Rattle.head_walk.specs.Walk.{left_reads, IsKept, Spends}

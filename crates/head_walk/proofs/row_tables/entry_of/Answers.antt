@@ -7,13 +7,13 @@ pub returns-in_err-samples-clause-reads : goal.returns-in_err-samples-clause-rea
 returns-in_err-samples-clause-reads g c =
     let unasked : asks_tables c.args.plan.now ≡ false = sym c.asks_tables.ensures ∙ c.if-not-asks_tables.true in
     let asks : asks_samples c.args.plan.now ≡ true = or_second (asks_tables c.args.plan.now) (asks_samples c.args.plan.now) unasked c.requires.asks in
-    reads_samples c.args.plan.now c.args.offset c.most_rows-rows.result c.as_slice-chunks.result.now _ _ unasked asks c.as_slice-chunks.ensures.value c.most_rows-rows.ensures.value c.read.ensures.reads
+    reads_samples c.args.plan.now c.args.offset c.most_rows-rows.result c.as_slice-chunks.result.now _ _ unasked asks c.as_slice-chunks.ensures.value c.most_rows-rows.ensures.value c.read_samples.ensures.reads
 
 pub returns-then-not-asks_tables-clause-reads : goal.returns-then-not-asks_tables-clause-reads
 returns-then-not-asks_tables-clause-reads g c =
     let unasked : asks_tables c.args.plan.now ≡ false = sym c.asks_tables.ensures ∙ c.if-not-asks_tables.true in
     let asks : asks_samples c.args.plan.now ≡ true = or_second (asks_tables c.args.plan.now) (asks_samples c.args.plan.now) unasked c.requires.asks in
-    reads_samples c.args.plan.now c.args.offset c.most_rows-rows.result c.as_slice-chunks.result.now _ _ unasked asks c.as_slice-chunks.ensures.value c.most_rows-rows.ensures.value c.read.ensures.reads
+    reads_samples c.args.plan.now c.args.offset c.most_rows-rows.result c.as_slice-chunks.result.now _ _ unasked asks c.as_slice-chunks.ensures.value c.most_rows-rows.ensures.value c.read_samples.ensures.reads
 
 pub returns-in_err-tables-clause-reads : goal.returns-in_err-tables-clause-reads
 returns-in_err-tables-clause-reads g c =

@@ -1,6 +1,6 @@
 use Rattle.std.proofs.Common.{rules, ◌≡◌, true, false, length, get_or, ap, ◌∙◌, arith}
-use Rattle.row_scan.specs.Tallies.{has_passed}
-use Rattle.row_scan.specs.declared.tally.Tally.TheVariants.{Left}
+use Rattle.parity_scan.specs.Tallies.{has_passed}
+use Rattle.parity_scan.specs.declared.tally.Tally.TheVariants.{Left}
 use Rattle.head_walk.proofs.Passed.{adds_begin, adds_end, adds_fail, adds_full, adds_pass}
 use Rattle.head_walk.proofs.scanning.add_passed.Goals as goal
 use Rattle.head_walk.proofs.scanning.add_passed.Goals.{then-has_passed+in_ok-push+else-as_slice-size, else-has_passed}

@@ -2,8 +2,8 @@ use Rattle.std.proofs.Common.{rules, List, ◌≡◌, All, None, length, sym, ap
 use Rattle.std.specs.Option.{is_some}
 use Rattle.outside.specs.Attached.{told_all}
 use Rattle.raid_params.specs.declared.types.Geometry.{Geometry}
-use Rattle.row_scan.specs.Scan.{IsScannable}
-use Rattle.row_scan.specs.Tallies.{AllTallies, BeginsAs}
+use Rattle.parity_scan.specs.Scan.{IsScannable}
+use Rattle.parity_scan.specs.Tallies.{AllTallies, BeginsAs}
 use Rattle.head_walk.specs.Walk.{lines_of}
 use Rattle.head_walk.proofs.Candidates.{all_begin, waiting_closed, written_known, written_told}
 use Rattle.head_walk.proofs.Judging.{all_few, all_scannable, waiting_read}
@@ -11,6 +11,7 @@ use Rattle.head_walk.proofs.Known.{known_most}
 use Rattle.head_walk.proofs.Passed.{at_ok, gathers_none, gathers_some, waiting_added, waiting_past}
 use Rattle.head_walk.proofs.Waits.{each_waits, waiting_ranks}
 use Rattle.head_walk.proofs.scanning.scan_waiting.Goals as goal
+use Rattle.search_plan.specs.Plans.{scope_of}
 
 pub scan_tallied-requires-clause-sets : goal.scan_tallied-requires-clause-sets
 scan_tallied-requires-clause-sets g c κs within =
@@ -19,7 +20,7 @@ scan_tallied-requires-clause-sets g c κs within =
 
 pub scan_tallied-requires-clause-begin : goal.scan_tallied-requires-clause-begin
 scan_tallied-requires-clause-begin g c κs within =
-    subst (λ (l : List Geometry). AllTallies (BeginsAs (told_all (g.I.Images.seen c.args.images.now).attached) c.args.paging.now.plan.now) l c.deref_mut.result.now) (sym c.as_slice.ensures)
+    subst (λ (l : List Geometry). AllTallies (BeginsAs (told_all (g.I.Images.seen c.args.images.now).attached) (scope_of c.args.paging.now.plan.now)) l c.deref_mut.result.now) (sym c.as_slice.ensures)
     (all_begin (g.I.Images.seen c.args.images.now).attached c.args.paging.now.plan.now c.args.page.now.waiting c.deref_mut.result.now c.requires.can.is_plan c.requires.can.agrees (g.met.I.Images.tells_bytes c.args.images.now) c.requires.are c.deref_mut.ensures.value (each_waits (told_all (g.I.Images.seen c.args.images.now).attached) c.args.paging.now.plan.now c.args.page.now.tested c.args.at (lines_of c.args.page.now.waiting.ranks c.args.page.now.waiting.sets) c.requires.wait))
 
 pub returns-in_err-scan_tallied-clause-reads : goal.returns-in_err-scan_tallied-clause-reads

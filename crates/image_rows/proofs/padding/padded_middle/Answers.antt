@@ -1,6 +1,6 @@
 use Rattle.std.proofs.Common.{◌≡◌, subst, rules}
 use Rattle.outside.specs.Seen.{OnlyReads}
-use Rattle.padded_images.proofs.Within.{reads_within}
+use Rattle.image_padding.proofs.Within.{reads_within}
 use Rattle.image_rows.proofs.padding.padded_middle.Goals as goal
 
 pub returns : goal.returns

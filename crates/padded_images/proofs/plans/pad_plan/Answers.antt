@@ -1,5 +1,5 @@
 use Rattle.std.proofs.Common.{◌^◌, sym, ◌∙◌, arith, rules}
-use Rattle.padded_images.proofs.Images.{fold_below}
+use Rattle.image_padding.proofs.Images.{fold_below}
 use Rattle.padded_images.proofs.Lengths.{agree}
 use Rattle.padded_images.proofs.Marks.{near_sectors}
 use Rattle.padded_images.proofs.Planned.{is_plan}

@@ -1,5 +1,5 @@
 use Rattle.std.proofs.Common.{◌≡◌, ◌+◌, ◌-◌, ◌<◌, ◌≤◌, [], ◌∷◌, ◌++◌, length, get_or, ◌∙◌, rules}
-use Rattle.padded_images.specs.Padded.{greatest_base}
+use Rattle.image_padding.specs.Padded.{greatest_base}
 use Rattle.padded_images.proofs.Lengths.{lengths_more, lengths_whole}
 use Rattle.padded_images.proofs.plans.padded_lengths.Goals as goal
 

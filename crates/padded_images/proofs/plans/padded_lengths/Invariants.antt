@@ -1,5 +1,5 @@
 use Rattle.std.proofs.Common.{◌≡◌, take, length}
-use Rattle.padded_images.specs.Padded.{greatest_base}
+use Rattle.image_padding.specs.Padded.{greatest_base}
 use Rattle.padded_images.specs.Plans.{lengths_to}
 use Rattle.padded_images.proofs.plans.padded_lengths.Given as goal
 

@@ -2,9 +2,9 @@ use Rattle.std.proofs.Common.{rules, ◌≡◌, ◌+◌, ◌-◌, ◌<◌, ◌^�
 use Rattle.outside.proofs.Reading.{reads_up}
 use Rattle.outside.specs.Attached.{told_all}
 use Rattle.outside.specs.Seen.{OnlyReads}
-use Rattle.search_plan.specs.Sets.{total_of}
+use Rattle.plan_sets.specs.Sets.{total_of}
 use Rattle.search_terms.specs.Page.{stop_of}
-use Rattle.padded_images.specs.Padded.{padded_images}
+use Rattle.image_padding.specs.Padded.{padded_images}
 use Rattle.common_pages.specs.Pages.{IsPageOf, tested_to}
 use Rattle.wide_product.proofs.MovedPlan.{near_bases}
 use Rattle.wide_product.specs.Moved.{IsMoved}

@@ -1,10 +1,10 @@
 use Rattle.std.proofs.Common.{rules, ◌≡◌, ℕ, List, subst}
 use Rattle.outside.specs.Attached.{told_all}
 use Rattle.outside.specs.Seen.{OnlyReads}
-use Rattle.padded_images.proofs.Within.{reads_within}
-use Rattle.padded_images.specs.Padded.{padded_images}
+use Rattle.image_padding.proofs.Within.{reads_within}
+use Rattle.image_padding.specs.Padded.{padded_images}
 use Rattle.common_pages.specs.Pages.{page_reads, tested_to}
-use Rattle.search_plan.specs.Sets.{total_of}
+use Rattle.plan_sets.specs.Sets.{total_of}
 use Rattle.search_terms.specs.Page.{stop_of}
 use Rattle.page_engine.proofs.part_page.padded_page.Goals as goal
 

@@ -1,6 +1,6 @@
 use Rattle.std.proofs.Common.{◌≡◌, ◌∙◌, List, ℕ, subst, sym, ap, rules, length}
 use Rattle.outside.specs.Attached.{told_all}
-use Rattle.padded_images.specs.Padded.{padded_images, seen_padded}
+use Rattle.image_padding.specs.Padded.{padded_images, seen_padded}
 use Rattle.padded_images.specs.Plans.{padded_plan}
 use Rattle.wide_product.specs.Sets.{padded_bytes}
 use Rattle.plan_jobs.specs.Checking.{tested_reads, tests_text}

@@ -1,6 +1,6 @@
 use Rattle.std.proofs.Common.{◌≡◌, ◌∙◌, List, ℕ, None, subst, rules}
 use Rattle.outside.specs.Attached.{told_all}
-use Rattle.padded_images.specs.Padded.{padded_images}
+use Rattle.image_padding.specs.Padded.{padded_images}
 use Rattle.raid_params.specs.Size.{volume_sectors}
 use Rattle.run_ends.specs.Jobs.{stream}
 use Rattle.set_jobs.specs.Writing.{told_for}

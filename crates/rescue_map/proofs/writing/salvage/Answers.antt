@@ -2,8 +2,8 @@ use Rattle.std.proofs.lemmas.Bool.Decides.{nat_tests}
 use Rattle.std.proofs.Common.{ℕ, true, false, ◌==◌, ◌≡◌, ◌∙◌, ◌<◌, ◌^◌, List, length, All, ap, sym, subst, rules, arith}
 use Rattle.outside.specs.Attached.{told_all}
 use Rattle.outside.specs.Seen.{Image, OnlyReads}
-use Rattle.padded_images.proofs.Within.{reads_within}
-use Rattle.padded_images.specs.Padded.{padded_images}
+use Rattle.image_padding.proofs.Within.{reads_within}
+use Rattle.image_padding.specs.Padded.{padded_images}
 use Rattle.raid_params.specs.Size.{volume_sectors}
 use Rattle.rescue_map.specs.Damaged.{IsReadable}
 use Rattle.rescue_map.specs.Salvaged.{reads_for_all, Salvages}

@@ -2,13 +2,12 @@ use Rattle.std.proofs.Common.{◌≡◌, ◌-◌, ◌^◌, List, IfSome, sym, ap
 use Rattle.outside.specs.Attached.{told_all}
 use Rattle.outside.specs.Seen.{Image}
 use Rattle.common_pages.specs.Pages.{IsPageOf}
-use Rattle.run_ends.specs.Stops.{many_refusal}
+use Rattle.sample_job.specs.Sampling.{many_refusal, sample_plan}
 use Rattle.survey_engine.specs.declared.ask.Ask.{Ask}
 use Rattle.survey_job.specs.Surveying.{survey_plan}
 use Rattle.sample_job.proofs.Asked.{surveyable}
 use Rattle.sample_job.proofs.Sampled.{plan_is, refuses_plan, refuses_same, text_is}
 use Rattle.sample_job.specs.Own.{seen_of_own}
-use Rattle.sample_job.specs.Sampling.{sample_plan}
 use Rattle.sample_job.proofs.sampling.array_text.Goals as goal
 
 pub plan_of-requires : goal.plan_of-requires

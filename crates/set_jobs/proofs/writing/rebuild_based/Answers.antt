@@ -1,6 +1,6 @@
 use Rattle.std.proofs.Common.{◌≡◌, ◌∙◌, List, ℕ, subst, rules}
 use Rattle.outside.specs.Attached.{told_all}
-use Rattle.padded_images.specs.Padded.{padded_images, seen_padded}
+use Rattle.image_padding.specs.Padded.{padded_images, seen_padded}
 use Rattle.raid_terms.specs.Volume.{member}
 use Rattle.run_ends.specs.Jobs.{stream}
 use Rattle.set_jobs.specs.Writing.{Writes, told_for, volume_reads_to}

@@ -1,5 +1,5 @@
 use Rattle.std.proofs.Common.{◌≡◌, ◌+◌}
-use Rattle.search_plan.specs.Sets.{total_of}
+use Rattle.plan_sets.specs.Sets.{total_of}
 use Rattle.set_product.specs.Heads.{count_in, numbered}
 use Rattle.set_product.specs.Left.{left_heads, MayBeOpened}
 use Rattle.set_product.proofs.HeadByHead.{blocks_left, ending_after}

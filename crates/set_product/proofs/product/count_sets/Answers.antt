@@ -1,5 +1,5 @@
 use Rattle.std.proofs.Common.{◌≡◌, ◌^◌, ℕ, min, length, sym, ap, ◌∙◌, arith}
-use Rattle.search_plan.specs.Sets.{total_of}
+use Rattle.plan_sets.specs.Sets.{total_of}
 use Rattle.set_product.specs.Blocks.{sets_with}
 use Rattle.set_product.proofs.Walks.{at_end, before_all, count_more, none_before, sets_before}
 use Rattle.set_product.proofs.product.count_sets.Goals as goal

@@ -1,6 +1,6 @@
 use Rattle.std.proofs.Common.{◌+◌, ℕ, Some, length, sym, ap, ◌∙◌, arith}
 use Rattle.std.specs.List.{position}
-use Rattle.search_plan.specs.Sets.{is_same_set}
+use Rattle.plan_sets.specs.Sets.{is_same_set}
 use Rattle.set_product.proofs.Walks.{at_end, before_all, count_more, none_before, not_there, rank_fits, rank_there, within_total}
 use Rattle.set_product.proofs.product.product_rank.Goals as goal
 

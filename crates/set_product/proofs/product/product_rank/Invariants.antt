@@ -1,6 +1,6 @@
 use Rattle.std.proofs.Common.{◌≡◌, length, None}
 use Rattle.std.specs.List.{position}
-use Rattle.search_plan.specs.Sets.{is_same_set}
+use Rattle.plan_sets.specs.Sets.{is_same_set}
 use Rattle.set_product.proofs.Walks.{sets_before}
 use Rattle.set_product.proofs.product.product_rank.Given as goal
 

@@ -1,5 +1,5 @@
 use Rattle.std.proofs.Common.{◌≡◌, ◌+◌, length, ap, arith}
-use Rattle.search_plan.specs.Sets.{total_of}
+use Rattle.plan_sets.specs.Sets.{total_of}
 use Rattle.set_product.proofs.Walks.{at_end, before_all, count_more, none_before, set_there, sets_before, within_total}
 use Rattle.set_product.proofs.product.product_set.Goals as goal
 

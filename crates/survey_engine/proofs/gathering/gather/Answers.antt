@@ -4,7 +4,7 @@ use Rattle.std.proofs.lemmas.List.{length-map}
 use Rattle.outside.specs.Attached.{told_all}
 use Rattle.outside.specs.Seen.{Image, lengths_of}
 use Rattle.outside.proofs.Reading.{reads_none, reads_up}
-use Rattle.image_blocks.specs.Sweep.{next_count, next_of, sectors_of, GoesOn}
+use Rattle.survey_engine.specs.Sweep.{next_count, next_of, sectors_of, GoesOn}
 use Rattle.raid_params.specs.declared.limits.TheConstants.{MOST}
 use Rattle.survey_engine.specs.Blocks.{found_in_block}
 use Rattle.survey_engine.specs.Kept.{kept_with}

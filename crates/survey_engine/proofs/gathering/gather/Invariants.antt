@@ -1,5 +1,5 @@
 use Rattle.std.proofs.Common.{◌≡◌, ◌-◌, ◌*◌, ◌≤◌, length}
-use Rattle.image_blocks.specs.Sweep.{next_of}
+use Rattle.survey_engine.specs.Sweep.{next_of}
 use Rattle.outside.specs.Seen.{OnlyReads}
 use Rattle.raid_params.specs.declared.limits.TheConstants.{MOST}
 use Rattle.survey_engine.specs.Sightings.{AreBefore}

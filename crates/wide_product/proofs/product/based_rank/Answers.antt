@@ -1,5 +1,5 @@
 use Rattle.std.proofs.Common.{◌∙◌, sym, ap, arith}
-use Rattle.search_plan.specs.Sets.{rank_of}
+use Rattle.plan_sets.specs.Sets.{rank_of}
 use Rattle.wide_product.specs.Sets.{based}
 use Rattle.wide_product.proofs.Products.{few_bases, few_later, greatest_is, no_more, not_based, not_each, not_there, ranks, shared_below}
 use Rattle.wide_product.proofs.product.based_rank.Goals as goal

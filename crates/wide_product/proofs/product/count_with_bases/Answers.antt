@@ -1,5 +1,5 @@
 use Rattle.std.proofs.Common.{◌^◌, ◌∙◌, min, ℕ, length, sym, ap, arith}
-use Rattle.search_plan.specs.Sets.{total_of}
+use Rattle.plan_sets.specs.Sets.{total_of}
 use Rattle.wide_product.specs.Groups.{later_bases}
 use Rattle.wide_product.proofs.PartAt.{total_is}
 use Rattle.wide_product.proofs.Products.{shared_total}

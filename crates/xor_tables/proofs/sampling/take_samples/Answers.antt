@@ -1,5 +1,5 @@
-use Rattle.std.proofs.Common.{◌≡◌, ℕ, ◌+◌, ◌<◌, ◌≤◌, List, arith, refl, sym, subst, ◌∙◌}
-use Rattle.column_screen.specs.Samples.{AreBelow, AreSamples, HoldSector}
+use Rattle.std.proofs.Common.{ℕ, ◌+◌, List, arith, refl, subst, ◌∙◌}
+use Rattle.column_screen.specs.Samples.{AreSamples, HoldSector}
 use Rattle.xor_tables.proofs.Sampled.{below_later, sector_of}
 use Rattle.xor_tables.proofs.sampling.take_samples.Goals as goal
 

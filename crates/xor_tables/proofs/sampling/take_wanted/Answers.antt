@@ -1,5 +1,4 @@
-use Rattle.std.proofs.Common.{◌+◌, ◌≤◌, arith}
-use Rattle.xor_tables.proofs.Sampled.{below_later, up_to_below}
+use Rattle.xor_tables.proofs.Sampled.{up_to_below}
 use Rattle.xor_tables.proofs.sampling.take_wanted.Goals as goal
 
 pub returns-clause-below : goal.returns-clause-below

@@ -10,6 +10,7 @@ use Rattle.head_walk.specs.Walk.{is_admitted, samples_of, Screened}
 use Rattle.head_walk.proofs.Admitted.{is_prefix}
 use Rattle.head_walk.proofs.Screening.{kept_for_screen, screen_shaped, settled_by}
 use Rattle.head_walk.proofs.hopeful.HopefulFamily.may_pass.Goals as goal
+use Rattle.search_plan.specs.Plans.{scope_of}
 
 pub early_may_pass-requires-clause-prefix : goal.early_may_pass-requires-clause-prefix
 early_may_pass-requires-clause-prefix c =
@@ -36,11 +37,11 @@ pub returns-then-early_may_pass : goal.returns-then-early_may_pass
 returns-then-early_may_pass c =
     let inside : Screened = record { asked = record { plan = c.self.inside.rows.plan; head = c.self.inside.rows.head; space = c.self.inside.space; xors = c.self.inside.rows.xors }; samples = samples_of c.self.inside.screen } in
     let hopeful : is_hopeful_by c.self.inside.rows.xors c.self.inside.rows.plan c.self.inside.rows.head c.args.prefix.now.items ≡ true = sym c.early_may_pass.ensures.tables ∙ c.if-early_may_pass.true in
-    let settled : c.is_settled.result ≡ ((length c.args.prefix.now.items == c.self.inside.rows.head.members) && is_screened (samples_of c.self.inside.screen) c.self.inside.rows.plan (set_of c.self.inside.rows.head c.args.prefix.now.items))
+    let settled : c.is_settled.result ≡ ((length c.args.prefix.now.items == c.self.inside.rows.head.members) && is_screened (samples_of c.self.inside.screen) (scope_of c.self.inside.rows.plan) (set_of c.self.inside.rows.head c.args.prefix.now.items))
     = c.is_settled.ensures
     ∙ ap (λ (l : List (Option ℕ)). option_map_or (λ s. (length l == c.head.result.now.members) && settles s l) c.self.inside.screen false) c.deref.ensures.0
     ∙ ap (λ (h : Head). option_map_or (λ s. (length c.args.prefix.now.items == h.members) && settles s c.args.prefix.now.items) c.self.inside.screen false) c.head.ensures.is
     ∙ settled_by c.self.inside.rows.plan c.self.inside.rows.head c.self.inside.screen c.self.inside.rows.head.members c.args.prefix.now.items c.self.invariant.2 in
     ap not settled
-    ∙ sym (ap (λ (b : Bool). b && not ((length c.args.prefix.now.items == c.self.inside.rows.head.members) && is_screened (samples_of c.self.inside.screen) c.self.inside.rows.plan (set_of c.self.inside.rows.head c.args.prefix.now.items))) hopeful)
+    ∙ sym (ap (λ (b : Bool). b && not ((length c.args.prefix.now.items == c.self.inside.rows.head.members) && is_screened (samples_of c.self.inside.screen) (scope_of c.self.inside.rows.plan) (set_of c.self.inside.rows.head c.args.prefix.now.items))) hopeful)
     ∙ ap (λ (s : Screened). is_admitted s c.args.prefix.now.items) c.self.view_is

@@ -1,7 +1,7 @@
 use Rattle.std.proofs.Common.{◌≡◌, ◌*◌, ℕ, None, Option, Some, length, sym, ap, ap₂, ◌∙◌, arith}
 use Rattle.std.specs.List.{position}
 use Rattle.slot_math.specs.Space.{lists_of, same_slots}
-use Rattle.search_plan.specs.Sets.{is_same_head}
+use Rattle.plan_sets.specs.Sets.{is_same_head}
 use Rattle.set_product.specs.Blocks.{heads_with}
 use Rattle.set_product.specs.Pairs.{joined}
 use Rattle.set_product.proofs.BlockRanks.{found_fits, joined_none, set_place}

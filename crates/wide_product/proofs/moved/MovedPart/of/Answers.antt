@@ -1,7 +1,7 @@
 use Rattle.std.proofs.Common.{◌∙◌, refl, sym, ap, subst, arith}
 use Rattle.std.specs.Option.{IsSome}
 use Rattle.search_plan.specs.Plans.{IsPlan}
-use Rattle.search_plan.specs.Sets.{rank_of, total_of}
+use Rattle.plan_sets.specs.Sets.{rank_of, total_of}
 use Rattle.search_plan.specs.declared.plan.Plan.{Plan}
 use Rattle.wide_product.proofs.MovedPlan.{found_first, moved_few, moved_is, moved_part}
 use Rattle.wide_product.proofs.Products.{part_space}

@@ -1,0 +1,3 @@
+pub mod AllKinds
+pub mod Drops
+pub mod Words

@@ -1,0 +1,9 @@
+use Rattle.std.proofs.Common.{◌≢◌, ◌<◌, ℕ}
+use Rattle.std.specs.List.{slice_index_or}
+use Rattle.mark_kinds.specs.declared.sectors.Kind.{Kind}
+use Rattle.landmark_text.specs.Names.{kind_name}
+use Rattle.landmark_text.proofs.kinds.find_kind.Given as goal
+
+-- none of the kinds before is called so
+abbrev pub invariant-loop-kind : goal.invariant-loop-kind
+invariant-loop-kind l = (k : ℕ) → k < l.kind-index → (any : Kind) → l.text ≢ kind_name (slice_index_or l.kinds k any)

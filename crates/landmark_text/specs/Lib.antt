@@ -1,0 +1,4 @@
+pub mod Names
+pub mod KindLaws
+pub mod DropLaws
+pub mod WordLaws

@@ -1,0 +1,138 @@
+//! The tallies of many sets, in pieces.
+ghost use Rattle.std.specs.Prelude.{◌≡◌, ◌+◌, ◌*◌, ◌^◌, ◌<◌, ◌≤◌, length, All, IfSome};
+ghost use Rattle.member_regions.specs.Members.{IsTestable};
+ghost use Rattle.member_regions.specs.Regions.{IsRoomFor};
+ghost use Rattle.member_regions.specs.declared.regions.TheConstants.{BLOCK};
+ghost use Rattle.parity_scan.specs.ImageRows.{AddAll, IsTallied};
+ghost use Rattle.parity_scan.specs.ImageSums.{AreImageSums};
+
+use crate::image_rows::{ROW, tally_after};
+use crate::image_sums::ImageSums;
+use crate::runs::Run;
+use crate::scan_parts::{Scanned, Threading};
+use crate::tally::Tally;
+use gates::{Gate, OpenGate};
+use member_regions::{BLOCK, Regions};
+use search_scope::Scope;
+use std::thread;
+use std::thread::Threads;
+
+/// The tallies of a piece.
+pub const PIECE: usize = 512;
+
+/// As many open tallies as make sums of all images, and threads, worth their cost.
+const MANY: usize = 16;
+
+/// Adds the rows of a run to the tallies, in pieces where many are open. The first run of a pass is always added in pieces, which
+/// pass the gate.
+pub fn add_run<R: Threads + Sync, G: Gate + Sync>(
+    threads: &Threading<R, G>,
+    scanned: &Scanned,
+    tallies: &mut [Tally],
+    regions: &Regions,
+    run: Run,
+    is_first: bool,
+)
+    requires long { length tallies.old ≡ length scanned.now.sets.now }
+    requires sets { All (IsTallied regions.now) scanned.now.sets.now }
+    requires run { run.first + run.count < 2 ^ 55 }
+    requires most { run.count ≤ BLOCK }
+    requires room { IsRoomFor (length scanned.now.scope.now.lengths.items) run.count regions.now }
+    ensures added { AddAll scanned.now.scope.now scanned.now.sets.now 0 run regions.now tallies.old tallies.new }
+    ensures long { length tallies.new ≡ length tallies.old }
+{
+    if is_first {
+        add_in_pieces(threads, scanned, tallies, regions, run);
+        return;
+    }
+    let threads = Threading {
+        rt: threads.rt,
+        gate: &OpenGate,
+    };
+    if are_many(tallies) {
+        add_in_pieces(&threads, scanned, tallies, regions, run);
+        return;
+    }
+    add_to_piece(scanned, 0, tallies, regions, &ImageSums::none(), run);
+}
+
+/// Whether many tallies are open.
+fn are_many(tallies: &[Tally]) -> bool {
+    MANY <= tallies.iter().filter(|tally| tally.is_open()).count()
+}
+
+/// The sums of the images at the places of a run where many tallies are open, and else none.
+pub fn sums_for(scope: &Scope, tallies: &[Tally], regions: &Regions, run: Run) -> ImageSums
+    requires most { run.count ≤ BLOCK }
+    requires room { IsRoomFor (length scope.now.lengths.items) run.count regions.now }
+    ensures { AreImageSums regions.now result }
+{
+    if !are_many(tallies) {
+        return ImageSums::none();
+    }
+    ImageSums::over(regions, scope.lengths.len(), run.count as usize)
+}
+
+/// Adds the rows of a run to the tallies in pieces that may run side by side. Each piece passes the gate first.
+pub fn add_in_pieces<R: Threads + Sync, G: Gate + Sync>(
+    threads: &Threading<R, G>,
+    scanned: &Scanned,
+    tallies: &mut [Tally],
+    regions: &Regions,
+    run: Run,
+)
+    requires long { length tallies.old ≡ length scanned.now.sets.now }
+    requires sets { All (IsTallied regions.now) scanned.now.sets.now }
+    requires run { run.first + run.count < 2 ^ 55 }
+    requires most { run.count ≤ BLOCK }
+    requires room { IsRoomFor (length scanned.now.scope.now.lengths.items) run.count regions.now }
+    ensures added { AddAll scanned.now.scope.now scanned.now.sets.now 0 run regions.now tallies.old tallies.new }
+    ensures long { length tallies.new ≡ length tallies.old }
+{
+    let gate = threads.gate;
+    let sums = sums_for(scanned.scope, tallies, regions, run);
+    let sums = &sums;
+    thread::for_each_chunk_mut(
+        threads.rt,
+        tallies,
+        PIECE,
+        &|start: usize, piece: &mut [Tally]|
+            requires { (start + length piece.old ≤ length scanned.now.sets.now) × All (IsTallied regions.now) scanned.now.sets.now × AreImageSums regions.now sums.now × (run.first + run.count < 2 ^ 55) × (512 * run.count ≤ regions.now.stride) }
+            ensures added { AddAll scanned.entry.now.scope.now scanned.entry.now.sets.now start run regions.entry.now piece.old piece.new }
+        {
+            gate.pass(start / PIECE);
+            add_to_piece(scanned, start, piece, regions, sums, run);
+        },
+    );
+}
+
+/// Adds the rows of a run to the tallies of the sets from number `start` on.
+pub fn add_to_piece(
+    scanned: &Scanned,
+    start: usize,
+    piece: &mut [Tally],
+    regions: &Regions,
+    sums: &ImageSums,
+    run: Run,
+)
+    requires long { start + length piece.old ≤ length scanned.now.sets.now }
+    requires sets { All (IsTallied regions.now) scanned.now.sets.now }
+    requires sums { AreImageSums regions.now sums.now }
+    requires run { run.first + run.count < 2 ^ 55 }
+    requires room { 512 * run.count ≤ regions.now.stride }
+    ensures added { AddAll scanned.now.scope.now scanned.now.sets.now start run regions.now piece.old piece.new }
+    ensures long { length piece.new ≡ length piece.old }
+{
+    let mut room = [0; ROW];
+    for i in 0..piece.len() {
+        piece[i] = tally_after(
+            scanned.scope,
+            &scanned.sets[start + i],
+            piece[i],
+            regions,
+            sums,
+            run,
+            &mut room,
+        );
+    }
+}

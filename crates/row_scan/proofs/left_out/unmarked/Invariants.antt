@@ -1,5 +1,0 @@
-use Rattle.row_scan.specs.ImageSums.{IsUnmarked}
-use Rattle.row_scan.proofs.left_out.unmarked.Given as goal
-
-abbrev pub invariant-loop-image : goal.invariant-loop-image
-invariant-loop-image l = IsUnmarked l.marks l.image l.out

@@ -1,6 +1,0 @@
-use Rattle.std.specs.Prelude.{MatchOption}
-use Rattle.row_scan.specs.Pass.{IsNextRun, NothingLeft}
-use Rattle.row_scan.proofs.runs.next_run.Given as goal
-
-abbrev pub invariant-loop-k : goal.invariant-loop-k
-invariant-loop-k l = MatchOption l.next (NothingLeft l.scanned.plan.now l.scanned.sets.now l.tallies l.k l.at) (IsNextRun l.scanned.plan.now l.scanned.sets.now l.tallies l.k l.at)

@@ -54,7 +54,7 @@ not() { ! "$@"; }
 listening() {
     [ -z "$listener" ] || { kill "$listener"; wait "$listener" 2>/dev/null; }
     rm -f socket
-    python3 "$bench/nbd_listen.py" socket reraid-nbd "${words[@]}" &
+    python3 "$bench/measuring/nbd_listen.py" socket reraid-nbd "${words[@]}" &
     listener=$!
     until [ -S socket ]; do sleep 0.1; done
 }
@@ -76,7 +76,7 @@ holds() {
 told() {
     as "$1: nbdinfo says the size" test "$(nbdinfo --size "$uri")" = "$size"
     for line in "is_read_only: true" "can_multi_conn: true" "can_flush: false" "can_trim: false" "can_zero: false" "block_size_minimum: 1" \
-        "block_size_preferred: 4096" "block_size_maximum: 4194304" "protocol: newstyle-fixed without TLS, using simple packets"; do
+        "block_size_preferred: 4096" "block_size_maximum: 33554432" "protocol: newstyle-fixed without TLS, using simple packets"; do
         as "$1: nbdinfo says $line" holds "$line" nbdinfo "$uri"
     done
     as "$1: nbdinfo lists one export" holds 'export="":' nbdinfo --list "$uri"
@@ -121,15 +121,16 @@ def refused(number, call, *words):
 
 assert client.is_read_only()
 refused(1, client.pwrite, bytes(5 << 20), 0)
+refused(1, client.pwrite, bytes(512), 0, nbd.CMD_FLAG_FUA)
 refused(1, client.trim, 512, 0)
 refused(1, client.zero, 512, 0)
 refused(22, client.pread, 1, size)
 refused(22, client.pread, 2, size - 1)
-refused(22, client.pread, (4 << 20) + 1, 0)
+refused(22, client.pread, (32 << 20) + 1, 0)
 refused(22, client.cache, 512, 0)
-client.flush()
+refused(22, client.flush)
 with open("volume", "rb") as file:
-    for place, length in ((0, 4 << 20), (size - 1, 1), (size // 2 - 77, 1234567), (511, 2)):
+    for place, length in ((0, min(size, 32 << 20)), (size - 1, 1), (size // 2 - 77, 1234567), (511, 2)):
         file.seek(place)
         assert client.pread(length, place) == file.read(length), (place, length)
 client.shutdown()
@@ -184,7 +185,7 @@ ends() {
 refused() {
     head -c 1M /dev/urandom >made
     mkdir "a folder"
-    "$bench/disks.py" offsets=0 5 8 made "a folder/one image" --d1 d2
+    "$bench/making/disks.py" offsets=0 5 8 made "a folder/one image" --d1 d2
     local set=5:ls:none:8:0:0,1,2 images=("a folder/one image" --d1 d2)
     as "reraid-mount without images" ends 1 "usage: " reraid-mount "$set" shown
     as "reraid-mount of a folder that is not empty" ends 1 "tree is not empty" reraid-mount "$set" tree "${images[@]}"
@@ -212,18 +213,18 @@ for number in $(seq 60); do head -c "${number}00" /dev/urandom >"tree/deep/er/$n
 refused
 
 mke2fs -q -t ext4 -d tree made 32M >/dev/null
-"$bench/disks.py" offsets=2048,0,16,4096 5 128 made a.img b.img c.img d.img
+"$bench/making/disks.py" offsets=2048,0,16,4096 5 128 made a.img b.img c.img d.img
 array "ext4, level 5, an offset of each image, one lost" ro,noload,loop write 5:ls:none:128:16+4096+2048:2,-,0,1 c.img d.img a.img
 
 truncate -s 320M made
 mkfs.xfs -q -f made
 mount -o loop made files && cp -r tree/. files && umount files
-python3 "$bench/sparse.py" 6 1024 264192 524288 made a.img b.img c.img d.img e.img
+python3 "$bench/making/sparse.py" 6 1024 264192 524288 made a.img b.img c.img d.img e.img
 array "XFS, level 6, two lost" ro,norecovery,loop write 6:ls:after-q:1024:264192:-,2,0,-,1 c.img e.img b.img
 
 rm made && truncate -s 120M made
 mkfs.btrfs -q -r tree made 2>/dev/null
-"$bench/disks.py" near2 128 made a.img b.img c.img d.img
+"$bench/making/disks.py" near2 128 made a.img b.img c.img d.img
 array "btrfs, near2, one lost" ro,loop mirrorwrite near2:128:2048:1,-,0,2 c.img a.img d.img
 
 echo "$cases cases, with $reads reads, $failed not as stated"

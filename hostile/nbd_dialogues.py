@@ -21,7 +21,7 @@ sys.dont_write_bytecode = True
 sys.path.insert(0, str(HERE))
 import nbd_model as model  # noqa: E402
 
-DISKS = HERE.parent / "bench/disks.py"
+DISKS = HERE.parent / "bench/making/disks.py"
 # The level, pattern, chunk, offsets and members of each array, and how many members may be lost.
 ARRAYS = [
     ("0", "plain", 8, [16], 3, 0),
@@ -62,11 +62,11 @@ def set_word(array, slots):
     return f"{level}:{pattern}:{syndrome}:{chunk}:{'+'.join(map(str, offsets))}:{','.join(slots)}"
 
 
-def make_array(array, number, chance):
-    """The disks of an array, in their slots."""
+def make_array(array, number, chance, least=6 << 20):
+    """The disks of an array with so many bytes at least, in their slots."""
     level, pattern, chunk, offsets, members, _ = array
     names = [f"{number}.{slot}" for slot in range(members)]
-    pathlib.Path("volume").write_bytes(chance.randbytes(chance.randint(6 << 20, 7 << 20)))
+    pathlib.Path("volume").write_bytes(chance.randbytes(least + chance.randint(0, 1 << 20)))
     asked = [f"offsets={','.join(map(str, offsets))}"]
     if pattern:
         asked += [f"pattern={pattern}", f"syndrome={'by-slot' if pattern == 'n-continue' else 'after-q'}"]
@@ -126,6 +126,22 @@ def try_reads(cases, program, server, count, chance):
             put = subprocess.run([program, command, f"end={end}", f"set={word}", "--", *left], check=True, stdout=subprocess.PIPE).stdout
             compare(cases, server, words, put, model.hello(0) + model.reads(chance, len(put), 20, len(put)), f"end={end} of {word}")
     return kept
+
+
+def try_long_reads(cases, program, server, chance):
+    """The longest read, one byte more, and reads with it past the end, of clients by each way in."""
+    array = ARRAYS[2]
+    names = make_array(array, "long", chance, model.GREATEST)
+    *_, (_, word, left) = sets_of(array, names)
+    words = [f"set={word}", "--", *left]
+    content = subprocess.run([program, "write", *words], check=True, stdout=subprocess.PIPE).stdout
+    last = len(content) - model.GREATEST
+    places = (0, model.GREATEST), (last, model.GREATEST), (0, model.GREATEST + 1), (last + 1, model.GREATEST), (last // 2 + 77, model.GREATEST - 1)
+    data = b"".join(model.request(model.READ, number, place, length) for number, (place, length) in enumerate(places))
+    ways = {"EXPORT_NAME": model.hello(), "GO": model.entered(), "GO with the sizes of blocks": model.entered(3)}
+    for name, hello in ways.items():
+        compare(cases, server, words, content, hello + data, f"the longest reads by {name}")
+        cases.reads += len(places)
 
 
 def try_dialogues(cases, server, kept, count, chance):
@@ -241,6 +257,7 @@ def main(words):
     with tempfile.TemporaryDirectory() as folder:
         os.chdir(folder)
         kept = try_reads(cases, program, server, asked["reads"], chance)
+        try_long_reads(cases, program, server, chance)
         try_faults(cases, program, server)
         try_refusals(cases, program, server)
         try_dialogues(cases, server, kept, asked["dialogues"], chance)

@@ -16,11 +16,13 @@ EXPORT_NAME, ABORT, LIST, INFO, GO = 1, 2, 3, 6, 7
 ACK, SERVER, INFO_REPLY = 1, 2, 3
 UNSUPPORTED, INVALID, UNKNOWN, TOO_BIG = (0x80000000 + number for number in (1, 3, 6, 9))
 READ, WRITE, DISCONNECT, FLUSH, TRIM, CACHE, ZEROES, STATUS, RESIZE = range(9)
+CHANGES = WRITE, TRIM, ZEROES
 REQUEST_MAGIC, REPLY_MAGIC = 0x25609513, 0x67446698
 NOT_PERMITTED, INPUT_OUTPUT, NOT_VALID = 1, 5, 22
 # HAS_FLAGS, READ_ONLY, CAN_MULTI_CONN.
 EXPORT_FLAGS = 1 << 0 | 1 << 1 | 1 << 8
-GREATEST = 4 << 20
+# What a client may ask for that was told no sizes of blocks, as one that entered by EXPORT_NAME.
+GREATEST = 32 << 20
 DONE, MALFORMED = 0, 14
 
 
@@ -101,11 +103,9 @@ def haggle(taken, put, size):
 
 def error_of(flags, command, offset, length, size):
     """The error of a request, 0 for none."""
-    if flags or command not in (READ, WRITE, FLUSH, TRIM, ZEROES):
-        return NOT_VALID
-    if command == READ:
-        return 0 if length <= GREATEST and offset + length <= size else NOT_VALID
-    return 0 if command == FLUSH else NOT_PERMITTED
+    if command in CHANGES:
+        return NOT_PERMITTED
+    return 0 if command == READ and not flags and length <= GREATEST and offset + length <= size else NOT_VALID
 
 
 def serve(taken, put, content):
@@ -149,6 +149,11 @@ def request(command, handle, offset=0, length=0, flags=0, data=b"", magic=REQUES
 def hello(flags=0b11):
     """The shortest way to requests."""
     return FLAGS.pack(flags) + option(EXPORT_NAME)
+
+
+def entered(*told):
+    """The way to requests by GO, with these numbers of what the client wants to be told."""
+    return FLAGS.pack(0b11) + option(GO, struct.pack(f">IH{len(told)}H", 0, len(told), *told))
 
 
 def reads(chance, size, count, most):

@@ -1,15 +1,17 @@
 //! A device of whole sectors that is only read, as a server of blocks sees it.
 //!
-//! It stands on `outside` alone: a device counts the faults of what it stands on, as the objects of `outside` do.
+//! It stands on `outside` alone. What a reading may do beside giving bytes, and when it fails, is for each device to say
+//! (`reads`), so that who reads one by [`BlockDevice`] alone asks for no other sectors than its contract says.
 //! [`read_bytes`] reads bytes that begin and end inside sectors.
 #![tactic(auto)]
 
 mod reading;
 
-ghost use Rattle.std.specs.Prelude.{◌≡◌, ◌<◌, ◌≤◌, ◌+◌, ◌*◌, ◌/◌, ◌%◌, ℕ, List, length, slice_range, OnOk, IfSome};
+ghost use Rattle.std.specs.Prelude.{◌≡◌, ◌<◌, ◌≤◌, ◌+◌, ◌*◌, ◌/◌, ◌%◌, ℕ, Bool, List, length, slice_range, OnOk, IfSome};
+ghost use Rattle.std.specs.Result.{is_err};
 ghost use Rattle.std.specs.declared.option.Option.{Option};
-ghost use Rattle.outside.specs.Causes.{HasCause};
 ghost use Rattle.block_device.specs.Content.{Fixed, IsContent};
+ghost use Rattle.block_device.specs.Reading.{Asked};
 
 use outside::Failed;
 pub use reading::read_bytes;
@@ -28,14 +30,18 @@ pub trait BlockDevice {
     /// What no reading changes of what it stands on.
     ghost fixed: { Self → Fixed };
 
+    /// What a reading may do: the first device was asked for these sectors, failed or did not, and became the second. A device says
+    /// here what its readings cost, and when they fail. Only a reading shows it: so it says which sectors were asked for.
+    ghost reads: { Self → Asked → Bool → Self → Type 0 };
+
     /// Its length in sectors.
     fn sectors(&self) -> u64
         ensures { result ≡ size self.now };
 
     /// Fills `to` with the device's bytes from a sector on.
     ///
-    /// `to` is a whole number of sectors, not 0, that lie within the device. It fails only where the count of
-    /// faults rose, and then `to` holds unknown bytes.
+    /// `to` is a whole number of sectors, not 0, that lie within the device. When it fails is said by `reads`, and then `to` holds
+    /// unknown bytes.
     fn read(&mut self, first: u64, to: &mut [u8]) -> Result<(), Failed>
         requires whole { length to.old % 512 ≡ 0 }
         requires some { 0 < length to.old }
@@ -43,7 +49,8 @@ pub trait BlockDevice {
         ensures told { OnOk result (IfSome (content self.old) (λ bytes. to.new ≡ slice_range bytes (512 * first) (512 * first + length to.old))) }
         ensures kept { (content self.new ≡ content self.old) × (size self.new ≡ size self.old) }
         ensures fixed { fixed self.new ≡ fixed self.old }
-        ensures cause { HasCause (faults self.old) (faults self.new) result };
+        ensures later { faults self.old ≤ faults self.new }
+        ensures reads { reads self.old (record { first = first; count = length to.old / 512 }) (is_err result) self.new };
 
     /// Its known bytes are 512 for each of its sectors.
     ghost whole: { (s : Self) → IsContent (content s) (size s) };

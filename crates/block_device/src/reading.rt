@@ -1,14 +1,15 @@
 //! Reading bytes that begin and end inside sectors.
 ghost use Rattle.std.specs.Prelude.{◌≡◌, ◌+◌, ◌*◌, ◌/◌, ◌%◌, ◌<◌, ◌≤◌, length, slice_range, IfSome, OnOk};
-ghost use Rattle.outside.specs.Causes.{HasCause};
+ghost use Rattle.std.specs.Result.{is_err};
+ghost use Rattle.block_device.specs.Reading.{asked_for};
 
 use crate::BlockDevice;
 use outside::{Failed, SECTOR};
 
 /// Reads the sectors in which `count` bytes from `offset` on lie, so that the first of the bytes stands at `offset % SECTOR` of `room`.
 ///
-/// The bytes lie within the device, and `room` holds those sectors. It fails only where the count of faults rose, and then
-/// `room` holds unknown bytes.
+/// The bytes lie within the device, and `room` holds those sectors. It asks once, for just these sectors, and fails where that
+/// reading does; then `room` holds unknown bytes.
 pub fn read_bytes<D: BlockDevice>(
     device: &mut D,
     room: &mut [u8],
@@ -22,7 +23,8 @@ pub fn read_bytes<D: BlockDevice>(
         slice_range room.new (offset % 512) (offset % 512 + count) ≡ slice_range content offset (offset + count))) }
     ensures kept { (D.content device.new ≡ D.content device.old) × (D.size device.new ≡ D.size device.old) }
     ensures fixed { D.fixed device.new ≡ D.fixed device.old }
-    ensures cause { HasCause (D.faults device.old) (D.faults device.new) result }
+    ensures later { D.faults device.old ≤ D.faults device.new }
+    ensures reads { D.reads device.old (asked_for offset count) (is_err result) device.new }
 {
     let shift = (offset % SECTOR as u64) as usize;
     let sectors = (shift + count).div_ceil(SECTOR);

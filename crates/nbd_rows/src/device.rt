@@ -1,5 +1,5 @@
 //! A device in memory.
-ghost use Rattle.std.specs.Prelude.{◌≡◌, ◌/◌, Some, length};
+ghost use Rattle.std.specs.Prelude.{◌≡◌, ◌+◌, ◌-◌, ◌^◌, ◌/◌, min, Some, length};
 ghost use Rattle.outside.specs.Seen.{whole_sectors};
 ghost use Rattle.nbd_rows.specs.Whole.{nothing_below, whole_length};
 
@@ -27,6 +27,9 @@ impl BlockDevice for MemDevice {
     ghost faults = { λ d. d.faults };
 
     ghost fixed = { λ d. nothing_below };
+
+    // A reading is counted.
+    ghost reads = { λ before asked failed after. after.reads ≡ min (before.reads + 1) (2 ^ 64 - 1) };
 
     ghost whole = { λ d. whole_length d.bytes.items };
 

@@ -14,7 +14,7 @@ pub const FLAGS: &[u8] = b"\x00\x00\x00\x03";
 pub const GO: &[u8] = b"IHAVEOPT\x00\x00\x00\x07\x00\x00\x00\x08\x00\x00\x00\x00\x00\x01\x00\x03";
 /// What it is answered of a device of 1,024 bytes.
 pub const GONE: &[u8] =
-    b"\x00\x03\xe8\x89\x04\x55\x65\xa9\x00\x00\x00\x07\x00\x00\x00\x03\x00\x00\x00\x0c\x00\x00\x00\x00\x00\x00\x00\x00\x04\x00\x01\x03\x00\x03\xe8\x89\x04\x55\x65\xa9\x00\x00\x00\x07\x00\x00\x00\x03\x00\x00\x00\x0e\x00\x03\x00\x00\x00\x01\x00\x00\x10\x00\x00\x40\x00\x00\x00\x03\xe8\x89\x04\x55\x65\xa9\x00\x00\x00\x07\x00\x00\x00\x01\x00\x00\x00\x00";
+    b"\x00\x03\xe8\x89\x04\x55\x65\xa9\x00\x00\x00\x07\x00\x00\x00\x03\x00\x00\x00\x0c\x00\x00\x00\x00\x00\x00\x00\x00\x04\x00\x01\x03\x00\x03\xe8\x89\x04\x55\x65\xa9\x00\x00\x00\x07\x00\x00\x00\x03\x00\x00\x00\x0e\x00\x03\x00\x00\x00\x01\x00\x00\x10\x00\x02\x00\x00\x00\x00\x03\xe8\x89\x04\x55\x65\xa9\x00\x00\x00\x07\x00\x00\x00\x01\x00\x00\x00\x00";
 /// A read of four bytes from byte 510 on.
 pub const READ: &[u8] =
     b"\x25\x60\x95\x13\x00\x00\x00\x00abcdefgh\x00\x00\x00\x00\x00\x00\x01\xfe\x00\x00\x00\x04";
@@ -49,7 +49,7 @@ pub fn talk<R: Abort>(
     out: &mut MemSink,
 ) -> Result<Result<(), NbdStop>, Fail> {
     let mut source = MemSource::new(alloc, asked)?;
-    assert!(rt; device.bytes.len() < 1_000_000);
+    assert!(rt; device.bytes.len() < 100_000_000);
     Ok(serve(alloc, device, &mut source, out))
 }
 
@@ -141,17 +141,18 @@ fn options_and_their_refusals(rt: HostRuntime) -> Result<(), Fail> {
     answers(&rt, rt.alloc(), 0, &asked, &want)
 }
 
-// A write of two bytes, FLUSH, a read past the end, one that is too long, one with a flag, one of nothing, and a command that
-// there is not.
+// A write of two bytes, one that wants them on the medium at once (FUA), FLUSH, a read past the end, one that is too long, one with a
+// flag, one of nothing, and a command that there is not.
 #[test]
 fn requests_and_their_refusals(rt: HostRuntime) -> Result<(), Fail> {
     let asked = [
         FLAGS,
         GO,
         b"\x25\x60\x95\x13\x00\x00\x00\x01write  1\x00\x00\x00\x00\x00\x00\x00\x00\x00\x00\x00\x02xy".as_slice(),
+        b"\x25\x60\x95\x13\x00\x01\x00\x01at once1\x00\x00\x00\x00\x00\x00\x00\x00\x00\x00\x00\x02xy".as_slice(),
         b"\x25\x60\x95\x13\x00\x00\x00\x03flush  2\x00\x00\x00\x00\x00\x00\x00\x00\x00\x00\x00\x00".as_slice(),
         b"\x25\x60\x95\x13\x00\x00\x00\x00past   3\x00\x00\x00\x00\x00\x00\x03\xff\x00\x00\x00\x02".as_slice(),
-        b"\x25\x60\x95\x13\x00\x00\x00\x00long   4\x00\x00\x00\x00\x00\x00\x00\x00\x00\x40\x00\x01".as_slice(),
+        b"\x25\x60\x95\x13\x00\x00\x00\x00long   4\x00\x00\x00\x00\x00\x00\x00\x00\x02\x00\x00\x01".as_slice(),
         b"\x25\x60\x95\x13\x00\x01\x00\x00flag   5\x00\x00\x00\x00\x00\x00\x00\x00\x00\x00\x00\x01".as_slice(),
         b"\x25\x60\x95\x13\x00\x00\x00\x00none   6\x00\x00\x00\x00\x00\x00\x04\x00\x00\x00\x00\x00".as_slice(),
         b"\x25\x60\x95\x13\x00\x00\x00\x05cache  7\x00\x00\x00\x00\x00\x00\x00\x00\x00\x00\x00\x01".as_slice(),
@@ -161,7 +162,8 @@ fn requests_and_their_refusals(rt: HostRuntime) -> Result<(), Fail> {
         GREETING,
         GONE,
         b"\x67\x44\x66\x98\x00\x00\x00\x01write  1".as_slice(),
-        b"\x67\x44\x66\x98\x00\x00\x00\x00flush  2".as_slice(),
+        b"\x67\x44\x66\x98\x00\x00\x00\x01at once1".as_slice(),
+        b"\x67\x44\x66\x98\x00\x00\x00\x16flush  2".as_slice(),
         b"\x67\x44\x66\x98\x00\x00\x00\x16past   3".as_slice(),
         b"\x67\x44\x66\x98\x00\x00\x00\x16long   4".as_slice(),
         b"\x67\x44\x66\x98\x00\x00\x00\x16flag   5".as_slice(),
@@ -170,4 +172,33 @@ fn requests_and_their_refusals(rt: HostRuntime) -> Result<(), Fail> {
         b"\x67\x44\x66\x98\x00\x00\x00\x00last   8\x13".as_slice(),
     ];
     answers(&rt, rt.alloc(), 0, &asked, &want)
+}
+
+/// A read of 32 MiB from byte 1 on.
+const LONG_READ: &[u8] =
+    b"\x25\x60\x95\x13\x00\x00\x00\x00abcdefgh\x00\x00\x00\x00\x00\x00\x00\x01\x02\x00\x00\x00";
+
+// The longest read, of a client of the old way in, which was told no sizes of blocks.
+#[test]
+fn the_longest_read(rt: HostRuntime) -> Result<(), Fail> {
+    let alloc = rt.alloc();
+    let mut bytes = vec![in alloc; 7u8; 33_555_456]?;
+    bytes[1] = 1;
+    bytes[33_554_432] = 2;
+    bytes[33_554_433] = 3;
+    let mut device = MemDevice {
+        bytes,
+        failing: 0,
+        reads: 0,
+        faults: 0,
+    };
+    let mut out = MemSink::new(alloc, 33_560_000)?;
+    let asked = joined(alloc, &[FLAGS, NAME, LONG_READ])?;
+    assert!(rt; talk(&rt, alloc, &mut device, &asked, &mut out)? == Ok(()));
+    assert!(rt; out.bytes().len() == 18 + 10 + 16 + 33_554_432);
+    assert!(rt;
+        &out.bytes()[28..46] == b"\x67\x44\x66\x98\x00\x00\x00\x00abcdefgh\x01\x07".as_slice()
+    );
+    assert!(rt; &out.bytes()[18 + 10 + 16 + 33_554_430..] == b"\x07\x02".as_slice());
+    Ok(())
 }

@@ -1,6 +1,7 @@
 //! Reading what a request asks for.
 ghost use Rattle.std.specs.Prelude.{ℕ, ◌≡◌, ◌+◌, ◌-◌, ◌*◌, ◌<◌, ◌≤◌, ◌^◌, ◌%◌, ◌++◌, true, length, slice_range, IfOk, IfSome, OnOk};
-ghost use Rattle.outside.specs.Causes.{HasCause};
+ghost use Rattle.std.specs.Result.{is_err};
+ghost use Rattle.block_device.specs.Reading.{asked_for};
 ghost use Rattle.nbd_text.specs.Requests.{is_read, simple_reply as simple_reply_of};
 
 use block_device::{BlockDevice, read_bytes};
@@ -30,7 +31,7 @@ fn put_head(room: &mut [u8], at: usize, head: &[u8])
     room[at - head.len()..at].copy_from_slice(head);
 }
 
-/// Reads what a request asks for, and gives where the reply begins in the room.
+/// Reads what a request asks for, and nothing else, and gives where the reply begins in the room.
 pub(crate) fn read_request<D: BlockDevice>(
     device: &mut D,
     room: &mut [u8],
@@ -44,7 +45,8 @@ pub(crate) fn read_request<D: BlockDevice>(
         slice_range room.new start (start + (16 + request.now.length)) ≡ simple_reply_of 0 request.now.handle ++ slice_range content request.now.offset (request.now.offset + request.now.length))) }
     ensures kept { (D.content device.new ≡ D.content device.old) × (D.size device.new ≡ D.size device.old) }
     ensures fixed { D.fixed device.new ≡ D.fixed device.old }
-    ensures cause { HasCause (D.faults device.old) (D.faults device.new) result }
+    ensures later { D.faults device.old ≤ D.faults device.new }
+    ensures reads { D.reads device.old (asked_for request.now.offset request.now.length) (is_err result) device.new }
 {
     read_bytes(
         device,

@@ -32,8 +32,8 @@ fn talk<D: BlockDevice, S: Source, K: Sink>(
 ) -> Result<(), NbdStop>
     requires room { length room.old ≡ ROOM }
     requires small { 512 * D.size device.old < 2 ^ 63 }
-    ensures talks { IfSome (D.content device.old) (λ content. Talks (after_greeting content)
-        (wire (S.left source.old) (K.gained out.old) (D.faults device.old)) (wire (S.left source.new) (K.gained out.new) (D.faults device.new)) result) }
+    ensures talks { IfSome (D.content device.old) (λ content. Talks D.reads (after_greeting content)
+        (wire (S.left source.old) (K.gained out.old) device.old) (wire (S.left source.new) (K.gained out.new) device.new) result) }
     ensures kept { (D.content device.new ≡ D.content device.old) × (D.size device.new ≡ D.size device.old) }
     ensures fixed { D.fixed device.new ≡ D.fixed device.old }
     ensures later { D.faults device.old ≤ D.faults device.new }
@@ -56,8 +56,9 @@ fn talk<D: BlockDevice, S: Source, K: Sink>(
 /// Serves a device to the client that speaks over a source and a sink: the greeting, and then an answer to each message, until the
 /// client ends the dialogue or the input ends between two messages.
 ///
-/// All memory is taken before the greeting. A reply is put once it is whole. A reading of the device that fails is told
-/// the client as `EIO`, and the dialogue goes on. Every run ends, at the latest with its input.
+/// All memory is taken before the greeting. A reply is put once it is whole, before more is taken, and no byte is taken behind the end.
+/// The device is read for requests alone, and asked for their sectors alone. A reading of it that fails is told the client as `EIO`,
+/// and the dialogue goes on. Every run ends, at the latest with its input.
 pub fn serve<D: BlockDevice, S: Source, K: Sink>(
     alloc: Global,
     device: &mut D,
@@ -66,9 +67,9 @@ pub fn serve<D: BlockDevice, S: Source, K: Sink>(
 ) -> Result<(), NbdStop>
     requires { 512 * D.size device.old < 2 ^ 63 }
 
-    // What is put is what the dialogue over the device's bytes says for the bytes that are taken.
-    ensures serves { IfSome (D.content device.old) (λ content. Serves (dialogue content)
-        (wire (S.left source.old) (K.gained out.old) (D.faults device.old)) (wire (S.left source.new) (K.gained out.new) (D.faults device.new)) result) }
+    // What is put is what the dialogue over the device's bytes says for the bytes that are taken, and the device was read as it says.
+    ensures serves { IfSome (D.content device.old) (λ content. Serves D.reads (dialogue content)
+        (wire (S.left source.old) (K.gained out.old) device.old) (wire (S.left source.new) (K.gained out.new) device.new) result) }
     ensures kept { (D.content device.new ≡ D.content device.old) × (D.size device.new ≡ D.size device.old) }
     ensures fixed { D.fixed device.new ≡ D.fixed device.old }
     ensures later { D.faults device.old ≤ D.faults device.new }

@@ -31,9 +31,9 @@ pub(crate) fn put<K: Sink>(out: &mut K, bytes: &[u8]) -> Result<(), NbdStop>
     }
 }
 
-/// The client's flags.
-fn flags_turn<S: Source>(source: &mut S) -> Result<Option<Phase>, NbdStop>
-    ensures turns { (content : List ℕ) (gained : Option (List ℕ)) (faults : ℕ) → Turns content Phase.Flags (wire (S.left source.old) gained faults) (wire (S.left source.new) gained faults) result }
+/// The client's flags. Whatever the device is, it is left alone.
+fn flags_turn<D: BlockDevice, S: Source>(source: &mut S) -> Result<Option<Phase>, NbdStop>
+    ensures turns { (content : List ℕ) (gained : Option (List ℕ)) (device : D) → Turns D.reads content Phase.Flags (wire (S.left source.old) gained device) (wire (S.left source.new) gained device) result }
     ensures only { IfErr result (λ stop. stop ≡ NbdStop.OutFault → ⊥) }
     ensures faults { Raises NbdStop.SourceFault (S.faults source.old) (S.faults source.new) result }
 {
@@ -70,8 +70,8 @@ fn take_option<S: Source>(
     Ok(info_answer(size, plain, head.option, text))
 }
 
-/// An option.
-fn option_turn<S: Source, K: Sink>(
+/// An option, for a device of `size` bytes. Whatever the device is, it is left alone.
+fn option_turn<D: BlockDevice, S: Source, K: Sink>(
     source: &mut S,
     out: &mut K,
     room: &mut [u8],
@@ -79,7 +79,8 @@ fn option_turn<S: Source, K: Sink>(
     plain: bool,
 ) -> Result<Option<Phase>, NbdStop>
     requires { OPTION_MOST ≤ length room.old }
-    ensures turns { (content : List ℕ) (faults : ℕ) → length content ≡ size → Turns content (Phase.Options plain) (wire (S.left source.old) (K.gained out.old) faults) (wire (S.left source.new) (K.gained out.new) faults) result }
+    ensures turns { (content : List ℕ) (device : D) → length content ≡ size → Turns D.reads content (Phase.Options plain)
+        (wire (S.left source.old) (K.gained out.old) device) (wire (S.left source.new) (K.gained out.new) device) result }
     ensures source { Raises NbdStop.SourceFault (S.faults source.old) (S.faults source.new) result }
     ensures sink { Raises NbdStop.OutFault (K.faults out.old) (K.faults out.new) result }
 {
@@ -121,8 +122,8 @@ fn answer_request<D: BlockDevice, K: Sink>(
 ) -> Result<(), NbdStop>
     requires room { length room.old ≡ ROOM }
     requires small { 512 * D.size device.old < 2 ^ 63 }
-    ensures replies { (left : Option (List ℕ)) → IfSome (D.content device.old) (λ content. Replies content request.now
-        (wire left (K.gained out.old) (D.faults device.old)) (wire left (K.gained out.new) (D.faults device.new)) result) }
+    ensures replies { (left : Option (List ℕ)) → IfSome (D.content device.old) (λ content. Replies D.reads content request.now
+        (wire left (K.gained out.old) device.old) (wire left (K.gained out.new) device.new) result) }
     ensures only { IfErr result (λ stop. stop ≡ NbdStop.OutFault) }
     ensures kept { (D.content device.new ≡ D.content device.old) × (D.size device.new ≡ D.size device.old) }
     ensures fixed { D.fixed device.new ≡ D.fixed device.old }
@@ -151,8 +152,8 @@ fn request_turn<D: BlockDevice, S: Source, K: Sink>(
 ) -> Result<Option<Phase>, NbdStop>
     requires room { length room.old ≡ ROOM }
     requires small { 512 * D.size device.old < 2 ^ 63 }
-    ensures turns { IfSome (D.content device.old) (λ content. Turns content Phase.Requests
-        (wire (S.left source.old) (K.gained out.old) (D.faults device.old)) (wire (S.left source.new) (K.gained out.new) (D.faults device.new)) result) }
+    ensures turns { IfSome (D.content device.old) (λ content. Turns D.reads content Phase.Requests
+        (wire (S.left source.old) (K.gained out.old) device.old) (wire (S.left source.new) (K.gained out.new) device.new) result) }
     ensures kept { (D.content device.new ≡ D.content device.old) × (D.size device.new ≡ D.size device.old) }
     ensures fixed { D.fixed device.new ≡ D.fixed device.old }
     ensures later { D.faults device.old ≤ D.faults device.new }
@@ -185,8 +186,8 @@ pub(crate) fn turn<D: BlockDevice, S: Source, K: Sink>(
     requires open { is_open phase ≡ true }
     requires room { length room.old ≡ ROOM }
     requires small { 512 * D.size device.old < 2 ^ 63 }
-    ensures turns { IfSome (D.content device.old) (λ content. Turns content phase
-        (wire (S.left source.old) (K.gained out.old) (D.faults device.old)) (wire (S.left source.new) (K.gained out.new) (D.faults device.new)) result) }
+    ensures turns { IfSome (D.content device.old) (λ content. Turns D.reads content phase
+        (wire (S.left source.old) (K.gained out.old) device.old) (wire (S.left source.new) (K.gained out.new) device.new) result) }
     ensures kept { (D.content device.new ≡ D.content device.old) × (D.size device.new ≡ D.size device.old) }
     ensures fixed { D.fixed device.new ≡ D.fixed device.old }
     ensures later { D.faults device.old ≤ D.faults device.new }
@@ -194,8 +195,10 @@ pub(crate) fn turn<D: BlockDevice, S: Source, K: Sink>(
     ensures sink { Raises NbdStop.OutFault (K.faults out.old) (K.faults out.new) result }
 {
     match phase {
-        Phase::Flags => flags_turn(source),
-        Phase::Options(plain) => option_turn(source, out, room, 512 * device.sectors(), plain),
+        Phase::Flags => flags_turn::<D, S>(source),
+        Phase::Options(plain) => {
+            option_turn::<D, S, K>(source, out, room, 512 * device.sectors(), plain)
+        }
         Phase::Requests => request_turn(device, source, out, room),
         Phase::Closed | Phase::Malformed => Ok(None),
     }

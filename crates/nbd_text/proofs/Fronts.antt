@@ -1,5 +1,5 @@
 -- What a message says stands in its head, whatever data follow it, for the crates above.
-use Rattle.std.proofs.Common.{◌≡◌, ℕ, ◌+◌, ◌<◌, ◌≤◌, ◌&&◌, nat_le, nat_lt, Bool, true, false, List, [], ◌++◌, length, drop, refl, ap, arith, ◌∙◌, if◌then◌else◌, ◌==◌}
+use Rattle.std.proofs.Common.{◌≡◌, ℕ, ◌+◌, ◌<◌, ◌≤◌, ◌&&◌, nat_le, Bool, true, false, List, [], ◌++◌, length, drop, refl, ap, arith, ◌∙◌, if◌then◌else◌, ◌==◌}
 use Rattle.std.proofs.lemmas.List.{length-drop, drop-append-le, drop_at}
 use Rattle.std.proofs.lemmas.Bool.{and_parts, leb-true, ltb-true, ne_eqb}
 use Rattle.byteorder.specs.Endian.{big_number}
@@ -56,18 +56,16 @@ unfolding option_turn
 wrong_turn size plain head wrong = rw (ne_eqb (u64_at 0 head) IHAVEOPT wrong) refl
 
 -- a test that comes out at no error
-chosen : (flagged is within : Bool) (other : ℕ) → (if flagged then 22 else if is then (if within then 0 else 22) else other) == 0 ≡ true → is ≡ true → within ≡ true
-chosen true is within other none reads = cc
-chosen false true true other none reads = refl
-chosen false true false other none reads = cc
-chosen false false within other none reads = cc
+chosen : (changes within : Bool) → (if changes then 1 else if within then 0 else 22) == 0 ≡ true → within ≡ true
+chosen true within none = cc
+chosen false true none = refl
+chosen false false none = cc
 
 -- what is read lies within the device, and is no longer than the greatest block
 pub read_within : (size : ℕ) (request : Request) → is_read size request ≡ true → (0 < request.length) × (request.length ≤ MOST_BLOCK) × (request.offset + request.length ≤ size)
 unfolding is_read error_of
 read_within size request is =
     let p = and_parts _ _ is in
-    let q = and_parts _ _ p.0 in
-    let w = chosen (nat_lt 0 request.flags) (request.command == CMD_READ) (nat_le request.length MOST_BLOCK && nat_le (request.offset + request.length) size) _ q.1 q.0 in
+    let w = chosen _ ((request.command == CMD_READ) && (request.flags == 0) && nat_le request.length MOST_BLOCK && nat_le (request.offset + request.length) size) p.0 in
     let v = and_parts _ _ w in
-    (ltb-true 0 request.length p.1, leb-true request.length MOST_BLOCK v.0, leb-true (request.offset + request.length) size v.1)
+    (ltb-true 0 request.length p.1, leb-true request.length MOST_BLOCK (and_parts _ _ v.0).1, leb-true (request.offset + request.length) size v.1)

@@ -4,7 +4,7 @@ use Rattle.std.specs.declared.option.Option.{Option}
 use Rattle.std.specs.declared.option.Option.TheVariants.{None, Some}
 use Rattle.nbd_text.specs.Fields.{u32_at, u64_at}
 use Rattle.nbd_text.specs.Options.{Turn, answered, greeting, flags_phase, export_answer, option_answer}
-use Rattle.nbd_text.specs.Requests.{request_of, is_read, reply_of}
+use Rattle.nbd_text.specs.Requests.{Reading, readings_of, reply_of, request_of}
 use Rattle.nbd_text.specs.declared.heads.Request.{Request}
 use Rattle.nbd_text.specs.declared.numbers.TheConstants.{IHAVEOPT, FLAGS_HEAD, OPTION_HEAD, OPT_EXPORT_NAME, REQUEST_HEAD, CMD_WRITE, CMD_DISC}
 use Rattle.nbd_text.specs.declared.phase.Phase.{Phase}
@@ -46,7 +46,7 @@ abbrev pub request_turn : List ℕ → Bool → Option Request → Turn
 request_turn content failed None = answered [] Malformed
 request_turn content failed (Some request) =
     if request.command == CMD_DISC then answered [] Closed
-    else record { reply = reply_of content failed request; phase = Requests; reads = is_read (length content) request }
+    else record { reply = reply_of content failed request; phase = Requests; readings = readings_of (length content) failed request }
 
 -- a whole message; `failed` says that the device failed, where it was read
 abbrev pub turn_of : List ℕ → Phase → Bool → List ℕ → Turn
@@ -64,17 +64,21 @@ is_open Requests = true
 is_open Closed = false
 is_open Malformed = false
 
--- what came of bytes: what was put, where the dialogue stands, the bytes of the next message as far as they came, and how often
--- the device was read
+-- what came of bytes: the reply to each message in order, some of them empty; where the dialogue stands, the bytes of the next message
+-- as far as they came, and the readings of the device
 pub record Said : Type 0 where
-  pub put : List ℕ
+  pub replies : List (List ℕ)
   pub phase : Phase
   pub rest : List ℕ
-  pub reads : ℕ
+  pub readings : List Reading
+
+-- nothing more is said
+abbrev pub silent : Phase → List ℕ → Said
+silent phase rest = record { replies = []; phase = phase; rest = rest; readings = [] }
 
 -- one turn, and what came after it
 abbrev pub joined : Turn → Said → Said
-joined turn after = record after { put = turn.reply ++ after.put; reads = (if turn.reads then 1 else 0) + after.reads }
+joined turn after = record after { replies = turn.reply ∷ after.replies; readings = turn.readings ++ after.readings }
 
 -- whether the next reading of the device failed
 abbrev pub first_of : List Bool → Bool
@@ -84,21 +88,21 @@ first_of (failed ∷ others) = failed
 -- The first `messages` whole messages of the bytes, one after the other, or as many as there are, from a phase on. `failed` says of
 -- each reading of the device, in order, whether it failed.
 unfoldable pub said : ℕ → List ℕ → Phase → List Bool → List ℕ → Said
-said zero content phase failed bytes = record { put = []; phase = phase; rest = bytes; reads = 0 }
+said zero content phase failed bytes = silent phase bytes
 said (suc messages) content phase failed bytes =
     let size = message_length phase bytes in
     if is_open phase && nat_le size (length bytes)
     then (
     let turn = turn_of content phase (first_of failed) (take size bytes) in
-    joined turn (said messages content turn.phase (if turn.reads then drop 1 failed else failed) (drop size bytes))
+    joined turn (said messages content turn.phase (drop (length turn.readings) failed) (drop size bytes))
     )
-    else record { put = []; phase = phase; rest = bytes; reads = 0 }
+    else silent phase bytes
 
 -- What follows the greeting, over a device that holds `content`: a turn for each whole message of the bytes that were taken. Each
 -- message has a byte, so there are no more than bytes.
 abbrev pub after_greeting : List ℕ → List Bool → List ℕ → Said
 after_greeting content failed taken = said (length taken) content Flags failed taken
 
--- the dialogue: the greeting, and what follows it
+-- the dialogue: the greeting comes before the replies
 abbrev pub dialogue : List ℕ → List Bool → List ℕ → Said
-dialogue content failed taken = let after = after_greeting content failed taken in record after { put = greeting ++ after.put }
+dialogue content failed taken = let after = after_greeting content failed taken in record after { replies = greeting ∷ after.replies }

@@ -1,6 +1,6 @@
 -- The numbers of the protocol, as its specification and the pages of this repository write them.
 use Rattle.std.specs.Prelude.{◌≡◌}
-use Rattle.nbd_text.specs.declared.numbers.TheConstants.{NBDMAGIC, IHAVEOPT, HANDSHAKE_FLAGS, CLIENT_FLAGS, FLAGS_HEAD, OPTION_HEAD, OPT_EXPORT_NAME, OPT_ABORT, OPT_LIST, OPT_INFO, OPT_GO, OPTION_MOST, OPTION_REPLY_MAGIC, REP_ACK, REP_SERVER, REP_INFO, REP_ERR_UNSUP, REP_ERR_INVALID, REP_ERR_UNKNOWN, REP_ERR_TOO_BIG, INFO_EXPORT, INFO_BLOCK_SIZE, EXPORT_ZEROS, LEAST_BLOCK, BEST_BLOCK, MOST_BLOCK, TRANSMISSION_FLAGS, REQUEST_HEAD, REPLY_HEAD, REQUEST_MAGIC, SIMPLE_REPLY_MAGIC, CMD_READ, CMD_WRITE, CMD_DISC, CMD_FLUSH, CMD_TRIM, CMD_WRITE_ZEROES, EPERM, EIO, EINVAL}
+use Rattle.nbd_text.specs.declared.numbers.TheConstants.{NBDMAGIC, IHAVEOPT, HANDSHAKE_FLAGS, CLIENT_FLAGS, FLAGS_HEAD, OPTION_HEAD, OPT_EXPORT_NAME, OPT_ABORT, OPT_LIST, OPT_INFO, OPT_GO, OPTION_MOST, OPTION_REPLY_MAGIC, REP_ACK, REP_SERVER, REP_INFO, REP_ERR_UNSUP, REP_ERR_INVALID, REP_ERR_UNKNOWN, REP_ERR_TOO_BIG, INFO_EXPORT, INFO_BLOCK_SIZE, EXPORT_ZEROS, LEAST_BLOCK, BEST_BLOCK, MOST_BLOCK, TRANSMISSION_FLAGS, REQUEST_HEAD, REPLY_HEAD, REQUEST_MAGIC, SIMPLE_REPLY_MAGIC, CMD_READ, CMD_WRITE, CMD_DISC, CMD_TRIM, CMD_WRITE_ZEROES, EPERM, EIO, EINVAL}
 
 -- "Fixed newstyle negotiation", "Option haggling", "Transmission", "Error values"; and what this server offers
 pub record AreTheProtocols : Type 0 where
@@ -29,7 +29,7 @@ pub record AreTheProtocols : Type 0 where
   pub export_zeros_is : EXPORT_ZEROS ≡ 124
   pub least_block_is : LEAST_BLOCK ≡ 1
   pub best_block_is : BEST_BLOCK ≡ 4096
-  pub most_block_is : MOST_BLOCK ≡ 4194304
+  pub most_block_is : MOST_BLOCK ≡ 33554432
   pub transmission_flags_is : TRANSMISSION_FLAGS ≡ 259
   pub request_head_is : REQUEST_HEAD ≡ 28
   pub reply_head_is : REPLY_HEAD ≡ 16
@@ -38,7 +38,6 @@ pub record AreTheProtocols : Type 0 where
   pub cmd_read_is : CMD_READ ≡ 0
   pub cmd_write_is : CMD_WRITE ≡ 1
   pub cmd_disc_is : CMD_DISC ≡ 2
-  pub cmd_flush_is : CMD_FLUSH ≡ 3
   pub cmd_trim_is : CMD_TRIM ≡ 4
   pub cmd_write_zeroes_is : CMD_WRITE_ZEROES ≡ 6
   pub eperm_is : EPERM ≡ 1

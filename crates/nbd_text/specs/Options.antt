@@ -1,6 +1,7 @@
 -- "Fixed newstyle negotiation" and "Option haggling": what is said first, and what each option is answered.
-use Rattle.std.specs.Prelude.{ℕ, ◌+◌, ◌*◌, Bool, false, nat_lt, ◌==◌, ◌&&◌, ◌||◌, if◌then◌else◌, List, [], ◌++◌, length, replicate}
+use Rattle.std.specs.Prelude.{ℕ, ◌+◌, ◌*◌, Bool, nat_lt, ◌==◌, ◌&&◌, ◌||◌, if◌then◌else◌, List, [], ◌++◌, length, replicate}
 use Rattle.nbd_text.specs.Fields.{u16_at, u32_at, u16_bytes, u32_bytes, u64_bytes}
+use Rattle.nbd_text.specs.Requests.{Reading}
 use Rattle.nbd_text.specs.declared.numbers.TheConstants.{NBDMAGIC, IHAVEOPT, HANDSHAKE_FLAGS, CLIENT_FLAGS, OPT_ABORT, OPT_LIST, OPT_INFO, OPT_GO, OPTION_MOST, OPTION_REPLY_MAGIC, REP_ACK, REP_SERVER, REP_INFO, REP_ERR_UNSUP, REP_ERR_INVALID, REP_ERR_UNKNOWN, REP_ERR_TOO_BIG, INFO_EXPORT, INFO_BLOCK_SIZE, EXPORT_ZEROS, LEAST_BLOCK, BEST_BLOCK, MOST_BLOCK, TRANSMISSION_FLAGS}
 use Rattle.nbd_text.specs.declared.phase.Phase.{Phase}
 use Rattle.nbd_text.specs.declared.phase.Phase.TheVariants.{Options, Requests, Closed, Malformed}
@@ -46,15 +47,15 @@ is_well_formed text =
     let name = u32_at 0 text in
     nat_lt (name + 5) (length text) && (length text == name + 6 + 2 * u16_at (name + 4) text)
 
--- what one message does: what is put for it, where the dialogue stands then, and whether the device was read
+-- what one message does: what is put for it, where the dialogue stands then, and the readings of the device for it, one or none
 pub record Turn : Type 0 where
   pub reply : List ℕ
   pub phase : Phase
-  pub reads : Bool
+  pub readings : List Reading
 
 -- something is put, and nothing read
 abbrev pub answered : List ℕ → Phase → Turn
-answered reply phase = record { reply = reply; phase = phase; reads = false }
+answered reply phase = record { reply = reply; phase = phase; readings = [] }
 
 -- an option is refused, and another may come
 abbrev pub refused : Bool → ℕ → ℕ → Turn

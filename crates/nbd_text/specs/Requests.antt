@@ -1,10 +1,10 @@
 -- "Transmission": what each request is answered, given the bytes of the device.
-use Rattle.std.specs.Prelude.{ℕ, ◌+◌, Bool, nat_lt, nat_le, ◌==◌, ◌&&◌, ◌||◌, if◌then◌else◌, List, ◌++◌, length, slice_range}
+use Rattle.std.specs.Prelude.{ℕ, ◌+◌, Bool, nat_lt, nat_le, ◌==◌, ◌&&◌, ◌||◌, if◌then◌else◌, List, [], ◌∷◌, ◌++◌, length, slice_range}
 use Rattle.std.specs.declared.option.Option.{Option}
 use Rattle.std.specs.declared.option.Option.TheVariants.{None, Some}
 use Rattle.nbd_text.specs.Fields.{u16_at, u32_at, u64_at, u32_bytes, u64_bytes}
 use Rattle.nbd_text.specs.declared.heads.Request.{Request}
-use Rattle.nbd_text.specs.declared.numbers.TheConstants.{MOST_BLOCK, REQUEST_MAGIC, SIMPLE_REPLY_MAGIC, CMD_READ, CMD_WRITE, CMD_FLUSH, CMD_TRIM, CMD_WRITE_ZEROES, EPERM, EIO, EINVAL}
+use Rattle.nbd_text.specs.declared.numbers.TheConstants.{MOST_BLOCK, REQUEST_MAGIC, SIMPLE_REPLY_MAGIC, CMD_READ, CMD_WRITE, CMD_TRIM, CMD_WRITE_ZEROES, EPERM, EIO, EINVAL}
 
 -- "Request message": the magic number, command flags, type, handle, offset and length
 unfoldable pub request_of : List ℕ → Option Request
@@ -17,19 +17,27 @@ request_of bytes =
 unfoldable pub simple_reply : ℕ → ℕ → List ℕ
 simple_reply error handle = u32_bytes SIMPLE_REPLY_MAGIC ++ u32_bytes error ++ u64_bytes handle
 
--- "Error values": the error of a request to a device of `size` bytes, 0 for none, before the device is read. No command flag
--- is offered; what would change the device is not permitted; what is read lies within it, and is no longer than the greatest block
+-- "Error values": the error of a request to a device of `size` bytes, 0 for none, before the device is read. What would change the
+-- device is not permitted, whatever its flags; else no command flag is offered, and no command but a read of bytes that lie within the
+-- device, no more of them than the greatest block
 unfoldable pub error_of : ℕ → Request → ℕ
 error_of size request =
-    if nat_lt 0 request.flags then EINVAL
-    else if request.command == CMD_READ then (if nat_le request.length MOST_BLOCK && nat_le (request.offset + request.length) size then 0 else EINVAL)
-    else if (request.command == CMD_WRITE) || (request.command == CMD_TRIM) || (request.command == CMD_WRITE_ZEROES) then EPERM
-    else if request.command == CMD_FLUSH then 0
+    if (request.command == CMD_WRITE) || (request.command == CMD_TRIM) || (request.command == CMD_WRITE_ZEROES) then EPERM
+    else if (request.command == CMD_READ) && (request.flags == 0) && nat_le request.length MOST_BLOCK && nat_le (request.offset + request.length) size then 0
     else EINVAL
 
--- the device is read for the request
+-- the device is read for the request: for one without an error, that asks for some bytes
 unfoldable pub is_read : ℕ → Request → Bool
-is_read size request = (request.command == CMD_READ) && (error_of size request == 0) && nat_lt 0 request.length
+is_read size request = (error_of size request == 0) && nat_lt 0 request.length
+
+-- a reading of the device: the request that it is read for, and whether it failed
+pub record Reading : Type 0 where
+  pub request : Request
+  pub failed : Bool
+
+-- the readings for a request: one, or none
+abbrev pub readings_of : ℕ → Bool → Request → List Reading
+readings_of size failed request = if is_read size request then record { request = request; failed = failed } ∷ [] else []
 
 -- the reply to a request, of a device that holds `content`: the data of a read, or EIO where the device failed
 abbrev pub reply_of : List ℕ → Bool → Request → List ℕ

@@ -95,13 +95,9 @@ impl Request {
     pub fn error(&self, size: u64) -> u32
         ensures { result ≡ error_of size self.now }
     {
-        if self.flags != 0 {
-            return EINVAL;
-        }
         match self.command {
-            CMD_READ if self.is_within(size) => 0,
             CMD_WRITE | CMD_TRIM | CMD_WRITE_ZEROES => EPERM,
-            CMD_FLUSH => 0,
+            CMD_READ if self.flags == 0 && self.is_within(size) => 0,
             _ => EINVAL,
         }
     }
@@ -111,7 +107,7 @@ impl Request {
     pub fn is_read(&self, size: u64) -> bool
         ensures { result ≡ is_read size self.now }
     {
-        self.command == CMD_READ && self.error(size) == 0 && self.length > 0
+        self.error(size) == 0 && self.length > 0
     }
 
     /// Whether what the request is about is no longer than the greatest block, and lies within a device of `size` bytes.

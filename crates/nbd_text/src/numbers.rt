@@ -58,8 +58,8 @@ pub const EXPORT_ZEROS: usize = 124;
 pub const LEAST_BLOCK: u32 = 1;
 /// The block that is read best.
 pub const BEST_BLOCK: u32 = 4096;
-/// The most bytes of one read.
-pub const MOST_BLOCK: u32 = 4_194_304;
+/// The most bytes of one read: as many as a client that was told no sizes of blocks asks for.
+pub const MOST_BLOCK: u32 = 33_554_432;
 
 // "Transmission", "Transmission flags", "Request types", "Error values".
 
@@ -79,8 +79,6 @@ pub const CMD_READ: u16 = 0;
 pub const CMD_WRITE: u16 = 1;
 /// `NBD_CMD_DISC`.
 pub const CMD_DISC: u16 = 2;
-/// `NBD_CMD_FLUSH`.
-pub const CMD_FLUSH: u16 = 3;
 /// `NBD_CMD_TRIM`.
 pub const CMD_TRIM: u16 = 4;
 /// `NBD_CMD_WRITE_ZEROES`.

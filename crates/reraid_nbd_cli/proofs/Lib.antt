@@ -1,3 +1,5 @@
+pub mod Counted
 pub mod Asked
 pub mod Shown
 pub mod Ran
+pub mod Served

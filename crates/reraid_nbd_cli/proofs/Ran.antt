@@ -1,6 +1,7 @@
 -- A run, by what was shown once the images were attached.
 use Rattle.std.proofs.Common.{◌≡◌, ℕ, ◌≤◌, ◌<◌, ◌^◌, min, List, [], ◌∷◌, length, All, Option, Result, Ok, Err, IfSome, IsErrOf, ◌⊎◌, inl, inr, refl, sym, ap, ◌∙◌, subst, arith}
 use Rattle.std.proofs.lemmas.List.Elements.{All-cons, All-nil}
+use Rattle.block_device.specs.Reading.{Asked, Counts, counts_of}
 use Rattle.command_words.specs.declared.command.Command.{Command}
 use Rattle.nbd_server.specs.Served.{Serves}
 use Rattle.nbd_server.specs.Turns.{wire}
@@ -14,24 +15,27 @@ use Rattle.std.specs.Io.KnownBytes.{Appends}
 use Rattle.run_ends.specs.Jobs.{named}
 use Rattle.run_ends.specs.declared.stop.Refusal.{Refusal}
 use Rattle.run_ends.specs.declared.stop.Refusal.TheVariants.{Word}
-use Rattle.reraid_nbd_cli.specs.Runs.{Ends, HasImages, Runs, Shows, place, refusal, sectors, volume}
+use Rattle.reraid_nbd_cli.specs.Runs.{Ends, HasImages, Runs, Shows, cost as cost_of, costing, place, refusal, sectors, volume}
 use Rattle.reraid_nbd_cli.specs.declared.ends.NbdEnd.{NbdEnd}
 use Rattle.reraid_nbd_cli.specs.declared.ends.NbdEnd.TheVariants.{Refused, ImageFault, Long, Stopped}
 
 -- attaching comes before, reads nothing and meets no fault
-ends_before : (refused : Option Refusal) (size : ℕ) (content : Option (List ℕ)) (seen mid new : Seen) (source left out put : Stream) (r : Result (Unit {0}) NbdEnd) → mid.faults ≡ seen.faults → mid.sectors_read ≡ seen.sectors_read →
-    Ends refused size content (place mid source out) (place new left put) r → Ends refused size content (place seen source out) (place new left put) r
-ends_before refused size content seen mid new source left out put (Ok done) faults read ends =
-    let P : ℕ → Type 0 = λ n. IfSome content (λ bytes. Serves (dialogue bytes) (wire source.known out.known n) (wire left.known put.known new.faults) (Ok done)) in
-    record { allowed = ends.allowed; short = ends.short; serves = subst P faults ends.serves }
-ends_before refused size content seen mid new source left out put (Err (Stopped stop)) faults read ends =
-    let P : ℕ → Type 0 = λ n. IfSome content (λ bytes. Serves (dialogue bytes) (wire source.known out.known n) (wire left.known put.known new.faults) (Err stop)) in
-    record { allowed = ends.allowed; short = ends.short; serves = subst P faults ends.serves }
-ends_before refused size content seen mid new source left out put (Err (Long n)) faults read ends =
+same_counts : (a b : Seen) → a.faults ≡ b.faults → a.sectors_read ≡ b.sectors_read → counts_of a ≡ counts_of b
+same_counts a b faults read = rw (faults, read) refl
+
+ends_before : (refused : Option Refusal) (size : ℕ) (content : Option (List ℕ)) (cost : Asked → ℕ) (seen mid new : Seen) (source left out put : Stream) (r : Result (Unit {0}) NbdEnd) → mid.faults ≡ seen.faults → mid.sectors_read ≡ seen.sectors_read →
+    Ends refused size content cost (place mid source out) (place new left put) r → Ends refused size content cost (place seen source out) (place new left put) r
+ends_before refused size content cost seen mid new source left out put (Ok done) faults read ends =
+    let P : Counts → Type 0 = λ c. IfSome content (λ bytes. Serves (costing cost) (dialogue bytes) (wire source.known out.known c) (wire left.known put.known (counts_of new)) (Ok done)) in
+    record { allowed = ends.allowed; short = ends.short; serves = subst P (same_counts mid seen faults read) ends.serves }
+ends_before refused size content cost seen mid new source left out put (Err (Stopped stop)) faults read ends =
+    let P : Counts → Type 0 = λ c. IfSome content (λ bytes. Serves (costing cost) (dialogue bytes) (wire source.known out.known c) (wire left.known put.known (counts_of new)) (Err stop)) in
+    record { allowed = ends.allowed; short = ends.short; serves = subst P (same_counts mid seen faults read) ends.serves }
+ends_before refused size content cost seen mid new source left out put (Err (Long n)) faults read ends =
     (ends.0, ends.1, ends.2, record { source = ends.3.source; out = ends.3.out; unread = ends.3.unread ∙ read }, ends.4 ∙ faults)
-ends_before refused size content seen mid new source left out put (Err (Refused why)) faults read ends =
+ends_before refused size content cost seen mid new source left out put (Err (Refused why)) faults read ends =
     (ends.0, record { source = ends.1.source; out = ends.1.out; unread = ends.1.unread ∙ read }, ends.2 ∙ faults)
-ends_before refused size content seen mid new source left out put (Err ImageFault) faults read ends =
+ends_before refused size content cost seen mid new source left out put (Err ImageFault) faults read ends =
     (record { source = ends.0.source; out = ends.0.out; unread = ends.0.unread ∙ read }, subst (λ (n : ℕ). Rose n new.faults) faults ends.1)
 
 has_images : (names : ℕ) (attached : List Image) (r : Result (Unit {0}) NbdEnd) → (IsErrOf r ImageFault → ⊥) → length attached ≡ min names 65536 → HasImages (named names attached) r
@@ -42,12 +46,12 @@ has_images names attached (Err (Stopped stop)) none all = all
 has_images names attached (Err ImageFault) none all = absurd (none refl)
 
 pub ran : (command : Command) (names : ℕ) (seen mid new : Seen) (source left out put : Stream) (r : Result (Unit {0}) NbdEnd) → mid.faults ≡ seen.faults → mid.sectors_read ≡ seen.sectors_read → mid.world ≡ seen.world → length mid.attached ≡ min names 65536 →
-    Shows (refusal (Ok command) (named names mid.attached)) (sectors (Ok command) (named names mid.attached)) (volume (Ok command) (named names mid.attached)) (place mid source out) (place new left put) r →
+    Shows (refusal (Ok command) (named names mid.attached)) (sectors (Ok command) (named names mid.attached)) (volume (Ok command) (named names mid.attached)) (cost_of (Ok command)) (place mid source out) (place new left put) r →
     Runs (Ok command) (named names new.attached) (place seen source out) (place new left put) r
 ran command names seen mid new source left out put r faults read world all shows =
-    let P : List Image → Type 0 = λ attached. Ends (refusal (Ok command) (named names attached)) (sectors (Ok command) (named names attached)) (volume (Ok command) (named names attached)) (place seen source out) (place new left put) r in
+    let P : List Image → Type 0 = λ attached. Ends (refusal (Ok command) (named names attached)) (sectors (Ok command) (named names attached)) (volume (Ok command) (named names attached)) (cost_of (Ok command)) (place seen source out) (place new left put) r in
     record {
-      ends = subst P (sym shows.attached) (ends_before (refusal (Ok command) (named names mid.attached)) (sectors (Ok command) (named names mid.attached)) (volume (Ok command) (named names mid.attached)) seen mid new source left out put r faults read shows.ends);
+      ends = subst P (sym shows.attached) (ends_before (refusal (Ok command) (named names mid.attached)) (sectors (Ok command) (named names mid.attached)) (volume (Ok command) (named names mid.attached)) (cost_of (Ok command)) seen mid new source left out put r faults read shows.ends);
       leaves = record { source = shows.leaves.source; out = shows.leaves.out; later = subst (λ (n : ℕ). n ≤ new.faults) faults shows.leaves.later; world = shows.leaves.world ∙ world };
       images = has_images names new.attached r shows.attaches (ap (λ (images : List Image). length images) shows.attached ∙ all);
       none = tt;

@@ -1,7 +1,8 @@
 -- What a run does.
-use Rattle.std.specs.Prelude.{ℕ, ◌≡◌, ◌<◌, ◌≤◌, ◌^◌, min, List, length, All, IfSome, IfOk, IfErr, IsErrOf, Result, Ok, Err}
+use Rattle.std.specs.Prelude.{ℕ, ◌≡◌, ◌<◌, ◌≤◌, ◌^◌, min, Bool, List, length, All, IfSome, IfOk, IfErr, IsErrOf, Result, Ok, Err}
 use Rattle.std.specs.declared.option.Option.{Option}
 use Rattle.std.specs.declared.option.Option.TheVariants.{None, Some}
+use Rattle.block_device.specs.Reading.{Asked, Costs, Counts, counts_of}
 use Rattle.command_words.specs.declared.command.Command.{Command}
 use Rattle.command_words.specs.declared.command.Command.TheVariants.{Write, MirrorWrite}
 use Rattle.near_jobs.specs.MirrorWriting.{mirror_output, mirror_reads, mirror_refusal}
@@ -14,12 +15,14 @@ use Rattle.outside.specs.Attached.{told_all}
 use Rattle.outside.specs.Causes.{Rose}
 use Rattle.outside.specs.Seen.{Image, Seen}
 use Rattle.outside.specs.Streams.{Stream}
+use Rattle.raid_params.specs.declared.types.Geometry.{Geometry}
 use Rattle.run_ends.specs.Counts.{Raises}
 use Rattle.run_ends.specs.Jobs.{Named, stream}
 use Rattle.run_ends.specs.declared.stop.Refusal.{Refusal}
 use Rattle.run_ends.specs.declared.stop.Refusal.TheVariants.{Word}
 use Rattle.set_jobs.specs.Mapping.{set_refusal}
 use Rattle.set_jobs.specs.Writing.{told_for, volume_reads, write_output}
+use Rattle.volume_device.specs.Cost.{range_cost}
 use Rattle.reraid_nbd_cli.specs.declared.ends.NbdEnd.{NbdEnd}
 use Rattle.reraid_nbd_cli.specs.declared.ends.NbdEnd.TheVariants.{Refused, ImageFault, Long, Stopped}
 
@@ -36,9 +39,13 @@ place images source out = record { images = images; source = source; out = out }
 abbrev pub place_of : {I S K : Type 0} → (I → Seen) → (S → Option (List ℕ)) → (S → ℕ) → (K → Option (List ℕ)) → (K → ℕ) → I → S → K → Place
 place_of seen left taken gained put images source out = place (seen images) (stream (left source) (taken source)) (stream (gained out) (put out))
 
--- as the server sees it
-abbrev pub wire_of : Place → Wire
-wire_of place = wire place.source.known place.out.known place.images.faults
+-- as the server sees it: of the images their counts
+abbrev pub wire_of : Place → Wire Counts
+wire_of place = wire place.source.known place.out.known (counts_of place.images)
+
+-- what a reading of sectors does to the counts of the images, where these sectors cost so many of the images'
+abbrev pub costing : (Asked → ℕ) → Counts → Asked → Bool → Counts → Type 0
+costing cost before asked failed after = Costs (cost asked) failed before after
 
 -- the first refusal: the word, or what the command refuses
 abbrev pub refusal : Result Command ℕ → Named → Option Refusal
@@ -59,25 +66,35 @@ sectors (Ok (Write set end names)) given = volume_reads set end given.attached
 sectors (Ok (MirrorWrite set end names)) given = mirror_reads set end given.attached
 sectors _ given = 0
 
+-- how many sectors of the images may be read for sectors of it
+abbrev pub costs_of : Geometry → Asked → ℕ
+costs_of geo asked = range_cost geo asked.first asked.count
+
+abbrev pub cost : Result Command ℕ → Asked → ℕ
+cost (Ok (Write set end names)) = costs_of set.geo
+cost (Ok (MirrorWrite set end names)) = λ asked. asked.count
+cost _ = λ asked. 0
+
 -- nothing was taken, put or read
 pub record IsUntouched (old new : Place) : Type 0 where
   pub source : new.source ≡ old.source
   pub out : new.out ≡ old.out
   pub unread : new.images.sectors_read ≡ old.images.sectors_read
 
--- nothing is refused, the length of the volume can be told, and what was put is what the dialogue over its bytes says for what was taken
-pub record IsServed (refused : Option Refusal) (size : ℕ) (content : Option (List ℕ)) (old new : Place) (result : Result (Unit {0}) NbdStop) : Type 0 where
+-- nothing is refused, the length of the volume can be told, what was put is what the dialogue over its bytes says for what was taken, and
+-- images were read for the requests alone, no more of them than these cost
+pub record IsServed (refused : Option Refusal) (size : ℕ) (content : Option (List ℕ)) (cost : Asked → ℕ) (old new : Place) (result : Result (Unit {0}) NbdStop) : Type 0 where
   pub allowed : refused ≡ None
   pub short : size < 2 ^ 54
-  pub serves : IfSome content (λ bytes. Serves (dialogue bytes) (wire_of old) (wire_of new) result)
+  pub serves : IfSome content (λ bytes. Serves (costing cost) (dialogue bytes) (wire_of old) (wire_of new) result)
 
--- how a run ends, by its first refusal, and by the sectors and the bytes of the volume
-abbrev pub Ends : Option Refusal → ℕ → Option (List ℕ) → Place → Place → Result (Unit {0}) NbdEnd → Type 0
-Ends refused size content old new (Ok done) = IsServed refused size content old new (Ok done)
-Ends refused size content old new (Err (Stopped stop)) = IsServed refused size content old new (Err stop)
-Ends refused size content old new (Err (Long n)) = (refused ≡ None) × (n ≡ size) × (2 ^ 54 ≤ size) × IsUntouched old new × (new.images.faults ≡ old.images.faults)
-Ends refused size content old new (Err (Refused refusal)) = (refused ≡ Some refusal) × IsUntouched old new × (new.images.faults ≡ old.images.faults)
-Ends refused size content old new (Err ImageFault) = IsUntouched old new × Rose old.images.faults new.images.faults
+-- how a run ends, by its first refusal, and by the sectors and the bytes of the volume, and what its sectors cost
+abbrev pub Ends : Option Refusal → ℕ → Option (List ℕ) → (Asked → ℕ) → Place → Place → Result (Unit {0}) NbdEnd → Type 0
+Ends refused size content cost old new (Ok done) = IsServed refused size content cost old new (Ok done)
+Ends refused size content cost old new (Err (Stopped stop)) = IsServed refused size content cost old new (Err stop)
+Ends refused size content cost old new (Err (Long n)) = (refused ≡ None) × (n ≡ size) × (2 ^ 54 ≤ size) × IsUntouched old new × (new.images.faults ≡ old.images.faults)
+Ends refused size content cost old new (Err (Refused refusal)) = (refused ≡ Some refusal) × IsUntouched old new × (new.images.faults ≡ old.images.faults)
+Ends refused size content cost old new (Err ImageFault) = IsUntouched old new × Rose old.images.faults new.images.faults
 
 -- each count of faults rose where that fault is the end, and stayed elsewhere; that of the images may rise while they are read. Nothing outside is changed
 pub record Leaves (old new : Place) (result : Result (Unit {0}) NbdEnd) : Type 0 where
@@ -92,8 +109,8 @@ pub record AreImages (names : ℕ) (images : List Image) : Type 0 where
   pub small : All (λ image. image.sectors < 2 ^ 55) images
 
 -- the volume is shown over images that are attached, and stay so
-pub record Shows (refused : Option Refusal) (size : ℕ) (content : Option (List ℕ)) (old new : Place) (result : Result (Unit {0}) NbdEnd) : Type 0 where
-  pub ends : Ends refused size content old new result
+pub record Shows (refused : Option Refusal) (size : ℕ) (content : Option (List ℕ)) (cost : Asked → ℕ) (old new : Place) (result : Result (Unit {0}) NbdEnd) : Type 0 where
+  pub ends : Ends refused size content cost old new result
   pub attaches : IsErrOf result ImageFault → ⊥
   pub leaves : Leaves old new result
   pub attached : new.images.attached ≡ old.images.attached
@@ -105,7 +122,7 @@ HasImages given _ = length given.attached ≡ min given.names 65536
 
 -- a run that is asked for this, over the images that the words name
 pub record Runs (asked : Result Command ℕ) (given : Named) (old new : Place) (result : Result (Unit {0}) NbdEnd) : Type 0 where
-  pub ends : Ends (refusal asked given) (sectors asked given) (volume asked given) old new result
+  pub ends : Ends (refusal asked given) (sectors asked given) (volume asked given) (cost asked) old new result
   pub leaves : Leaves old new result
   pub images : IfOk asked (λ command. HasImages given result)
   pub none : IfErr asked (λ number. new.images ≡ old.images)

@@ -4,7 +4,7 @@ ghost use Rattle.outside.specs.Attached.{AreImagesOf};
 ghost use Rattle.run_ends.specs.Jobs.{named};
 ghost use Rattle.command_words.specs.Commands.{IsWithin, names_after};
 ghost use Rattle.command_words.specs.declared.command.Command.{Command as CommandOf};
-ghost use Rattle.reraid_nbd_cli.specs.Runs.{AreImages, Runs, Shows, place_of, refusal, sectors, volume};
+ghost use Rattle.reraid_nbd_cli.specs.Runs.{AreImages, Runs, Shows, cost, place_of, refusal, sectors, volume};
 ghost use Rattle.reraid_nbd_cli.specs.Words.{AreNamed, Asks, PutsVolume};
 
 use crate::asking::read_asked;
@@ -68,7 +68,7 @@ fn show<S: Source, I: Images, K: Sink>(
     requires volume { PutsVolume command.now }
     requires within { IsWithin command.now }
     ensures { Shows (refusal (Ok command.now) (named names (I.seen images.old).attached)) (sectors (Ok command.now) (named names (I.seen images.old).attached))
-        (volume (Ok command.now) (named names (I.seen images.old).attached))
+        (volume (Ok command.now) (named names (I.seen images.old).attached)) (cost (Ok command.now))
         (place_of I.seen S.left S.faults K.gained K.faults images.old source.old out.old)
         (place_of I.seen S.left S.faults K.gained K.faults images.new source.new out.new) result }
 {

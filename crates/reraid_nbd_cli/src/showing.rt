@@ -11,7 +11,7 @@ ghost use Rattle.value_text.specs.SetText.{HasWord};
 ghost use Rattle.virtual_volume.specs.Served.{IsServed};
 ghost use Rattle.volume_device.specs.Kept.{IsNew};
 ghost use Rattle.volume_device.specs.Lengths.{mirror_told, volume_told};
-ghost use Rattle.reraid_nbd_cli.specs.Runs.{AreImages, Shows, place_of};
+ghost use Rattle.reraid_nbd_cli.specs.Runs.{AreImages, Shows, costs_of, place_of};
 
 use crate::ends::NbdEnd;
 use address_map::volume_sectors;
@@ -44,7 +44,7 @@ pub(crate) fn show_set<I: Images, S: Source, K: Sink>(
     requires set { HasWord set.now }
     requires end { IfSome end (λ sector. sector < 2 ^ 55) }
     ensures { Shows (set_refusal set.now end names (I.seen images.old).attached) (volume_reads set.now end (I.seen images.old).attached)
-        (write_output set.now end (I.seen images.old).attached (told_for set.now (I.seen images.old).attached))
+        (write_output set.now end (I.seen images.old).attached (told_for set.now (I.seen images.old).attached)) (costs_of set.now.geo)
         (place_of I.seen S.left S.faults K.gained K.faults images.old source.old out.old)
         (place_of I.seen S.left S.faults K.gained K.faults images.new source.new out.new) result }
 {
@@ -62,7 +62,7 @@ fn show_based<I: Images, S: Source, K: Sink>(
     out: &mut K,
 ) -> Result<(), NbdEnd>
     requires { IsServedBy set.now end (I.seen images.old).attached }
-    ensures { Shows None (volume_sectors_of set.now.geo.head end) (volume_told (told_for set.now (I.seen images.old).attached) set.now.geo end)
+    ensures { Shows None (volume_sectors_of set.now.geo.head end) (volume_told (told_for set.now (I.seen images.old).attached) set.now.geo end) (costs_of set.now.geo)
         (place_of I.seen S.left S.faults K.gained K.faults images.old source.old out.old)
         (place_of I.seen S.left S.faults K.gained K.faults images.new source.new out.new) result }
 {
@@ -84,7 +84,7 @@ fn show_parity<I: Images, S: Source, K: Sink>(
     out: &mut K,
 ) -> Result<(), NbdEnd>
     requires { IsServed geo.now end (I.seen images.old).attached }
-    ensures { Shows None (volume_sectors_of geo.now.head end) (volume_told (told_all (I.seen images.old).attached) geo.now end)
+    ensures { Shows None (volume_sectors_of geo.now.head end) (volume_told (told_all (I.seen images.old).attached) geo.now end) (costs_of geo.now)
         (place_of I.seen S.left S.faults K.gained K.faults images.old source.old out.old)
         (place_of I.seen S.left S.faults K.gained K.faults images.new source.new out.new) result }
 {
@@ -109,7 +109,7 @@ fn serve_parity<I: Images, S: Source, K: Sink>(
     requires set { IsServed geo.now end (I.seen images.old).attached }
     requires short { volume_sectors_of geo.now.head end < SECTORS_END }
     requires memory { IsNew geo.now kept.old }
-    ensures { Shows None (volume_sectors_of geo.now.head end) (volume_told (told_all (I.seen images.old).attached) geo.now end)
+    ensures { Shows None (volume_sectors_of geo.now.head end) (volume_told (told_all (I.seen images.old).attached) geo.now end) (costs_of geo.now)
         (place_of I.seen S.left S.faults K.gained K.faults images.old source.old out.old)
         (place_of I.seen S.left S.faults K.gained K.faults images.new source.new out.new) result }
 {
@@ -131,7 +131,7 @@ pub(crate) fn show_mirror<I: Images, S: Source, K: Sink>(
     requires given { AreImages names (I.seen images.old).attached }
     requires end { IfSome end (λ sector. sector < 2 ^ 55) }
     ensures { Shows (mirror_refusal set.now end names (I.seen images.old).attached) (mirror_reads set.now end (I.seen images.old).attached)
-        (mirror_output set.now end (I.seen images.old).attached (told_all (I.seen images.old).attached))
+        (mirror_output set.now end (I.seen images.old).attached (told_all (I.seen images.old).attached)) (λ asked. asked.count)
         (place_of I.seen S.left S.faults K.gained K.faults images.old source.old out.old)
         (place_of I.seen S.left S.faults K.gained K.faults images.new source.new out.new) result }
 {
@@ -149,7 +149,7 @@ fn show_copies<I: Images, S: Source, K: Sink>(
     out: &mut K,
 ) -> Result<(), NbdEnd>
     requires { IsMirrored set.now end (I.seen images.old).attached }
-    ensures { Shows None (near_sectors set.now.head end) (mirror_told (told_all (I.seen images.old).attached) set.now end)
+    ensures { Shows None (near_sectors set.now.head end) (mirror_told (told_all (I.seen images.old).attached) set.now end) (λ asked. asked.count)
         (place_of I.seen S.left S.faults K.gained K.faults images.old source.old out.old)
         (place_of I.seen S.left S.faults K.gained K.faults images.new source.new out.new) result }
 {

@@ -5,3 +5,4 @@ pub mod Rows
 pub mod Memory
 pub mod Costs
 pub mod Told
+pub mod Counted

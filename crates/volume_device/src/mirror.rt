@@ -1,9 +1,8 @@
 //! The volume of a mirror of two copies as a device.
-ghost use Rattle.std.specs.Prelude.{◌≡◌, ◌+◌, ◌*◌, ◌%◌, ◌/◌, ◌<◌, ◌≤◌, IfSome, OnOk, length, slice_range};
+ghost use Rattle.std.specs.Prelude.{◌≡◌};
 ghost use Rattle.block_device.specs.Content.{fixed_behind};
+ghost use Rattle.block_device.specs.Reading.{Costs, counts_of};
 ghost use Rattle.outside.specs.Attached.{told_all};
-ghost use Rattle.outside.specs.Causes.{HasCause};
-ghost use Rattle.outside.specs.Seen.{OnlyReads};
 ghost use Rattle.near_mirror.specs.Copies.{near_sectors};
 ghost use Rattle.near_volume.specs.Mirrored.{IsMirrored};
 ghost use Rattle.volume_device.specs.Lengths.{mirror_told, mirror_whole};
@@ -43,27 +42,16 @@ impl<'a, I: Images> BlockDevice for MirrorDevice<'a, I> {
 
     ghost fixed = { λ d. fixed_behind I.seen d.images };
 
+    // No more sectors of the images are read than are asked for, and a reading fails just where an image does.
+    ghost reads = { λ before asked failed after. Costs asked.count failed (counts_of (I.seen before.images.now)) (counts_of (I.seen after.images.now)) };
+
     ghost whole = { λ d. mirror_whole (told_all (I.seen d.images.now).attached) d.set.now d.end };
 
     fn sectors(&self) -> u64 {
         self.set.head.volume_sectors(self.end)
     }
 
-    fn read(&mut self, first: u64, to: &mut [u8]) -> Result<(), Failed>
-        requires whole { length to.old % 512 ≡ 0 }
-        requires some { 0 < length to.old }
-        requires inside { first + length to.old / 512 ≤ near_sectors self.old.set.now.head self.old.end }
-        ensures told { OnOk result (IfSome (mirror_told (told_all (I.seen self.old.images.now).attached) self.old.set.now self.old.end)
-            (λ bytes. to.new ≡ slice_range bytes (512 * first) (512 * first + length to.old))) }
-        ensures kept { (mirror_told (told_all (I.seen self.new.images.now).attached) self.new.set.now self.new.end
-            ≡ mirror_told (told_all (I.seen self.old.images.now).attached) self.old.set.now self.old.end)
-            × (near_sectors self.new.set.now.head self.new.end ≡ near_sectors self.old.set.now.head self.old.end) }
-        ensures fixed { fixed_behind I.seen self.new.images ≡ fixed_behind I.seen self.old.images }
-        ensures cause { HasCause (I.seen self.old.images.now).faults (I.seen self.new.images.now).faults result }
-
-        // Nothing but the counts of the images changes, and no more is read than was asked for.
-        ensures reads { OnlyReads (I.seen self.old.images.now) (I.seen self.new.images.now) (length to.old / 512) }
-    {
+    fn read(&mut self, first: u64, to: &mut [u8]) -> Result<(), Failed> {
         read_near(self.images, self.set, self.end, first, to)
     }
 }

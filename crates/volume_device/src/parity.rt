@@ -1,10 +1,9 @@
 //! The volume of a set of level 0, 4, 5 or 6 as a device.
-ghost use Rattle.std.specs.Prelude.{◌≡◌, ◌+◌, ◌*◌, ◌%◌, ◌/◌, ◌<◌, ◌≤◌, IfSome, OnOk, length, slice_range};
+ghost use Rattle.std.specs.Prelude.{◌≡◌};
 ghost use Rattle.std.proofs.Props.{props};
 ghost use Rattle.block_device.specs.Content.{fixed_behind};
+ghost use Rattle.block_device.specs.Reading.{Costs, counts_of};
 ghost use Rattle.outside.specs.Attached.{told_all};
-ghost use Rattle.outside.specs.Causes.{HasCause};
-ghost use Rattle.outside.specs.Seen.{OnlyReads};
 ghost use Rattle.raid_params.specs.Size.{volume_sectors as volume_sectors_of};
 ghost use Rattle.virtual_volume.specs.Served.{IsServed};
 ghost use Rattle.volume_device.specs.Cost.{range_cost};
@@ -63,27 +62,18 @@ impl<'a, I: Images> BlockDevice for ParityDevice<'a, I> {
 
     ghost fixed = { λ d. fixed_behind I.seen d.images };
 
+    // No more sectors of the images are read than those that are asked for cost, and a reading fails just where an image does.
+    ghost reads = { λ before asked failed after.
+        Costs (range_cost before.geo.now asked.first asked.count) failed (counts_of (I.seen before.images.now)) (counts_of (I.seen after.images.now))
+        × (after.geo.now ≡ before.geo.now) × (after.end ≡ before.end) };
+
     ghost whole = { λ d. volume_whole (told_all (I.seen d.images.now).attached) d.geo.now d.end };
 
     fn sectors(&self) -> u64 {
         volume_sectors(&self.geo.head, self.end)
     }
 
-    fn read(&mut self, first: u64, to: &mut [u8]) -> Result<(), Failed>
-        requires whole { length to.old % 512 ≡ 0 }
-        requires some { 0 < length to.old }
-        requires inside { first + length to.old / 512 ≤ volume_sectors_of self.old.geo.now.head self.old.end }
-        ensures told { OnOk result (IfSome (volume_told (told_all (I.seen self.old.images.now).attached) self.old.geo.now self.old.end)
-            (λ bytes. to.new ≡ slice_range bytes (512 * first) (512 * first + length to.old))) }
-        ensures kept { (volume_told (told_all (I.seen self.new.images.now).attached) self.new.geo.now self.new.end
-            ≡ volume_told (told_all (I.seen self.old.images.now).attached) self.old.geo.now self.old.end)
-            × (volume_sectors_of self.new.geo.now.head self.new.end ≡ volume_sectors_of self.old.geo.now.head self.old.end) }
-        ensures fixed { fixed_behind I.seen self.new.images ≡ fixed_behind I.seen self.old.images }
-        ensures cause { HasCause (I.seen self.old.images.now).faults (I.seen self.new.images.now).faults result }
-
-        // Nothing but the counts of the images changes, and no more is read than the sectors cost.
-        ensures reads { OnlyReads (I.seen self.old.images.now) (I.seen self.new.images.now) (range_cost self.old.geo.now first (length to.old / 512)) }
-    {
+    fn read(&mut self, first: u64, to: &mut [u8]) -> Result<(), Failed> {
         read_range(self.images, self.kept, self.geo, self.end, first, to)
     }
 }

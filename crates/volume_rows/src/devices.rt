@@ -1,5 +1,5 @@
 //! Volumes read as devices, over images in memory: from each sector on, and of each length, one read after the other. What the
-//! images hold was worked out by `bench/disks.py`, a byte for each sector.
+//! images hold was worked out by `bench/making/disks.py`, a byte for each sector.
 use crate::objects::{NO, are_sectors, images_of, pad, serve, serve_mirror, set_of};
 use block_device::BlockDevice;
 use image_padding::Padded;

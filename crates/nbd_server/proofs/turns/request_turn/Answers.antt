@@ -17,7 +17,7 @@ returns-in_err-take_request-clause-turns g c =
     let is : request_of c.take_head.new.head ≡ Some c.in-Some.request = sym c.read.ensures ∙ c.in-Some.is in
     let p = err_from_is_err_and c.from_residual-in_err-take_request.result c.from_residual-in_err-take_request.ensures.1 in
     rw (p.1, p.2) (if_known (g.D.BlockDevice.content c.args.device.now) (λ content.
-    cut_request content (g.S.Source.left c.args.source.now) (g.S.Source.left c.take_head.new.source) (g.S.Source.left c.take_request.new.source) (g.K.Sink.gained c.args.out.now) (g.D.BlockDevice.faults c.args.device.now)
+    cut_request g.D.BlockDevice.reads content (g.S.Source.left c.args.source.now) (g.S.Source.left c.take_head.new.source) (g.S.Source.left c.take_request.new.source) (g.K.Sink.gained c.args.out.now) c.args.device.now
     c.take_head.new.head c.in-Some.request c.in_err-take_request.field-0.0 whole is before c.in_err-take_request.ensures.takes))
 
 pub returns-then-request-eq-CMD_DISC-clause-turns : goal.returns-then-request-eq-CMD_DISC-clause-turns
@@ -27,7 +27,7 @@ returns-then-request-eq-CMD_DISC-clause-turns g c =
     let is : request_of c.take_head.new.head ≡ Some c.in-Some.request = sym c.read.ensures ∙ c.in-Some.is in
     let takes = c.in_ok-take_request.ensures.takes in
     if_known (g.D.BlockDevice.content c.args.device.now) (λ content.
-    closed_request content (g.S.Source.left c.args.source.now) (g.S.Source.left c.take_head.new.source) (g.S.Source.left c.take_request.new.source) (g.K.Sink.gained c.args.out.now) (g.D.BlockDevice.faults c.args.device.now)
+    closed_request g.D.BlockDevice.reads content (g.S.Source.left c.args.source.now) (g.S.Source.left c.take_head.new.source) (g.S.Source.left c.take_request.new.source) (g.K.Sink.gained c.args.out.now) c.args.device.now
     c.take_head.new.head takes.0 c.in-Some.request whole is before takes.1 takes.2 c.if-request-eq-CMD_DISC.true)
 
 pub returns-in_err-answer_request-clause-turns : goal.returns-in_err-answer_request-clause-turns
@@ -39,13 +39,13 @@ returns-in_err-answer_request-clause-turns g c =
     let p = err_from_is_err_and c.from_residual-in_err-answer_request.result c.from_residual-in_err-answer_request.ensures.1 in
     let first = g.S.Source.left c.args.source.now in
     let third = g.S.Source.left c.take_request.new.source in
-    let old = wire first (g.K.Sink.gained c.args.out.now) (g.D.BlockDevice.faults c.args.device.now) in
-    let mid = wire third (g.K.Sink.gained c.args.out.now) (g.D.BlockDevice.faults c.args.device.now) in
-    let new = wire third (g.K.Sink.gained c.answer_request.new.out) (g.D.BlockDevice.faults c.answer_request.new.device) in
+    let old = wire first (g.K.Sink.gained c.args.out.now) c.args.device.now in
+    let mid = wire third (g.K.Sink.gained c.args.out.now) c.args.device.now in
+    let new = wire third (g.K.Sink.gained c.answer_request.new.out) c.answer_request.new.device in
     rw (p.1, p.2, c.in_err-answer_request.ensures.only) (if_both (g.D.BlockDevice.content c.args.device.now) (c.in_err-answer_request.ensures.replies third) (c.in_err-answer_request.ensures.replies third) (λ content replies again. (
       c.take_head.new.head ++ takes.0,
       consumes_more first (g.S.Source.left c.take_head.new.source) third c.take_head.new.head takes.0 before takes.1,
-      replied content old mid new c.take_head.new.head takes.0 c.in-Some.request (Err c.in_err-answer_request.field-0.0) (λ turn. AppendsFront old.gained new.gained turn.reply)
+      replied g.D.BlockDevice.reads content old mid new c.take_head.new.head takes.0 c.in-Some.request (Err c.in_err-answer_request.field-0.0) (λ turn. AppendsFront old.gained new.gained turn.reply)
           whole is takes.2 c.if-request-eq-CMD_DISC.false refl refl replies (λ failed puts. puts),
     )))
 
@@ -57,12 +57,12 @@ returns-clause-turns g c =
     let takes = c.in_ok-take_request.ensures.takes in
     let first = g.S.Source.left c.args.source.now in
     let third = g.S.Source.left c.take_request.new.source in
-    let old = wire first (g.K.Sink.gained c.args.out.now) (g.D.BlockDevice.faults c.args.device.now) in
-    let mid = wire third (g.K.Sink.gained c.args.out.now) (g.D.BlockDevice.faults c.args.device.now) in
-    let new = wire third (g.K.Sink.gained c.answer_request.new.out) (g.D.BlockDevice.faults c.answer_request.new.device) in
+    let old = wire first (g.K.Sink.gained c.args.out.now) c.args.device.now in
+    let mid = wire third (g.K.Sink.gained c.args.out.now) c.args.device.now in
+    let new = wire third (g.K.Sink.gained c.answer_request.new.out) c.answer_request.new.device in
     if_both (g.D.BlockDevice.content c.args.device.now) (c.in_ok-answer_request.ensures.replies third) (c.in_ok-answer_request.ensures.replies third) (λ content replies again. (
       c.take_head.new.head ++ takes.0,
       consumes_more first (g.S.Source.left c.take_head.new.source) third c.take_head.new.head takes.0 before takes.1,
-      replied content old mid new c.take_head.new.head takes.0 c.in-Some.request (Ok c.in_ok-answer_request.field-0) (λ turn. (turn.phase ≡ Requests) × Appends old.gained new.gained turn.reply)
+      replied g.D.BlockDevice.reads content old mid new c.take_head.new.head takes.0 c.in-Some.request (Ok c.in_ok-answer_request.field-0) (λ turn. (turn.phase ≡ Requests) × Appends old.gained new.gained turn.reply)
           whole is takes.2 c.if-request-eq-CMD_DISC.false refl refl replies (λ failed puts. (refl, puts)),
     ))

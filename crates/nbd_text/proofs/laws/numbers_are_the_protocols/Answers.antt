@@ -37,7 +37,6 @@ returns c = record {
   cmd_read_is = refl;
   cmd_write_is = refl;
   cmd_disc_is = refl;
-  cmd_flush_is = refl;
   cmd_trim_is = refl;
   cmd_write_zeroes_is = refl;
   eperm_is = refl;

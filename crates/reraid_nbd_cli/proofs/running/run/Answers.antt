@@ -2,7 +2,7 @@ use Rattle.std.proofs.Common.{◌≡◌, ℕ, ◌<◌, ◌^◌, ◌++◌, List, 
 use Rattle.command_words.specs.Commands.{names_after}
 use Rattle.outside.specs.Seen.{Image}
 use Rattle.run_ends.specs.Jobs.{named, stream}
-use Rattle.reraid_nbd_cli.specs.Runs.{Shows, place, refusal, sectors, volume}
+use Rattle.reraid_nbd_cli.specs.Runs.{Shows, cost, place, refusal, sectors, volume}
 use Rattle.reraid_nbd_cli.proofs.Ran.{cut, images_small, ran, wordless}
 use Rattle.reraid_nbd_cli.proofs.running.run.Goals as goal
 
@@ -32,7 +32,7 @@ returns-in-Ok-attach_front-clause-runs g c =
     let out = stream (g.K.Sink.gained c.args.out.now) (g.K.Sink.faults c.args.out.now) in
     let put = stream (g.K.Sink.gained c.show.new.out) (g.K.Sink.faults c.show.new.out) in
     let count : length c.names_of-names.result.now ≡ length (names_after words) = ap length c.names_of-names.ensures in
-    let Q : ℕ → Type 0 = λ names. Shows (refusal (Ok command) (named names mid.attached)) (sectors (Ok command) (named names mid.attached)) (volume (Ok command) (named names mid.attached)) (place mid source out) (place new left put) c.show.result in (
+    let Q : ℕ → Type 0 = λ names. Shows (refusal (Ok command) (named names mid.attached)) (sectors (Ok command) (named names mid.attached)) (volume (Ok command) (named names mid.attached)) (cost (Ok command)) (place mid source out) (place new left put) c.show.result in (
       Ok command,
       c.in-Ok.ensures.asks,
       ran command (length (names_after words)) seen mid new source left out put c.show.result c.in-Ok-attach_front.ensures.cause.stays c.attach_front.ensures.some.unread c.attach_front.ensures.some.world

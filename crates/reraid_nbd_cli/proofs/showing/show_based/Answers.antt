@@ -5,7 +5,7 @@ use Rattle.raid_params.specs.Size.{volume_sectors}
 use Rattle.run_ends.specs.Jobs.{stream}
 use Rattle.set_jobs.specs.Writing.{told_for}
 use Rattle.volume_device.specs.Lengths.{volume_told}
-use Rattle.reraid_nbd_cli.specs.Runs.{Shows, place}
+use Rattle.reraid_nbd_cli.specs.Runs.{Shows, costs_of, place}
 use Rattle.reraid_nbd_cli.proofs.Shown.{shows_within}
 use Rattle.reraid_nbd_cli.proofs.showing.show_based.Goals as goal
 
@@ -25,11 +25,11 @@ returns-else-is_empty g c =
     let bases = c.new-padded.result.bases.items in
     let others = shown.new.images.bases.items in
     let size = volume_sectors set.geo.head c.args.end in
-    let within = shows_within reference other bases others size (volume_told (told_all (padded_images bases old.attached)) set.geo c.args.end) old new source left out put shown.result shown.ensures in
+    let within = shows_within reference other bases others size (volume_told (told_all (padded_images bases old.attached)) set.geo c.args.end) (costs_of set.geo) old new source left out put shown.result shown.ensures in
     let kept : other ≡ reference = within.0 in
     let same : bases ≡ set.bases.items = c.new-padded.ensures.bases ∙ c.deref.ensures.0 in
-    let based : Shows None size (volume_told (told_for set old.attached) set.geo c.args.end) (place old source out) (place new left put) shown.result
-    = subst (λ (bs : List ℕ). Shows None size (volume_told (told_all (padded_images bs old.attached)) set.geo c.args.end) (place old source out) (place new left put) shown.result) same within.1 in
-    let done : Shows None size (volume_told (told_for set (g.I.Images.seen c.args.images.now).attached) set.geo c.args.end) (place (g.I.Images.seen c.args.images.now) source out) (place new left put) shown.result
-    = subst (λ v. Shows None size (volume_told (told_for set (g.I.Images.seen v).attached) set.geo c.args.end) (place (g.I.Images.seen v) source out) (place new left put) shown.result) c.new-padded.ensures.within based in
+    let based : Shows None size (volume_told (told_for set old.attached) set.geo c.args.end) (costs_of set.geo) (place old source out) (place new left put) shown.result
+    = subst (λ (bs : List ℕ). Shows None size (volume_told (told_all (padded_images bs old.attached)) set.geo c.args.end) (costs_of set.geo) (place old source out) (place new left put) shown.result) same within.1 in
+    let done : Shows None size (volume_told (told_for set (g.I.Images.seen c.args.images.now).attached) set.geo c.args.end) (costs_of set.geo) (place (g.I.Images.seen c.args.images.now) source out) (place new left put) shown.result
+    = subst (λ v. Shows None size (volume_told (told_for set (g.I.Images.seen v).attached) set.geo c.args.end) (costs_of set.geo) (place (g.I.Images.seen v) source out) (place new left put) shown.result) c.new-padded.ensures.within based in
     search rules

@@ -20,6 +20,10 @@ abbrev pub IsListOf : ℕ → ℕ → List ℕ → ListReading → Type 0
 IsListOf images end text (Classed answer) = IsClassed images end text answer
 IsListOf images end text (NoList number) = IsRefusedLine images end text number
 
+-- of a text that is too long nothing is said
+abbrev pub SaysList : ℕ → ℕ → List ℕ → ListReading → Type 0
+SaysList images end text list = length text ≤ 4194304 → IsListOf images end text list
+
 -- what the source says: its text, and what that is as a list of sets
 pub record ListSaid : Type 0 where
   pub text : List ℕ
@@ -41,8 +45,9 @@ classes_of (NoList number) = None
 abbrev pub classes_job : ℕ → ℕ → Job
 classes_job images end = record {
   Said = ListSaid;
-  Says = λ left said. (left ≡ Some said.text) × IsListOf images end said.text said.list;
+  Says = λ left said. (left ≡ Some said.text) × SaysList images end said.text said.list;
   most = Some 4194304;
+  early = λ given. None;
   streams = false;
   apart = true;
   refused = λ said given. list_refusal said;

@@ -206,6 +206,7 @@ mirrors_answers asked names old new source ask answer none count is text refuses
       order = λ said says. subst (λ (r : Option Refusal). Orders r old.sectors_read new.sectors_read None None answer) same order;
       reads = λ said says. within.sectors_read;
       takes = refl;
+      heeds = tt;
       causes = record {
         images = images_raise old new (page_reads (told_all old.attached) (length old.attached) ask asked.from asked.size asked.span (is_cut answer)) answer reads quiet ends;
         source = no_raise SourceFault source.faults answer (no_source old new answer ends);

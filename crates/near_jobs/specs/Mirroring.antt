@@ -102,6 +102,7 @@ mirrors_job asked = record {
   Said = Unit {0};
   Says = λ left said. Unit {0};
   most = None;
+  early = λ given. None;
   streams = false;
   apart = false;
   refused = λ said given. mirrors_refusal asked given.names given.attached;

@@ -1,5 +1,5 @@
 -- A text that was read, and the plan that it says.
-use Rattle.std.proofs.Common.{◌≡◌, ℕ, ◌<◌, ◌≤◌, Bool, cond, List, ◌∷◌, length, None, Some, Option, Ok, Err, IfSome, sym, ap, ◌∙◌, subst}
+use Rattle.std.proofs.Common.{◌≡◌, ℕ, ◌<◌, ◌≤◌, Bool, cond, List, ◌∷◌, length, None, Some, Option, Ok, Err, IfSome, sym, ap, ◌∙◌, subst, arith}
 use Rattle.std.specs.Option.{option_map}
 use Rattle.std.proofs.lemmas.Bool.{lt-ltb, le-ltb}
 use Rattle.outside.specs.Seen.{Image}
@@ -13,7 +13,7 @@ use Rattle.search_plan.specs.declared.plan.Plan.{Plan}
 use Rattle.plan_text.specs.declared.fault.PlanFault.TheVariants.{Line as PlanLineOf}
 use Rattle.run_ends.specs.Agreement.{plan_fault}
 use Rattle.plan_jobs.specs.Preparing.{EndsPreparing, IsPlanless, IsPrepared}
-use Rattle.plan_jobs.specs.Plans.{IsTextOf, NoPlan, PlanReading, Reads, plan_refusal, read_refusal}
+use Rattle.plan_jobs.specs.Plans.{IsTextOf, NoPlan, PlanReading, Reads, SaysAsPlan, plan_refusal, read_refusal}
 use Rattle.run_ends.specs.Stops.{IsTextless, first_of}
 use Rattle.run_ends.specs.declared.agreement.Disagreement.{Disagreement}
 use Rattle.run_ends.specs.declared.stop.Refusal.{Refusal}
@@ -44,9 +44,9 @@ long_refusal text read names attached further long =
     ap (λ (b : Bool). cond b (Some PlanIsLong) (read_refusal read names attached further)) (lt-ltb PLAN_BYTES (length text) long)
 
 too_long : (left : Option (List ℕ)) (names : ℕ) (attached : List Image) → IfSome left (λ text. PLAN_BYTES < length text) →
-    IfSome left (λ text. (read : PlanReading) (further : Plan → List (Option Refusal)) → IsTextOf text read → plan_refusal text read names attached further ≡ Some PlanIsLong)
+    EndsPreparing left names attached (Refused PlanIsLong)
 too_long None names attached long = tt
-too_long (Some text) names attached long = λ read further is. long_refusal text read names attached further long
+too_long (Some text) names attached long = ((NoPlan 0, λ short. absurd (omega arith)), λ read further is. long_refusal text read names attached further long)
 
 -- the text is wanting
 pub text_ends : (left : Option (List ℕ)) (names : ℕ) (attached : List Image) (stop : Stop) → IsTextless PLAN_BYTES PlanIsLong left stop → EndsPreparing left names attached stop
@@ -62,33 +62,44 @@ pub not_a_plan : (left : Option (List ℕ)) (names : ℕ) (attached : List Image
     EndsPreparing left names attached (Refused (PlanLine number))
 not_a_plan None names attached text number is short reads = tt
 not_a_plan (Some bytes) names attached text number is short reads =
-    let P : List ℕ → Type 0 = λ xs. (read : PlanReading) (further : Plan → List (Option Refusal)) → IsTextOf xs read → plan_refusal xs read names attached further ≡ Some (PlanLine number) in
-    subst P is (λ read further says. short_refusal text read names attached further short
-    ∙ ap (λ (r : PlanReading). read_refusal r names attached further) (says_none text number read reads says))
+    let P : List ℕ → Type 0 = λ xs. ((read : PlanReading) × SaysAsPlan xs read)
+    × ((read : PlanReading) (further : Plan → List (Option Refusal)) → SaysAsPlan xs read → plan_refusal xs read names attached further ≡ Some (PlanLine number)) in
+    subst P is (
+      (NoPlan number, λ within. reads.fault),
+      λ read further says. short_refusal text read names attached further short
+          ∙ ap (λ (r : PlanReading). read_refusal r names attached further) (says_none text number read reads (says short)),
+    )
 
 -- the images do not agree
 pub disagrees : (left : Option (List ℕ)) (names : ℕ) (attached : List Image) (text : List ℕ) (plan : Plan) (fault : Disagreement) → IfSome left (λ bytes. text ≡ bytes) → length text ≤ PLAN_BYTES → ReadsPlan text (Ok plan) →
     plan_fault plan.lengths.items names attached ≡ Some fault → EndsPreparing left names attached (Refused (Images fault))
 disagrees None names attached text plan fault is short reads different = tt
 disagrees (Some bytes) names attached text plan fault is short reads different =
-    let P : List ℕ → Type 0 = λ xs. (read : PlanReading) (further : Plan → List (Option Refusal)) → IsTextOf xs read → plan_refusal xs read names attached further ≡ Some (Images fault) in
-    subst P is (λ read further says. short_refusal text read names attached further short
-    ∙ ap (λ (r : PlanReading). read_refusal r names attached further) (says_plan text plan read reads says)
-    ∙ ap (λ r. first_of (option_map (λ (f : Disagreement). Images f) r ∷ further plan)) different)
+    let P : List ℕ → Type 0 = λ xs. ((read : PlanReading) × SaysAsPlan xs read)
+    × ((read : PlanReading) (further : Plan → List (Option Refusal)) → SaysAsPlan xs read → plan_refusal xs read names attached further ≡ Some (Images fault)) in
+    subst P is (
+      (Reads plan, λ within. reads.plan),
+      λ read further says. short_refusal text read names attached further short
+          ∙ ap (λ (r : PlanReading). read_refusal r names attached further) (says_plan text plan read reads (says short))
+          ∙ ap (λ r. first_of (option_map (λ (f : Disagreement). Images f) r ∷ further plan)) different,
+    )
 
 -- they agree
 pub is_prepared : (left : Option (List ℕ)) (names : ℕ) (attached : List Image) (text : List ℕ) (plan : Plan) → IfSome left (λ bytes. text ≡ bytes) → length text ≤ PLAN_BYTES → ReadsPlan text (Ok plan) →
     plan_fault plan.lengths.items names attached ≡ None → IsPrepared left names attached plan
 is_prepared None names attached text plan is short reads same = tt
 is_prepared (Some bytes) names attached text plan is short reads same =
-    let P : List ℕ → Type 0 = λ xs. (read : PlanReading) → IsTextOf xs read →
-    (read ≡ Reads plan) × ((further : Plan → List (Option Refusal)) → plan_refusal xs read names attached further ≡ first_of (further plan)) in
-    subst P is (λ read says. (
-      says_plan text plan read reads says,
-      λ further. short_refusal text read names attached further short
-          ∙ ap (λ (r : PlanReading). read_refusal r names attached further) (says_plan text plan read reads says)
-          ∙ ap (λ r. first_of (option_map (λ (f : Disagreement). Images f) r ∷ further plan)) same,
-    ))
+    let P : List ℕ → Type 0 = λ xs. SaysAsPlan xs (Reads plan) × ((read : PlanReading) → SaysAsPlan xs read →
+    (read ≡ Reads plan) × ((further : Plan → List (Option Refusal)) → plan_refusal xs read names attached further ≡ first_of (further plan))) in
+    subst P is (
+      λ within. reads.plan,
+      λ read says. (
+        says_plan text plan read reads (says short),
+        λ further. short_refusal text read names attached further short
+            ∙ ap (λ (r : PlanReading). read_refusal r names attached further) (says_plan text plan read reads (says short))
+            ∙ ap (λ r. first_of (option_map (λ (f : Disagreement). Images f) r ∷ further plan)) same,
+      ),
+    )
 
 -- a plan has few lengths
 pub few_lengths : (plan : Plan) → IsPlan plan → length plan.lengths.items ≤ MOST

@@ -15,14 +15,14 @@ use Rattle.search_plan.specs.declared.plan.Plan.{Plan}
 use Rattle.run_ends.proofs.Printed.{ends_unput, keeps_itself, no_raise, raises_same, stays}
 use Rattle.run_ends.specs.Agreement.{count_fault, length_fault, other_length, plan_fault}
 use Rattle.run_ends.specs.Counts.{Raises}
-use Rattle.run_ends.specs.Jobs.{Answers, Does, Orders, Refuses, around, is_cut, named}
+use Rattle.run_ends.specs.Jobs.{Answers, Does, IsOwn, IsSaid, Orders, Refuses, around, is_cut, named}
 use Rattle.run_ends.specs.Source.{TakesFew}
 use Rattle.run_ends.specs.Stops.{EndsBy, first_of}
 use Rattle.run_ends.specs.declared.stop.Refusal.{Refusal}
 use Rattle.run_ends.specs.declared.stop.Stop.{Stop}
 use Rattle.run_ends.specs.declared.stop.Stop.TheVariants.{Refused, ImageFault, SourceFault, OutFault, OutOfMemory}
 use Rattle.plan_jobs.specs.Preparing.{EndsPreparing, IsPrepared}
-use Rattle.plan_jobs.specs.Plans.{AnswersOver, IfPlan, IsTextOf, NoPlan, OverPlan, PlanReading, PlanSaid, Reads, plan_job, plan_refusal, printed_over}
+use Rattle.plan_jobs.specs.Plans.{AnswersOver, IfPlan, NoPlan, OverPlan, PlanReading, PlanSaid, Reads, SaysAsPlan, plan_job, plan_refusal, printed_over}
 
 no_other : (given planned : List ℕ) (a n k : ℕ) → find (λ i. not (nat_eq (slice_index given i) (slice_index planned i))) (range_with_len a n) ≡ None → k < n → slice_index given (a + k) ≡ slice_index planned (a + k)
 no_other given planned a zero k e lt = absurd (omega arith)
@@ -72,11 +72,12 @@ said_text : (left : Option (List ℕ)) (Holds : List ℕ → Type 0) (text : Lis
 said_text left Holds text is all = let P : Option (List ℕ) → Type 0 = λ l. IfSome l Holds in subst P is all
 
 -- why the plan was not read, or the images do not agree with it, is the first refusal or has another cause
-ends_by : (left : Option (List ℕ)) (names : ℕ) (attached : List Image) (stop : Stop) (said : PlanSaid) (further : Plan → List (Option Refusal)) → EndsPreparing left names attached stop → left ≡ Some said.text → IsTextOf said.text said.plan →
+ends_by : (left : Option (List ℕ)) (names : ℕ) (attached : List Image) (stop : Stop) (said : PlanSaid) (further : Plan → List (Option Refusal)) → EndsPreparing left names attached stop → left ≡ Some said.text → SaysAsPlan said.text said.plan →
     EndsBy (plan_refusal said.text said.plan names attached further) stop
 ends_by left names attached (Refused refusal) said further ends is says =
-    let all = said_text left (λ text. (read : PlanReading) (further : Plan → List (Option Refusal)) → IsTextOf text read → plan_refusal text read names attached further ≡ Some refusal) said.text is ends in
-    all said.plan further says
+    let all = said_text left (λ text. ((read : PlanReading) × SaysAsPlan text read)
+    × ((read : PlanReading) (further : Plan → List (Option Refusal)) → SaysAsPlan text read → plan_refusal text read names attached further ≡ Some refusal)) said.text is ends in
+    all.1 said.plan further says
 ends_by left names attached ImageFault said further ends is says = absurd ends
 ends_by left names attached SourceFault said further ends is says = tt
 ends_by left names attached OutFault said further ends is says = absurd ends
@@ -91,6 +92,22 @@ no_fault left names attached stop fault ends none e =
 pub if_plan : (read : PlanReading) (Holds : Plan → Type 0) → ((plan : Plan) → Holds plan) → IfPlan read Holds
 if_plan (Reads plan) Holds all = all plan
 if_plan (NoPlan number) Holds all = tt
+
+-- the text says something where it is refused, and where its plan was read
+said_refused : (over : OverPlan) (left : Option (List ℕ)) (names : ℕ) (attached : List Image) (refusal : Refusal) → EndsPreparing left names attached (Refused refusal) → IsSaid (plan_job over) left
+said_refused over None names attached refusal ends = tt
+said_refused over (Some text) names attached refusal ends = (record { text = text; plan = ends.0.0 }, (refl, ends.0.1))
+
+said_prepared : (over : OverPlan) (left : Option (List ℕ)) (names : ℕ) (attached : List Image) (plan : Plan) → IsPrepared left names attached plan → IsSaid (plan_job over) left
+said_prepared over None names attached plan known = tt
+said_prepared over (Some text) names attached plan known = (record { text = text; plan = Reads plan }, (refl, known.0))
+
+said_unprepared : (T : Type 0) (over : OverPlan) (left : Option (List ℕ)) (names : ℕ) (attached : List Image) (stop : Stop) → EndsPreparing left names attached stop → IsOwn {T = T} (Err stop) → IsSaid (plan_job over) left
+said_unprepared T over left names attached (Refused refusal) ends own = said_refused over left names attached refusal ends
+said_unprepared T over left names attached ImageFault ends own = absurd own
+said_unprepared T over left names attached SourceFault ends own = absurd own
+said_unprepared T over left names attached OutFault ends own = absurd own
+said_unprepared T over left names attached OutOfMemory ends own = absurd own
 
 -- a job over a plan that was not read, or with which the images do not agree, is done
 pub unprepared : {T : Type 0} (over : OverPlan) (names : ℕ) (seen : Seen) (old new out : Stream) (stop : Stop) → EndsPreparing old.known names seen.attached stop → TakesFew PLAN_BYTES old.known new.known →
@@ -107,6 +124,7 @@ unprepared {T} over names seen old new out stop ends takes faults none = record 
   };
   reads = λ said says. if_plan said.plan (λ plan. over.MayRead seen.attached plan (is_cut {T = T} (Err stop)) seen.sectors_read seen.sectors_read) none;
   takes = (takes, tt);
+  heeds = (λ all refusal some. absurd (cc), λ own. said_unprepared T over old.known names seen.attached stop ends own);
   leaves = record {
     images = no_raise ImageFault seen.faults (Err stop) (no_fault old.known names seen.attached stop ImageFault ends (λ h. h));
     source = raises_same SourceFault stop old.faults new.faults faults;
@@ -133,14 +151,14 @@ at_ok (Err stop) P p = tt
 
 -- what a text says once the plan is prepared
 abbrev SaysPlan : ℕ → List Image → Plan → List ℕ → Type 0
-SaysPlan names attached plan text = (read : PlanReading) → IsTextOf text read →
-    (read ≡ Reads plan) × ((further : Plan → List (Option Refusal)) → plan_refusal text read names attached further ≡ first_of (further plan))
+SaysPlan names attached plan text = SaysAsPlan text (Reads plan) × ((read : PlanReading) → SaysAsPlan text read →
+    (read ≡ Reads plan) × ((further : Plan → List (Option Refusal)) → plan_refusal text read names attached further ≡ first_of (further plan)))
 
 -- the answer of a job over a plan that was read, and with which the images agree
 pub prepared : (over : OverPlan) (names : ℕ) (old new : Seen) (source taken : Stream) (plan : Plan) (answer : Result (List ℕ) Stop) → IsPrepared source.known names old.attached plan → TakesFew PLAN_BYTES source.known taken.known → IsAtEnd taken.known →
     Raises SourceFault source.faults taken.faults (Ok plan) → AnswersOver over names plan old new answer → Answers (plan_job over) (named names old.attached) (around old source) (around new taken) answer
 prepared over names old new source taken plan answer known few end faults over_plan =
-    let says_plan = λ (said : PlanSaid) (is : source.known ≡ Some said.text) (says : IsTextOf said.text said.plan). said_text source.known (SaysPlan names old.attached plan) said.text is known said.plan says in
+    let says_plan = λ (said : PlanSaid) (is : source.known ≡ Some said.text) (says : SaysAsPlan said.text said.plan). (said_text source.known (SaysPlan names old.attached plan) said.text is known).1 said.plan says in
     record {
       refuses = λ said says. subst (λ (refused : Option Refusal). Refuses refused answer) (sym ((says_plan said says.0 says.1).1 (over.further names old.attached))) over_plan.refuses;
       text = λ said says. subst (λ (read : PlanReading). IfOk answer (λ text. IfSome (printed_over over.text read (told_all old.attached)) (λ printed. text ≡ printed))) (sym (says_plan said says.0 says.1).0)
@@ -148,6 +166,7 @@ prepared over names old new source taken plan answer known few end faults over_p
       order = λ said says. subst (λ (refused : Option Refusal). Orders refused old.sectors_read new.sectors_read None None answer) (sym ((says_plan said says.0 says.1).1 (over.further names old.attached))) over_plan.order;
       reads = λ said says. subst (λ (read : PlanReading). IfPlan read (λ p. over.MayRead old.attached p (is_cut answer) old.sectors_read new.sectors_read)) (sym (says_plan said says.0 says.1).0) over_plan.reads;
       takes = (few, at_ok answer (IsAtEnd taken.known) end);
+      heeds = (λ all refusal some. absurd (cc), λ own. said_prepared over source.known names old.attached plan known);
       causes = record {
         images = over_plan.faults;
         source = stays SourceFault source.faults taken.faults answer (faults.stays (λ e. absurd (cc))) over_plan.untaken;

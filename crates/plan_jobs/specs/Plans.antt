@@ -1,5 +1,5 @@
 -- What a text says as a plan, and what a job over a plan is.
-use Rattle.std.specs.Prelude.{ℕ, ◌≡◌, ◌^◌, nat_le, nat_lt, Bool, false, if◌then◌else◌, List, ◌∷◌, length, Result, IfOk, IfErr, IfSome, IsErrOf}
+use Rattle.std.specs.Prelude.{ℕ, ◌≡◌, ◌≤◌, ◌^◌, nat_le, nat_lt, Bool, false, if◌then◌else◌, List, ◌∷◌, length, Result, IfOk, IfErr, IfSome, IsErrOf}
 use Rattle.std.specs.Option.{option_map}
 use Rattle.std.specs.declared.option.Option.{Option}
 use Rattle.std.specs.declared.option.Option.TheVariants.{None, Some}
@@ -27,6 +27,10 @@ pub data PlanReading : Type 0 where
 abbrev pub IsTextOf : List ℕ → PlanReading → Type 0
 IsTextOf text (Reads plan) = IsPlan plan × (text ≡ plan_text plan)
 IsTextOf text (NoPlan number) = IsRefusedLine text number
+
+-- of a text that is too long nothing is said
+abbrev pub SaysAsPlan : List ℕ → PlanReading → Type 0
+SaysAsPlan text reading = length text ≤ 4194304 → IsTextOf text reading
 
 -- the images against the plan, then what else the command refuses
 abbrev pub agreed_refusal : Plan → ℕ → List Image → List (Option Refusal) → Option Refusal
@@ -72,8 +76,9 @@ pub record OverPlan : Type 1 where
 abbrev pub plan_job : OverPlan → Job
 plan_job over = record {
   Said = PlanSaid;
-  Says = λ left said. (left ≡ Some said.text) × IsTextOf said.text said.plan;
+  Says = λ left said. (left ≡ Some said.text) × SaysAsPlan said.text said.plan;
   most = Some 4194304;
+  early = λ given. None;
   streams = false;
   apart = false;
   refused = λ said given. plan_refusal said.text said.plan given.names given.attached (over.further given.names given.attached);

@@ -1,5 +1,5 @@
 -- A run, as its job says it.
-use Rattle.std.proofs.Common.{◌≡◌, ◌≢◌, ℕ, ◌≤◌, ◌+◌, ◌<◌, ◌^◌, min, List, [], ◌∷◌, None, Some, Option, Result, Ok, Err, All, IfErr, refl, sym, ◌∙◌, subst, arith, Bool, length, true}
+use Rattle.std.proofs.Common.{◌≡◌, ◌≢◌, ℕ, ◌≤◌, ◌+◌, ◌<◌, ◌^◌, min, List, [], ◌∷◌, None, Some, Option, Result, Ok, Err, All, IfErr, IfSome, refl, sym, ◌∙◌, subst, arith, Bool, length, true}
 use Rattle.outside.specs.Attached.{AreImagesOf, told_all}
 use Rattle.outside.specs.Causes.{Rose}
 use Rattle.outside.specs.Seen.{Image, Seen, World}
@@ -17,10 +17,10 @@ use Rattle.plan_jobs.specs.Listing.{ListReads}
 use Rattle.run_ends.proofs.Printed.{ends_unput, keeps_itself, no_raise, rises}
 use Rattle.run_ends.proofs.Taking.{nothing_read}
 use Rattle.run_ends.specs.Counts.{Raises}
-use Rattle.run_ends.specs.Jobs.{Around, Does, Job, MayHaveRead, Named, Takes, around, is_cut}
+use Rattle.run_ends.specs.Jobs.{Around, Does, Heeds, IsOwn, IsSaid, Job, MayHaveRead, Named, Takes, around, is_cut}
 use Rattle.run_ends.specs.declared.stop.Refusal.{Refusal}
 use Rattle.run_ends.specs.declared.stop.Stop.{Stop}
-use Rattle.run_ends.specs.declared.stop.Stop.TheVariants.{ImageFault, SourceFault, OutFault}
+use Rattle.run_ends.specs.declared.stop.Stop.TheVariants.{Refused, ImageFault, SourceFault, OutFault}
 use Rattle.reraid_cli.specs.Answers.{Reading, TakesBy}
 use Rattle.reraid_cli.specs.Table.{job_of}
 
@@ -86,6 +86,10 @@ takes_none : (most : Option ℕ) (source : Stream) (stop : Stop) → Takes {T = 
 takes_none None source stop = refl
 takes_none (Some most) source stop = (([], omega arith, nothing_read source.known), tt)
 
+heeds_none : (job : Job) (most : Option ℕ) (given : Named) (source : Stream) → length given.attached < min given.names MOST_ATTACHED → Heeds {T = Unit {0}} job most given source source (Err ImageFault)
+heeds_none job None given source fewer = tt
+heeds_none job (Some most) given source fewer = (λ all. absurd (omega arith), λ own. absurd own)
+
 not_all : (read : Result Command ℕ) (given : Named) (n : ℕ) → length given.attached < min given.names n → length given.attached ≡ min given.names n → ⊥
 not_all read given n fewer all = omega arith
 
@@ -97,6 +101,7 @@ unattached read given old new source out fewer some none rose later unread world
   order = λ said says all refusal is. absurd (not_all read given MOST_ATTACHED fewer all);
   reads = λ said says. subst (λ (n : ℕ). (job_of read).MayRead said given true old.sectors_read n) (sym unread) (none_read_by read given true old.sectors_read said);
   takes = takes_none (job_of read).most source ImageFault;
+  heeds = heeds_none (job_of read) (job_of read).most given source fewer;
   leaves = record {
     images = rises ImageFault old.faults new.faults rose later;
     source = no_raise SourceFault source.faults (Err ImageFault) (λ e. absurd (cc));
@@ -118,6 +123,7 @@ attached_before job given seen mid after old new result faults read world same d
       record { unread = first.unread ∙ read; unput = first.unput; no_image_fault = first.no_image_fault; no_out_fault = first.no_out_fault };
   reads = λ said says. subst (λ (n : ℕ). job.MayRead said given (is_cut result) n after.images.sectors_read) read (does.reads said says);
   takes = does.takes;
+  heeds = does.heeds;
   leaves = record {
     images = subst (λ (n : ℕ). Raises ImageFault n after.images.faults result) faults does.leaves.images;
     source = does.leaves.source;
@@ -135,3 +141,61 @@ images_small world names [] are = All-nil (λ (image : Image). image.sectors < 2
 images_small world [] (image ∷ images) are = absurd are
 images_small world (name ∷ names) (image ∷ images) are =
     All-cons (λ (one : Image). one.sectors < 2 ^ 55) image images are.0.small (images_small world names images are.1)
+
+-- a job that takes no text hears the same whatever that is
+nothing_said : (left : Option (List ℕ)) → IfSome left (λ text. (said : Unit {0}) × Unit {0})
+nothing_said None = tt
+nothing_said (Some text) = (tt, tt)
+
+said_none : (read : Result Command ℕ) (left : Option (List ℕ)) → (job_of read).most ≡ None → IsSaid (job_of read) left
+said_none (Err number) left none = nothing_said left
+said_none (Ok (Survey asked)) left none = nothing_said left
+said_none (Ok (ListCommand from size span pages form names)) left none = absurd (cc)
+said_none (Ok (Check set names)) left none = absurd (cc)
+said_none (Ok (Map set sector end names)) left none = nothing_said left
+said_none (Ok (Write set end names)) left none = nothing_said left
+said_none (Ok (Rebuild set slot end names)) left none = nothing_said left
+said_none (Ok (Sample number set rows xfs)) left none = nothing_said left
+said_none (Ok (Classes images end)) left none = absurd (cc)
+said_none (Ok (Mirrors members chunks offsets missing foreign badrows window end from size span names)) left none = nothing_said left
+said_none (Ok (MirrorWrite set end names)) left none = nothing_said left
+said_none (Ok (Salvage set lost end names)) left none = absurd (cc)
+
+-- words and a text have a reading, unless the outside or memory is the cause of the answer
+pub has_reading : (words : List (List ℕ)) (read : Result Command ℕ) (given : Named) (old new : Stream) (result : Result (Unit {0}) Stop) → Reads words read → Heeds (job_of read) (job_of read).most given old new result → IsOwn result →
+    IfSome old.known (λ text. Reading words (Some text))
+has_reading words read given old new result reads heeds own = said_reading old.known (by (job_of read).most refl heeds)
+  where
+    by : (most : Option ℕ) → (job_of read).most ≡ most → Heeds (job_of read) most given old new result → IsSaid (job_of read) old.known
+    by None none heeds = said_none read old.known none
+    by (Some most) some heeds = heeds.1 own
+
+    said_reading : (left : Option (List ℕ)) → IsSaid (job_of read) left → IfSome left (λ text. Reading words (Some text))
+    said_reading None said = tt
+    said_reading (Some text) said = record { command = read; reads = reads; said = said.0; says = said.1 }
+
+-- what is refused early is refused by a job that takes a text
+early_text : (read : Result Command ℕ) (given : Named) (refused : Refusal) → (job_of read).early given ≡ Some refused → (job_of read).most ≡ None → ⊥
+early_text (Err number) given refused early none = absurd (cc)
+early_text (Ok (Survey asked)) given refused early none = absurd (cc)
+early_text (Ok (ListCommand from size span pages form names)) given refused early none = absurd (cc)
+early_text (Ok (Check set names)) given refused early none = absurd (cc)
+early_text (Ok (Map set sector end names)) given refused early none = absurd (cc)
+early_text (Ok (Write set end names)) given refused early none = absurd (cc)
+early_text (Ok (Rebuild set slot end names)) given refused early none = absurd (cc)
+early_text (Ok (Sample number set rows xfs)) given refused early none = absurd (cc)
+early_text (Ok (Classes images end)) given refused early none = absurd (cc)
+early_text (Ok (Mirrors members chunks offsets missing foreign badrows window end from size span names)) given refused early none = absurd (cc)
+early_text (Ok (MirrorWrite set end names)) given refused early none = absurd (cc)
+early_text (Ok (Salvage set lost end names)) given refused early none = absurd (cc)
+
+-- it is refused before the source is touched
+pub early_first : (words : List (List ℕ)) (read other : Result Command ℕ) (given : Named) (old new : Stream) (result : Result (Unit {0}) Stop) (refused : Refusal) → Reads words read → Reads words other → Heeds (job_of read) (job_of read).most given old new result →
+    length given.attached ≡ min given.names MOST_ATTACHED → (job_of other).early given ≡ Some refused → (result ≡ Err (Refused refused)) × (new ≡ old)
+early_first words read other given old new result refused one two heeds all early =
+    let here : (job_of read).early given ≡ Some refused = subst (λ (r : Result Command ℕ). (job_of r).early given ≡ Some refused) (one_reading words read other one two) early in
+    by (job_of read).most (early_text read given refused here) heeds here
+  where
+    by : (most : Option ℕ) → (most ≡ None → ⊥) → Heeds (job_of read) most given old new result → (job_of read).early given ≡ Some refused → (result ≡ Err (Refused refused)) × (new ≡ old)
+    by None some heeds early = absurd (some refl)
+    by (Some most) some heeds early = heeds.0 all refused early

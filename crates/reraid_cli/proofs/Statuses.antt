@@ -9,7 +9,7 @@ use Rattle.run_ends.specs.declared.stop.Refusal.{Refusal}
 use Rattle.run_ends.specs.declared.stop.Refusal.TheVariants.{Word, PlanLine, PlanIsLong, SetLine, SetsAreLong, RescueLine, RescueIsLong, Images, Many, Cursor, Set, Bases, Near, Slot, ArraySectors, VolumeSectors, Sector}
 use Rattle.run_ends.specs.declared.stop.Stop.{Stop}
 use Rattle.run_ends.specs.declared.stop.Stop.TheVariants.{Refused, ImageFault, SourceFault, OutFault, OutOfMemory}
-use Rattle.run_ends.specs.Jobs.{MayHavePut, MayHaveRead, is_cut}
+use Rattle.run_ends.specs.Jobs.{IsOwn, MayHavePut, MayHaveRead, is_cut}
 use Rattle.run_ends.specs.Stops.{EndsBy, note_of, status_of}
 use Rattle.reraid_cli.specs.Answers.{IsExact, IsNoted, is_cut_status, note_by, status_by}
 
@@ -76,6 +76,14 @@ by_refusal refused ImageFault status is exact ends = absurd (exact.no_image_faul
 by_refusal refused SourceFault status is exact ends = absurd (exact.no_source_fault is)
 by_refusal refused OutFault status is exact ends = absurd (exact.no_out_fault is)
 by_refusal refused OutOfMemory status is exact ends = absurd (exact.no_want is)
+
+-- so it is the command's own
+pub own_by : (stop : Stop) (status : ℕ) → status ≡ status_of stop → IsExact status → IsOwn {T = Unit {0}} (Err stop)
+own_by (Refused refusal) status is exact = tt
+own_by ImageFault status is exact = absurd (exact.no_image_fault is)
+own_by SourceFault status is exact = absurd (exact.no_source_fault is)
+own_by OutFault status is exact = absurd (exact.no_out_fault is)
+own_by OutOfMemory status is exact = absurd (exact.no_want is)
 
 -- and so is the line
 pub noted_by : (refused : Option Refusal) (now : ℕ) (old new : Option (List ℕ)) (stop : Stop) (status : ℕ) → status ≡ status_of stop → IsExact status → EndsBy refused stop → IsNoted now old new (note_of stop) → IsNoted now old new (note_by refused)

@@ -6,10 +6,11 @@ ghost use Rattle.outside.specs.Streams.{AppendsFront, AppendsSectors};
 ghost use Rattle.run_ends.specs.Stops.{note_of, status_of};
 ghost use Rattle.run_ends.specs.declared.stop.Refusal.{Refusal};
 ghost use Rattle.run_ends.specs.declared.stop.Stop.{Stop};
+ghost use Rattle.run_ends.specs.declared.stop.Stop.TheVariants.{Refused};
 ghost use Rattle.outside.specs.Attached.{AreImagesOf};
 ghost use Rattle.command_words.specs.Commands.{IsCommandLine, Reads, names_after};
 ghost use Rattle.command_words.specs.declared.command.Command.{Command};
-ghost use Rattle.reraid_cli.specs.Answers.{IsExact, IsNoted, IsOrdered, MayRead, Reading, TakesBy, is_cut_status, note_by, output, refusal, status_by};
+ghost use Rattle.reraid_cli.specs.Answers.{IsExact, IsNoted, IsOrdered, MayRead, Reading, TakesBy, is_cut_status, named_by, note_by, output, refusal, status_by};
 ghost use Rattle.reraid_cli.specs.Table.{job_of};
 
 use crate::running::run;
@@ -59,6 +60,9 @@ pub fn reraid<R: Threads + Sync, S: Source, I: Images, K: Sink, N: Sink, G: Gate
     ensures note { IsExact result → (reading : Reading words.now (S.left plan.old)) →
         IsNoted (N.faults notes.new) (N.gained notes.old) (N.gained notes.new) (note_by (refusal reading (I.seen images.new).attached)) }
 
+    // Unless the outside or memory is the cause, the words and the text of the source have a reading: so `exact` tells each such status.
+    ensures read { IsExact result → IfSome (S.left plan.old) (λ text. Reading words.now (Some text)) }
+
     // A refusal comes before the work itself: nothing is read or put, and no fault of the images or of the
     // output is answered in its place.
     ensures order { (reading : Reading words.now (S.left plan.old)) → (refused : Refusal) →
@@ -70,6 +74,12 @@ pub fn reraid<R: Threads + Sync, S: Source, I: Images, K: Sink, N: Sink, G: Gate
     // on images of its own, and `classes`, which works on sets alone.
     ensures words { (number : ℕ) → Reads words.now (Err number) → result ≡ 1 }
     ensures apart { (read : Result Command ℕ) → Reads words.now read → (job_of read).apart ≡ true → I.seen images.new ≡ I.seen images.old }
+
+    // What a command over a text refuses early, as `salvage` does its images, it refuses before its source is touched.
+    ensures early_refusal { (read : Result Command ℕ) (refused : Refusal) → Reads words.now read →
+        (job_of read).early (named_by words.now (I.seen images.new).attached) ≡ Some refused →
+        length (I.seen images.new).attached ≡ min (length (names_after words.now)) 65536 →
+        (result ≡ status_of (Refused refused)) × (S.left plan.new ≡ S.left plan.old) × (S.faults plan.new ≡ S.faults plan.old) }
 
     // Only a command over a text takes from the source: at most one byte more than the text may have, and at
     // status 0 all of it.

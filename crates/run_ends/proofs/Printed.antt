@@ -5,7 +5,7 @@ use Rattle.std.proofs.lemmas.List.{append-nil}
 use Rattle.outside.specs.Causes.{Rose}
 use Rattle.outside.specs.Streams.{AppendsFront, AppendsSectors, Stream}
 use Rattle.run_ends.specs.Counts.{Raises}
-use Rattle.run_ends.specs.Jobs.{Answers, Around, Does, Ends, IsPrinted, Job, MayHaveRead, Named, Orders, Takes, is_cut}
+use Rattle.run_ends.specs.Jobs.{Answers, Around, Does, Ends, Heeds, IsOwn, IsPrinted, Job, MayHaveRead, Named, Orders, Takes, is_cut}
 use Rattle.run_ends.specs.Stops.{EndsBy}
 use Rattle.run_ends.specs.declared.stop.Refusal.{Refusal}
 use Rattle.run_ends.specs.declared.stop.Stop.{Stop}
@@ -75,6 +75,26 @@ takes_unput : (T U : Type 0) (most : Option ℕ) (old new : Stream) (x : T) (sto
 takes_unput T U None old new x stop takes = takes
 takes_unput T U (Some most) old new x stop takes = (takes.0, tt)
 
+own_same : (T U : Type 0) (stop : Stop) → IsOwn {T = U} (Err stop) → IsOwn {T = T} (Err stop)
+own_same T U (Refused refusal) own = tt
+own_same T U ImageFault own = absurd own
+own_same T U SourceFault own = absurd own
+own_same T U OutFault own = absurd own
+own_same T U OutOfMemory own = absurd own
+
+heeds_same : (T U : Type 0) (job : Job) (most : Option ℕ) (given : Named) (old new : Stream) (stop : Stop) → Heeds {T = T} job most given old new (Err stop) → Heeds {T = U} job most given old new (Err stop)
+heeds_same T U job None given old new stop heeds = tt
+heeds_same T U job (Some most) given old new stop heeds =
+    (λ all refusal is. let early = heeds.0 all refusal is in (same_fault stop (Refused refusal) early.0, early.1), λ own. heeds.1 (own_same T U stop own))
+
+heeds_put : {T U : Type 0} (job : Job) (most : Option ℕ) (given : Named) (old new : Stream) (x : T) (y : U) → Heeds job most given old new (Ok x) → Heeds job most given old new (Ok y)
+heeds_put job None given old new x y heeds = tt
+heeds_put job (Some most) given old new x y heeds = (λ all refusal is. absurd (let early = (heeds.0 all refusal is).0 in cc), λ own. heeds.1 tt)
+
+heeds_unput : (T U : Type 0) (job : Job) (most : Option ℕ) (given : Named) (old new : Stream) (x : T) → Heeds job most given old new (Ok x) → Heeds {T = U} job most given old new (Err OutFault)
+heeds_unput T U job None given old new x heeds = tt
+heeds_unput T U job (Some most) given old new x heeds = (λ all refusal is. absurd (let early = (heeds.0 all refusal is).0 in cc), λ own. absurd own)
+
 cut_same : (T U : Type 0) (stop : Stop) → is_cut {T = T} (Err stop) ≡ is_cut {T = U} (Err stop)
 cut_same T U (Refused refusal) = refl
 cut_same T U ImageFault = refl
@@ -96,6 +116,7 @@ stopped {T} job given before after out stop still answers = record {
       };
   reads = λ said says. subst (λ (cut : Bool). job.MayRead said given cut before.images.sectors_read after.images.sectors_read) (cut_same (List ℕ) T stop) (answers.reads said says);
   takes = takes_same (List ℕ) T job.most before.source after.source stop answers.takes;
+  heeds = heeds_same (List ℕ) T job job.most given before.source after.source stop answers.heeds;
   leaves = record {
     images = raises_same ImageFault stop before.images.faults after.images.faults answers.causes.images;
     source = raises_same SourceFault stop before.source.faults after.source.faults answers.causes.source;
@@ -120,6 +141,7 @@ put_whole job given before after old new text x answers put same = record {
   order = λ said says all refusal is. absurd (let none : job.refused said given ≡ None = (answers.refuses said says).passes in cc);
   reads = answers.reads;
   takes = takes_put job.most before.source after.source text x answers.takes;
+  heeds = heeds_put job job.most given before.source after.source text x answers.heeds;
   leaves = record {
     images = stays ImageFault before.images.faults after.images.faults (Ok x) (answers.causes.images.stays (λ e. absurd (cc))) (λ e. absurd (cc));
     source = stays SourceFault before.source.faults after.source.faults (Ok x) (answers.causes.source.stays (λ e. absurd (cc))) (λ e. absurd (cc));
@@ -144,6 +166,7 @@ put_front {T} job given before after old new text answers put rose later = recor
   order = λ said says all refusal is. absurd (let none : job.refused said given ≡ None = (answers.refuses said says).passes in cc);
   reads = answers.reads;
   takes = takes_unput (List ℕ) T job.most before.source after.source text OutFault answers.takes;
+  heeds = heeds_unput (List ℕ) T job job.most given before.source after.source text answers.heeds;
   leaves = record {
     images = stays ImageFault before.images.faults after.images.faults (Err OutFault) (answers.causes.images.stays (λ e. absurd (cc))) (λ e. absurd (cc));
     source = stays SourceFault before.source.faults after.source.faults (Err OutFault) (answers.causes.source.stays (λ e. absurd (cc))) (λ e. absurd (cc));

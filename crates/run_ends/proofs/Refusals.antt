@@ -5,7 +5,7 @@ use Rattle.raid_params.specs.declared.types.GeoFault.{GeoFault}
 use Rattle.raid_params.specs.declared.types.Geometry.{Geometry}
 use Rattle.raid_params.specs.Validity.{first_fault, is_shaped, shape_fault, row_fault}
 use Rattle.outside.specs.Streams.{Stream}
-use Rattle.run_ends.specs.Jobs.{Answers, Around, Does, HasCauses, Job, MayHaveRead, Named, Orders, Refuses, Takes, is_cut}
+use Rattle.run_ends.specs.Jobs.{Answers, Around, Does, HasCauses, Heeds, Job, MayHaveRead, Named, Orders, Refuses, Takes, is_cut}
 use Rattle.run_ends.specs.Stops.{IsEarly}
 use Rattle.run_ends.specs.declared.stop.Refusal.{Refusal}
 use Rattle.run_ends.specs.declared.stop.Stop.{Stop}
@@ -42,6 +42,10 @@ takes_nothing : {T : Type 0} (most : Option ℕ) (source : Stream) (r : Result T
 takes_nothing None source r none = refl
 takes_nothing (Some most) source r none = absurd (cc)
 
+pub heeds_nothing : {T : Type 0} (job : Job) (most : Option ℕ) (given : Named) (old new : Stream) (r : Result T Stop) → most ≡ None → Heeds job most given old new r
+heeds_nothing job None given old new r none = tt
+heeds_nothing job (Some most) given old new r none = absurd (cc)
+
 early_order : {T : Type 0} (refused : Option Refusal) (read : ℕ) (r : Result T Stop) → Refuses refused r → IfErr r IsEarly → Orders refused read read None None r
 early_order refused read (Ok x) refuses early refusal e = absurd (let none : refused ≡ None = refuses.passes in cc)
 early_order refused read (Err stop) refuses early refusal e = record {
@@ -61,6 +65,7 @@ early_answers job given before answer textless early refuses text reads = record
   order = λ said says. early_order (job.refused said given) before.images.sectors_read answer (refuses said) early;
   reads = λ said says. reads said;
   takes = takes_nothing job.most before.source answer textless;
+  heeds = heeds_nothing job job.most given before.source before.source answer textless;
   causes = nothing_touched before answer early;
   apart = λ e. refl;
   world = refl;
@@ -74,6 +79,7 @@ does_refused job given before out refusal textless refused reads = record {
   order = λ said says all other is. record { unread = refl; unput = keeps_itself out.known; no_image_fault = λ e. absurd (cc); no_out_fault = λ e. absurd (cc) };
   reads = λ said says. reads said;
   takes = takes_nothing job.most before.source (Err (Refused refusal)) textless;
+  heeds = heeds_nothing job job.most given before.source before.source (Err (Refused refusal)) textless;
   leaves = record {
     images = no_raise ImageFault before.images.faults (Err (Refused refusal)) (λ e. absurd (cc));
     source = no_raise SourceFault before.source.faults (Err (Refused refusal)) (λ e. absurd (cc));

@@ -11,7 +11,7 @@ use Rattle.run_ends.specs.Source.{TakesFew}
 use Rattle.run_ends.specs.Stops.{EndsBy}
 use Rattle.run_ends.specs.declared.stop.Refusal.{Refusal}
 use Rattle.run_ends.specs.declared.stop.Stop.{Stop}
-use Rattle.run_ends.specs.declared.stop.Stop.TheVariants.{ImageFault, SourceFault, OutFault, OutOfMemory}
+use Rattle.run_ends.specs.declared.stop.Stop.TheVariants.{Refused, ImageFault, SourceFault, OutFault, OutOfMemory}
 
 -- what the words name: how many images, and those of them that are attached
 pub record Named : Type 0 where
@@ -32,13 +32,14 @@ around images source = record { images = images; source = source }
 abbrev pub stream : Option (List ℕ) → ℕ → Stream
 stream known faults = record { known = known; faults = faults }
 
--- a job: what the text of its source says to it, and the most bytes of that text, if it takes one; whether it puts as
--- it reads, and whether it leaves the images alone; its first refusal; its output, where what that depends on is
+-- a job: what the text of its source says to it, and the most bytes of that text, if it takes one, and what it refuses before it does;
+-- whether it puts as it reads, and whether it leaves the images alone; its first refusal; its output, where what that depends on is
 -- known; and what it may read, by the counts of sectors before and after, also where its work was cut short
 pub record Job : Type 1 where
   pub Said : Type 0
   pub Says : Option (List ℕ) → Said → Type 0
   pub most : Option ℕ
+  pub early : Named → Option Refusal
   pub streams : Bool
   pub apart : Bool
   pub refused : Said → Named → Option Refusal
@@ -51,6 +52,7 @@ textless streams refused printed most = record {
   Said = Unit {0};
   Says = λ left said. Unit {0};
   most = None;
+  early = λ given. None;
   streams = streams;
   apart = false;
   refused = λ said given. refused given;
@@ -64,6 +66,7 @@ imageless refused printed = record {
   Said = Unit {0};
   Says = λ left said. Unit {0};
   most = None;
+  early = λ given. None;
   streams = false;
   apart = true;
   refused = λ said given. refused;
@@ -120,6 +123,27 @@ abbrev pub Takes : {T : Type 0} → Option ℕ → Stream → Stream → Result 
 Takes None old new result = new ≡ old
 Takes (Some most) old new result = TakesFew most old.known new.known × OnOk result (IsAtEnd new.known)
 
+-- this refusal comes before anything is taken of the source, and whatever that would say or do
+abbrev pub EndsEarly : {T : Type 0} → Option Refusal → Stream → Stream → Result T Stop → Type 0
+EndsEarly refused old new result = (refusal : Refusal) → refused ≡ Some refusal → (result ≡ Err (Refused refusal)) × (new ≡ old)
+
+-- the cause of the answer is neither the outside nor memory
+abbrev pub IsOwn : {T : Type 0} → Result T Stop → Type 0
+IsOwn (Ok x) = Unit {0}
+IsOwn (Err (Refused refusal)) = Unit {0}
+IsOwn (Err _) = ⊥
+
+-- the text says something to the job, where it is known
+abbrev pub IsSaid : Job → Option (List ℕ) → Type 0
+IsSaid job left = IfSome left (λ text. (said : job.Said) × job.Says (Some text) said)
+
+-- what a job makes of its text, if it takes one: what it refuses early, once all images are attached, it refuses before it takes of it; and
+-- the text says something to it, unless the outside or memory is the cause of its answer
+abbrev pub Heeds : {T : Type 0} → Job → Option ℕ → Named → Stream → Stream → Result T Stop → Type 0
+Heeds job None given old new result = Unit {0}
+Heeds job (Some most) given old new result =
+    (length given.attached ≡ min given.names 65536 → EndsEarly (job.early given) old new result) × (IsOwn result → IsSaid job old.known)
+
 -- what a job leaves: each count of faults rose where that fault is the answer, and is as it was elsewhere; nothing is put but at Ok and where
 -- it may be, and nothing is read but at Ok and where it may be
 pub record Leaves {T : Type 0} (streams : Bool) (before after : Around) (old new : Stream) (result : Result T Stop) : Type 0 where
@@ -136,6 +160,7 @@ pub record Does {T : Type 0} (job : Job) (given : Named) (before after : Around)
       Orders (job.refused said given) before.images.sectors_read after.images.sectors_read old.known new.known result
   pub reads : (said : job.Said) → job.Says before.source.known said → job.MayRead said given (is_cut result) before.images.sectors_read after.images.sectors_read
   pub takes : Takes job.most before.source after.source result
+  pub heeds : Heeds job job.most given before.source after.source result
   pub leaves : Leaves job.streams before after old new result
   pub apart : job.apart ≡ true → after.images ≡ before.images
   pub world : after.images.world ≡ before.images.world
@@ -154,6 +179,7 @@ pub record Answers (job : Job) (given : Named) (before after : Around) (answer :
   pub order : (said : job.Said) → job.Says before.source.known said → Orders (job.refused said given) before.images.sectors_read after.images.sectors_read None None answer
   pub reads : (said : job.Said) → job.Says before.source.known said → job.MayRead said given (is_cut answer) before.images.sectors_read after.images.sectors_read
   pub takes : Takes job.most before.source after.source answer
+  pub heeds : Heeds job job.most given before.source after.source answer
   pub causes : HasCauses before after answer
   pub apart : job.apart ≡ true → after.images ≡ before.images
   pub world : after.images.world ≡ before.images.world

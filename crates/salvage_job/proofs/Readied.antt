@@ -180,6 +180,7 @@ is_ready set end names attached left ready count small near none read is ruled =
     let many : names ≡ length attached = omega arith in
     record {
       end_is = is;
+      images = none;
       allowed = unready_set set end names ready.end attached left ready.rescue None none read is ruled;
       sections = each_left (Reads names ready.rescue) (λ text. rescue_sections names text ≡ Ok ready.rescue) left (λ text r. r.1) read;
       salvaged = record {

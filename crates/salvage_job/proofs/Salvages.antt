@@ -17,13 +17,13 @@ use Rattle.rescue_text.specs.declared.section.Section.{Section}
 use Rattle.run_ends.proofs.Printed.{ends_unput, keeps_itself, no_raise, raises_same, stays}
 use Rattle.run_ends.specs.Agreement.{end_of}
 use Rattle.run_ends.specs.Counts.{Raises}
-use Rattle.run_ends.specs.Jobs.{Answers, Does, Ends, Job, Takes, around, named}
+use Rattle.run_ends.specs.Jobs.{Answers, Does, Ends, EndsEarly, Heeds, IsSaid, Job, Takes, around, named}
 use Rattle.run_ends.specs.Source.{TakesFew}
 use Rattle.run_ends.specs.Stops.{EndsBy}
 use Rattle.run_ends.specs.declared.stop.Refusal.{Refusal}
 use Rattle.run_ends.specs.declared.stop.Stop.{Stop}
 use Rattle.run_ends.specs.declared.stop.Stop.TheVariants.{Refused, ImageFault, SourceFault, OutFault, OutOfMemory}
-use Rattle.salvage_job.specs.Salvaging.{IsReady, IsUnready, salvage_job, salvage_output, salvage_reads, salvage_refusal}
+use Rattle.salvage_job.specs.Salvaging.{IsReady, IsUnready, images_refusal, salvage_job, salvage_output, salvage_reads, salvage_refusal}
 use Rattle.salvage_job.specs.declared.salvaging.Ready.{Ready}
 use Rattle.set_jobs.proofs.Written.{writing_job}
 use Rattle.set_jobs.specs.Writing.{told_for}
@@ -48,6 +48,16 @@ ready_allowed set end names attached left ready said is says = told (λ text. sa
 ready_sections : (set : Wide) (end : Option ℕ) (names : ℕ) (attached : List Image) (left : Option (List ℕ)) (ready : Ready) (said : List ℕ) → IsReady set end names attached left ready → left ≡ Some said → rescue_sections names said ≡ Ok ready.rescue
 ready_sections set end names attached left ready said is says = told (λ text. rescue_sections names text ≡ Ok ready.rescue) left said is.sections says
 
+-- any text says itself
+says_itself : (set : Wide) (lost : Bool) (end : Option ℕ) (left : Option (List ℕ)) → IsSaid (salvage_job set lost end) left
+says_itself set lost end None = tt
+says_itself set lost end (Some text) = (text, refl)
+
+-- the images are not refused once the work begins
+ready_heeds : {T : Type 0} (set : Wide) (lost : Bool) (end : Option ℕ) (names : ℕ) (attached : List Image) (old new : Stream) (ready : Ready) (result : Result T Stop) → IsReady set end names attached old.known ready →
+    Heeds (salvage_job set lost end) (Some 4194304) (named names attached) old new result
+ready_heeds set lost end names attached old new ready result is = (λ all refusal some. absurd (let none = is.images in cc), λ own. says_itself set lost end old.known)
+
 -- the text of what is lost is made
 lost_made : (set : Wide) (end : Option ℕ) (names : ℕ) (seen : Seen) (old new : Stream) (ready : Ready) (text : List ℕ) → IsReady set end names seen.attached old.known ready → IsTaken old new → text ≡ lost_text ready.rescue set ready.end →
     Answers (salvage_job set true end) (named names seen.attached) (around seen old) (around seen new) (Ok text)
@@ -59,6 +69,7 @@ lost_made set end names seen old new ready text is taken made = record {
   order = λ said says refusal some. absurd (let none = ready_allowed set end names seen.attached old.known ready said is says in cc);
   reads = λ said says. omega arith;
   takes = (taken.takes, taken.end);
+  heeds = ready_heeds set true end names seen.attached old new ready (Ok text) is;
   causes = record {
     images = no_raise ImageFault seen.faults (Ok text) (λ e. absurd (cc));
     source = stays SourceFault old.faults new.faults (Ok text) taken.faults (λ e. absurd (cc));
@@ -78,6 +89,7 @@ lost_wanting set end names seen old new ready is taken = record {
   order = λ said says refusal some. absurd (let none = ready_allowed set end names seen.attached old.known ready said is says in cc);
   reads = λ said says. omega arith;
   takes = (taken.takes, tt);
+  heeds = ready_heeds set true end names seen.attached old new ready (Err OutOfMemory) is;
   causes = record {
     images = no_raise ImageFault seen.faults (Err OutOfMemory) (λ e. absurd (cc));
     source = stays SourceFault old.faults new.faults (Err OutOfMemory) taken.faults (λ e. absurd (cc));
@@ -124,6 +136,7 @@ does_salvage set end names seen left old new out put ready result is taken d = r
   order = λ said says all refusal some. absurd (let none = ready_allowed set end names seen.attached old.known ready said is says in cc);
   reads = λ said says. subst (λ (n : ℕ). left.sectors_read ≤ seen.sectors_read + n) (reads_are set end names seen.attached old.known ready said is says) (d.reads tt tt);
   takes = takes_by 4194304 old new result taken.takes taken.end;
+  heeds = ready_heeds set false end names seen.attached old new ready result is;
   leaves = record {
     images = d.leaves.images;
     source = subst (λ (n : ℕ). Raises SourceFault old.faults n result) (sym taken.faults) d.leaves.source;
@@ -137,12 +150,13 @@ does_salvage set end names seen left old new out put ready result is taken d = r
 
 -- the work does not begin
 pub does_nothing : {T U : Type 0} (set : Wide) (lost : Bool) (end : Option ℕ) (names : ℕ) (seen : Seen) (old new out : Stream) (stop : Stop) → IsUnready set end names seen.attached old.known stop → TakesFew 4194304 old.known new.known → Raises {T = U} SourceFault old.faults new.faults (Err stop) →
-    Does {T = T} (salvage_job set lost end) (named names seen.attached) (around seen old) (around seen new) out out (Err stop)
-does_nothing {T} {U} set lost end names seen old new out stop is takes faults = record {
+    EndsEarly {T = U} (images_refusal set end names seen.attached) old new (Err stop) → Does {T = T} (salvage_job set lost end) (named names seen.attached) (around seen old) (around seen new) out out (Err stop)
+does_nothing {T} {U} set lost end names seen old new out stop is takes faults early = record {
   ends = λ said says. ends_unput (salvage_refusal set end said names seen.attached) (salvage_output set lost end seen.attached (rescue_sections names said)) out.known stop (by stop is said says);
   order = λ said says all refusal some. record { unread = refl; unput = keeps_itself out.known; no_image_fault = λ e. none stop is ImageFault (λ h. h) e; no_out_fault = λ e. none stop is OutFault (λ h. h) e };
   reads = λ said says. omega arith;
   takes = (takes, tt);
+  heeds = (λ all refusal some. let first = early refusal some in (same_refusal refusal first.0, first.1), λ own. says_itself set lost end old.known);
   leaves = record {
     images = no_raise ImageFault seen.faults (Err stop) (none stop is ImageFault (λ h. h));
     source = raises_same SourceFault stop old.faults new.faults faults;
@@ -154,6 +168,9 @@ does_nothing {T} {U} set lost end names seen old new out stop is takes faults = 
   world = refl;
 }
   where
+    same_refusal : (refusal : Refusal) → IsErrOf {T = U} (Err stop) (Refused refusal) → IsErrOf {T = T} (Err stop) (Refused refusal)
+    same_refusal refusal e = let f = e in let same : stop ≡ Refused refusal = cc in ap (λ (s : Stop). Err s) same
+
     by : (stop : Stop) → IsUnready set end names seen.attached old.known stop → (said : List ℕ) → old.known ≡ Some said → EndsBy (salvage_refusal set end said names seen.attached) stop
     by (Refused refusal) is said says = told (λ text. salvage_refusal set end text names seen.attached ≡ Some refusal) old.known said is says
     by ImageFault is said says = tt

@@ -4,7 +4,6 @@ use Rattle.std.specs.Option.{option_map}
 use Rattle.std.specs.declared.option.Option.{Option}
 use Rattle.std.specs.declared.option.Option.TheVariants.{None, Some}
 use Rattle.outside.specs.Seen.{Image}
-use Rattle.outside.specs.Streams.{Stream}
 use Rattle.raid_params.specs.Size.{volume_sectors}
 use Rattle.raid_params.specs.Wide.{wide_fault}
 use Rattle.raid_params.specs.declared.wide.Wide.{Wide}
@@ -70,22 +69,20 @@ salvage_reads set true end attached (Ok sections) = 0
 salvage_reads set false end attached (Ok sections) = reads_for_all sections set 0 (volume_sectors set.geo.head (end_of end attached))
 salvage_reads set lost end attached (Err fault) = 0
 
--- `salvage`: it puts the volume as it reads; the text of what is lost it puts whole, and reads no image for it
+-- `salvage`: it puts the volume as it reads; the text of what is lost it puts whole, and reads no image for it. The images are refused
+-- before its source is touched
 abbrev pub salvage_job : Wide → Bool → Option ℕ → Job
 salvage_job set lost end = record {
   Said = List ℕ;
   Says = λ left said. left ≡ Some said;
   most = Some 4194304;
+  early = λ given. images_refusal set end given.names given.attached;
   streams = not lost;
   apart = false;
   refused = λ said given. salvage_refusal set end said given.names given.attached;
   printed = λ said given. salvage_output set lost end given.attached (rescue_sections given.names said);
   MayRead = λ said given cut before after. after ≤ before + salvage_reads set lost end given.attached (rescue_sections given.names said);
 }
-
--- this refusal comes before anything is taken of the source, and whatever that would say or do
-abbrev pub EndsEarly : {T : Type 0} → Option Refusal → Stream → Stream → Result T Stop → Type 0
-EndsEarly refused old new result = (refusal : Refusal) → refused ≡ Some refusal → (result ≡ Err (Refused refusal)) × (new ≡ old)
 
 -- why a source gives no rescue of so many images: its text is refused, the source failed, or memory ran out
 abbrev pub IsUnrescued : ℕ → Option (List ℕ) → Stop → Type 0
@@ -103,6 +100,7 @@ IsUnreadable names text _ = ⊥
 -- nothing is refused: the end of the members, and what was read of the images
 pub record IsReady (set : Wide) (end : Option ℕ) (names : ℕ) (attached : List Image) (left : Option (List ℕ)) (ready : Ready) : Type 0 where
   pub end_is : ready.end ≡ end_of end attached
+  pub images : images_refusal set end names attached ≡ None
   pub allowed : IfSome left (λ text. salvage_refusal set end text names attached ≡ None)
   pub sections : IfSome left (λ text. rescue_sections names text ≡ Ok ready.rescue)
   pub salvaged : IsSalvaged set ready.end attached

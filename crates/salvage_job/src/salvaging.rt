@@ -10,9 +10,9 @@ ghost use Rattle.rescue_map.specs.Salvaged.{IsReadAhead, IsSalvaged};
 ghost use Rattle.rescue_text.specs.RescueText.{rescue_sections};
 ghost use Rattle.run_ends.specs.Agreement.{end_of as end_of_images};
 ghost use Rattle.run_ends.specs.Counts.{Raises};
-ghost use Rattle.run_ends.specs.Jobs.{Does, around, named, stream};
+ghost use Rattle.run_ends.specs.Jobs.{Does, EndsEarly, around, named, stream};
 ghost use Rattle.run_ends.specs.Source.{TakesFew};
-ghost use Rattle.salvage_job.specs.Salvaging.{EndsEarly, IsReady, IsUnreadable, IsUnready, IsUnrescued, images_refusal, rule_refusal, salvage_job};
+ghost use Rattle.salvage_job.specs.Salvaging.{IsReady, IsUnreadable, IsUnready, IsUnrescued, images_refusal, rule_refusal, salvage_job};
 ghost use Rattle.set_jobs.specs.Faults.{stop_of_volume};
 ghost use Rattle.set_jobs.specs.Mapping.{long_refused};
 ghost use Rattle.set_jobs.specs.Writing.{told_for};
@@ -66,8 +66,6 @@ pub fn salvage<R: Threads + Sync, S: Source, I: Images, K: Sink, G: Gate + Sync>
         (around (I.seen images.old) (stream (S.left source.old) (S.faults source.old)))
         (around (I.seen images.new) (stream (S.left source.new) (S.faults source.new)))
         (stream (K.gained out.old) (K.faults out.old)) (stream (K.gained out.new) (K.faults out.new)) result }
-    ensures early { EndsEarly (images_refusal set.now end names (I.seen images.old).attached)
-        (stream (S.left source.old) (S.faults source.old)) (stream (S.left source.new) (S.faults source.new)) result }
 
     // No more is read than for what the output gained, and for one block of the volume more, also where it failed.
     ensures ahead { lost ≡ false → IfSome (S.left source.old) (λ text. IfOk (rescue_sections names text) (λ sections. IfSome (told_for set.now (I.seen images.old).attached)

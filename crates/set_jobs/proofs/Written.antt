@@ -101,6 +101,7 @@ written told refused content most names old new source out put none writes = rec
   order = λ said says all refusal e. absurd (cc);
   reads = λ said says. writes.reads.sectors_read;
   takes = refl;
+  heeds = tt;
   leaves = record {
     images = stays {T = Unit {0}} ImageFault old.faults new.faults (Ok tt) writes.faults.0 (λ e. absurd (cc));
     source = no_raise {T = Unit {0}} SourceFault source.faults (Ok tt) (λ e. absurd (cc));
@@ -162,6 +163,7 @@ cut_short told refused content most names old new source out put fault none writ
   order = λ said says all refusal e. absurd (cc);
   reads = λ said says. writes.reads.sectors_read;
   takes = refl;
+  heeds = tt;
   leaves = fault_leaves old new source out put fault writes.faults writes.reads.faults writes.later writes.memory;
   apart = λ e. absurd (cc);
   world = writes.reads.world;

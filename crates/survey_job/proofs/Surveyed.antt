@@ -160,6 +160,7 @@ survey_answers asked names old new source answer none text reads quiet ends =
       order = λ said says. order_allowed (survey_refusal asked names old.attached) old.sectors_read new.sectors_read None None answer allowed;
       reads = λ said says. reads.sectors_read;
       takes = refl;
+      heeds = tt;
       causes = record {
         images = cut_images old new (survey_reads asked old.attached) answer reads quiet ends;
         source = no_raise SourceFault source.faults answer (cut_other old new answer SourceFault ends (λ h. h));

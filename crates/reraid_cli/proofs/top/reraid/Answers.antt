@@ -1,12 +1,13 @@
-use Rattle.std.proofs.Common.{◌≡◌, sym, ap, ◌∙◌, subst, ℕ, List, Bool, arith}
+use Rattle.std.proofs.Common.{◌≡◌, sym, ap, ◌∙◌, subst, ℕ, List, Bool, Ok, Err, arith}
+use Rattle.outside.specs.Streams.{Stream}
 use Rattle.run_ends.specs.Jobs.{MayHavePut, MayHaveRead, stream}
 use Rattle.run_ends.specs.Stops.{note_of, status_of}
 use Rattle.run_ends.specs.declared.stop.Refusal.TheVariants.{Word}
 use Rattle.run_ends.specs.declared.stop.Stop.TheVariants.{ImageFault, OutFault, Refused, SourceFault}
 use Rattle.reraid_cli.specs.Answers.{IsNoted, named_by, refusal, status_by}
 use Rattle.reraid_cli.specs.Table.{job_of}
-use Rattle.reraid_cli.proofs.Runs.{some_none, read_does, reading_does, takes_by, takes_ok}
-use Rattle.reraid_cli.proofs.Statuses.{by_refusal, cut_by, eleven_is, fault_is, is_fault, noted, noted_by, noted_none, put_before, put_nothing, read_no_memory, read_nothing, status_some, ten_is, twelve_is}
+use Rattle.reraid_cli.proofs.Runs.{early_first, has_reading, some_none, read_does, reading_does, takes_by, takes_ok}
+use Rattle.reraid_cli.proofs.Statuses.{by_refusal, cut_by, eleven_is, fault_is, is_fault, noted, noted_by, noted_none, own_by, put_before, put_nothing, read_no_memory, read_nothing, status_some, ten_is, twelve_is}
 use Rattle.reraid_cli.proofs.top.reraid.Goals as goal
 
 pub returns-in-Ok-clause-exact : goal.returns-in-Ok-clause-exact
@@ -18,6 +19,31 @@ pub returns-in-Ok-clause-note : goal.returns-in-Ok-clause-note
 returns-in-Ok-clause-note g c exact reading =
     let does = reading_does c.args.words.now (g.S.Source.left c.args.plan.now) c.in-Ok.ensures.does.0 c.in-Ok.ensures.does.1 c.in-Ok.ensures.does.2 reading in
     noted_none (refusal reading (g.I.Images.seen c.run.new.images).attached) (g.N.Sink.faults c.args.notes.now) (g.N.Sink.gained c.args.notes.now) (does.ends reading.said reading.says).refuses.passes
+
+pub returns-in-Ok-clause-read : goal.returns-in-Ok-clause-read
+returns-in-Ok-clause-read g c exact =
+    let does = c.in-Ok.ensures.does in
+    has_reading c.args.words.now does.0 _ (stream (g.S.Source.left c.args.plan.now) (g.S.Source.faults c.args.plan.now)) (stream (g.S.Source.left c.run.new.plan) (g.S.Source.faults c.run.new.plan)) (Ok tt) does.1 does.2.heeds tt
+
+pub returns-in-Err-clause-read : goal.returns-in-Err-clause-read
+returns-in-Err-clause-read g c exact =
+    let does = c.in-Err.ensures.does in
+    has_reading c.args.words.now does.0 _ (stream (g.S.Source.left c.args.plan.now) (g.S.Source.faults c.args.plan.now)) (stream (g.S.Source.left c.run.new.plan) (g.S.Source.faults c.run.new.plan)) (Err c.in-Err.stop) does.1 does.2.heeds
+    (own_by c.in-Err.stop c.notice-notice.result.status c.notice-notice.ensures.status exact)
+
+pub returns-in-Ok-clause-early_refusal : goal.returns-in-Ok-clause-early_refusal
+returns-in-Ok-clause-early_refusal g c read refused reads early all =
+    let does = c.in-Ok.ensures.does in
+    let first = early_first c.args.words.now does.0 read (named_by c.args.words.now (g.I.Images.seen c.run.new.images).attached) (stream (g.S.Source.left c.args.plan.now) (g.S.Source.faults c.args.plan.now)) (stream (g.S.Source.left c.run.new.plan) (g.S.Source.faults c.run.new.plan)) (Ok tt) refused does.1 reads does.2.heeds all early in
+    absurd (let none = first.0 in cc)
+
+pub returns-in-Err-clause-early_refusal : goal.returns-in-Err-clause-early_refusal
+returns-in-Err-clause-early_refusal g c read refused reads early all =
+    let does = c.in-Err.ensures.does in
+    let first = early_first c.args.words.now does.0 read (named_by c.args.words.now (g.I.Images.seen c.run.new.images).attached) (stream (g.S.Source.left c.args.plan.now) (g.S.Source.faults c.args.plan.now)) (stream (g.S.Source.left c.run.new.plan) (g.S.Source.faults c.run.new.plan)) (Err c.in-Err.stop) refused does.1 reads does.2.heeds all early in
+    let e = first.0 in
+    let same : c.in-Err.stop ≡ Refused refused = cc in
+    (c.notice-notice.ensures.status ∙ ap status_of same, ap (λ (s : Stream). s.known) first.1, ap (λ (s : Stream). s.faults) first.1)
 
 pub returns-in-Ok-clause-order : goal.returns-in-Ok-clause-order
 returns-in-Ok-clause-order g c reading refused is all =

@@ -1,12 +1,12 @@
 //! Lists of numbers, within the limits of what they count.
 ghost use Rattle.std.specs.Prelude.{◌≡◌, ◌≢◌, ◌≤◌, ◌<◌, ◌^◌, ◌↔◌, ℕ, List, All, IsTrue, MatchOption, decimal, map};
 ghost use Rattle.raid_params.specs.Validity.{is_chunk as is_chunk_size};
-ghost use Rattle.value_text.specs.Bounded.{AreChunks, AreMembers, AreSectors};
-ghost use Rattle.value_text.specs.Spelling.{commas};
+ghost use Rattle.value_text.specs.Bounded.{AreChunks, AreMembers, ArePlaces, AreSectors};
+ghost use Rattle.value_text.specs.Spelling.{commas, pluses};
 
-use crate::spelled::rising;
+use crate::spelled::{joined, rising};
 use arrayvec::ArrayVec;
-use raid_params::{MOST, MOST_CHUNKS, MOST_LESS_ONE, SECTORS_END, is_chunk};
+use raid_params::{MOST, MOST_CHUNKS, MOST_LESS_ONE, MOST_OFFSETS, SECTORS_END, is_chunk};
 
 /// The fewest members of an array: at level 0 two.
 const FEWEST_MEMBERS: u8 = 2;
@@ -48,6 +48,20 @@ pub fn read_sectors<const CAP: usize>(text: &[u8]) -> Option<ArrayVec<u64, CAP>>
     let sectors = rising(text)?;
     if are_sectors(&sectors) {
         Some(sectors)
+    } else {
+        None
+    }
+}
+
+/// The places that a text spells with a plus sign between them, one for each image, in sectors: from 1 to 64.
+pub fn read_places(text: &[u8]) -> Option<ArrayVec<u64, MOST_OFFSETS>>
+    ensures { MatchOption result
+        ((ns : List ℕ) → ArePlaces ns → text.now ≢ pluses (map decimal ns))
+        (λ ns. ArePlaces ns.items × (text.now ≡ pluses (map decimal ns.items))) }
+{
+    let places = joined(text, b'+')?;
+    if are_sectors(&places) {
+        Some(places)
     } else {
         None
     }

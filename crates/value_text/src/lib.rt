@@ -2,8 +2,8 @@
 //!
 //! Each value has one text, and a text is read as a value exactly where it is that value's text to its last byte.
 //! [`Spelled`] is what a text spells, [`Field`] what may stand before any separator, and [`Listed`] what stands in lists in
-//! rising order. [`list`] and [`rising`] read lists, [`read_members`], [`read_chunks`] and [`read_sectors`] those of
-//! bounded numbers, [`add_list`] writes them; [`read_set`], [`write_set`] and [`set_line`] do the same for sets,
+//! rising order. [`list`] and [`rising`] read lists, [`read_members`], [`read_chunks`], [`read_sectors`] and
+//! [`read_places`] those of bounded numbers, [`add_list`] writes them; [`read_set`], [`write_set`] and [`set_line`] do the same for sets,
 //! [`read_common_set`] and [`common_set_line`] for those with an offset that is common to all images.
 //!
 //! Plans and the words of the command line are made of these texts, and of those of landmarks, which `landmark_text` adds. How values are spelled stands in
@@ -24,7 +24,7 @@ mod text;
 
 // The tests stand in `text_rows`.
 
-pub use bounded::{read_chunks, read_members, read_sectors};
+pub use bounded::{read_chunks, read_members, read_places, read_sectors};
 pub use front::cut;
 pub use laws::set_words_have_one_spelling;
 pub use names::{LEVELS, PATTERNS, SYNDROMES, pattern_name, syndrome_name};

@@ -1,0 +1,9 @@
+pub mod Columns
+pub mod Sums
+pub mod Vectors
+pub mod Lost
+pub mod Sound
+pub mod Systems
+pub mod Dependents
+pub mod Following
+pub mod Pinned

@@ -1,0 +1,5 @@
+pub mod Equations
+pub mod Prefixes
+pub mod Laws
+pub mod Systems
+pub mod Ties

@@ -1,0 +1,111 @@
+//! Whether some relation of a row has given weights.
+ghost use Rattle.std.specs.Prelude.{ℕ, ◌≡◌, ◌<◌, ◌≤◌, ◌↔◌, List, false, length, true};
+ghost use Rattle.std.specs.Bool.{Decides};
+ghost use Rattle.raid_params.specs.declared.types.Head.{Head};
+ghost use Rattle.row_relations.specs.Tables.{Table, IsTable};
+ghost use Rattle.relation_prefix.specs.declared.equation.Equation.{Equation};
+ghost use Rattle.relation_prefix.specs.Prefixes.{Allows, Holds, IsForeign};
+ghost use Rattle.relation_prefix.specs.Systems.{AreValues, IsTriangular, Solves};
+ghost use Rattle.relation_prefix.specs.Ties.{AreSlots, AreTiesOf, AreWeightsOf, FitTies, ForeignHaveNone, HasWeight, HaveWeights};
+
+use crate::condition::Condition;
+use crate::row_ties::RowTies;
+use crate::system::System;
+
+/// Asks that an image has a weight. Images of zeros have any.
+fn pin(ties: &RowTies, system: &mut System, image: usize, weight: u8) -> bool
+    requires ties { FitTies ties.now }
+    requires image { image < ties.now.images }
+    requires triangular { IsTriangular system.old.conditions }
+    ensures triangular { IsTriangular system.new.conditions }
+    ensures pinned { result ≡ true → (x : ℕ → ℕ) → AreValues x →
+        (Solves x system.new.conditions ↔ (Solves x system.old.conditions × HasWeight ties.now x image weight)) }
+    ensures contradiction { result ≡ false → (x : ℕ → ℕ) → AreValues x → Solves x system.old.conditions → HasWeight ties.now x image weight → ⊥ }
+{
+    if ties.zeros[image] {
+        return true;
+    }
+    let coefficients = ties.coefficients[image];
+    let condition = Condition {
+        coefficients,
+        value: weight,
+    };
+    system.add(&condition)
+}
+
+/// Asks that each image in a slot has the weight of its slot.
+fn pin_slots(ties: &RowTies, system: &mut System, weights: &[u8], slots: &[Option<u8>]) -> bool
+    requires ties { FitTies ties.now }
+    requires weights { length slots.now ≤ length weights.now }
+    requires slots { AreSlots ties.now.images slots.now }
+    requires triangular { IsTriangular system.old.conditions }
+    ensures triangular { IsTriangular system.new.conditions }
+    ensures pinned { result ≡ true → (x : ℕ → ℕ) → AreValues x →
+        (Solves x system.new.conditions ↔ (Solves x system.old.conditions × HaveWeights ties.now x weights.now slots.now (length slots.now))) }
+    ensures contradiction { result ≡ false → (x : ℕ → ℕ) → AreValues x → Solves x system.old.conditions →
+        HaveWeights ties.now x weights.now slots.now (length slots.now) → ⊥ }
+{
+    for slot in 0..slots.len() {
+        if let Some(image) = slots[slot] {
+            if !pin(ties, system, image as usize, weights[slot]) {
+                return false;
+            }
+        }
+    }
+    true
+}
+
+/// Whether some slot holds an image.
+fn is_held(slots: &[Option<u8>], image: usize) -> bool
+    ensures held { result ≡ true → (slot : ℕ) × Holds slots.now slot image }
+    ensures foreign { result ≡ false → IsForeign slots.now image }
+{
+    for slot in 0..slots.len() {
+        if let Some(held) = slots[slot] {
+            if held as usize == image {
+                return true;
+            }
+        }
+    }
+    false
+}
+
+/// Asks that each image in no slot has the weight 0.
+fn pin_foreign(ties: &RowTies, system: &mut System, slots: &[Option<u8>]) -> bool
+    requires ties { FitTies ties.now }
+    requires triangular { IsTriangular system.old.conditions }
+    ensures pinned { result ≡ true → (x : ℕ → ℕ) → AreValues x →
+        (Solves x system.new.conditions ↔ (Solves x system.old.conditions × ForeignHaveNone ties.now x slots.now ties.now.images)) }
+    ensures triangular { IsTriangular system.new.conditions }
+    ensures contradiction { result ≡ false → (x : ℕ → ℕ) → AreValues x → Solves x system.old.conditions →
+        ForeignHaveNone ties.now x slots.now ties.now.images → ⊥ }
+{
+    for image in 0..ties.images {
+        if !is_held(slots, image) {
+            if !pin(ties, system, image, 0) {
+                return false;
+            }
+        }
+    }
+    true
+}
+
+/// Whether some relation of the row may be an equation, where the slots of a set of so many members begin so. `weights` are the
+/// weights of the slots in this equation.
+pub fn allows(ties: &RowTies, members: usize, weights: &[u8], slots: &[Option<u8>]) -> bool
+    requires ties { FitTies ties.now }
+    requires weights { members ≤ length weights.now }
+    requires members { length slots.now ≤ members }
+    requires slots { AreSlots ties.now.images slots.now }
+    ensures { (sectors : List ℕ) (table : Table) (head : Head) (row : ℕ) (equation : Equation) → AreTiesOf table ties.now → IsTable ties.now.images sectors table →
+        head.members ≡ members → AreWeightsOf head row equation weights.now → Decides result (Allows ties.now.images table head row slots.now equation) }
+{
+    let mut system = System::new();
+    if !pin_slots(ties, &mut system, weights, slots) {
+        return false;
+    }
+    if slots.len() < members {
+        return true;
+    }
+    pin_foreign(ties, &mut system, slots)
+}

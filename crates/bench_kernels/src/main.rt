@@ -1,7 +1,7 @@
 //! Runs one kernel many times over lists of 4,096 bytes, or the plain loop of its formula, and prints a sum
 //! of the bytes that it left.
 //!
-//! It exists to be timed: `bench/kernels.sh` does so, and `docs/PERFORMANCE.md` has what it measured. It
+//! It exists to be timed: `bench/measuring/kernels.sh` does so, and `docs/PERFORMANCE.md` has what it measured. It
 //! carries no promise.
 #![tactic(auto)]
 

@@ -1,7 +1,7 @@
 //! Walks over the first lists of a space, of which every prefix is admitted, and prints how many leaves it met and a sum of
 //! their ranks and slots.
 //!
-//! It exists to be timed: `bench/leaves.sh` does so, and `docs/PERFORMANCE.md` has what it measured. It
+//! It exists to be timed: `bench/measuring/leaves.sh` does so, and `docs/PERFORMANCE.md` has what it measured. It
 //! carries no promise.
 #![tactic(auto)]
 

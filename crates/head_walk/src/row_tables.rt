@@ -1,5 +1,5 @@
 //! What a walk keeps of each offset: tables of rows, and samples.
-ghost use Rattle.std.specs.Prelude.{◌≡◌, ◌==◌, ◌<◌, ◌≤◌, ◌^◌, ◌||◌, All, Contains, IfErr, IfOk, IfSome, IsSome, ℕ, List, None, OnOk, Some, false, length, min, position, slice_get, slice_index, true};
+ghost use Rattle.std.specs.Prelude.{◌≡◌, ◌==◌, ◌+◌, ◌*◌, ◌<◌, ◌≤◌, ◌^◌, ◌||◌, All, Contains, IfErr, IfOk, IfSome, IsSome, ℕ, List, None, OnOk, Some, false, length, min, position, slice_get, slice_index, true};
 ghost use Rattle.std.specs.Option.{option_map};
 ghost use Rattle.outside.specs.Attached.{told_all};
 ghost use Rattle.outside.specs.Seen.{OnlyReads};

@@ -1,136 +1,118 @@
-"""The command line of reraid-try."""
+"""The command line of reraid-try: one run, and its status."""
 
-import argparse
+import dataclasses
 import os
-import shutil
 import signal
 import sys
+from collections.abc import Sequence
+from types import FrameType
 
-from . import commands, images, report, search, table, volumes
+from . import containers
+from .calls.commands import Commands, Log
+from .casefile.gathering import Casefile
+from .checks.verdicts import Score
+from .checks.volumes import Room
+from .errors import OutsideError, Stopped
+from .opening import Opener
+from .options import Options, read_words
+from .policy.search import Search
+from .report import table
+from .report.report import Report
+from .units import counted
 
-UNITS = {"K": 1 << 10, "M": 1 << 20, "G": 1 << 30, "T": 1 << 40}
-
-ABOUT = """\
-From images of the disks of a lost array to its candidates. It looks at the images, surveys them for landmarks, takes hints from these,
-lists the parameter sets that pass, loosens one thing after another where none does, and lets the checkers of file systems read the volume
-of each candidate. It reads the images alone, and chooses nothing: the last table has all that was found."""
-
-AT_ITS_END = """A run that comes to its end prints the sets that are nearest, with the rows in which parity does not hold. --levels and --members, with
-what you know of the array, bring it there sooner."""
-INTERRUPTED = f"interrupted, and no candidate until then is good: a checker found fault in each, or nothing is known in it. {AT_ITS_END}"
+SIGNED, NONE, OUTSIDE, INTERRUPTED = 0, 1, 3, 130
+CLOSED = 128 + signal.SIGPIPE
+AT_ITS_END = """A run that comes to its end prints the sets that are nearest, with the rows in which parity does not hold. --levels and --members,
+with what you know of the array, bring it there sooner."""
+NONE_GOOD = f"interrupted, and no candidate until then is good: a checker found fault in each, or nothing is known in it. {AT_ITS_END}"
 NOT_TESTED = f"interrupted before a volume was looked at. {AT_ITS_END}"
-STATUSES = "status: 0 where there are candidates, 1 where there are none, 2 where the words are wrong, 130 where it was interrupted"
 
 
-def size(text):
-    """A number of bytes, with K, M, G or T behind it."""
-    unit = UNITS.get(text[-1:].upper(), 1)
-    value = int(text[:-1] if unit > 1 else text) * unit
-    if value < 1 << 20:
-        raise argparse.ArgumentTypeError("less than 1M")
-    return value
-
-
-def members(text):
-    """Numbers of members."""
-    values = [int(part) for part in text.split(",")]
-    if not all(2 <= value <= 24 for value in values):
-        raise argparse.ArgumentTypeError("members are 2 to 24")
-    return values
-
-
-def levels(text):
-    """Levels, as 0,5,6,10."""
-    values = text.split(",")
-    if not set(values) <= {"0", "5", "6", "10"}:
-        raise argparse.ArgumentTypeError("levels are of 0, 5, 6 and 10")
-    return values
-
-
-def positive(text):
-    """A number above 0."""
-    value = int(text)
-    if value < 1:
-        raise argparse.ArgumentTypeError("not above 0")
-    return value
-
-
-def parser():
-    """The words."""
-    it = argparse.ArgumentParser(prog="reraid-try", description=ABOUT, epilog=STATUSES)
-    it.add_argument("images", nargs="+", metavar="IMAGE", help="an image of a disk; IMAGE.map beside it is taken for its map of ddrescue")
-    it.add_argument("--json", action="store_true", help="print an object a line")
-    it.add_argument("-x", action="store_true", help="show each trial with its command")
-    it.add_argument("-j", dest="jobs", type=positive, default=os.cpu_count() or 1, metavar="N", help="how many commands run side by side")
-    it.add_argument("--members", type=members, metavar="LIST", help="numbers of members to try, lost disks too (default: by the hints, and more)")
-    it.add_argument("--levels", type=levels, default=["0", "5", "6", "10"], metavar="LIST", help="levels to try, of 0, 5, 6 and 10")
-    it.add_argument("--first", type=size, default=16 << 30, metavar="SIZE", help="read so much of each image (default: 16G)")
-    it.add_argument("--all", action="store_true", help="read the images wholly")
-    it.add_argument("--time", type=positive, default=60, metavar="SECONDS", help="the most seconds of a trial (default: 60)")
-    it.add_argument("--room", metavar="DIR", help="where volumes are written and mounted (default: the folder of temporary files)")
-    it.add_argument("--log", metavar="FILE", help="keep every command there, with its status and its seconds")
-    return it
-
-
-def read_words(words):
-    """The options of the words; the run ends with status 2 where they are wrong."""
-    asking = parser()
-    options = asking.parse_args(words)
-    if len(options.images) > 24:
-        asking.error("more than 24 images")
-    for name in options.images:
-        if not images.is_image(name):
-            asking.error(f"{name} is no file and no block device that can be read")
-    if options.room and not os.path.isdir(options.room):
-        asking.error(f"{options.room} is no folder")
-    if not shutil.which("reraid"):
-        asking.error("there is no reraid on the PATH")
-    if options.all:
-        options.first = search.ALL
-    return options
-
-
-def stop(ran):
-    """Ends all commands, and then the run, which still prints its table."""
-    for number in (signal.SIGINT, signal.SIGTERM):
-        signal.signal(number, signal.SIG_IGN)
-    ran.kill()
-    raise KeyboardInterrupt
-
-
-def main(words):
+def main(words: Sequence[str]) -> int:
     """One run, and its status: that of a program that a closed pipe ends, where nobody reads what is printed."""
     try:
-        return run_once(words)
+        return with_log(read_words(words), words)
     except BrokenPipeError:
         os.dup2(os.open(os.devnull, os.O_WRONLY), sys.stdout.fileno())
-        return 128 + signal.SIGPIPE
-
-
-def run_once(words):
-    """One run over the images of these words, and its status."""
-    options = read_words(words)
-    log = open(options.log, "w", encoding="utf-8") if options.log else None
-    out = report.Report(options.json)
-    ran = commands.Commands(log, out.command if options.x else None, out.progress if out.bar.there else None)
-    room = volumes.Room(ran, options.room)
-    for number in (signal.SIGINT, signal.SIGTERM):
-        signal.signal(number, lambda *_: stop(ran))
-    run = search.Search(options, ran, out, room)
-    try:
-        found = run.run()
-        table.show(out, run.tested, run.images)
-        return 0 if found else 1
+        return CLOSED
     except KeyboardInterrupt:
-        table.show(out, [it for it in run.tested if it.verdict], run.images)
-        out.say("interrupted", "interrupted" if run.best() else INTERRUPTED if run.tested else NOT_TESTED, interrupted=True)
-        return 130
+        return INTERRUPTED
+    except OutsideError as error:
+        print(f"reraid-try: {error}", file=sys.stderr)
+        return OUTSIDE
+
+
+def with_log(options: Options, words: Sequence[str]) -> int:
+    """One run over the images of these options, with its log, and its status."""
+    log = Log(options.log, ["reraid-try", *words]) if options.log else None
+    try:
+        report = Report(options.as_json)
+        if log and log.had:
+            report.say("log", f"{log.name} has {counted(log.had, 'byte')} already: the log goes on behind them", log=log.name, had=log.had)
+        return run_once(options, words, report, log)
     finally:
-        ran.kill()
-        room.close()
-        out.bar.clear()
         if log:
             log.close()
+
+
+def run_once(options: Options, words: Sequence[str], report: Report, log: Log | None) -> int:
+    """One run, and its status."""
+    commands = Commands(log, report.command if options.show else None, report.progress if report.bar.there else None)
+
+    def stop(_number: int, _frame: FrameType | None) -> None:
+        """Ends all commands, and then the run, which still prints its table."""
+        for number in (signal.SIGINT, signal.SIGTERM):
+            signal.signal(number, signal.SIG_IGN)
+        commands.stop()
+        raise Stopped
+    for number in (signal.SIGINT, signal.SIGTERM):
+        signal.signal(number, stop)
+    casefile = room = opener = None
+    report.bar.watch()
+    try:
+        casefile = Casefile(options, words, report, commands)
+        room = Room(commands, options.room)
+        opener = Opener(room.base, commands.note)
+        search = Search(with_containers(options, report, opener), commands, report, room)
+        return searched(search, report, casefile)
+    except Stopped:
+        report.say("interrupted", NOT_TESTED, interrupted=True)
+        return INTERRUPTED
+    finally:
+        commands.stop()
+        if opener:
+            opener.close()
+        if room:
+            room.close()
+        if casefile:
+            casefile.close()
+        report.bar.end()
+
+
+def with_containers(options: Options, report: Report, opener: Opener) -> Options:
+    """The options with what is read of each image: of containers the files that show their disks."""
+    found = containers.known(options.images, options.raw)
+    for line in found.lines:
+        report.say("container", line)
+    names, opened = opener.all(found.images)
+    return dataclasses.replace(options, images=names, opened=opened)
+
+
+def searched(search: Search, report: Report, casefile: Casefile) -> int:
+    """What a search comes to, and the status of the run."""
+    try:
+        casefile.begin(search.options.images)
+        search.run()
+        table.show(report, search.tested, search.images)
+        status = SIGNED if search.best() >= Score.CHECKED else NONE
+        casefile.end(search, status)
+        return status
+    except Stopped:
+        table.show(report, [it for it in search.tested if it.verdict], search.images)
+        said = "interrupted" if search.best() else NONE_GOOD if search.tested else NOT_TESTED
+        report.say("interrupted", said, interrupted=True)
+        casefile.end(search, INTERRUPTED, ended=True)
+        return INTERRUPTED
 
 
 if __name__ == "__main__":

@@ -1,0 +1,124 @@
+"""Plans, as `reraid survey` prints them: their text, their groups of landmarks, and what a rule says of a mark."""
+
+import dataclasses
+from collections.abc import Collection, Mapping
+
+from ..errors import OutsideError
+from ..units import counted
+
+FIELDS = ("levels", "members", "patterns", "syndromes", "chunks", "offsets", "origins", "missing", "foreign", "badrows", "window", "misfits",
+          "least")
+# Version 2: each image has an offset of its own.
+COMMON, EACH = 1, 2
+
+
+@dataclasses.dataclass(frozen=True)
+class Mark:
+    """A sector of an image that says where in its volume it belongs."""
+
+    kind: str
+    image: int
+    sector: int
+    rule: str
+
+    @property
+    def numbers(self) -> list[int]:
+        """The numbers of the rule."""
+        return [int(number) for number in self.rule.split(":")[1:]]
+
+    @property
+    def nearest(self) -> int:
+        """The least distance that the rule allows, in sectors from where its file system begins."""
+        numbers = self.numbers
+        return numbers[2] if self.rule.startswith("every") else min(numbers)
+
+    @property
+    def step(self) -> int | None:
+        """The sectors from one allocation group to the next; None where the rule has no step."""
+        return self.numbers[0] if self.rule.startswith("every") else None
+
+    def text(self) -> str:
+        """Its line in a plan."""
+        return f"mark {self.kind} {self.image} {self.sector} {self.rule}\n"
+
+
+@dataclasses.dataclass(frozen=True)
+class Group:
+    """The landmarks of one file system, of one physical volume, or of all partition tables. `place` is its number in the survey."""
+
+    kind: str
+    marks: tuple[Mark, ...]
+    place: int
+
+    def text(self) -> str:
+        """Its lines in a plan."""
+        return f"group {self.kind}\n" + "".join(mark.text() for mark in self.marks)
+
+    def images(self) -> set[int]:
+        """The images that show it."""
+        return {mark.image for mark in self.marks}
+
+    def name(self) -> str:
+        """What it is called in a report."""
+        return f"group {self.place} ({self.kind}, {counted(len(self.marks), 'mark')})"
+
+
+@dataclasses.dataclass(frozen=True)
+class Plan:
+    """A plan: lengths of the images, `end`, the values of the other lines by their names, and the groups."""
+
+    version: int
+    lengths: tuple[int, ...]
+    end: int
+    values: Mapping[str, str]
+    groups: tuple[Group, ...]
+
+    def numbers(self, name: str) -> list[int]:
+        """The numbers of a line."""
+        return [int(number) for number in self.values[name].split(",")]
+
+    def text(self) -> str:
+        """The plan as `list` and `check` read it."""
+        head = [f"reraid-plan {self.version}", f"images {len(self.lengths)}", *(f"length {length}" for length in self.lengths), f"end {self.end}"]
+        lines = head + [f"{name} {self.values[name]}" for name in FIELDS]
+        return "\n".join(lines) + "\n" + "".join(group.text() for group in self.groups) + "done\n"
+
+    def having(self, **values: str | int) -> "Plan":
+        """The plan with other values."""
+        return dataclasses.replace(self, values={**self.values, **{name: str(value) for name, value in values.items()}})
+
+    def without(self, places: Collection[int]) -> "Plan":
+        """The plan without the groups of these places."""
+        return dataclasses.replace(self, groups=tuple(group for group in self.groups if group.place not in places))
+
+    def bare(self) -> "Plan":
+        """The plan without its groups."""
+        return dataclasses.replace(self, groups=())
+
+    def marks(self) -> list[Mark]:
+        """All landmarks."""
+        return [mark for group in self.groups for mark in group.marks]
+
+
+def read_plan(text: str) -> Plan:
+    """The plan of a text that `reraid survey` printed."""
+    try:
+        return read_lines([line.split() for line in text.splitlines()])
+    except (ValueError, IndexError, KeyError) as error:
+        raise OutsideError(f"what reraid survey printed is no plan: {error}") from error
+
+
+def read_lines(lines: list[list[str]]) -> Plan:
+    """The plan of these lines, each as its words."""
+    values = {words[0]: words[1] for words in lines if words[0] in FIELDS}
+    lengths = tuple(int(words[1]) for words in lines if words[0] == "length")
+    end, = (int(words[1]) for words in lines if words[0] == "end")
+    groups: list[tuple[str, list[Mark]]] = []
+    for words in lines:
+        if words[0] == "group":
+            groups.append((words[1], []))
+        elif words[0] == "mark":
+            groups[-1][1].append(Mark(words[1], int(words[2]), int(words[3]), words[4]))
+    if lines[-1] != ["done"]:
+        raise ValueError("it has no end")
+    return Plan(int(lines[0][1]), lengths, end, values, tuple(Group(kind, tuple(marks), place) for place, (kind, marks) in enumerate(groups)))

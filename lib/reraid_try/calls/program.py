@@ -1,0 +1,126 @@
+"""What `reraid` is asked about some images, each question within a time."""
+
+import concurrent.futures
+import dataclasses
+from collections.abc import Sequence
+
+from ..errors import Refused
+from ..units import counted, listed
+from . import formats
+from .commands import Answer, Runner
+from .formats import Checked, Page, Ranked
+from .plans import Plan
+from .sets import Word
+
+# As many lines as a trial lists at most, and as many sets as one command looks at, at least; there are so many times as many such parts as jobs.
+MOST_LINES, SPAN, PARTS = 20_000, 4_000_000, 16
+# The greatest rank, and the widest range.
+LAST = (1 << 64) - 1
+
+
+@dataclasses.dataclass(frozen=True)
+class Listing:
+    """What a trial listed: its sets, how many the plan has, whether all of them were looked at, and how many rows might be bad, where that was not
+    known before."""
+
+    sets: tuple[Ranked, ...]
+    total: int
+    whole: bool
+    note: str = ""
+    bad_rows: int | None = None
+
+    def line(self) -> str:
+        """What is said of it."""
+        return f"{counted(len(self.sets), 'set')} of {self.total}" + (f" ({self.note})" if self.note else "")
+
+
+def refused(answer: Answer, command: str) -> Refused:
+    """What is raised where a command was refused: its line."""
+    return Refused(answer.error.strip() or f"reraid {command} ended with status {answer.status}")
+
+
+class Program:
+    """`reraid` over these images."""
+
+    def __init__(self, commands: Runner, names: Sequence[str], seconds: int, jobs: int) -> None:
+        self.commands, self.names, self.seconds, self.jobs = commands, tuple(names), seconds, jobs
+
+    def total(self, text: str) -> int:
+        """How many sets a plan has."""
+        answer = self.commands.run(["reraid", "list", f"from={LAST}", "--", *self.names], text)
+        total = formats.read_total(answer)
+        if total is None:
+            raise refused(answer, "list")
+        return total
+
+    def page(self, text: str, first: int = 0, span: int = LAST, most: int = MOST_LINES) -> Page:
+        """One page of a plan; what of it was put, where its time was up."""
+        words = ["reraid", "list", f"from={first}", f"span={span}", f"size={most}", "--", *self.names]
+        answer = self.commands.run(words, text, self.seconds)
+        if answer.status:
+            raise refused(answer, "list")
+        return formats.read_page(answer)
+
+    def first(self, text: str) -> Page:
+        """The first set of a plan that passes."""
+        return self.page(text, most=1)
+
+    def listing(self, plan: Plan) -> Listing:
+        """The sets of a plan that pass, by spans side by side where there are many."""
+        text = plan.text()
+        total = self.total(text)
+        if total == 0:
+            return Listing((), 0, True)
+        span = max(SPAN, -(-total // (PARTS * self.jobs)))
+        starts = range(0, total, span)
+        found: list[Ranked] = []
+        whole = True
+        with concurrent.futures.ThreadPoolExecutor(self.jobs if len(starts) > 1 else 1) as pool:
+            tasks = [pool.submit(self.page, text, first, span) for first in starts]
+            try:
+                for first, task in zip(starts, tasks):
+                    page = task.result()
+                    found += page.sets
+                    whole = not page.late and page.following is not None and page.following >= min(total, first + span)
+                    if not whole:
+                        break
+            finally:
+                for task in tasks:
+                    task.cancel()
+        if whole:
+            return Listing(tuple(found), total, True)
+        return Listing(tuple(found), total, False, f"more than {len(found)} pass" if len(found) >= MOST_LINES else self.late_note())
+
+    def late_note(self) -> str:
+        """What is said where its time was up."""
+        return f"its time of {self.seconds} s was up before all were looked at"
+
+    def check(self, word: str, plan: Plan) -> Checked | None:
+        """What `check` says of a set; None where it was refused, or its time was up."""
+        return formats.read_check(self.commands.run(["reraid", "check", f"set={word}", "--", *self.names], plan.text(), self.seconds))
+
+    def classes(self, found: Sequence[Word], end: int) -> list[int]:
+        """The numbers of the classes of these sets; each by itself where that was refused."""
+        text = "".join(f"{number} {word.text}\n" for number, word in enumerate(found))
+        answer = self.commands.run(["reraid", "classes", f"images={len(self.names)}", f"end={end}", "--"], text)
+        return formats.read_classes(answer) if answer.good else list(range(len(found)))
+
+    def mirror_words(self, members: int, missing: int, bad_rows: int, offsets: Sequence[int], end: int, window: int) -> list[str]:
+        """The command that lists the sets of a RAID 10. With an even number of members the copies do not tell the chunk, so one is enough."""
+        words = ["reraid", "mirrors", f"members={members}", f"offsets={listed(offsets)}", f"end={end}"]
+        words += ["missing=1"] if missing else []
+        words += [f"badrows={bad_rows}"] if bad_rows else []
+        words += ["chunks=8"] if members % 2 == 0 else []
+        return [*words, f"window={window}", f"size={MOST_LINES}", "--", *self.names]
+
+    def mirrors(self, words: list[str]) -> Page:
+        """The sets of a RAID 10; what of them was put, where its time was up."""
+        answer = self.commands.run(words, seconds=self.seconds)
+        if answer.status:
+            raise refused(answer, "mirrors")
+        return formats.read_page(answer)
+
+    def lost(self, word: str, end: int, maps: str) -> tuple[int, int] | None:
+        """How many sectors of a volume are lost by these maps, of how many; None where that was refused, or took too long."""
+        words = ["reraid", "salvage", f"set={word}", "form=lost", f"end={end}", "--", *self.names]
+        return formats.read_lost(self.commands.run(words, maps, self.seconds))

@@ -1,0 +1,224 @@
+"""What a page needs beside what the run says anyway: strips, digests, relations, landmarks, where parity holds, and what was not tried."""
+
+import contextlib
+import dataclasses
+import os
+import time
+from collections.abc import Collection, Iterator, Sequence
+from typing import Any
+
+from ..calls.commands import Runner
+from ..errors import OutsideError, said
+from ..evidence.images import Image
+from ..evidence.maps import READ, Map
+from ..evidence.relations import Relations
+from ..evidence.ties import MOST_ROWS, Ties
+from ..options import LEVELS, Options
+from ..policy.search import Search
+from ..report.report import Report
+from ..units import ALL, MIB, SECTOR, counted
+from . import host, page, regions, strips
+from .strips import Hashing, Strip
+
+# So many landmarks of a kind on an image are drawn; more are thinned out.
+MOST_MARKS = 2000
+# What this search knows nothing of.
+UNKNOWN = "not searched at all: RAID 10 in layouts other than near=2, RAID 5E and the like, arrays in mid-reshape, RAID 0 over disks of unlike size"
+
+
+def length_of(name: str) -> int:
+    """The whole sectors of an image."""
+    try:
+        with open(name, "rb") as file:
+            return file.seek(0, os.SEEK_END) // SECTOR
+    except OSError as error:
+        raise OutsideError(f"{name} cannot be read: {said(error)}") from error
+
+
+def unread(it: Map | None, sectors: int) -> list[list[int]]:
+    """The runs of sectors that a map calls unread, each as its first sector and how many they are."""
+    found: list[list[int]] = []
+    for first, length, status in it.blocks if it else ():
+        begin, end = first // SECTOR, min(-(-(first + length) // SECTOR), sectors)
+        if status == READ or begin >= end:
+            continue
+        if found and found[-1][0] + found[-1][1] >= begin:
+            found[-1][1] = end - found[-1][0]
+        else:
+            found.append([begin, end - begin])
+    return found
+
+
+def thinned(places: Collection[int]) -> list[int]:
+    """Places in order, at even distances in their list where they are many."""
+    step = max(1, -(-len(places) // MOST_MARKS))
+    return sorted(places)[::step]
+
+
+class Casefile:
+    """The page of a run, while it is made. Images are read for it only where a page or digests are asked for."""
+
+    def __init__(self, options: Options, words: Sequence[str], report: Report, commands: Runner) -> None:
+        self.options, self.report, self.commands = options, report, commands
+        self.began = time.monotonic()
+        self.hashing: Hashing | None = None
+        self.written = False
+        if options.report:
+            # What cannot be written is known before an hour of work.
+            try:
+                with open(options.report, "x", encoding="utf-8"):
+                    pass
+            except OSError as error:
+                raise OutsideError(f"--report {options.report} cannot be written: {said(error)}") from error
+        if options.report or options.as_json:
+            report.tell("run", **host.fields(words))
+
+    def begin(self, names: Sequence[str]) -> None:
+        """The digests of the images, in the background of what follows."""
+        if self.options.hashes:
+            lengths = [length_of(name) for name in names]
+            named = [(number, name, length) for number, (name, length) in enumerate(zip(names, lengths))]
+            self.hashing = Hashing(named, strips.cell_of(lengths))
+
+    def end(self, search: Search, status: int, ended: bool = False) -> None:
+        """All that is left to be told at the end of a run, and the page. `ended` says that the run was told to end."""
+        if self.hashing:
+            self.digests(self.hashing, search.images, ended)
+        if not self.options.report:
+            return
+        if search.images:
+            self.strips(search.images, ended)
+            self.marks(search)
+            # No command begins any more in a run that was told to end.
+            if not ended:
+                self.relations(search.images)
+                self.parity(search)
+            for line in left_out(search, ended):
+                self.report.tell("not tried", line)
+        self.report.tell("finished", ended=host.now(), seconds=int(time.monotonic() - self.began), status=status)
+        self.write()
+
+    def write(self) -> None:
+        """The page, whole or not at all."""
+        name = self.options.report or ""
+        part = f"{name}.part"
+        try:
+            with open(part, "w", encoding="utf-8", errors="surrogateescape") as file:
+                file.write(page.page(self.report.record))
+                file.flush()
+                os.fsync(file.fileno())
+            os.replace(part, name)
+        except OSError as error:
+            raise OutsideError(f"--report {name} cannot be written: {said(error)}") from error
+        self.written = True
+        self.report.say("page", f"{name} has all of it", page=name)
+
+    def close(self) -> None:
+        """Ends what goes on in the background; where there is no page, its file is taken away."""
+        if self.hashing:
+            self.hashing.end()
+        if self.options.report and not self.written:
+            for name in (self.options.report, f"{self.options.report}.part"):
+                with contextlib.suppress(OSError):
+                    os.remove(name)
+
+    def digests(self, hashing: Hashing, images: Sequence[Image], ended: bool) -> None:
+        """Waits for the digests, and says them; where the run was told to end those that are known."""
+        while not ended and not hashing.wait(1):
+            self.report.bar.show("takes the digests of the images, MiB", hashing.done // MIB, hashing.total // MIB)
+        hashing.end()
+        for it in hashing.found:
+            name = next((image.called for image in images if image.number == it.image), "")
+            told = f"SHA-256 of image {it.image} {name}: " + (it.sha256 or it.why)
+            self.report.say("hash", told, image=it.image, sha256=it.sha256, bytes=it.size, why=it.why)
+
+    def strips(self, images: Sequence[Image], quick: bool) -> None:
+        """Where each image holds data: of all that was read for its digest, of all of small ones where time is, or by a few places."""
+        cell = strips.cell_of([image.sectors for image in images])
+        read_wholly = {it.image: it.strip for it in self.hashing.found if it.strip} if self.hashing else {}
+        small = not quick and sum(image.sectors for image in images) * SECTOR <= strips.SMALL
+        for number, image in enumerate(images, 1):
+            self.report.bar.show("looks where images hold data", number, len(images))
+            strip = read_wholly.get(image.number) or looked_at(image, cell, small)
+            if strip:
+                self.report.tell("strip", image=image.number, cell=strip.cell, filled=strip.filled, looks=strip.looks,
+                                 unread=unread(image.map, image.sectors))
+
+    def relations(self, images: Sequence[Image]) -> None:
+        """How the images depend on one another, row by row; nothing where that is not to be had."""
+        self.report.bar.show("asks for the relations of rows")
+        end = min(image.sectors for image in images)
+        step = max(1, -(-end // MOST_ROWS))
+        found = Ties(self.commands, images, self.options.seconds).relations([image.number for image in images], 0, end, step)
+        if found:
+            self.report.tell("relations", **fields(found))
+
+    def marks(self, search: Search) -> None:
+        """The landmarks that some survey found, by their kinds."""
+        kinds: dict[str, dict[int, set[int]]] = {}
+        for mark, kind in ((mark, group.kind) for hunt in search.hunts for group in hunt.plan.groups for mark in group.marks):
+            kinds.setdefault(kind, {}).setdefault(mark.image, set()).add(mark.sector)
+        for kind, places in kinds.items():
+            self.report.tell("marks", kind=kind, marks=[[image, sector] for image, found in sorted(places.items()) for sector in thinned(found)])
+
+    def parity(self, search: Search) -> None:
+        """Where parity holds for the best candidates."""
+        for number, it in search.best_told():
+            self.report.bar.show(f"asks where parity holds for class {number}")
+            found = regions.regions(it, self.options.jobs)
+            if found:
+                told: dict[str, Any] = {"class": number, "set": it.word.text, "regions": [dataclasses.asdict(one) for one in found]}
+                self.report.tell("parity", how=regions.told(found), **told)
+
+
+def fields(found: Relations) -> dict[str, Any]:
+    """What is told of relations: the rows with their zero images and the sets of images that are tied there, and what is common to all rows."""
+    rows = [{"first": it.first, "last": it.last, "zero": sorted(it.zero), "tied": [sorted(them) for them in it.tied()]} for it in found.rows]
+    together = [{"images": sorted(it.images), "rows": it.rows} for it in found.together]
+    return {"step": found.step, "rows": rows, "together": together, "alone": sorted(found.alone), "free": found.free, "total": found.total}
+
+
+def looked_at(image: Image, cell: int, small: bool) -> Strip | None:
+    """The strip of an image, by all of it where images are small, and else by a few places; None where it cannot be read."""
+    try:
+        if small:
+            answer = strips.whole(image.name, image.number, image.sectors, cell)
+            return answer[0] if answer else None
+        return strips.sampled(image.name, image.number, image.sectors, cell)
+    except (OSError, OutsideError):
+        return None
+
+
+def left_out(search: Search, ended: bool) -> Iterator[str]:
+    """What was not tried, a line each."""
+    options = search.options
+    longest = max(image.sectors for image in search.images) * SECTOR
+    if options.first < min(longest, ALL):
+        yield f"of each image the first {options.first // MIB} MiB alone were searched for landmarks, of {longest // MIB} MiB of the longest one"
+    if ended:
+        yield "the run was ended before it came to its end; what would have come behind is not known"
+    yield from shapes_left(search)
+    if not ended and not any(len(hunt.evidence.images) == len(search.images) for hunt in search.hunts):
+        yield "the search over all images together, since what was found before it was enough"
+    left = [level for level in LEVELS if level not in options.levels]
+    if left:
+        yield f"levels that --levels leaves out: {', '.join(left)}"
+    if options.members:
+        yield f"numbers of members other than {', '.join(map(str, options.members))}, by --members"
+    if search.tests.put_off:
+        yield f"{counted(len(search.tests.put_off), 'set')} that passed were put off and not looked at"
+    passed_over = sum(hunt.passed_over for hunt in search.hunts)
+    if passed_over:
+        yield f"{counted(passed_over, 'trial')} passed over, since landmarks alone, or parity alone, allow no set"
+    yield UNKNOWN
+
+
+def shapes_left(search: Search) -> Iterator[str]:
+    """The shapes of which there was no trial."""
+    window = max((hunt.evidence.window for hunt in search.hunts), default=0)
+    if window:
+        yield f"parity was tested over at most {counted(window, 'sector')} of each member in a trial"
+    shapes = dict.fromkeys(shape.line() for hunt in search.hunts for shape in hunt.shapes.tiers().all)
+    left = [line for line in shapes if line not in search.shapes_tried]
+    if left:
+        yield "no trial of: " + "; ".join(left)

@@ -1,0 +1,108 @@
+"""Candidates: sets that passed, and what is known of each."""
+
+import dataclasses
+from collections.abc import Sequence
+from typing import Optional
+
+from ..calls.formats import Held
+from ..calls.plans import Plan
+from ..calls.sets import Word
+from ..policy.hunt import Hunt
+from ..policy.trials import Trial
+from .verdicts import Score, Verdict
+
+# A set of which more than one in so many filled rows is unsound is doubtful.
+MOST_UNSOUND = 2
+# So many sets of one volume are said in words.
+MOST_ALIKE = 3
+
+
+@dataclasses.dataclass(frozen=True)
+class Inside:
+    """A volume is that of another class without its first rows of chunks."""
+
+    number: int
+    rows: int
+
+
+@dataclasses.dataclass
+class Candidate:
+    """A set that passed a trial of a hunt. `word` is the simplest set of its volume; `listed` that which was listed, by the images of the hunt, None
+    for RAID 10 by its copies. `alike` has the other sets of its class, `groups` what `check` says of each group, `unsound` how many rows are
+    unsound, None where that was not asked; `doubted` says that as much speaks against it for another reason, `left_most` that a group with most of
+    the marks was left out, and does not hold. `rows` says in which rows parity holds, `old` which images in no slot belong to it and are old, `same`
+    and `inside` which other candidates have its volume, `whole` is the candidate with the images that are left out of it for their bad rows."""
+
+    word: Word
+    rank: int
+    trial: Trial
+    hunt: Hunt
+    listed: Word | None = None
+    alike: list[str] = dataclasses.field(default_factory=list)
+    groups: tuple[Held, ...] = ()
+    unsound: int | None = None
+    doubted: bool = False
+    left_most: bool = False
+    verdict: Verdict | None = None
+    rows: str = ""
+    old: tuple[str, ...] = ()
+    same: int | None = None
+    inside: Inside | None = None
+    whole: Optional["Candidate"] = None
+
+    @property
+    def found(self) -> Verdict:
+        """What was found in its volume; nothing, where that was not looked at."""
+        return self.verdict or Verdict()
+
+    @property
+    def score(self) -> Score:
+        """How much speaks for its volume: one step less where a group with most of the marks was left out."""
+        score = self.found.score
+        return Score(score - 1) if self.left_most and score >= Score.CHECKED else score
+
+    @property
+    def doubts(self) -> list[str]:
+        """Why it has no sign, or one less."""
+        return self.found.doubts + ["a group with most of the marks was left out"] * self.left_most
+
+    @property
+    def alike_said(self) -> str:
+        """The sets that its volume does not tell from it; nothing where there are none."""
+        more = f" and {len(self.alike) - MOST_ALIKE} more" if len(self.alike) > MOST_ALIKE else ""
+        return f"the same volume, so not told apart: {' '.join(self.alike[:MOST_ALIKE])}{more}" if self.alike else ""
+
+    @property
+    def mostly_unsound(self) -> bool:
+        """Most of the filled rows are unsound, as far as was asked."""
+        return MOST_UNSOUND * (self.unsound or 0) > self.hunt.evidence.filled
+
+    @property
+    def doubtful(self) -> bool:
+        """More marks of some group speak against it than for it, or most rows do."""
+        return self.doubted or self.mostly_unsound or any(group.doubtful for group in self.groups)
+
+    @property
+    def origins(self) -> list[int]:
+        """Where its groups of file systems begin, in sectors of the volume."""
+        return [group.origin for group in self.groups if group.origin is not None and group.kind != "gpt"]
+
+    @property
+    def order(self) -> tuple[int, int, int]:
+        """What it is tested by: how much was loosened, the trial, the rank."""
+        return len(self.trial.cures), self.trial.number, self.rank
+
+    @property
+    def place(self) -> tuple[int, int, tuple[int, str], tuple[int, int, int]]:
+        """What it is printed by: the sign, how many more marks fit than do not, the members, and the order of tests."""
+        fits = sum(group.fits - group.misfits for group in self.groups)
+        return -max(self.score, Score.KNOWN), -fits, self.word.simplicity, self.order
+
+
+def left_most(trial: Trial, plan: Plan, groups: Sequence[Held]) -> bool:
+    """The groups that a trial left out of a plan, and that do not hold either, have most of its marks. `groups` has what `check` says of each."""
+    left = 0
+    for group, held in zip(plan.groups, groups):
+        if group.place in trial.out and (held.origin is None or held.doubtful):
+            left += len(group.marks)
+    return 2 * left > len(plan.marks())

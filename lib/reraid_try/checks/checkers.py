@@ -1,0 +1,171 @@
+"""Looks at volumes: what is in them, and what the checkers of their file systems say. None of these changes anything."""
+
+import dataclasses
+import os
+import shutil
+from collections.abc import Sequence
+
+from ..calls.commands import Answer, Runner
+from ..evidence import heads, tables
+from ..units import MIB, SECTOR, counted
+from . import lvm, wholes
+from .lvm import Piece
+from .systems import LENGTH_BYTES, SYSTEMS, TOOLS, System, system_of
+from .verdicts import Finding, Score, Verdict
+from .volumes import Region, Room, Volume
+
+BLKID = "blkid"
+# A checker may take so many times as long as a trial, and files are looked for so many times as long.
+CHECKED_TIMES, FILES_TIMES = 10, 2
+# A volume may lack so much of a region at its end.
+MOST_LACKING = 4
+
+
+def is_there(tool: str) -> bool:
+    """A tool is installed; root's too."""
+    return shutil.which(tool) is not None or os.path.exists(f"/usr/sbin/{tool}")
+
+
+def read_at(path: str, first: int, count: int) -> bytes:
+    """Some bytes of a volume."""
+    with open(path, "rb") as file:
+        file.seek(first)
+        return file.read(count)
+
+
+def lacking(length: int, there: int) -> int:
+    """How many bytes of a region of so many lie behind the end of a volume that has so many of them; 0 where that is too much to be the end of a
+    volume that was cut."""
+    lacks = max(0, length - there)
+    return lacks if MOST_LACKING * lacks <= length else 0
+
+
+def seen_length(system: System, told: int, there: int, lacks: int) -> int:
+    """How many bytes the checker of a file system sees: all that is there, and zeros for what lies behind the end; or just as many as it says."""
+    if lacks:
+        return there + lacks
+    return min(told, there) if system.exact and told else there
+
+
+def size_said(count: int) -> str:
+    """So many bytes, as they are said."""
+    return f"{count / MIB:.1f} MiB" if count >= MIB else counted(count, "byte")
+
+
+def put_at(path: str, first: int, data: bytes) -> None:
+    """Puts bytes into a copy of a region."""
+    with open(path, "r+b") as file:
+        file.seek(first)
+        file.write(data)
+
+
+@dataclasses.dataclass
+class Looked:
+    """A volume while it is looked at: its verdict, the regions that are still to be looked at, and the first bytes of those that were."""
+
+    volume: Volume
+    verdict: Verdict
+    todo: list[Region]
+    seen: set[int] = dataclasses.field(default_factory=set)
+
+
+class Checkers:
+    """Looks at volumes with the tools that are there."""
+
+    def __init__(self, commands: Runner, room: Room, seconds: float, most: int) -> None:
+        self.commands, self.room, self.seconds, self.most = commands, room, seconds, most
+        self.there = {tool for tool in (*TOOLS, BLKID) if is_there(tool)}
+
+    def kind_of(self, path: str, region: Region) -> str | None:
+        """What `blkid` calls the head of a region; where it is not there, what it begins with."""
+        if BLKID in self.there:
+            words: list[str | int] = [BLKID, "-p", "-O", region.first, "-S", region.length, "-o", "export", path]
+            lines = self.commands.run(words, seconds=self.seconds).out.splitlines()
+            return dict(line.split("=", 1) for line in lines if "=" in line).get("TYPE")
+        kind = heads.sniff(read_at(path, region.first, heads.HEAD_BYTES))
+        return kind if kind in SYSTEMS else None
+
+    def regions(self, volume: Volume) -> tuple[str | None, list[Region]]:
+        """The kind of the volume's partition table; the whole volume, and its partitions, also where they end behind it."""
+        with open(volume.path, "rb") as file:
+            def read(place: int, count: int) -> bytes:
+                file.seek(place)
+                return file.read(count)
+            table = tables.read_table(read, volume.length // SECTOR)
+        found = [Region("", (Piece(0, volume.length),))]
+        for it in table.partitions:
+            if 0 < it.first * SECTOR < volume.length:
+                found.append(Region(f"at {it.first}", (Piece(it.first * SECTOR, it.count * SECTOR),)))
+        return table.kind, found
+
+    def ask(self, system: System, volume: Volume, region: Region, length: int) -> Answer | None:
+        """What the checker of a region says, which sees so many bytes of it; None where there is no room for it."""
+        seconds = CHECKED_TIMES * self.seconds
+        if system.at and length <= region.there(volume.length) and len(region.pieces) == 1:
+            return self.commands.run(system.command(volume.path, region.first), seconds=seconds)
+        with self.room.region(volume, region, length) as path:
+            if path is None:
+                return None
+            if system.ends and path != volume.path and length > region.there(volume.length):
+                put_at(path, length - SECTOR, read_at(volume.path, region.first, SECTOR))
+            return self.commands.run(system.command(path), seconds=seconds)
+
+    def checked(self, volume: Volume, region: Region, kind: str) -> tuple[Finding, list[Region]]:
+        """What the checker of a region says, and the regions that were found in it."""
+        system = system_of(kind)
+        told = system.length_of(read_at(volume.path, region.first, LENGTH_BYTES))
+        there = region.there(volume.length)
+        finding = Finding(region.name, kind, pieces=region.up_to(min(told or there, there)), lacks=lacking(told or region.length, there))
+        if system.tool is None or system.tool not in self.there:
+            finding.said = f"no {system.tool} here" if system.tool else "encrypted" if system.opened else ""
+            return finding, []
+        answer = self.ask(system, volume, region, seen_length(system, told, there, finding.lacks))
+        if answer is None or answer.status is None:
+            finding.said = f"{system.tool} took too long" if answer else "no room to check it"
+            return finding, []
+        finding.clean = None if answer.good and system.holds else answer.good
+        finding.said = f"{system.tool} clean" if answer.good else f"{system.tool} status {answer.status}"
+        finding.said += ", the sums of all data right" if finding.summed else ""
+        behind = " and a copy of its first sector" if system.ends else ""
+        finding.said += f", with zeros{behind} for its last {size_said(finding.lacks)}, which are not there" if finding.lacks else ""
+        return finding, self.inner(region, volume, answer.out) if system.holds else []
+
+    def inner(self, region: Region, volume: Volume, text: str) -> list[Region]:
+        """The logical volumes of a physical one, by its text, of which most is there."""
+        found = [Region(f"{region.name} logical volume {it.name}:".strip(), it.pieces) for it in lvm.logical_volumes(text, region.first)]
+        return [it for it in found if it.there(volume.length) == it.length or lacking(it.length, it.there(volume.length))]
+
+    def look(self, volume: Volume, origins: Sequence[int], chunk: int, row: int) -> Verdict:
+        """What is in a volume whose chunks, and rows of these, have so many bytes, at its start, in its partitions and at these sectors: its tables,
+        its file systems, and the files that are whole."""
+        kind, todo = self.regions(volume)
+        notes = ["only its first bytes were looked at"] if volume.cut else []
+        it = Looked(volume, Verdict(notes=notes, length=volume.length, chunk=chunk, row=row), todo)
+        if kind:
+            it.verdict.findings.append(Finding("", kind, table=True))
+        self.look_into(it)
+        for place in (origin * SECTOR for origin in sorted(set(origins)) if origin * SECTOR < volume.length):
+            it.todo = [Region(f"at {place // SECTOR}", (Piece(place, volume.length - place),))]
+            self.look_into(it)
+        if it.verdict.findings and not it.verdict.inner:
+            it.verdict.empty, it.verdict.findings[-1].said = True, "nothing known in it"
+        if it.verdict.findings and not it.verdict.wholly_summed:
+            self.count_files(it)
+        return it.verdict
+
+    def look_into(self, it: Looked) -> None:
+        """Looks into the regions of a volume, and into those that are found in them."""
+        while it.todo:
+            region = it.todo.pop(0)
+            if region.first not in it.seen and len(region.pieces) == 1 and (kind := self.kind_of(it.volume.path, region)):
+                finding, inner = self.checked(it.volume, region, kind)
+                it.verdict.findings.append(finding)
+                it.todo += inner
+            it.seen.add(region.first)
+
+    def count_files(self, it: Looked) -> None:
+        """Counts the files that are whole, and those that may be long where the first ones do not tell."""
+        most, verdict = min(it.volume.length, self.most), it.verdict
+        verdict.files = wholes.count(it.volume.path, 0, most, FILES_TIMES * self.seconds)
+        if verdict.files.more and verdict.score is Score.CHECKED:
+            verdict.files.long = wholes.count_long(it.volume.path, most, verdict.row, self.seconds)

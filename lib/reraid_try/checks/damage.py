@@ -1,0 +1,38 @@
+"""Damage that no map tells of: the images that make the rows of a set unsound, and the set without them."""
+
+import dataclasses
+from collections.abc import Mapping, Sequence
+
+from ..calls.sets import simplest
+from ..policy import cures
+from ..policy.cures import Family
+from .candidates import Candidate
+from .verdicts import Score
+
+# So many sets of a trial are looked at without images, those with the fewest unsound rows.
+MOST_SETS = 3
+# With so many images to spare parity tells which are bad.
+TELLING = 2
+
+
+def doubted(tested: Sequence[Candidate], mapped: bool) -> list[Candidate]:
+    """The candidates of a trial that have unsound rows, but not most, and can lose an image: those alone of which parity tells the images, where one
+    is whole already; none then where maps say what could not be read."""
+    found = [it for it in tested if it.unsound and not it.mostly_unsound and it.listed and len(it.word.offsets) == 1 and it.word.spare > 0]
+    if any(it.score is Score.WHOLE for it in tested):
+        found = [it for it in found if it.word.spare == TELLING and it.score is Score.WHOLE and not mapped]
+    return sorted(found, key=lambda it: (it.unsound or 0, it.order))[:MOST_SETS]
+
+
+def blamed(candidate: Candidate, counts: Mapping[int, int]) -> list[int]:
+    """The images without which fewer rows are unsound, that with the most first: `counts` has the unsound rows without each image."""
+    return sorted((image for image, count in counts.items() if count < (candidate.unsound or 0)), key=lambda image: counts[image])
+
+
+def lesser(candidate: Candidate, images: frozenset[int]) -> Candidate:
+    """A candidate without these images."""
+    word, trial = (candidate.listed or candidate.word).without(images), candidate.trial
+    name = f"without {' and '.join(f'image {image}' for image in sorted(images))}"
+    shape = dataclasses.replace(trial.shape, missing=word.lost)
+    trial = dataclasses.replace(trial, shape=shape, cures=(*trial.cures, cures.told(name, Family.LEFT_OUT)))
+    return Candidate(simplest(word), candidate.rank, trial, candidate.hunt, listed=word, whole=candidate)

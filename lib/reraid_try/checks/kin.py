@@ -1,0 +1,81 @@
+"""Which candidates give the same volume as another one, or one that begins inside another's."""
+
+import collections
+import dataclasses
+from collections.abc import Hashable, Mapping, Sequence
+
+from ..calls.sets import LAST_Q, Word, simplest
+from ..evidence.images import Image
+from .candidates import Candidate, Inside
+
+# By how many slots the order of the disks is turned from one row to the next.
+TURNS = {"ls": -1, "rs": 1}
+FIXED = ("plain", "parity-first", "parity-last")
+BY_SLOT = "by-slot"
+MIRRORS = ("near2",)
+PLAIN = ("0", "plain", "none")
+
+
+@dataclasses.dataclass(frozen=True)
+class Key:
+    """What a volume is told by: the layout, the chunk, the offsets and the slots, with one number for images that hold the same."""
+
+    layout: tuple[str, ...]
+    chunk: int
+    offsets: tuple[int, ...]
+    slots: tuple[int | None, ...]
+
+    @property
+    def family(self) -> Hashable:
+        """What the sets have in common of which one may begin inside another: the layout, the chunk, the images, and one offset for all."""
+        return self.layout, self.chunk, len(self.offsets) == 1 or self.offsets, tuple(sorted(map(str, self.slots)))
+
+
+def in_order(tested: Sequence[Candidate], images: Sequence[Image]) -> list[Candidate]:
+    """The candidates as they are printed: those with the most to say for them first, of one volume the simplest; each with the number of the first
+    one that has the same volume, and of one in which its volume begins."""
+    order = sorted(tested, key=lambda it: it.place)
+    same = {image.number: image.number if image.like is None else image.like for image in images}
+    keys = [key(it.word, same) for it in order]
+    firsts: dict[Key, int] = {}
+    families: dict[Hashable, list[int]] = collections.defaultdict(list)
+    for number, one in enumerate(keys):
+        families[one.family].append(number)
+    for number, it in enumerate(order):
+        first = firsts.setdefault(keys[number], number)
+        it.same = first if first != number else None
+        behind = ((whole, rows_behind(keys[number], keys[whole])) for whole in families[keys[number].family])
+        it.inside = next((Inside(whole, rows) for whole, rows in behind if rows), None)
+    return order
+
+
+def key(word: Word, same: Mapping[int, int]) -> Key:
+    """A set by what tells its volume: the simplest one of the same volume, and RAID 10 of pairs as the RAID 0 that it is."""
+    word = simplest(word)
+    slots = tuple(None if slot is None else same.get(slot, slot) for slot in word.slots)
+    layout = MIRRORS if word.is_mirrored else (word.level, word.pattern, word.order)
+    if word.is_mirrored and len(slots) % 2 == 0:
+        layout, slots = PLAIN, tuple(one if one is not None else other for one, other in zip(slots[::2], slots[1::2]))
+    return Key(layout, word.chunk, word.offsets, slots)
+
+
+def rows_behind(inner: Key, outer: Key) -> int:
+    """How many rows of chunks the volume of a set begins behind that of another one of its family; 0 where it does not."""
+    rows, rest = divmod(inner.offsets[0] - outer.offsets[0], inner.chunk)
+    if inner.layout == MIRRORS or rest or rows < 1:
+        return 0
+    _, pattern, order = inner.layout
+    # Q by slot weighs the disks in another way where their order is turned.
+    turns = TURNS if order != BY_SLOT else {}
+    count = len(inner.slots)
+    if pattern not in FIXED and pattern not in turns and rows % (count - pattern.endswith(LAST_Q)):
+        return 0
+    turn = turns.get(pattern, 0) * rows % count
+    return rows if inner.slots == outer.slots[turn:] + outer.slots[:turn] else 0
+
+
+def text(it: Candidate) -> str:
+    """What is said of it; nothing for most."""
+    if it.same is not None:
+        return f"the same volume as class {it.same}"
+    return f"the volume of class {it.inside.number} without its first {it.inside.rows} rows of chunks" if it.inside else ""

@@ -1,0 +1,222 @@
+"""The rows of a set: in which of them parity holds, and up to which the marks fit."""
+
+import dataclasses
+from collections.abc import Callable, Sequence
+
+from ..calls.formats import Checked, Held
+from ..calls.plans import Plan
+from ..calls.sets import Word, read_word
+from ..calls.surveys import Request
+from ..policy.hunt import Hunt
+from ..units import counted
+from .candidates import Candidate
+
+# The rows of a set that takes longer to test, in seconds, are not looked for.
+SLOW = 3
+# A set with more than one in so many filled rows unsound has no image that is but old.
+MOST_OLD = 2
+# So many marks fit before a row, and so many do not behind it, where an array was reshaped up to there.
+LEAST_TURNED = 3
+
+
+@dataclasses.dataclass
+class Near:
+    """A set, with the plan by which it is tested, and what `check` says of it."""
+
+    word: str
+    plan: Plan
+    told: Checked = Checked(0, 0)
+
+    @property
+    def groups(self) -> tuple[Held, ...]:
+        """What `check` says of each group."""
+        return self.told.groups
+
+    @property
+    def doubtful(self) -> bool:
+        """More marks of some group speak against it than for it."""
+        return any(group.doubtful for group in self.groups)
+
+    @property
+    def misfits(self) -> int:
+        """How many misfits each group was allowed."""
+        return int(self.plan.values["misfits"])
+
+    @property
+    def lacking(self) -> int:
+        """How many groups do not hold."""
+        return sum(group.origin is None for group in self.groups)
+
+    @property
+    def empty(self) -> int:
+        """How many of its slots are empty."""
+        return read_word(self.word).lost
+
+    @property
+    def by_rows(self) -> tuple[bool, int, int, int, int, int]:
+        """What sets with unsound rows are sorted by: what chunks leave over at the end of the disks makes no difference."""
+        return self.doubtful, 100 * self.told.unsound // max(1, self.told.rows), self.lacking, self.misfits, self.empty, -self.told.fits
+
+    @property
+    def by_marks(self) -> tuple[int, int, int, int]:
+        """What sets that parity allows are sorted by."""
+        return self.lacking, self.misfits, self.empty, -self.told.fits
+
+    def line(self, bounds: "Bounds") -> str:
+        """What is said of it."""
+        groups = ", ".join(group.text() for group in self.groups) or "no landmarks"
+        return f"  {self.word}: {counted(self.told.unsound, 'unsound row')} of {self.told.rows}{bounds.text()}; {groups}"
+
+
+@dataclasses.dataclass(frozen=True)
+class Bounds:
+    """The first and the last unsound row, None where they are not known."""
+
+    first: int | None = None
+    last: int | None = None
+
+    def text(self) -> str:
+        """What is said of them."""
+        return "" if self.first is None or self.last is None else f", first {self.first} and last {self.last}"
+
+
+def rows_in_words(told: Checked, bounds: Bounds) -> str:
+    """In which rows parity holds, with the first and the last that is unsound, where they are known."""
+    if not told.unsound:
+        return f"parity holds in all {counted(told.rows, 'row')}"
+    said = f"{told.unsound} of {counted(told.rows, 'row')} unsound"
+    if bounds.first is None or bounds.last is None:
+        return said
+    said += f", all from row {bounds.first} on" if bounds.last == told.rows - 1 else f", all in rows {bounds.first} to {bounds.last}"
+    return f"parity holds in rows 0 to {bounds.first - 1}; {said}" if bounds.first else said
+
+
+def halved(low: int, high: int, holds: Callable[[int], bool | None]) -> int | None:
+    """The least number above `low` that holds, where `high` does, by halving; None where that is not known of one."""
+    while low + 1 < high:
+        middle = (low + high) // 2
+        told = holds(middle)
+        if told is None:
+            return None
+        low, high = (low, middle) if told else (middle, high)
+    return high
+
+
+@dataclasses.dataclass(frozen=True)
+class Old:
+    """An image in no slot that belongs into an empty one, where parity holds with it but in some rows: it is old there."""
+
+    image: int
+    slot: int
+    told: Checked
+    bounds: Bounds
+
+    def text(self, names: Sequence[str]) -> str:
+        """What is said of it."""
+        where = f", the first of them row {self.bounds.first}" if self.bounds.first is not None else ""
+        return f"{names[self.image]} is old: as slot {self.slot} parity holds with it in all rows but {self.told.unsound} of {self.told.rows}{where}"
+
+
+@dataclasses.dataclass(frozen=True)
+class Turned:
+    """Marks of a group that fit up to a row, and none behind it: how many fit, and how many do not."""
+
+    row: int
+    fits: int
+    misfits: int
+
+    def text(self) -> str:
+        """What is said of it."""
+        return f"perhaps a reshape that was stopped: {counted(self.fits, 'mark')} fit before row {self.row}, and from there on {self.misfits} do not"
+
+
+class Rows:
+    """The rows of the sets of a hunt."""
+
+    def __init__(self, hunt: Hunt) -> None:
+        self.hunt = hunt
+
+    def ask(self, near: Near) -> bool:
+        """What `check` says of a set; it says whether that was answered."""
+        told = self.hunt.program.check(near.word, near.plan)
+        near.told = told or near.told
+        return told is not None
+
+    def row_of(self, near: Near, wanted: int) -> int | None:
+        """The row with which so many rows are unsound."""
+        def holds(rows: int) -> bool | None:
+            told = self.hunt.program.check(near.word, near.plan.having(window=rows))
+            return None if told is None else told.unsound >= wanted
+        found = halved(0, near.told.rows, holds)
+        return None if found is None else found - 1
+
+    def bounds(self, near: Near) -> Bounds:
+        """The first and the last unsound row of a set; not where there is none, or where it takes long to find them."""
+        if not near.told.unsound or near.told.seconds >= SLOW:
+            return Bounds()
+        return Bounds(self.row_of(near, 1), self.row_of(near, near.told.unsound))
+
+    def whole(self, candidate: Candidate) -> str:
+        """In which rows of the whole window parity holds for a candidate, whatever was loosened; nothing for RAID 10, which has none."""
+        word, request = candidate.listed, candidate.trial.request
+        if word is None or request is None or candidate.word.is_mirrored:
+            return ""
+        if word.spare < 1:
+            if candidate.whole:
+                return f"with what is left out for bad rows {candidate.whole.unsound} rows are unsound in what was tested"
+            return "parity tells nothing" + (f" with {counted(word.lost, 'disk')} missing" if word.level != "0" else " at level 0")
+        near = Near(word.text, self.window(request))
+        return rows_in_words(near.told, self.bounds(near)) if self.ask(near) else ""
+
+    def window(self, request: Request) -> Plan:
+        """The plan of a request over the whole window, by parity alone."""
+        plan = self.hunt.surveys.plan(request).bare().having(window=self.hunt.evidence.window, badrows=0)
+        return dataclasses.replace(plan, end=self.hunt.evidence.end)
+
+    def old(self, candidate: Candidate) -> list[Old]:
+        """The images in no slot of a candidate that belong into one that is empty, and are old."""
+        word, request = candidate.listed, candidate.trial.request
+        if word is None or request is None or candidate.word.is_mirrored or not word.lost or len(word.offsets) > 1:
+            return []
+        found = []
+        for image in sorted(set(range(len(self.hunt.evidence.images))) - set(word.images)):
+            for slot in (place for place, it in enumerate(word.slots) if it is None):
+                with_it = word.having(tuple(image if place == slot else it for place, it in enumerate(word.slots)))
+                found += self.old_at(with_it, image, slot, request)
+        return found
+
+    def old_at(self, word: Word, image: int, slot: int, request: Request) -> list[Old]:
+        """This image, where parity holds with it in most of the filled rows of a set, and not in all."""
+        near = Near(word.text, self.window(request))
+        if word.spare < 1 or not self.ask(near) or not 0 < MOST_OLD * near.told.unsound < self.hunt.evidence.filled:
+            return []
+        return [Old(image, slot, near.told, self.bounds(near))]
+
+    def turned(self, near: Near) -> Turned | None:
+        """The row before which the marks of a group fit and behind which none does; None for most sets."""
+        word = read_word(near.word)
+        for place, held in enumerate(near.groups):
+            if held.origin is None or min(held.fits, held.misfits) < LEAST_TURNED:
+                continue
+            group = near.plan.groups[place]
+            alone = dataclasses.replace(near.plan, groups=(group,)).having(origins=held.origin, misfits=held.misfits, window=1, badrows=1)
+            found = self.turn_of(word, alone, held)
+            if found:
+                return found
+        return None
+
+    def turn_of(self, word: Word, plan: Plan, held: Held) -> Turned | None:
+        """The row before which the marks of a plan's one group fit and behind which none does, where there is one. By rows of chunks."""
+        def before(rows: int) -> Held | None:
+            told = self.hunt.program.check(word.text, dataclasses.replace(plan, end=word.offset + rows * word.chunk))
+            return told.groups[0] if told and told.groups else None
+
+        def has_misfit(rows: int) -> bool | None:
+            told = before(rows)
+            return None if told is None else told.misfits > 0
+        most = (plan.end - word.offset) // word.chunk
+        rows = halved(0, most, has_misfit) if most > 0 else None
+        last = before(rows - 1) if rows and rows > 1 else None
+        if rows is None or last is None or last.misfits or last.fits < held.fits:
+            return None
+        return Turned((rows - 1) * word.chunk, held.fits, held.misfits)

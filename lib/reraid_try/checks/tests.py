@@ -1,0 +1,224 @@
+"""Tests candidates: reads their volumes, and lets the checkers read them."""
+
+import concurrent.futures
+from collections.abc import Callable, Hashable, Iterable, Sequence
+from typing import TypeVar
+
+from ..calls.commands import Runner
+from ..calls.program import Program
+from ..calls.sets import Word
+from ..errors import said
+from ..evidence import heads, maps
+from ..evidence.images import Image
+from ..options import Options
+from ..report.report import Report
+from ..units import SECTOR, counted, percent
+from . import damage
+from .candidates import Candidate, left_most
+from .checkers import Checkers
+from .verdicts import Score, Verdict
+from .volumes import Room, Source
+
+# Of so many sets all are looked at in their order; of more the first, of which so many classes at most.
+FEW, MOST_BEGUN, MOST_CLASSED = 8, 2048, 1024
+# More sets at once are put off where parity tells nothing, and so many are looked at that begin with nothing known.
+MOST_UNTOLD, MOST_UNKNOWN = 1024, 256
+# How far into a volume a file system may begin to be looked for before the whole is read, in sectors.
+FARTHEST = 131072
+# The writing of a volume may take so many times as long as a trial.
+WRITTEN_TIMES = 20
+# So many images are left out of a set at most.
+MOST_OUT = 2
+One = TypeVar("One")
+Other = TypeVar("Other")
+
+
+def in_classes(program: Program, found: list[Candidate], end: int) -> list[Candidate]:
+    """One candidate of each class, with the sets that give the same volume."""
+    plain = [it for it in found if not it.word.is_mirrored]
+    if len(plain) < 2:
+        return found
+    classes: dict[int, list[Candidate]] = {}
+    for number, it in zip(program.classes([it.word for it in plain[:MOST_CLASSED]], end), plain):
+        classes.setdefault(number, []).append(it)
+    return [simplest_of(alike) for alike in classes.values()] + plain[MOST_CLASSED:] + [it for it in found if it.word.is_mirrored]
+
+
+def simplest_of(alike: Sequence[Candidate]) -> Candidate:
+    """The candidate of a class with the fewest members, of the lowest level, with the others' sets."""
+    found = min(alike, key=lambda it: it.word.simplicity)
+    for it in alike:
+        if it is not found:
+            found.alike += [it.word.text, *it.alike]
+    return found
+
+
+class Tests:
+    """Tests the candidates of a run over some images. Those that are put off are kept for its end."""
+
+    def __init__(self, options: Options, commands: Runner, report: Report, room: Room, images: Sequence[Image]) -> None:
+        self.options, self.commands, self.report, self.room = options, commands, report, room
+        self.names = tuple(image.name for image in images)
+        self.program = Program(commands, self.names, options.seconds, options.jobs)
+        self.end = min(image.sectors for image in images)
+        self.checks = Checkers(commands, room, options.seconds, options.first)
+        self.maps = maps.maps_text([image.map for image in images])
+        self.put_off: list[Candidate] = []
+        self.told: set[str] = set()
+        self.late = False
+
+    def begins(self, candidate: Candidate) -> bool:
+        """The volume of a candidate begins with something known, or a group of landmarks holds where something known begins."""
+        self.ask(candidate, False)
+        word = candidate.word
+        places = [0, *(origin for origin in candidate.origins if origin < FARTHEST)]
+        source = Source(word, self.names, self.end)
+        rows = 1 + (max(places) + heads.HEAD_BYTES // SECTOR) // max(1, word.row)
+        words, text = source.command(source.row_end(rows))
+        data = self.commands.run(words, text, self.options.seconds).data
+        return any(heads.sniff(data[place * SECTOR:place * SECTOR + heads.HEAD_BYTES]) for place in places)
+
+    def ask(self, candidate: Candidate, rows: bool = True) -> None:
+        """What `check` says of a candidate: unsound rows, and where each group holds; of one row alone where rows are not asked for. What is known
+        already is not asked again."""
+        if candidate.unsound is not None or not rows and candidate.groups:
+            return
+        plan = candidate.hunt.checked_by(candidate.trial)
+        if plan is None or candidate.listed is None:
+            return
+        told = candidate.hunt.program.check(candidate.listed.text, plan if rows else plan.having(window=1))
+        if told:
+            candidate.groups = told.groups
+            candidate.unsound = told.unsound if rows else None
+            candidate.left_most = left_most(candidate.trial, plan, told.groups)
+
+    def unsound_rows(self, candidate: Candidate, word: Word) -> int:
+        """How many rows are unsound of a set like a candidate's."""
+        plan = candidate.hunt.checked_by(candidate.trial)
+        told = candidate.hunt.program.check(word.text, plan) if plan else None
+        return told.unsound if told else candidate.unsound or 0
+
+    def without_damaged(self, tested: Sequence[Candidate]) -> list[Candidate]:
+        """The candidates with the fewest unsound rows once more, without the images that make these unsound; those that gain by it."""
+        found = []
+        for it in damage.doubted(tested, bool(self.maps)):
+            lesser = [damage.lesser(it, images) for images in self.left_out(it)]
+            self.side_by_side(self.read, lesser, "looks at the candidates without damaged images")
+            found += [one for one in lesser if one.found.gain > it.found.gain]
+        return found
+
+    def left_out(self, candidate: Candidate) -> list[frozenset[int]]:
+        """What may be left out of a candidate: the two images that make most rows unsound, or each one, where parity does not tell which that is."""
+        images = candidate.word.images
+        if candidate.word.spare < damage.TELLING:
+            return [frozenset({image}) for image in images]
+        words = [candidate.word.without(frozenset({image})) for image in images]
+        counts = dict(zip(images, self.side_by_side(lambda word: self.unsound_rows(candidate, word), words,
+                                                    "asks for the unsound rows without each image")))
+        blamed = damage.blamed(candidate, counts)
+        if blamed:
+            told = ", ".join(f"{(candidate.unsound or 0) - counts[image]} by image {image}" for image in blamed)
+            self.report.say("blamed", f"  {candidate.word.text}: {candidate.unsound} rows are unsound, {told}", set=candidate.word.text,
+                            unsound=candidate.unsound, images=blamed)
+        return [frozenset(blamed[:MOST_OUT])] if blamed else []
+
+    def read(self, candidate: Candidate) -> Candidate:
+        """Looks at the volume of a candidate."""
+        self.ask(candidate)
+        word = candidate.word
+        source = Source(word, self.names, self.end, self.maps)
+        most = self.options.first * max(1, int(word.data))
+        try:
+            with self.room.volume(source, most, WRITTEN_TIMES * self.options.seconds) as volume:
+                if volume is None:
+                    candidate.verdict = Verdict(notes=["its volume could not be written"])
+                else:
+                    candidate.verdict = self.checks.look(volume, candidate.origins, word.chunk * SECTOR, word.row * SECTOR)
+                    candidate.verdict.notes += self.lost(word)
+        except OSError as error:
+            candidate.verdict = Verdict(notes=[f"its volume could not be looked at: {said(error)}"])
+        return candidate
+
+    def lost(self, word: Word) -> list[str]:
+        """How much of a volume is lost by the maps, where there are some."""
+        if self.maps is None:
+            return []
+        if word.is_mirrored:
+            return ["its maps are not heeded"]
+        told = self.program.lost(word.text, self.end, self.maps)
+        if told is None:
+            return ["how much the maps leave lost is not known"]
+        return [f"{told[0]} of {counted(told[1], 'sector')} ({percent(*told)}) lost by the maps" if told[0] else "nothing lost by the maps"]
+
+    def tell(self, it: Candidate) -> None:
+        """Says of a candidate that a checker is content with it, once."""
+        if it.score >= Score.CHECKED and it.word.text not in self.told:
+            self.told.add(it.word.text)
+            self.report.say("sound", f"  {it.word.text}: {it.found.text()}", set=it.word.text, said=it.found.text())
+
+    def side_by_side(self, work: Callable[[One], Other], found: Iterable[One], what: str, then: Callable[[Other], None] | None = None) -> list[Other]:
+        """Does something for all candidates, so many at a time, and then something with each result in their order."""
+        todo, done = list(found), []
+        with concurrent.futures.ThreadPoolExecutor(self.options.jobs) as pool:
+            for number, result in enumerate(pool.map(work, todo), 1):
+                self.report.bar.show(what, number, len(todo))
+                done.append(result)
+                if then:
+                    then(result)
+        return done
+
+    def test(self, found: list[Candidate]) -> list[Candidate]:
+        """Tests one of each class: of many, those first that begin with something known, and the others where none of these is clean. Doubtful
+        sets, and too many, are put off."""
+        if len(found) > MOST_UNTOLD and not found[0].trial.shape.parity and not self.late:
+            self.report.say("put off", f"  {len(found)} sets are too many where parity tells nothing: they are put off", sets=len(found))
+            self.put_off += found
+            return []
+        if len(found) > MOST_BEGUN:
+            self.report.say("many", f"  of {len(found)} sets the first {MOST_BEGUN} are looked at", sets=len(found))
+            found = found[:MOST_BEGUN]
+        tested: list[Candidate] = []
+        for part in self.parts(self.without_doubtful(found)):
+            classes = in_classes(self.program, part, self.end)
+            if len(classes) > MOST_CLASSED:
+                self.report.say("many", f"  of {len(classes)} classes the first {MOST_CLASSED} are looked at", classes=len(classes))
+            tested += self.side_by_side(self.read, classes[:MOST_CLASSED], "looks at the candidates", self.tell)
+            if any(it.score >= Score.CHECKED for it in tested):
+                break
+        return tested
+
+    def without_doubtful(self, found: list[Candidate]) -> list[Candidate]:
+        """The sets of which more speaks for them than against them; the others are kept for the end."""
+        if not found or not found[0].trial.lenient or self.late:
+            return found
+        # At level 5 parity is the same in whatever order the images stand.
+        firsts: dict[Hashable, Candidate] = {}
+        alike = [firsts.setdefault((it.word.offsets, frozenset(it.word.slots)) if it.word.level == "5" else it.word, it) for it in found]
+        self.side_by_side(lambda it: self.ask(it, it.trial.has_bad_rows), firsts.values(), "asks for the unsound rows of the candidates")
+        self.side_by_side(lambda it: self.ask(it, False), found, "asks for the fits of the candidates")
+        for it, first in zip(found, alike):
+            it.doubted = it.doubted or first.mostly_unsound
+        doubtful = [it for it in found if it.doubtful]
+        self.put_off += doubtful
+        if doubtful:
+            told = f"  {len(doubtful)} of {len(found)} sets are put off: most marks of a group, or most rows, speak against them"
+            self.report.say("doubtful", told, doubtful=len(doubtful), sets=len(found))
+        return [it for it in found if not it.doubtful]
+
+    def test_late(self) -> list[Candidate]:
+        """Tests the sets that were put off, those with the least loosened first."""
+        found, self.put_off, self.late = sorted(self.put_off, key=lambda it: it.order), [], True
+        return self.test(found) if found else []
+
+    def parts(self, found: list[Candidate]) -> list[list[Candidate]]:
+        """Of many sets those that begin with something known, and the others after them; where there are landmarks these are put off."""
+        if len(found) <= FEW:
+            return [found]
+        begin = self.side_by_side(self.begins, found, "reads how the candidates begin")
+        known, others = [[it for it, kind in zip(found, begin) if kind == wanted] for wanted in (True, False)]
+        later = bool(others and others[0].hunt.plan.groups) and not self.late
+        if others and (known or later):
+            self.report.say("begins", f"  {len(known)} of {len(found)} sets begin with something known; " +
+                            ("the others are put off" if later else "these are looked at first"), known=len(known), sets=len(found))
+        self.put_off += others if later else []
+        return [it for it in (known, [] if later else others[:MOST_UNKNOWN]) if it]

@@ -1,0 +1,172 @@
+"""What was found in a volume, and how much that says."""
+
+import dataclasses
+import enum
+from collections.abc import Sequence
+
+from ..units import percent
+from .lvm import Piece
+from .systems import System, system_of
+from .wholes import Wholes
+
+# A file system that covers less than this part of its volume says little of it.
+LITTLE = 4
+
+
+class Score(enum.IntEnum):
+    """How much speaks for a volume: nothing, or something against it; something known, of which no checker was asked, or too little; a checker that
+    is content; and besides that a long whole file, or the sums of all data."""
+
+    NOTHING = 0
+    KNOWN = 1
+    CHECKED = 2
+    WHOLE = 3
+
+    @property
+    def sign(self) -> str:
+        """What stands for it in the table."""
+        return "+" * max(0, self - 1)
+
+
+@dataclasses.dataclass
+class Finding:
+    """A region that holds something: what it is called, its type, and what its checker said. `clean` is None where none was asked. `pieces` are
+    where it lies, as far as it says that it is long; `lacks` how many of its bytes lie behind the end of the volume; `table` says that it is a
+    partition table."""
+
+    region: str
+    kind: str
+    clean: bool | None = None
+    said: str = ""
+    pieces: tuple[Piece, ...] = ()
+    lacks: int = 0
+    table: bool = False
+
+    @property
+    def place(self) -> Piece | None:
+        """Where it lies, where it is in one piece."""
+        return self.pieces[0] if len(self.pieces) == 1 else None
+
+    @property
+    def system(self) -> System:
+        """The row of its kind."""
+        return system_of(self.kind)
+
+    @property
+    def is_outer(self) -> bool:
+        """It is but what file systems lie in."""
+        return self.table or self.system.holds
+
+    @property
+    def summed(self) -> bool:
+        """All its data are right by their sums."""
+        return self.system.sums and bool(self.clean)
+
+    def text(self) -> str:
+        """What is said of it."""
+        where = f"{self.region} " if self.region else ""
+        return f"{where}{self.kind}" + (f": {self.said}" if self.said else "")
+
+
+def covered(pieces: Sequence[Piece], length: int) -> int:
+    """How many bytes of a volume lie in these pieces."""
+    total, after = 0, 0
+    for piece in sorted(pieces, key=lambda it: it.first):
+        first, last = max(piece.first, after), min(piece.first + piece.length, length)
+        total, after = total + max(0, last - first), max(after, last)
+    return total
+
+
+@dataclasses.dataclass
+class Verdict:
+    """What was found in a volume of so many bytes: regions, files, the bytes of a chunk and of a row of chunks, and what else is said of it. `empty`
+    says that nothing lies in what was found."""
+
+    findings: list[Finding] = dataclasses.field(default_factory=list)
+    files: Wholes = dataclasses.field(default_factory=Wholes)
+    notes: list[str] = dataclasses.field(default_factory=list)
+    length: int = 0
+    chunk: int = 0
+    row: int = 0
+    empty: bool = False
+
+    @property
+    def inner(self) -> list[Finding]:
+        """What was found, without what it lies in."""
+        return [finding for finding in self.findings if not finding.is_outer]
+
+    @property
+    def clean(self) -> bool:
+        """Some checker found nothing wrong, and none found fault."""
+        told = [finding.clean for finding in self.findings if finding.clean is not None]
+        return bool(told) and all(told)
+
+    @property
+    def whole(self) -> bool:
+        """A file that is longer than a row of chunks is whole, and at least half of the first ones are."""
+        return self.files.longest_of_all > self.row and 2 * self.files.whole >= self.files.found
+
+    @property
+    def summed(self) -> bool:
+        """A file system was checked with the sums of all its data."""
+        return any(finding.summed for finding in self.findings)
+
+    @property
+    def wholly_summed(self) -> bool:
+        """All that was found has the sums of all its data right: files say nothing more, and those in several pieces would count as broken."""
+        return bool(self.inner) and all(finding.summed for finding in self.inner)
+
+    @property
+    def refuted(self) -> bool:
+        """Some checker found fault."""
+        return any(finding.clean is False for finding in self.findings)
+
+    @property
+    def encrypted(self) -> list[Finding]:
+        """What is encrypted in it."""
+        return [finding for finding in self.findings if finding.system.opened]
+
+    @property
+    def covers(self) -> int:
+        """How many bytes of the volume lie in what was found, as far as that says how long it is."""
+        return covered([piece for finding in self.inner if finding.clean is not False for piece in finding.pieces], self.length)
+
+    @property
+    def within_chunks(self) -> bool:
+        """Some files are whole, but none that is longer than a chunk; others are broken. Such files are whole in whatever order the chunks stand."""
+        return 0 < self.files.longest_of_all <= self.chunk and self.files.whole < self.files.found
+
+    @property
+    def doubts(self) -> list[str]:
+        """Why what was found says too little for a sign."""
+        said: list[str] = []
+        if self.refuted or self.empty:
+            return said
+        if self.inner and LITTLE * self.covers < self.length:
+            said.append(f"what was found covers {percent(self.covers, self.length)} of the volume")
+        if self.within_chunks and not self.wholly_summed:
+            said.append("only files within one chunk are whole, as in any order of the chunks")
+        return said
+
+    @property
+    def score(self) -> Score:
+        """How much speaks for the volume."""
+        broken = not self.clean and self.files.found and not self.files.whole
+        if not self.findings or self.refuted or self.empty or broken:
+            return Score.NOTHING
+        if self.doubts:
+            return Score.KNOWN
+        if self.whole or self.summed:
+            return Score.WHOLE
+        return Score.CHECKED if self.clean else Score.KNOWN
+
+    @property
+    def gain(self) -> tuple[Score, int]:
+        """What two volumes of one set are compared by: how much speaks for them, and how many files are whole."""
+        return self.score, self.files.whole
+
+    def text(self) -> str:
+        """What is said of the volume."""
+        said = [finding.text() for finding in self.findings] or ["nothing known"]
+        files = [] if self.wholly_summed else [self.files.text(self.chunk, self.row)]
+        return "; ".join(said + files + self.notes)

@@ -1,0 +1,262 @@
+"""The volume of a candidate, to be looked at: through `reraid-nbd` and FUSE where both are there, and else sparsely in a file."""
+
+import contextlib
+import dataclasses
+import fcntl
+import itertools
+import os
+import shutil
+import subprocess
+import tempfile
+import time
+from collections.abc import Iterator, Sequence
+from typing import IO
+
+from ..calls.commands import Runner, quoted
+from ..calls.sets import Word
+from ..errors import OutsideError, said
+from ..evidence import reading
+from ..units import KIB, SECTOR
+from .lvm import Piece
+
+# What the folders of runs are called, and the file in each that is locked as long as its run is there.
+PREFIX, LOCK = "reraid-try.", "lock"
+# So much of what is free may be written.
+FREE = 9 / 10
+# A mount is waited for so many times so many seconds, and its server so long at its end.
+LOOKS, NEXT_LOOK, LAST_WAIT = 500, 0.02, 5
+# A folder is new for so many seconds.
+NEW = 60
+COPIED = 64 * KIB
+
+
+@dataclasses.dataclass(frozen=True)
+class Region:
+    """A part of a volume that may hold a file system: its name, and its pieces in order."""
+
+    name: str
+    pieces: tuple[Piece, ...]
+
+    @property
+    def length(self) -> int:
+        """Its bytes."""
+        return sum(piece.length for piece in self.pieces)
+
+    @property
+    def first(self) -> int:
+        """Where it begins in the volume."""
+        return self.pieces[0].first
+
+    def there(self, length: int) -> int:
+        """How many of its bytes a volume of so many has."""
+        return sum(max(0, min(piece.first + piece.length, length) - piece.first) for piece in self.pieces)
+
+    def up_to(self, length: int) -> tuple[Piece, ...]:
+        """The pieces of its first bytes."""
+        found = []
+        for piece in self.pieces:
+            if length > 0:
+                found.append(Piece(piece.first, min(piece.length, length)))
+            length -= piece.length
+        return tuple(found)
+
+
+@dataclasses.dataclass(frozen=True)
+class Volume:
+    """A volume as a file. `cut` says that only its first bytes are there, and the rest are zeros; `mounted` that it shows no holes."""
+
+    path: str
+    length: int
+    cut: bool = False
+    mounted: bool = False
+
+
+@dataclasses.dataclass(frozen=True)
+class Source:
+    """What a volume is made of: a set, the images, where the members end, and the maps, None where there are none."""
+
+    word: Word
+    names: tuple[str, ...]
+    end: int
+    maps: str | None = None
+
+    @property
+    def length(self) -> int:
+        """The bytes of the volume."""
+        return self.word.sectors(self.end) * SECTOR
+
+    def command(self, end: int) -> tuple[list[str], str | None]:
+        """The command that puts the volume of members that end there, and the text that it reads."""
+        operands = [f"set={self.word.text}", f"end={end}", "--", *self.names]
+        if self.word.is_mirrored:
+            return ["reraid", "mirrorwrite", *operands], None
+        if self.maps:
+            return ["reraid", "salvage", *operands], self.maps
+        return ["reraid", "write", *operands], None
+
+    def row_end(self, rows: int) -> int:
+        """Where members end that have so many rows of chunks."""
+        return min(self.end, self.word.offset + rows * self.word.chunk)
+
+
+class Room:
+    """Where volumes are put, or mounted. All of it is gone at the end; what a run left that was killed is taken away by the next one."""
+
+    def __init__(self, commands: Runner, folder: str | None = None, mounts: bool = True) -> None:
+        self.commands = commands
+        self.mounts = mounts and all(map(shutil.which, ("reraid-nbd", "nbdfuse", "fusermount3"))) and os.path.exists("/dev/fuse")
+        self.mounted: dict[str, subprocess.Popen[bytes]] = {}
+        self.numbers = itertools.count(1)
+        clear_old(folder or tempfile.gettempdir())
+        try:
+            self.base = tempfile.mkdtemp(prefix=PREFIX, dir=folder)
+            self.lock = locked(os.path.join(self.base, LOCK), "w")
+        except OSError as error:
+            raise OutsideError(f"{folder or tempfile.gettempdir()} cannot be written: {said(error)} (--room DIR names another folder)") from error
+
+    def close(self) -> None:
+        """Unmounts what is mounted, and removes the folder."""
+        for folder in list(self.mounted):
+            self.unmount(folder)
+        if self.lock:
+            self.lock.close()
+        shutil.rmtree(self.base, ignore_errors=True)
+
+    def path(self, ending: str) -> str:
+        """A new name."""
+        return os.path.join(self.base, f"{next(self.numbers)}.{ending}")
+
+    def free(self) -> int:
+        """The bytes that may still be written."""
+        return int(shutil.disk_usage(self.base).free * FREE)
+
+    @contextlib.contextmanager
+    def volume(self, source: Source, most: int, seconds: float) -> Iterator[Volume | None]:
+        """The volume of a set. Where it is no mount, at most so many bytes of it are written; None where it cannot be had."""
+        if self.mounts and not source.word.is_mirrored and not source.maps:
+            folder = self.path("mount")
+            if self.mount(folder, source):
+                try:
+                    yield Volume(os.path.join(folder, "volume"), source.length, mounted=True)
+                finally:
+                    self.unmount(folder)
+                return
+        path = self.path("volume")
+        try:
+            yield self.write(path, source, most, seconds)
+        finally:
+            with contextlib.suppress(FileNotFoundError):
+                os.remove(path)
+
+    def write(self, path: str, source: Source, most: int, seconds: float) -> Volume | None:
+        """Writes the volume into a sparse file, its first bytes alone where it is longer than may be written."""
+        most, stop = min(most, self.free()), source.end
+        if source.length > most:
+            stop = source.row_end(max(1, most // SECTOR // max(1, source.word.row)))
+        words, text = source.command(stop)
+        answer = self.commands.shell([words, ["dd", f"of={path}", "bs=64K", "conv=sparse", "iflag=fullblock", "status=none"]], text, seconds)
+        if not answer.good:
+            return None
+        os.truncate(path, source.length)
+        return Volume(path, source.length, stop < source.end)
+
+    def mount(self, folder: str, source: Source) -> bool:
+        """Mounts the volume of a set; it says whether that was done."""
+        os.mkdir(folder)
+        shown = os.path.join(folder, "volume")
+        words = ["nbdfuse", "--readonly", shown, "--command", "reraid-nbd", f"set={source.word.text}", f"end={source.end}", "--", *source.names]
+        server = subprocess.Popen(words, stdin=subprocess.DEVNULL, stdout=subprocess.DEVNULL, stderr=subprocess.DEVNULL, start_new_session=True)
+        self.mounted[folder] = server
+        self.commands.note(quoted(words))
+        for _ in range(LOOKS):
+            if os.path.exists(shown):
+                return True
+            if server.poll() is not None:
+                break
+            time.sleep(NEXT_LOOK)
+        self.unmount(folder)
+        self.mounts = False
+        return False
+
+    def unmount(self, folder: str) -> None:
+        """Unmounts a volume, and ends its server."""
+        server = self.mounted.pop(folder)
+        unmount(folder)
+        try:
+            server.wait(LAST_WAIT)
+        except subprocess.TimeoutExpired:
+            server.kill()
+            server.wait()
+        with contextlib.suppress(OSError):
+            os.rmdir(folder)
+
+    @contextlib.contextmanager
+    def region(self, volume: Volume, region: Region, length: int) -> Iterator[str | None]:
+        """The first bytes of a region as a file of its own, with zeros behind its end where it has fewer: the volume's where it is just that, and
+        else a sparse copy; None where there is no room."""
+        if region.pieces == (Piece(0, volume.length),) and length == volume.length:
+            yield volume.path
+            return
+        path = self.path("region")
+        if volume.mounted and min(length, region.length) > self.free():
+            yield None
+            return
+        try:
+            yield path if copy(volume.path, path, region.pieces, length, self.free()) else None
+        finally:
+            with contextlib.suppress(FileNotFoundError):
+                os.remove(path)
+
+
+def locked(path: str, mode: str) -> IO[str] | None:
+    """A file, locked; None where another run has it."""
+    file = open(path, mode, encoding="ascii")
+    try:
+        fcntl.flock(file, fcntl.LOCK_EX | fcntl.LOCK_NB)
+    except OSError:
+        file.close()
+        return None
+    return file
+
+
+def unmount(folder: str) -> None:
+    """Unmounts what is mounted on a folder, or below it."""
+    subprocess.run(["fusermount3", "-u", "-z", folder], stdin=subprocess.DEVNULL, capture_output=True, check=False)
+
+
+def clear_old(folder: str) -> None:
+    """Takes away what runs left in a folder that were killed: their locks are free. What cannot be taken away stays."""
+    try:
+        names = [os.path.join(folder, name) for name in os.listdir(folder) if name.startswith(PREFIX)]
+    except OSError:
+        return
+    for name in names:
+        try:
+            # One that is just made has no lock yet.
+            lock = locked(os.path.join(name, LOCK), "r") if time.time() - os.stat(name).st_mtime > NEW else None
+        except OSError:
+            continue
+        if lock:
+            for inner in os.listdir(name):
+                if inner.endswith(".mount"):
+                    unmount(os.path.join(name, inner))
+            shutil.rmtree(name, ignore_errors=True)
+            lock.close()
+
+
+def copy(source: str, target: str, pieces: Sequence[Piece], length: int, room: int) -> bool:
+    """Copies the pieces of a file one after another, without what is zeros. It says whether there was room."""
+    zeros, written, at = bytes(COPIED), 0, 0
+    with open(source, "rb") as old, open(target, "wb") as new:
+        for piece in pieces:
+            size = min(piece.length, length - at)
+            for place, block in reading.blocks(old, piece.first, piece.first + size, COPIED):
+                if block != zeros[:len(block)]:
+                    new.seek(at + place - piece.first)
+                    new.write(block)
+                    written += len(block)
+                    if written > room:
+                        return False
+            at += size
+        new.truncate(length)
+    return True

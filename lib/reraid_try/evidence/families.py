@@ -1,0 +1,301 @@
+"""What relations of rows say of arrays: which images belong together, how much of parity is left, which image is old, where a reshape stopped."""
+
+import collections
+import dataclasses
+import itertools
+from collections.abc import Iterable, Iterator
+from fractions import Fraction
+
+from .relations import Relations, Rows, Tie
+
+# Two images belong together where ties hold both in so many rows at least, and in one of so many in which neither is zeros.
+LEAST_TIED, FEW_TIED = 4, 50
+# So much of what is tied has weights of 1 alone at level 5. A number of ties that one in so many rows has, and not most, is possible too.
+PART_PLAIN, FEW_OTHER = Fraction(4, 5), 10
+# Where so few rows have no image of zeros, all others count: so many ties as nearly all of them have are those of parity.
+FEW_FULL, PART_TIED = 8, Fraction(19, 20)
+# An image is old where it stands outside of the ties of others in so many rows; a reshape stopped where so many stand on either side.
+LEAST_OLD, LEAST_RESHAPED = 4, 8
+# Two images are copies where so much of the rows in which one of them is not zeros ties just these two.
+PART_COPIED = Fraction(9, 10)
+CHUNKS = tuple(1 << power for power in range(15, 2, -1))
+# So much of the places where ties change lies at one distance from the borders of chunks of the right length, of so many places at least.
+PART_AT_BORDERS, LEAST_BORDERS = Fraction(9, 10), 4
+
+LEVEL_5, LEVEL_6, COPIES = "5", "6", "10"
+
+
+@dataclasses.dataclass(frozen=True)
+class Old:
+    """An image that ties of the others leave out in some rows though it is in those of other rows: how many rows, and the first of them."""
+
+    image: int
+    rows: int
+    first: int
+
+    def line(self, name: str) -> str:
+        """What is said of it."""
+        return (f"{name} is old or damaged: in {self.rows} of the rows that were looked at, the first at sector {self.first}, the others go together "
+                "without it")
+
+
+@dataclasses.dataclass(frozen=True)
+class Reshape:
+    """Where ties change for good: the first row of the rest, and which images are tied before it and from it on."""
+
+    sector: int
+    before: frozenset[int]
+    after: frozenset[int]
+
+    def line(self) -> str:
+        """What is said of it."""
+        return f"a reshape stopped at sector {self.sector}: before it {len(self.before)} images are tied, and from it on {len(self.after)}"
+
+
+@dataclasses.dataclass(frozen=True)
+class Family:
+    """Images that belong together. `level` is that of their parity (10 for copies), None where ties do not tell it; `parity` how many ties most of
+    the rows have in which no image is zeros, which is how many disks more might be lost were no image old, and `others` what numbers of ties rows
+    have besides: more where what is lost is zeros, fewer where rows are bad. `first` and `last` are the first and last row that is tied. `loose`
+    counts the rows in which no image is zeros and nothing is tied though most are, the first of them at `loose_first`. `copies` are the images of
+    which two hold the same in nearly all rows; images of which two do so in most rows are a family of copies without them."""
+
+    images: tuple[int, ...]
+    rows: int
+    first: int
+    last: int
+    level: str | None
+    parity: int
+    old: tuple[Old, ...] = ()
+    reshape: Reshape | None = None
+    others: tuple[int, ...] = ()
+    loose: int = 0
+    loose_first: int | None = None
+    copies: tuple[tuple[int, int], ...] = ()
+
+    @property
+    def current(self) -> tuple[int, ...]:
+        """Its images but for the old ones."""
+        old = {it.image for it in self.old}
+        return tuple(image for image in self.images if image not in old)
+
+    @property
+    def lost(self) -> int | None:
+        """How many disks are lost, where the level is known; an old one counts as lost."""
+        return self.lost_with(self.parity)
+
+    def lost_with(self, parity: int) -> int | None:
+        """How many disks are lost if so many ties are those of parity."""
+        if self.level not in (LEVEL_5, LEVEL_6):
+            return None
+        return max(0, {LEVEL_5: 1, LEVEL_6: 2}[self.level] - parity) + len(self.old)
+
+    @property
+    def members(self) -> int | None:
+        """How many disks the array has, lost ones too, where the level is known."""
+        return None if self.lost is None else len(self.current) + self.lost
+
+
+def ties_among(rows: Rows, images: frozenset[int]) -> tuple[Tie, ...]:
+    """The ties of a row that hold these images alone."""
+    return tuple(tie for tie in rows.ties if tie.images <= images)
+
+
+def tied_images(ties: Iterable[Tie]) -> frozenset[int]:
+    """All images of some ties."""
+    return frozenset().union(*(tie.images for tie in ties))
+
+
+def connected(pairs: Iterable[tuple[int, int]]) -> list[frozenset[int]]:
+    """The sets that these pairs connect."""
+    found: list[frozenset[int]] = []
+    for pair in pairs:
+        near = [it for it in found if it & frozenset(pair)]
+        found = [it for it in found if it not in near] + [frozenset(pair).union(*near)]
+    return found
+
+
+def pair_counts(relations: Relations, images: frozenset[int]) -> tuple[collections.Counter[tuple[int, int]], collections.Counter[tuple[int, int]]]:
+    """For each two images in how many rows ties connect them, and in how many neither is zeros."""
+    tied: collections.Counter[tuple[int, int]] = collections.Counter()
+    there: collections.Counter[tuple[int, int]] = collections.Counter()
+    for rows in relations.rows:
+        count = relations.count(rows)
+        for pair in itertools.combinations(sorted(images - rows.zero), 2):
+            there[pair] += count
+        for part in rows.tied():
+            for pair in itertools.combinations(sorted(part & images), 2):
+                tied[pair] += count
+    return tied, there
+
+
+def belonging(relations: Relations, images: frozenset[int]) -> list[frozenset[int]]:
+    """The sets of images that belong together, the largest first."""
+    tied, there = pair_counts(relations, images)
+    strong = [pair for pair, count in tied.items() if count >= LEAST_TIED and FEW_TIED * count >= there[pair]]
+    return sorted(connected(strong), key=lambda it: (-len(it), sorted(it)))
+
+
+@dataclasses.dataclass
+class Tally:
+    """What the rows of a family say, by how many of them say it."""
+
+    images: frozenset[int]
+    rows: int = 0
+    first: int | None = None
+    last: int = 0
+    every: collections.Counter[int] = dataclasses.field(default_factory=collections.Counter)
+    joined: int = 0
+    paired: int = 0
+    whole: collections.Counter[int] = dataclasses.field(default_factory=collections.Counter)
+    plain: int = 0
+    weighed: int = 0
+    outside: collections.Counter[int] = dataclasses.field(default_factory=collections.Counter)
+    outside_first: dict[int, int] = dataclasses.field(default_factory=dict)
+    loose: list[tuple[int, int]] = dataclasses.field(default_factory=list)
+
+    def add(self, rows: Rows, count: int) -> None:
+        """Counts some rows."""
+        ties = ties_among(rows, self.images)
+        here = self.images - rows.zero
+        if ties:
+            self.rows += count
+            self.first = rows.first if self.first is None else self.first
+            self.last = rows.last
+            if all(tie.plain for tie in ties):
+                self.plain += count
+            else:
+                self.weighed += count
+        if here:
+            self.every[min(2, len(ties))] += count
+        if len(here) > 2 and ties:
+            self.joined += count
+            self.paired += count if all(tie.plain and len(tie.weights) == 1 for tie in ties) else 0
+        if here == self.images:
+            self.add_full(rows, ties, count)
+
+    def add_full(self, rows: Rows, ties: tuple[Tie, ...], count: int) -> None:
+        """Counts rows in which no image is zeros."""
+        out = self.images - tied_images(ties)
+        if not out or not ties:
+            self.whole[min(2, len(ties))] += count
+        if not ties:
+            self.loose.append((rows.first, count))
+        elif len(out) == 1:
+            image = min(out)
+            self.outside[image] += count
+            self.outside_first.setdefault(image, rows.first)
+
+    @property
+    def copied(self) -> bool:
+        """Where more than two images are not zeros most ties hold two that are the same, and parity would hold all of them."""
+        return 2 * self.paired > self.joined
+
+    @property
+    def parity(self) -> int:
+        """How many ties most of the rows have that hold all images or none, of those in which no image is zeros; where these are few, how many nearly
+        all rows have at least."""
+        if sum(self.whole.values()) >= FEW_FULL:
+            return self.whole.most_common(1)[0][0]
+        return max((ties for ties in self.every if self.with_ties(ties) >= PART_TIED), default=0)
+
+    def with_ties(self, ties: int) -> Fraction:
+        """The part of the rows that has so many ties at least."""
+        return Fraction(sum(count for other, count in self.every.items() if other >= ties), sum(self.every.values()))
+
+    @property
+    def others(self) -> tuple[int, ...]:
+        """Which other numbers of ties not few of the rows have in which no image is zeros."""
+        total = sum(self.whole.values())
+        return tuple(sorted(ties for ties, count in self.whole.items() if ties != self.parity and FEW_OTHER * count >= total))
+
+    @property
+    def level(self) -> str | None:
+        """The level that the weights of the ties tell; None where nothing is tied."""
+        if not self.rows:
+            return None
+        return LEVEL_5 if self.plain >= PART_PLAIN * self.rows and self.whole[2] <= self.whole[1] else LEVEL_6
+
+    def old(self) -> tuple[Old, ...]:
+        """The images that ties of the others leave out in some rows."""
+        return tuple(Old(image, rows, self.outside_first[image]) for image, rows in sorted(self.outside.items()) if rows >= LEAST_OLD)
+
+    def loose_rows(self) -> tuple[int, int | None]:
+        """How many rows in which no image is zeros have no tie, and the first of them; none where parity says nothing."""
+        found = self.loose if self.parity else []
+        return sum(count for _, count in found), min((first for first, _ in found), default=None)
+
+
+def copies_of(relations: Relations, images: frozenset[int]) -> tuple[tuple[int, int], ...]:
+    """The images of which two hold the same in nearly all rows, each with its copy."""
+    same: collections.Counter[tuple[int, int]] = collections.Counter()
+    there: collections.Counter[int] = collections.Counter()
+    for rows in relations.rows:
+        count = relations.count(rows)
+        for image in images - rows.zero:
+            there[image] += count
+        for tie in rows.ties:
+            if tie.plain and len(tie.weights) == 1:
+                same[tie.weights[0][0], tie.image] += count
+    return tuple((one, other) for (one, other), count in sorted(same.items())
+                 if {one, other} <= images and count >= LEAST_TIED and count >= PART_COPIED * max(there[one], there[other]))
+
+
+def reshape_of(relations: Relations, images: frozenset[int], parity: int) -> Reshape | None:
+    """Where ties of all images end and as many ties without one of them begin, or one of weights of 1 alone, as far as nearly all rows on either side
+    say the same."""
+    tied = [(rows.first, relations.count(rows), tied_images(ties), ties) for rows in relations.tied_rows() if (ties := ties_among(rows, images))]
+    for image in sorted(images):
+        last = max((first for first, _, found, _ in tied if image in found), default=None)
+        if last is None:
+            continue
+        rest = images - {image}
+        before = sum(count for first, count, found, _ in tied if first <= last and found == images)
+        others = sum(count for first, count, found, _ in tied if first <= last and found == rest)
+        after = [(first, count, len(ties) == parity or len(ties) == 1 and ties[0].plain) for first, count, found, ties in tied
+                 if first > last and found == rest]
+        behind, alike = sum(count for _, count, _ in after), sum(count for _, count, same in after if same)
+        if min(before, behind) >= LEAST_RESHAPED and FEW_OTHER * others <= before and alike >= PART_PLAIN * behind:
+            return Reshape(min(first for first, _, _ in after), images, rest)
+    return None
+
+
+def family_of(relations: Relations, images: frozenset[int]) -> Family:
+    """What the rows say of images that belong together."""
+    tally, tied = Tally(images), [rows for rows in relations.rows if ties_among(rows, images)]
+    # What stands before the first tied row and behind the last one is no part of the array, such as metadata.
+    for rows in relations.rows:
+        if tied and tied[0].first <= rows.first <= tied[-1].last:
+            tally.add(rows, relations.count(rows))
+    copies, first = copies_of(relations, images), tally.first or 0
+    if len(copies) >= len(images) // 2 or tally.copied or len(images) == 2 and tally.parity:
+        return Family(tuple(sorted(images)), tally.rows, first, tally.last, COPIES, 0, copies=copies)
+    reshape = reshape_of(relations, images, tally.parity) if tally.parity else None
+    old = () if reshape or tally.level != LEVEL_6 else tally.old()
+    return Family(tuple(sorted(images)), tally.rows, first, tally.last, tally.level, tally.parity, old, reshape, tally.others, *tally.loose_rows())
+
+
+def families(relations: Relations, images: Iterable[int]) -> list[Family]:
+    """The families among these images, the largest first."""
+    return [family_of(relations, it) for it in belonging(relations, frozenset(images))]
+
+
+def borders(relations: Relations, images: frozenset[int]) -> Iterator[int]:
+    """The rows in which the ties of these images are others than one step before, where none of them is zeros in either row."""
+    for before, after in itertools.pairwise(relations.rows):
+        told = not (before.zero | after.zero) & images and after.first - before.last == relations.step
+        if told and before.ties and after.ties and before.ties != after.ties:
+            yield after.first
+
+
+def chunk_of(relations: Relations, images: Iterable[int]) -> tuple[int, int] | None:
+    """The sectors of a chunk, and where in one its borders lie: the longest at which nearly all changes of ties lie at one place. None where ties
+    change nowhere, as at level 5, or at too few places."""
+    places = list(borders(relations, frozenset(images)))
+    if len(places) < LEAST_BORDERS:
+        return None
+    for chunk in CHUNKS:
+        place, count = collections.Counter(it % chunk for it in places).most_common(1)[0]
+        if chunk >= relations.step and count >= PART_AT_BORDERS * len(places):
+            return chunk, place
+    return None

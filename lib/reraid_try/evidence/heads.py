@@ -1,0 +1,111 @@
+"""Heads: what disks, volumes and partitions begin with, by bytes that are known."""
+
+import dataclasses
+import struct
+from collections.abc import Callable
+from typing import BinaryIO
+
+from ..units import SECTOR
+from . import reading, tables
+
+# So many bytes tell what something begins with, and so many sectors.
+HEAD_BYTES = 264 * SECTOR
+# The first superblock of ext: where it stands, in sectors and in bytes, and how large a block is at most, as the power of two of 1,024 bytes.
+EXT_SECTORS, EXT_PLACE, MOST_EXT_BLOCK = 2, 1024, 6
+# So many heads are found on one image.
+MOST_HEADS = 64
+
+
+def always(_: bytes) -> bool:
+    """Nothing more is asked."""
+    return True
+
+
+def is_ext(sector: bytes) -> bool:
+    """It is the superblock of an ext's first group, with a sensible block size."""
+    if len(sector) < SECTOR or sector[56:58] != b"\x53\xef" or sector[90:92] != b"\0\0":
+        return False
+    code, per_group = struct.unpack_from("<I", sector, 24)[0], struct.unpack_from("<I", sector, 32)[0]
+    return bool(code <= MOST_EXT_BLOCK and 0 < per_group <= 8 * (1024 << code) and struct.unpack_from("<I", sector, 4)[0] > 0)
+
+
+def is_first_ext(head: bytes) -> bool:
+    """An ext begins here."""
+    return is_ext(head[EXT_PLACE:EXT_PLACE + SECTOR])
+
+
+def is_fat(head: bytes) -> bool:
+    """A FAT begins here: whole sectors, clusters of a power of two, and two tables at most."""
+    size, cluster, tables_there = struct.unpack_from("<HB2xB", head, 11)
+    return size in (512, 1024, 2048, 4096) and cluster > 0 and cluster & (cluster - 1) == 0 and tables_there in (1, 2)
+
+
+@dataclasses.dataclass(frozen=True)
+class Sign:
+    """What something begins with: its type as `blkid` has it, the bytes at a place, and what else must hold of its first bytes."""
+
+    kind: str
+    place: int
+    magic: bytes
+    holds: Callable[[bytes], bool] = always
+
+    def is_on(self, head: bytes) -> bool:
+        """These bytes begin so."""
+        return head[self.place:self.place + len(self.magic)] == self.magic and self.holds(head)
+
+
+SIGNS = (
+    Sign("crypto_LUKS", 0, b"LUKS\xba\xbe"),
+    Sign("BitLocker", 3, b"-FVE-FS-"),
+    Sign("xfs", 0, b"XFSB"),
+    Sign("ntfs", 3, b"NTFS    "),
+    Sign("exfat", 3, b"EXFAT   "),
+    Sign("ext4", EXT_PLACE + 56, b"\x53\xef", is_first_ext),
+    Sign("btrfs", 65536 + 64, b"_BHRfS_M"),
+    *(Sign("LVM2_member", place, b"LABELONE") for place in range(0, 4 * SECTOR, SECTOR)),
+    Sign("vfat", 82, b"FAT32   ", is_fat),
+    Sign("vfat", 54, b"FAT16   ", is_fat),
+)
+
+
+def sniff(head: bytes) -> str | None:
+    """What these bytes are the head of; None where that is nothing known."""
+    for sign in SIGNS:
+        if sign.is_on(head):
+            return sign.kind
+    return tables.read_table(lambda place, count: head[place:place + count], len(head) // SECTOR).kind
+
+
+@dataclasses.dataclass(frozen=True)
+class Head:
+    """A sector of an image that looks like the head of something: what it is, its image, the sector at which that begins."""
+
+    kind: str
+    image: int
+    sector: int
+
+
+# The heads that are looked for wherever they stand on an image: what each is called, the byte and its value by which a sector is taken up, how far
+# behind its start it stands, in sectors, and what the sector has to be.
+SOUGHT: tuple[tuple[str, int, int, int, Callable[[bytes], bool]], ...] = (
+    ("mbr", SECTOR - 1, 0xAA, 0, lambda sector: bool(tables.read_mbr(sector))),
+    ("ext", 57, 0xEF, EXT_SECTORS, is_ext),
+    ("luks", 0, 0x4C, 0, SIGNS[0].is_on),
+    ("bitlocker", 3, 0x2D, 0, SIGNS[1].is_on),
+)
+# Those that say where a volume begins without saying anything of a level.
+ENCRYPTED = ("luks", "bitlocker")
+
+
+def find_heads(file: BinaryIO, number: int, last: int) -> tuple[Head, ...]:
+    """The sectors before a byte that look like the head of a volume, in the order of the blocks of the image."""
+    found: list[Head] = []
+    for place, block in reading.blocks(file, 0, last):
+        for kind, byte, value, behind, holds in SOUGHT:
+            for sector in reading.strided(block, byte, value):
+                first = place // SECTOR + sector - behind
+                if first >= 0 and holds(block[sector * SECTOR:(sector + 1) * SECTOR]):
+                    found.append(Head(kind, number, first))
+        if len(found) > MOST_HEADS:
+            break
+    return tuple(found)

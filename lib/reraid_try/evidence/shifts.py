@@ -1,0 +1,110 @@
+"""How far apart images hold the same sectors: members whose data begin at different sectors, and copies that lie elsewhere on another disk.
+
+Of each image sectors are taken by what they hold, so that the same ones are taken of all: those whose checksum is a multiple of a number. Contents
+that an image has more than once, such as those of empty tables, tell no distance and are left out."""
+
+import collections
+import dataclasses
+import itertools
+import zlib
+from collections.abc import Iterator, Mapping, Sequence
+
+SECTOR = 512
+STEP = 1 << 20
+# So many sectors of an image are taken at most, about, and so many bytes of it are read.
+MOST_TAKEN, MOST_READ = 1 << 16, 1 << 30
+# A distance tells where so many sectors have it, and one in so many of all that two images have in common.
+LEAST_SHOWN, FEW = 12, 5
+MOST_CHUNK = 32768
+
+
+@dataclasses.dataclass(frozen=True)
+class Shift:
+    """Two images by their numbers, how many sectors further on the other one the same contents lie, and how many sectors show it."""
+
+    one: int
+    other: int
+    distance: int
+    shown: int
+
+
+def sectors_of(block: bytes) -> Iterator[tuple[int, bytes]]:
+    """The sectors of a block that are not zeros, with their numbers in it."""
+    if block.count(0) < len(block):
+        for start in range(0, len(block) - SECTOR + 1, SECTOR):
+            sector = block[start:start + SECTOR]
+            if sector.count(0) < SECTOR:
+                yield start // SECTOR, sector
+
+
+def taken(name: str, first: int, last: int, every: int) -> dict[int, int]:
+    """The places of an image's sectors, from a first to before a last one, whose checksums are multiples of a number, by their checksums; those alone
+    whose contents stand there once."""
+    found: dict[int, int] = {}
+    twice: set[int] = set()
+    with open(name, "rb") as file:
+        file.seek(first * SECTOR)
+        for start in range(first * SECTOR, last * SECTOR, STEP):
+            for place, sector in sectors_of(file.read(min(STEP, last * SECTOR - start))):
+                value = zlib.crc32(sector)
+                if value % every == 0:
+                    if value in found:
+                        twice.add(value)
+                    found[value] = start // SECTOR + place
+    return {value: place for value, place in found.items() if value not in twice}
+
+
+def shift(one: Mapping[int, int], other: Mapping[int, int]) -> tuple[int, int] | None:
+    """The distance that most of the common contents have, and how many have it; None where too few agree."""
+    distances = collections.Counter(other[value] - place for value, place in one.items() if value in other)
+    if not distances:
+        return None
+    distance, shown = distances.most_common(1)[0]
+    return (distance, shown) if shown >= LEAST_SHOWN and FEW * shown >= sum(distances.values()) else None
+
+
+def shifts(names: Mapping[int, str], first: int, last: int) -> list[Shift]:
+    """The distances between each two of some images, by their numbers, in what is read of them from one sector to before another. An image that
+    cannot be read raises `OSError`."""
+    last = min(last, first + MOST_READ // SECTOR)
+    every = max(1, (last - first) // MOST_TAKEN)
+    places = {image: taken(name, first, last, every) for image, name in names.items()}
+    found = []
+    for one, other in itertools.permutations(names, 2):
+        if one < other and (told := shift(places[one], places[other])):
+            found.append(Shift(one, other, *told))
+    return found
+
+
+def potentials(found: Sequence[Shift]) -> dict[int, int] | None:
+    """How much further the data of each image begin than those of the image where they begin first, where all distances agree on that; None where
+    they do not, as with copies that lie elsewhere on the next disk, or where not all images are reached from each other."""
+    places: dict[int, int] = {}
+    left = sorted(found, key=lambda it: -it.shown)
+    if left:
+        places[left[0].one] = 0
+    while fresh := [it for it in left if (it.one in places) != (it.other in places)]:
+        it = fresh[0]
+        if it.one in places:
+            places[it.other] = places[it.one] + it.distance
+        else:
+            places[it.one] = places[it.other] - it.distance
+    images = {image for it in found for image in (it.one, it.other)}
+    if not places or set(places) != images or any(places[it.other] - places[it.one] != it.distance for it in found):
+        return None
+    least = min(places.values())
+    return {image: place - least for image, place in places.items()}
+
+
+def apart(found: Sequence[Shift]) -> int | None:
+    """How far apart the copies of RAID 10 lie, where distances between images have one size and agree on no beginnings; None else."""
+    sizes = collections.Counter(abs(it.distance) for it in found if it.distance)
+    if not sizes or potentials(found):
+        return None
+    size, count = sizes.most_common(1)[0]
+    return size if 2 * count > sum(sizes.values()) else None
+
+
+def layout(distance: int) -> str:
+    """What RAID 10 has its copies so far apart: `offset` where that is a chunk, and else `far`."""
+    return "offset" if distance <= MOST_CHUNK and distance & (distance - 1) == 0 else "far"

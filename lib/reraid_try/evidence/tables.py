@@ -1,0 +1,87 @@
+"""Partition tables: the MBR, and the GPT with its sums."""
+
+import dataclasses
+import struct
+import zlib
+from collections.abc import Callable
+
+from ..units import LARGE_BLOCK, SECTOR
+
+Read = Callable[[int, int], bytes]
+# An MBR: its four entries of sixteen bytes, and what it ends with.
+FIRST_ENTRY, ENTRY, SIGNATURE = 446, 16, b"\x55\xaa"
+PROTECTIVE, ACTIVE = 0xEE, 0x80
+# More sectors than an MBR can tell of.
+MOST_MBR = 1 << 32
+# A GPT: the sizes of its header, and the entries that are read.
+LEAST_HEADER, LEAST_ENTRY, MOST_ENTRIES = 92, 128, 128
+
+
+@dataclasses.dataclass(frozen=True)
+class Partition:
+    """A partition: its first sector, how many it has, and its type, two digits of an MBR or `gpt`."""
+
+    first: int
+    count: int
+    kind: str
+
+
+@dataclasses.dataclass(frozen=True)
+class Table:
+    """What stands at the start of a disk or a volume: what kind of table, whether it says that this has so many sectors, and the partitions."""
+
+    kind: str | None = None
+    own: bool = False
+    partitions: tuple[Partition, ...] = ()
+
+
+def read_mbr(sector: bytes, room: int = MOST_MBR) -> tuple[Partition, ...]:
+    """The partitions of an MBR, none where the sector is none. `room` is how many sectors there may be."""
+    if len(sector) < SECTOR or sector[510:512] != SIGNATURE or sector[3:7] == b"NTFS":
+        return ()
+    found = []
+    for place in range(FIRST_ENTRY, FIRST_ENTRY + 4 * ENTRY, ENTRY):
+        active, kind, first, count = struct.unpack("<B3xB3xII", sector[place:place + ENTRY])
+        if kind == 0 and first == 0 and count == 0:
+            continue
+        if active not in (0, ACTIVE) or kind == 0 or first == 0 or count == 0 or first + count > room:
+            return ()
+        found.append(Partition(first, count, f"{kind:02x}"))
+    return tuple(found)
+
+
+def is_protective(partition: Partition) -> bool:
+    """It is what an MBR has before a GPT."""
+    return partition.kind == f"{PROTECTIVE:02x}"
+
+
+def read_gpt(read: Read, block: int) -> tuple[int, tuple[Partition, ...]] | None:
+    """The table of a volume whose blocks have so many bytes: its other copy's block, in sectors, and the partitions; None where there is none."""
+    head = read(block, SECTOR)
+    if head[:8] != b"EFI PART":
+        return None
+    size: int = struct.unpack_from("<I", head, 12)[0]
+    if not LEAST_HEADER <= size <= SECTOR or zlib.crc32(head[:16] + bytes(4) + head[20:size]) != struct.unpack_from("<I", head, 16)[0]:
+        return None
+    other: int = struct.unpack_from("<Q", head, 32)[0]
+    place, count, width = struct.unpack_from("<QII", head, 72)
+    found = []
+    table = read(place * block, min(count, MOST_ENTRIES) * width) if LEAST_ENTRY <= width <= block else b""
+    for start in range(0, len(table) - LEAST_ENTRY + 1, max(width, LEAST_ENTRY)):
+        first, last = struct.unpack_from("<QQ", table, start + 32)
+        if any(table[start:start + 16]) and first <= last:
+            found.append(Partition(first * block // SECTOR, (last - first + 1) * block // SECTOR, "gpt"))
+    return other * block // SECTOR, tuple(found)
+
+
+def read_table(read: Read, sectors: int) -> Table:
+    """The partition table at the start of what `read` reads, which has so many sectors."""
+    for block in (SECTOR, LARGE_BLOCK):
+        if found := read_gpt(read, block):
+            other, partitions = found
+            ratio = block // SECTOR
+            return Table(f"GPT of {block} bytes", other // ratio == sectors // ratio - 1, partitions)
+    partitions = read_mbr(read(0, SECTOR))
+    if partitions and not is_protective(partitions[0]):
+        return Table("MBR", all(it.first + it.count <= sectors for it in partitions), partitions)
+    return Table()

@@ -1,0 +1,127 @@
+"""Asks how images depend on one another, and gathers what that tells of arrays before anything is searched: `reraid relations` where the program has
+it, and else elimination of ours."""
+
+import dataclasses
+from collections.abc import Mapping, Sequence
+
+from ..calls.commands import Runner
+from ..units import counted
+from . import dependence, families, relations
+from .families import COPIES, LEVEL_6, Family
+from .images import Image
+from .relations import Relations
+
+# So many rows are looked at, spread over the images; and as many close to each other where chunks are told, each so many sectors behind the one
+# before.
+MOST_ROWS, FINE_STEP = 4096, 8
+LEAST_IMAGES, MOST_IMAGES = 2, 64
+# The status of words that are none of the program's.
+REFUSED = 1
+
+
+@dataclasses.dataclass(frozen=True)
+class Known:
+    """What is known of images that belong together: their family, the sectors of a chunk, None where ties do not tell it, and the first row of all
+    that ties them, before which their data begin."""
+
+    family: Family
+    chunk: int | None = None
+    begin: int | None = None
+
+
+@dataclasses.dataclass(frozen=True)
+class Told:
+    """What relations tell of some images: the families, and the images that are in none of them. `asked` says that relations were to be had."""
+
+    known: tuple[Known, ...] = ()
+    alone: tuple[int, ...] = ()
+    asked: bool = False
+
+
+class Ties:
+    """Relations of images, in their order."""
+
+    def __init__(self, runner: Runner, images: Sequence[Image], seconds: int) -> None:
+        self.runner, self.images, self.seconds = runner, {image.number: image for image in images}, seconds
+        self.program = True
+
+    def relations(self, numbers: Sequence[int], first: int, end: int, step: int, offsets: Sequence[int] = ()) -> Relations | None:
+        """The relations of images by their numbers, in the rows from a first to before a last one, each so many sectors behind the one before; with
+        offsets row 0 is the sector of its offset on each image. None where they were not had in their time."""
+        names = [self.images[number].name for number in numbers]
+        found = self.of_program(names, first, end, step, offsets) if self.program else None
+        if not self.program:
+            found = dependence.look(names, first, end, step, offsets, self.seconds)
+        return relations.renumbered(found, numbers) if found else None
+
+    def of_program(self, names: Sequence[str], first: int, end: int, step: int, offsets: Sequence[int]) -> Relations | None:
+        """What the program says of these images; None where it said nothing in its time, or does not know the command, which is kept in mind."""
+        words = ["reraid", "relations", f"from={first}", f"end={end}", f"step={step}"]
+        words += ["offsets=" + "+".join(map(str, offsets))] if offsets else []
+        answer = self.runner.run([*words, "--", *names], seconds=self.seconds)
+        self.program = answer.status != REFUSED
+        try:
+            return relations.read(answer.out, step) if answer.good else None
+        except relations.Unreadable:
+            return None
+
+    def told(self, numbers: Sequence[int], first: int, end: int, offsets: Sequence[int] = ()) -> Told:
+        """What the rows of some images tell, spread from a first to before a last one, each image moved by its offset where there are some."""
+        step = max(1, -(-(end - first) // MOST_ROWS))
+        found = self.relations(numbers, first, end, step, offsets) if LEAST_IMAGES <= len(numbers) <= MOST_IMAGES and first < end else None
+        if found is None:
+            return Told()
+        moved = dict(zip(numbers, offsets))
+        known = tuple(self.closer(it, first, end, step, moved) for it in families.families(found, numbers))
+        within = {image for it in known for image in it.family.images}
+        return Told(known, tuple(number for number in numbers if number not in within), True)
+
+    def closer(self, family: Family, first: int, end: int, step: int, moved: Mapping[int, int]) -> Known:
+        """What rows that lie closer to each other tell of a family: where it begins, and how long its chunks are."""
+        images = family.current
+        before, offsets = max(first, family.first - step), [moved[image] for image in images] if moved else []
+        near = self.relations(images, before, min(end, family.first + 1), max(1, (family.first - before) // MOST_ROWS), offsets)
+        begin = next((rows.first for rows in near.tied_rows()), None) if near else None
+        if family.level != LEVEL_6 or not family.parity:
+            return Known(family, None, begin)
+        fine = self.relations(images, family.first // FINE_STEP * FINE_STEP, min(end, family.first + MOST_ROWS * FINE_STEP), FINE_STEP, offsets)
+        chunk = families.chunk_of(fine, images) if fine else None
+        return Known(family, chunk[0] if chunk else None, begin)
+
+
+def named(numbers: Sequence[int]) -> str:
+    """Images as they are said: `image 4`, `images 0, 1, 3`."""
+    return f"image{'' if len(numbers) == 1 else 's'} {', '.join(map(str, numbers))}"
+
+
+def lost_line(family: Family) -> str:
+    """What is said of the parity of a family."""
+    lost = family.lost or 0
+    spare = "all its disks are there" if not lost else f"{counted(lost, 'disk')} of {family.members} {'is' if lost == 1 else 'are'} lost"
+    if family.old:
+        spare += ", an old one counted" if len(family.old) == 1 else ", old ones counted"
+    return f"tied as by parity of level {family.level}, {spare}"
+
+
+def lines(told: Told) -> list[str]:
+    """What is said of all that relations tell."""
+    said = []
+    for it in told.known:
+        family = it.family
+        if family.level == COPIES:
+            said += [f"images {one} and {other} hold the same" for one, other in family.copies]
+            if not family.copies:
+                two = named(family.images) if len(family.images) == LEAST_IMAGES else f"two of {named(family.images)}"
+                said.append(f"{two} hold the same in {counted(family.rows, 'row')} of those that were looked at")
+            continue
+        chunk = f", chunks of {it.chunk} sectors" if it.chunk else ""
+        begin = f", from sector {it.begin} on" if it.begin is not None else ""
+        said.append(f"{named(family.images)}: {lost_line(family)}{chunk}{begin}")
+        said += [old.line(f"image {old.image}") for old in family.old] + ([family.reshape.line()] if family.reshape else [])
+        if family.loose:
+            said.append(f"{named(family.images)}: in {counted(family.loose, 'row')} of those that were looked at, the first at sector "
+                        f"{family.loose_first}, nothing is tied: bad areas, or one of the disks is old")
+    if told.alone and told.known:
+        lost = "its copy is lost, or it is foreign" if all(it.family.level == COPIES for it in told.known) else "foreign, or too old to tell"
+        said.append(f"{named(told.alone)}: tied to nothing; {lost}")
+    return said

@@ -1,0 +1,118 @@
+"""Containers opened as raw images for the time of a run, and closed at its end."""
+
+import contextlib
+import dataclasses
+import os
+import shlex
+import shutil
+import subprocess
+import time
+from collections.abc import Callable, Sequence
+
+from .containers import PACKAGES, Container
+from .errors import OutsideError
+
+# Seconds until a container has to be open: an image may lie on a slow disk.
+MOST_SECONDS = 60.0
+STEP = 0.05
+# The folder of the lines to type, in which each container has one of its own.
+BY_HAND = "opened"
+
+
+@dataclasses.dataclass
+class Mount:
+    """An open container: its folder, and the server that shows it, where that goes on."""
+
+    folder: str
+    server: subprocess.Popen[bytes] | None
+
+
+@dataclasses.dataclass(frozen=True)
+class Opened:
+    """An open container: what it is, the file that is read, and the lines that open it in a shell, with the image that is there then."""
+
+    container: Container
+    path: str
+    lines: tuple[str, ...]
+    typed: str
+
+    @property
+    def name(self) -> str:
+        """What it is called."""
+        return self.container.name
+
+
+class Opener:
+    """Opens containers, each in a folder of its own below a base, and closes all of them."""
+
+    def __init__(self, base: str, note: Callable[[str], None] = lambda line: None) -> None:
+        self.base, self.note = base, note
+        self.mounts: list[Mount] = []
+
+    def all(self, images: Sequence[Container | str]) -> tuple[tuple[str, ...], tuple[Opened, ...]]:
+        """What is read of these images, with those that were opened."""
+        opened, names = [], []
+        for number, it in enumerate(images):
+            if isinstance(it, Container):
+                opened.append(Opened(it, self.open(it), *by_hand(it, number)))
+            names.append(opened[-1].path if isinstance(it, Container) else it)
+        return tuple(names), tuple(opened)
+
+    def open(self, it: Container) -> str:
+        """The file that shows its disk."""
+        missing = [tool for tool in it.tools() if not shutil.which(tool)]
+        if missing:
+            packages = " ".join(dict.fromkeys(PACKAGES[tool] for tool in missing))
+            raise OutsideError(f"{it.line()}, which is no raw image: {' and '.join(missing)} would open it (Debian: apt install {packages}); "
+                               "--raw searches the files as they are")
+        folder = os.path.join(self.base, f"opened{len(self.mounts)}")
+        os.mkdir(folder)
+        words = it.command(folder)
+        self.note(shlex.join(words))
+        path = os.path.join(folder, it.shown())
+        error = self.begin(it, words, folder, path)
+        if error is not None:
+            raise OutsideError(f"{it.line()}, and {it.tools()[0]} does not open it: {error or 'it says nothing'}")
+        return path
+
+    def begin(self, it: Container, words: Sequence[str], folder: str, path: str) -> str | None:
+        """Runs the command, and waits until the file is there; what it said where that fails."""
+        with open(os.path.join(self.base, f"opened{len(self.mounts)}.log"), "w+b") as log:
+            server = subprocess.Popen(words, stdin=subprocess.DEVNULL, stdout=log, stderr=log, start_new_session=True)
+            self.mounts.append(Mount(folder, server if it.goes_on() else None))
+            until = time.monotonic() + MOST_SECONDS
+            while not os.path.exists(path) and time.monotonic() < until and (server.poll() is None or server.returncode == 0 and not it.goes_on()):
+                time.sleep(STEP)
+            if os.path.exists(path):
+                return None
+            if server.poll() is None:
+                server.kill()
+            server.wait()
+            log.seek(0)
+            return " ".join(log.read().decode(errors="replace").split())
+
+    def close(self) -> None:
+        """Closes all that are open, the last one first."""
+        while self.mounts:
+            it = self.mounts.pop()
+            subprocess.run(["fusermount3", "-u", "-z", it.folder], stdin=subprocess.DEVNULL, capture_output=True, check=False)
+            if it.server:
+                try:
+                    it.server.wait(5)
+                except subprocess.TimeoutExpired:
+                    it.server.kill()
+                    it.server.wait()
+            with contextlib.suppress(OSError):
+                os.rmdir(it.folder)
+
+
+def typed(name: str) -> str:
+    """A name as a word that no command takes for an option or a protocol."""
+    return f"./{name}" if name.startswith("-") or ":" in name.partition("/")[0] else name
+
+
+def by_hand(it: Container, number: int) -> tuple[tuple[str, ...], str]:
+    """The lines that open a container in a shell, and the image that is there then."""
+    folder = os.path.join(BY_HAND, str(number))
+    line = shlex.join(it.command(folder, typed)).replace("'['", "[").replace("']'", "]")
+    return (f"mkdir -p {folder}", line + (" &" if it.goes_on() else "")), os.path.join(folder, it.shown())

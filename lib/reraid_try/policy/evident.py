@@ -1,0 +1,209 @@
+"""The first part of a search: what the images themselves say of their array is printed, and tried before all else."""
+
+import dataclasses
+from collections.abc import Iterable, Iterator
+from typing import TYPE_CHECKING
+
+from ..calls.formats import Ranked
+from ..calls.program import Listing
+from ..calls.sets import read_word
+from ..checks.candidates import Candidate
+from ..checks.verdicts import Score
+from ..evidence import gathered, hints, metadata, places, shared, shifts, ties, unlike
+from ..evidence.families import LEVEL_5, LEVEL_6
+from ..evidence.images import Image
+from ..evidence.places import Places
+from ..evidence.shared import Place
+from ..evidence.ties import Ties, Told
+from . import cures, plain
+from .cures import Family
+from .hunt import Hunt
+from .plain import Aim, Span
+from .steps import Step
+from .trials import Trial
+
+if TYPE_CHECKING:
+    from .search import Search
+
+# A question of these trials takes this part of the time of a trial at most, and so many seconds at least.
+PART, LEAST_SECONDS = 6, 5
+# So many things are loosened at most, one after the other, where evidence says which array is searched.
+MOST_LOOSENED = 2
+
+
+@dataclasses.dataclass(frozen=True)
+class Part:
+    """A part of some disks, by their numbers, that is searched for itself."""
+
+    images: tuple[int, ...]
+    span: Span
+
+
+def enough(it: Candidate) -> bool:
+    """A candidate is content or whole, or parity speaks for it and it is encrypted, so that nothing more is to be seen in it."""
+    return it.score >= Score.CHECKED or it.trial.shape.parity and bool(it.found.encrypted)
+
+
+class Evident:
+    """The trials that evidence gives a reason for, of a search."""
+
+    def __init__(self, search: "Search") -> None:
+        self.search = search
+        self.options = dataclasses.replace(search.options, seconds=max(LEAST_SECONDS, search.options.seconds // PART))
+        self.searched: list[Part] = []
+        self.ties: Ties | None = None
+
+    def asked(self) -> Ties:
+        """Who is asked how the images depend on one another."""
+        self.ties = self.ties or Ties(self.search.commands, self.search.images, self.search.options.seconds)
+        return self.ties
+
+    def run(self) -> bool:
+        """All of them; it says whether a candidate of some part of the disks says enough."""
+        self.searched = list(self.parts())
+        return any([self.of_part(part) for part in self.searched])
+
+    def hunt(self) -> Hunt:
+        """The hunt in which all else is tried: over the first partition that the disks have in common, or else over all images."""
+        search = self.search
+        for part in self.searched:
+            if part.span.partition:
+                search.report.say("reason", f"goes on in the partition from sector {part.span.first} on", first=part.span.first, end=part.span.end)
+                return Hunt(search.options, search.commands, self.within(part.images, part.span), search.say_late, start=part.span.first)
+        return Hunt(search.options, search.commands, search.images, search.say_late)
+
+    def within(self, numbers: Iterable[int], span: Span) -> list[Image]:
+        """Images by their numbers, as they are seen in a part of the disks."""
+        images = [self.search.images[number] for number in numbers]
+        return [gathered.within(image, span.first, span.end) for image in images] if span.partition else images
+
+    def of_part(self, part: Part) -> bool:
+        """The trials of a part; what comes later of images of which a candidate says enough is left. It says whether there is one."""
+        solved: set[int] = set()
+        for aim in self.aims(part):
+            if solved.isdisjoint(aim.images) and self.seek(aim):
+                solved |= set(aim.images)
+        return bool(solved)
+
+    def images(self) -> list[Image]:
+        """The images that hold something, each once where it is there twice."""
+        return [image for image in self.search.images if image.first is not None and image.like is None]
+
+    def parts(self) -> Iterator[Part]:
+        """The partitions that the disks have in common, or else the whole of them."""
+        images, report = self.images(), self.search.report
+        found = shared.looked_at(images)
+        searched = shared.searched(found)
+        for place in found:
+            said = "" if place in searched else "; passed over"
+            report.say("place", f"{place.line()}{said}", first=place.first, sectors=place.count, images=list(place.images), copied=place.copied,
+                       empty=place.empty, searched=place in searched)
+        for place in searched:
+            yield Part(place.images, Span(place.first, place.end, True))
+        if not searched and images:
+            yield Part(tuple(image.number for image in images), Span(0, min(image.sectors for image in images)))
+
+    def aims(self, part: Part) -> list[Aim]:
+        """What is tried of a part, after what is known of it is printed."""
+        self.search.report.bar.show("asks how the images depend on one another")
+        asked = self.asked()
+        found = asked.told(part.images, part.span.first, part.span.end)
+        self.say("relation", ties.lines(found))
+        tied, copied, untied = (of(found, part.images, part.span, self.options) for of in (plain.tied, plain.copied, plain.untied))
+        return [*self.by_metadata(part), *self.unlike(asked, found, part), *tied, *copied, *self.alike(part), *untied]
+
+    def alike(self, part: Part) -> list[Aim]:
+        """What is tried where whole images are the same, as the copies of a RAID 1 or 10 are."""
+        same = [image for image in self.search.images if image.like is not None]
+        if not same or part.span.partition or not self.options.wants("10"):
+            return []
+        why = "; ".join(f"image {image.number} is the same as image {image.like}" for image in same)
+        there = [image for image in self.search.images if image.first is not None]
+        return [Aim(tuple(image.number for image in there), part.span, why, copied=True)]
+
+    def say(self, event: str, lines: Iterable[str]) -> None:
+        """Says what is known, a line each."""
+        for line in lines:
+            self.search.report.say(event, line)
+
+    def by_metadata(self, part: Part) -> list[Aim]:
+        """What is tried by the metadata that stand on the disks still."""
+        place = Place(part.span.first, part.span.end - part.span.first, part.images) if part.span.partition else None
+        names = {number: self.search.images[number].name for number in part.images}
+        members = metadata.examine(self.search.commands, self.search.room.base, names, place)
+        members += metadata.examine_lvm({number: part.span.first for number in names}, names)
+        self.say("metadata", (it.line(f"image {it.image}") for it in members))
+        found = [plain.metadata_aim(it, part.span, self.options) for it in metadata.arrays(members)]
+        # A set with an offset for each image has to name all.
+        return [aim for aim in found if aim and aim.shapes and (not aim.is_each or len(aim.images) == len(self.search.images))]
+
+    def unlike(self, asked: Ties, found: Told, part: Part) -> list[Aim]:
+        """What is tried of images that nothing ties, where distances tell that their data begin at unlike sectors; and what is said of copies that
+        lie elsewhere on the next disk."""
+        if not found.asked or found.known or part.span.partition:
+            return []
+        images = [self.search.images[number] for number in part.images]
+        told = unlike.found_shifts(images, part.span.first, part.span.end)
+        if distance := shifts.apart(told):
+            layout = shifts.layout(distance)
+            self.say("copies", [f"the images hold the same {distance} sectors apart: perhaps RAID 10 with copies of layout {layout}"])
+        offsets = unlike.look(asked, images, told, part.span.end)
+        if offsets is None:
+            return []
+        self.say("unlike", [offsets.line()])
+        return [plain.unlike_aim(offsets, part.images, part.span, self.options)]
+
+    def seek(self, aim: Aim) -> bool:
+        """The trials of an aim; it says whether a candidate says enough."""
+        search = self.search
+        search.report.say("reason", f"looks for this first: {aim.why}", images=list(aim.images), first=aim.span.first, end=aim.span.end, why=aim.why)
+        before, search.why = len(search.tested), aim.why
+        images = self.within(aim.images, aim.span)
+        search.report.bar.show("surveys the images")
+        hunt = Hunt(self.options, search.commands, images, search.say_late, start=aim.span.first, asked=dict(aim.asked))
+        search.say_evidence(hunt)
+        if not (aim.copied and any(search.mirrors(hunt, missing) for missing in (0, 1))):
+            self.attempt(hunt, aim, before)
+        search.why = ""
+        return any(enough(it) for it in search.tested[before:])
+
+    def by_places(self, hunt: Hunt, aim: Aim) -> bool:
+        """The sets that rows of which a part is zeros allow, by where parity lies in them; it says whether a candidate is whole."""
+        shape = aim.shapes[0] if aim.shapes else None
+        if shape is None or aim.is_each or shape.levels not in (LEVEL_5, LEVEL_6) or not aim.tied:
+            return False
+        step = max(1, (aim.span.end - aim.span.first) // places.MOST_ROWS)
+        found = self.asked().relations(aim.images, aim.span.first, aim.span.end, step)
+        if found is None:
+            return False
+        hunt.places = Places(found, aim.images, shape.levels, shape.members)
+        more = (aim.span.first + offset for offset in hints.MORE_OFFSETS)
+        offsets = {it for it in (*hunt.evidence.tried, *more) if it < hunt.evidence.end and (aim.begin is None or it <= aim.begin)}
+        best = hunt.places.best(sorted(offsets))
+        numbers = {image: place for place, image in enumerate(aim.images)}
+        words = dict.fromkeys(word for it in best for word in it.words(shape.levels, numbers))
+        if not words:
+            return False
+        listing = Listing(tuple(Ranked(rank, word) for rank, word in enumerate(words)), len(words), True, "of those that zeros allow")
+        bare = cures.told("all landmarks, in place of which zeros tell where parity lies", Family.BARE, [group.place for group in hunt.plan.groups])
+        trial = self.search.say_trial(hunt, Trial(shape, (bare,), hunt.asking.request(shape)), listing)
+        return self.search.take(hunt, trial, listing.sets, lambda it: (read_word(it.text), hunt.word(it.text)))
+
+    def attempt(self, hunt: Hunt, aim: Aim, before: int) -> None:
+        """The trials of the shapes of an aim, with ever more loosened, until a candidate is whole, or content where something is loosened. What is
+        listed comes before what zeros allow where parity tells something and there are marks, since few sets pass then. `before` is how many
+        candidates were tested before them."""
+        listed = bool(hunt.plan.groups) and any(shape.parity for shape in aim.shapes)
+        if not listed and self.by_places(hunt, aim):
+            return
+        for count in range(MOST_LOOSENED + 1):
+            if self.search.take_step(Step(aim.shapes, count), hunt) or count and self.is_content(before):
+                return
+            if count == 0 and listed and not self.is_content(before) and self.by_places(hunt, aim):
+                return
+            if count == 0 and not hunt.plan.groups and any(self.search.attempt_bare(hunt, shape) for shape in aim.shapes if not shape.parity):
+                return
+
+    def is_content(self, before: int) -> bool:
+        """A candidate that was tested since has a sign."""
+        return any(it.score >= Score.CHECKED for it in self.search.tested[before:])

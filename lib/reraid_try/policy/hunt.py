@@ -1,0 +1,112 @@
+"""A hunt: a search over some of the images, by their evidence; what is listed of each trial, and what is passed over."""
+
+import dataclasses
+from collections.abc import Callable, Iterator, Mapping, Sequence
+
+from ..calls.commands import Runner, quoted
+from ..calls.plans import Plan
+from ..calls.program import MOST_LINES, Listing, Program
+from ..calls.sets import Word, mirrored, read_word
+from ..calls.surveys import Request, Surveys
+from ..evidence import gathered
+from ..evidence.gathered import Pairs
+from ..evidence.images import Image
+from ..evidence.places import Places
+from ..options import Options
+from ..units import listed
+from .cures import Cure, choices, loosened
+from .plans import Asking
+from .questions import Questions
+from .shapes import Shape, Shapes
+from .trials import Trial
+
+
+class Hunt:
+    """A search over these images, behind a start on each. With `pairs` its sets are those of a RAID 0 of one image of each pair; `asked` is asked for
+    in each trial. `late` is told of each question that ran out of its time."""
+
+    def __init__(self, options: Options, commands: Runner, images: Sequence[Image], late: Callable[[str], None], pairs: Pairs | None = None,
+                 start: int = 0, asked: Mapping[str, str | int] | None = None) -> None:
+        self.commands = commands
+        names = [image.name for image in images]
+        self.program = Program(commands, names, options.seconds, options.jobs)
+        self.surveys = Surveys(commands, names)
+        evidence = gathered.gather(self.surveys, images, options.first, pairs, start)
+        self.evidence = dataclasses.replace(evidence, base=evidence.base.having(**(asked or {})))
+        self.asking = Asking(self.evidence, options)
+        self.questions = Questions(self.program, self.surveys, self.asking, late)
+        self.tried: set[str] = set()
+        self.passed_over = 0
+        self.places: Places | None = None
+
+    @property
+    def shapes(self) -> Shapes:
+        """What is searched."""
+        return self.asking.shapes
+
+    @property
+    def plan(self) -> Plan:
+        """The first plan."""
+        return self.evidence.plan
+
+    def ways(self, shape: Shape, count: int, every: bool = False, quick: bool = False) -> Iterator[tuple[tuple[Cure, ...], Request]]:
+        """The requests for a shape with so many things loosened at once, in order, each with these. Where parity tells something, what
+        changes it is loosened only as far as parity needs it, and at the offsets that need it; all else too, where every one is asked for."""
+        request = self.asking.request(shape, every or count == 0)
+        for chosen in choices(self.asking.cures(shape, every, quick), count):
+            asked = loosened(request, chosen)
+            if every or not shape.parity:
+                yield chosen, asked
+            elif offsets := self.questions.needing(shape, [cure for cure in chosen if cure.rows], asked):
+                yield chosen, asked.having(offsets=listed(offsets))
+
+    def to_list(self, shape: Shape, request: Request, last: bool = False) -> Plan | None:
+        """The plan that a trial lists; None where it is the same as an earlier one, or where nothing would rule sets out."""
+        plan = self.surveys.plan(request)
+        groups = [group for group in plan.groups if group.marks]
+        if not (groups or last or shape.parity and not self.plan.groups):
+            return None
+        if not groups and not last:
+            plan = plan.having(levels=shape.telling)
+        text = plan.text()
+        if text in self.tried:
+            return None
+        self.tried.add(text)
+        return plan
+
+    def may_list(self, plan: Plan, shape: Shape) -> bool:
+        """The trial of a plan is not passed over."""
+        may = self.questions.may_list(plan, shape)
+        self.passed_over += not may
+        return may
+
+    def listing(self, shape: Shape, request: Request, plan: Plan) -> Listing:
+        """What a trial lists, without the sets that rows speak against whose zeros tell where parity lies."""
+        self.tell(request)
+        found = self.questions.climb(plan) if self.questions.has_bad_rows(plan, shape) else self.program.listing(plan)
+        if self.places is None or not found.sets:
+            return found
+        kept = tuple(it for it in found.sets if self.places.allows(self.word(it.text)))
+        told = f"{len(found.sets) - len(kept)} more have parity where zeros are" if len(kept) < len(found.sets) else ""
+        return dataclasses.replace(found, sets=kept, note="; ".join(filter(None, [found.note, told])))
+
+    def tell(self, request: Request) -> None:
+        """Shows the commands of a trial."""
+        names = self.evidence.names
+        words = [request.words(names), *request.filters(self.surveys.seen(request)), ["reraid", "list", f"size={MOST_LINES}", "--", *names]]
+        self.commands.tell(" | ".join(quoted(it) for it in words))
+
+    def word(self, text: str) -> Word:
+        """A set of this hunt as one of all images, with one offset where all are the same."""
+        word = read_word(text).folded()
+        pairs = self.evidence.pairs
+        if not pairs:
+            return word if word.is_each else word.having(tuple(None if slot is None else self.evidence.images[slot].number for slot in word.slots))
+        slots: list[int | None] = []
+        for slot in word.images:
+            slots += [self.evidence.images[slot].number, pairs.partners[slot]]
+        return mirrored(word.chunk, word.offset, tuple(slots))
+
+    def checked_by(self, trial: Trial) -> Plan | None:
+        """The plan with which `check` is asked of a candidate of a trial: with all groups, whatever was left out; None for RAID 10."""
+        return self.surveys.plan(dataclasses.replace(trial.request, out=())) if trial.request else None

@@ -1,0 +1,120 @@
+"""What is tried first: few trials, each for a reason that the images themselves give, with nothing loosened."""
+
+import dataclasses
+from collections.abc import Iterable, Iterator, Sequence
+
+from ..calls.sets import LEVELS
+from ..evidence import metadata, ties
+from ..evidence.families import COPIES, Family
+from ..evidence.metadata import Member
+from ..evidence.ties import Known, Told
+from ..evidence.unlike import Unlike
+from ..options import Options
+from ..units import listed
+from .cures import EACH_WINDOW
+from .shapes import Shape
+
+
+@dataclasses.dataclass(frozen=True)
+class Span:
+    """A part of each disk that may hold an array: its first sector, the sector behind it, and whether that is a partition."""
+
+    first: int
+    end: int
+    partition: bool = False
+
+
+@dataclasses.dataclass(frozen=True)
+class Aim:
+    """Images, by their numbers, that are searched as an array, in a part of each; the shapes that are tried, in order, and why. `asked` are operands
+    that are asked for in each trial, as far as they are known; `copied` says that RAID 10 is tried before them, `tied` that parity ties
+    them; `begin` is a row of the array, so that its data do not begin later, None where none is known."""
+
+    images: tuple[int, ...]
+    span: Span
+    why: str
+    shapes: tuple[Shape, ...] = ()
+    asked: tuple[tuple[str, str], ...] = ()
+    copied: bool = False
+    tied: bool = False
+    begin: int | None = None
+
+    @property
+    def is_each(self) -> bool:
+        """Each image has an offset of its own."""
+        return ("mode", "each") in self.asked
+
+
+def shapes_of(family: Family) -> Iterator[Shape]:
+    """The shapes of images that parity ties: with as many disks lost as most rows say, and then with as many as others do. Where rows are not tied
+    though most are, one of the disks may be old."""
+    images, level = len(family.current), family.level or ""
+    for parity in (family.parity, *family.others):
+        lost = family.lost_with(parity)
+        if lost is not None and lost <= LEVELS[level].parity:
+            yield Shape(level, images + lost, lost)
+    lost = family.lost
+    if family.loose and lost is not None and lost < LEVELS[level].parity:
+        yield Shape(level, images + lost, lost + 1, 1)
+
+
+def allowed(shapes: Iterable[Shape], options: Options) -> tuple[Shape, ...]:
+    """Those of these shapes that the options ask for, each once."""
+    return tuple(dict.fromkeys(it for it in shapes if options.wants(it.levels) and it.members >= LEVELS[it.levels].least
+                               and (options.members is None or it.members in options.members)))
+
+
+def aim_of(known: Known, span: Span, options: Options) -> Aim:
+    """What is tried of images that parity ties."""
+    family = known.family
+    why = f"{ties.named(family.images)}: {ties.lost_line(family)}"
+    return Aim(family.current, span, why, allowed(shapes_of(family), options), chunks(known.chunk), tied=True, begin=known.begin)
+
+
+def chunks(chunk: int | None) -> tuple[tuple[str, str], ...]:
+    """The operand of a chunk, where it is known."""
+    return (("chunks", str(chunk)),) if chunk else ()
+
+
+def unlike_aim(found: Unlike, numbers: Sequence[int], span: Span, options: Options) -> Aim:
+    """What is tried of images whose data begin at unlike sectors."""
+    asked = (("mode", "each"), ("offsets", listed(found.offsets)), ("window", str(EACH_WINDOW)), *chunks(found.known.chunk))
+    return Aim(tuple(numbers), span, f"{found.line()}: {ties.lost_line(found.known.family)}", allowed(shapes_of(found.known.family), options), asked)
+
+
+def metadata_aim(members: Sequence[Member], span: Span, options: Options) -> Aim | None:
+    """What is tried of images whose metadata name an array; None where a set has no words for it, or level 10 is named, of which copies tell."""
+    left_out = metadata.old(members)
+    placed = [it for it in members if it not in left_out and it.slot is not None]
+    head = metadata.head_of(placed[0]) if placed else None
+    if not head or ":" not in head or any(it.offset is None for it in placed):
+        return None
+    level, pattern, order = head.split(":")
+    offsets = {it.offset or 0 for it in placed}
+    asked = [("patterns", pattern), ("syndromes", order), ("offsets", listed(offsets)), *chunks(placed[0].chunk)]
+    asked += [("mode", "each"), ("window", str(EACH_WINDOW))] if len(offsets) > 1 else []
+    images = tuple(sorted({it.image for it in placed}))
+    shapes = allowed([Shape(level, placed[0].disks, placed[0].disks - len(images))], options) if len(images) <= placed[0].disks else ()
+    return Aim(images, span, f"metadata on {ties.named(images)} name it ({placed[0].source}), which may be wrong", shapes, tuple(asked))
+
+
+def tied(told: Told, _numbers: Sequence[int], span: Span, options: Options) -> list[Aim]:
+    """What is tried of each family that parity ties, the largest first."""
+    return [aim for it in told.known if it.family.level in LEVELS and (aim := aim_of(it, span, options)).shapes]
+
+
+def copied(told: Told, numbers: Sequence[int], span: Span, options: Options) -> list[Aim]:
+    """What is tried of images of which some are copies: RAID 10 of all of them."""
+    pairs = tuple(it for it in told.known if it.family.level == COPIES)
+    if not pairs or not options.wants(COPIES):
+        return []
+    return [Aim(tuple(numbers), span, "; ".join(ties.lines(Told(pairs, asked=True))), copied=True)]
+
+
+def untied(told: Told, numbers: Sequence[int], span: Span, options: Options) -> list[Aim]:
+    """What is tried of images that nothing ties: RAID 0, and arrays that have lost as many disks as their level bears."""
+    count = len(numbers)
+    shapes = allowed([Shape("0", count), Shape("5", count + 1, 1), Shape("6", count + 2, 2)], options)
+    if told.known or not told.asked or not shapes:
+        return []
+    return [Aim(tuple(numbers), span, f"nothing ties {ties.named(numbers)}, as at level 0 and where as many disks are lost as a level bears", shapes)]

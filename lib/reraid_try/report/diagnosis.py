@@ -1,0 +1,146 @@
+"""What the nearest sets look like where nothing passes: their unsound rows, first and last, and the fits of each group."""
+
+import concurrent.futures
+import dataclasses
+import time
+from collections.abc import Sequence
+
+from ..calls.plans import Group, Plan
+from ..calls.surveys import Request
+from ..checks.rows import Near, Rows, halved
+from ..policy.cures import OF_MARKS
+from ..policy.hunt import Hunt
+from ..policy.shapes import Shape
+from .report import Report
+
+# So many sets are asked of each plan, and shown at the end.
+FEW, SHOWN = 24, 3
+# So many shapes, and groups of each, are looked at, for so many times as long as a trial.
+MOST_SHAPES, MOST_GROUPS, TIMES = 6, 8, 4
+# The next set may have fewer unsound rows than the last one by this part.
+NEXT_FEWER = 64
+ON_THE_WAY = """  so far no set is sound. Of the sets that landmarks allow these have the fewest unsound rows, as the true one may have where images \
+are damaged. It goes on; reraid-mount SET DIR IMAGE.. shows the volume of one of them, and - in a slot leaves its image out"""
+
+
+class Diagnosis:
+    """Looks for the nearest sets of a hunt: those with the fewest unsound rows of all that landmarks allow, and those of which the most marks
+    fit of all that parity allows."""
+
+    def __init__(self, hunt: Hunt, report: Report, seconds: int, jobs: int) -> None:
+        self.hunt, self.report, self.seconds, self.jobs = hunt, report, seconds, jobs
+        self.rows = Rows(hunt)
+        self.until = 0.0
+        self.begin()
+
+    def begin(self) -> None:
+        """From now on so long."""
+        self.until = time.monotonic() + TIMES * self.seconds
+
+    def sets(self, plan: Plan, most: int) -> list[str]:
+        """The first sets of a plan that pass; none after the diagnosis's time."""
+        if time.monotonic() > self.until:
+            return []
+        return [it.text for it in self.hunt.program.page(plan.text(), most=most).sets]
+
+    def least(self, plan: Plan, below: int) -> int | None:
+        """The fewest misfits, below this number, with which a plan lists a set; None where there is none."""
+        if below < 1 or not self.sets(plan.having(misfits=below - 1), 1):
+            return None
+        return halved(-1, below - 1, lambda misfits: bool(self.sets(plan.having(misfits=misfits), 1)))
+
+    def fewest(self, plan: Plan, most: int) -> int | None:
+        """About the fewest unsound rows of a set that a plan lists; None where all have more than `most`. Each set that is found tells how many the
+        next one may have."""
+        fewest = None
+        while most >= 0 and (found := self.sets(plan.having(badrows=most), 1)):
+            near = Near(found[0], plan)
+            if not self.rows.ask(near):
+                break
+            fewest = min(near.told.unsound, most)
+            most = fewest - fewest // NEXT_FEWER - 1
+        return fewest
+
+    def asked(self, found: Sequence[Near]) -> list[Near]:
+        """Of these sets those of which `check` says something."""
+        with concurrent.futures.ThreadPoolExecutor(self.jobs) as pool:
+            return [near for near, told in zip(found, pool.map(self.rows.ask, found)) if told]
+
+    def shapes(self) -> list[tuple[Shape, Request]]:
+        """The shapes of which parity tells something, with what is asked for."""
+        return [(shape, self.hunt.asking.request(shape)) for shape in self.hunt.shapes.tiers().all if shape.parity][:MOST_SHAPES]
+
+    def by_rows(self, shapes: Sequence[tuple[Shape, Request]]) -> list[Near]:
+        """Of the sets that landmarks allow, all or some of them, those with about the fewest unsound rows, none with more than twice as many as
+        others. Those that most marks of a group speak against are the last."""
+        found: dict[str, Near] = {}
+        most = self.hunt.evidence.end
+        for shape, request in shapes:
+            changed = [cure.of(request) for cure in self.hunt.asking.cures(shape) if cure.family in OF_MARKS]
+            for it in [request, *changed]:
+                plan = self.hunt.surveys.plan(it).having(levels=shape.telling)
+                rows = self.fewest(plan, most) if plan.groups else None
+                if rows:
+                    most = min(most, 2 * rows)
+                    near = self.hunt.surveys.plan(request).having(misfits=it.number("misfits"))
+                    for word in self.sets(plan.having(badrows=rows), FEW):
+                        found.setdefault(word, Near(word, near))
+        return sorted(self.asked(list(found.values())), key=lambda it: it.by_rows)
+
+    def by_marks(self) -> list[Near]:
+        """Of all sets that parity allows those of which the most groups hold, each group by itself with the fewest misfits."""
+        found: dict[str, Near] = {}
+        for shape, request in self.shapes():
+            whole = self.hunt.surveys.plan(request).having(levels=shape.telling)
+            if not self.sets(whole.bare(), 1):
+                continue
+            for group in sorted(whole.groups, key=lambda group: -len(group.marks))[:MOST_GROUPS]:
+                for near in self.of_group(whole, group):
+                    found.setdefault(near.word, near)
+        return sorted(self.asked(list(found.values())), key=lambda it: it.by_marks)
+
+    def of_group(self, whole: Plan, group: Group) -> list[Near]:
+        """The sets that parity allows of which a group holds, with the fewest misfits."""
+        alone = dataclasses.replace(whole, groups=(group,))
+        misfits = self.least(alone, len(group.marks))
+        if misfits is None:
+            return []
+        return [Near(word, whole.having(misfits=misfits)) for word in self.sets(alone.having(misfits=misfits), FEW)]
+
+    def show_on_the_way(self) -> None:
+        """Prints the sets with the fewest unsound rows of the shapes that hints speak for, where parity allows none at the offsets of the hints."""
+        shapes = [shape for shape in self.hunt.shapes.tiers().all if self.hunt.shapes.speak_for(shape) and self.hunt.questions.is_unsound(shape)]
+        if self.hunt.plan.groups and (rows := self.by_rows([(shape, self.hunt.asking.request(shape)) for shape in shapes])):
+            self.report.say("on the way", ON_THE_WAY)
+            self.lines(rows[:SHOWN])
+
+    def show(self, was_late: bool) -> None:
+        """Prints the nearest sets. `was_late` says that some trial or question did not come to its end."""
+        self.begin()
+        rows = self.by_rows(self.shapes())
+        self.begin()
+        marks = self.by_marks()
+        if not rows and not marks:
+            self.report.say("diagnosis", f"diagnosis: {self.none_near(was_late)}")
+        if rows:
+            self.report.say("diagnosis", "diagnosis: of the sets that landmarks allow these have the fewest unsound rows")
+            self.lines(rows[:SHOWN])
+        if marks:
+            self.report.say("diagnosis", "diagnosis: of the sets that parity allows these have the most groups and marks that fit")
+            self.lines(marks[:SHOWN])
+
+    def none_near(self, was_late: bool) -> str:
+        """What is said where no set is near."""
+        if not self.shapes():
+            return "none by parity, of which what was searched has none"
+        if was_late:
+            return "no set is known to be near, as not all was looked at (--time gives more)"
+        return "no set is near: landmarks and parity each allow none"
+
+    def lines(self, found: Sequence[Near]) -> None:
+        """A line for each of these sets."""
+        for near in found:
+            bounds, turned = self.rows.bounds(near), self.rows.turned(near)
+            text = near.line(bounds) + (f"; {turned.text()}" if turned else "")
+            self.report.say("near", text, set=near.word, unsound=near.told.unsound, rows=near.told.rows, first=bounds.first, last=bounds.last,
+                            groups=[group.text() for group in near.groups], reshaped=turned.row if turned else None)

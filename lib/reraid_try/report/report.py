@@ -1,0 +1,151 @@
+"""What is printed: lines for people or objects for programs on standard output, and how far it is on standard error."""
+
+import json
+import shutil
+import sys
+import threading
+import time
+from typing import Any
+
+from ..casefile.record import Record
+from ..errors import OutsideError, said
+from ..units import MIB
+
+# Seconds after which a line says what is done, where standard error is no terminal: how far it is, where that is known, or that it still goes on.
+SELDOM, MINUTE = 20, 60
+# A step that takes so many seconds says how long the rest of it may take.
+LONG = 5
+# The width of the bar, and what takes a line of a terminal away.
+BAR, CLEAR = 20, "\r\033[K"
+# The command whose whole reading is known before it ends.
+SURVEY = "reraid survey"
+
+
+class Report:
+    """Prints what is seen, tried and found, in order, and keeps a record of it. `doing` is what is done, `total` the bytes that a survey reads."""
+
+    def __init__(self, as_json: bool = False) -> None:
+        self.as_json = as_json
+        self.bar = Bar()
+        self.record = Record()
+        self.doing, self.total = "", 0
+
+    def put(self, line: str) -> None:
+        """A line on standard output."""
+        try:
+            print(line, flush=True)
+        except BrokenPipeError:
+            raise
+        except OSError as error:
+            raise OutsideError(f"standard output cannot be written: {said(error)}") from error
+
+    def say(self, event: str, text: str, **fields: Any) -> None:
+        """One line: a text for people, or an object with these fields for programs."""
+        self.bar.clear()
+        self.record.add(event, text, fields)
+        self.put(json.dumps({"event": event, **(fields or {"text": text})}, ensure_ascii=False) if self.as_json else text)
+
+    def tell(self, event: str, text: str = "", **fields: Any) -> None:
+        """What programs and the page are told, and nobody else."""
+        self.record.add(event, text, fields)
+        if self.as_json:
+            self.bar.clear()
+            self.put(json.dumps({"event": event, **fields, **({"text": text} if text else {})}, ensure_ascii=False))
+
+    def progress(self, name: str, count: int, seconds: float) -> None:
+        """How much a command has read until now, its pace, and for a survey how long it will take at that."""
+        pace = count / seconds
+        left = f", about {duration((self.total - count) / pace)} left" if name == SURVEY and 0 < count < self.total else ""
+        self.bar.show(f"{self.doing}{name}: {count // MIB} MiB read, {int(pace) // MIB} MiB/s{left}")
+
+    def command(self, line: str) -> None:
+        """A command that is run, before what comes of it."""
+        self.say("command", f"  $ {line}", command=line)
+
+
+class Bar:
+    """A line on a terminal: what is done, how far it is, and how long the rest of that may take. Where standard error is no terminal, a line of its
+    own now and then for what takes long, and each minute what is done."""
+
+    def __init__(self) -> None:
+        self.shown = False
+        self.there = sys.stderr.isatty()
+        self.began = time.monotonic()
+        self.until = self.began + SELDOM
+        self.lock = threading.Lock()
+        self.doing, self.since, self.said = "", self.began, self.began
+        self.ended = threading.Event()
+
+    def watch(self) -> None:
+        """From now on until the end it says each minute what is done, where standard error is no terminal."""
+        if not self.there:
+            threading.Thread(target=self.each_minute, daemon=True).start()
+
+    def end(self) -> None:
+        """The end of the run."""
+        self.clear()
+        self.ended.set()
+
+    def clock(self) -> str:
+        """How long the run takes until now."""
+        seconds = int(time.monotonic() - self.began)
+        return f"{seconds // 60}:{seconds % 60:02}"
+
+    def left(self, done: int, total: int) -> str:
+        """How long the rest of a step may take, by what is done of it."""
+        seconds = time.monotonic() - self.since
+        return f", about {duration(seconds * (total - done) / done)} left" if 0 < done < total and seconds >= LONG else ""
+
+    def show(self, text: str, done: int = 0, total: int = 0) -> None:
+        """Shows what is done, with so much done of so much."""
+        now = time.monotonic()
+        with self.lock:
+            if text != self.doing:
+                self.doing, self.since = text, now
+            left = self.left(done, total)
+            if not self.there:
+                if total and now > self.until:
+                    self.line(f"{text}: {done} of {total}{left}")
+                    self.until = now + SELDOM
+                return
+            full = BAR * done // total if total else 0
+            part = f" [{'#' * full}{' ' * (BAR - full)}] {done}/{total}{left}" if total else ""
+            sys.stderr.write(CLEAR + f"{self.clock()} {text}{part}"[:shutil.get_terminal_size().columns - 1])
+            sys.stderr.flush()
+            self.shown = True
+
+    def line(self, text: str) -> None:
+        """A line of its own."""
+        self.said = time.monotonic()
+        try:
+            print(f"{self.clock()} {text}", file=sys.stderr, flush=True)
+        except OSError:
+            pass
+
+    def each_minute(self) -> None:
+        """Says each minute what is done."""
+        while not self.ended.wait(max(1.0, self.said + MINUTE - time.monotonic())):
+            self.tell()
+
+    def tell(self) -> None:
+        """Says what is done, where nothing else was said for a minute."""
+        with self.lock:
+            if self.doing and time.monotonic() >= self.said + MINUTE:
+                self.line(f"{self.doing.rstrip(': ')}: goes on")
+
+    def clear(self) -> None:
+        """Takes the line away. What follows is new, and takes no long time yet."""
+        self.said = time.monotonic()
+        self.until = self.said + SELDOM
+        if self.shown:
+            sys.stderr.write(CLEAR)
+            sys.stderr.flush()
+            self.shown = False
+
+
+def duration(seconds: float) -> str:
+    """A time, as it is said of what is left."""
+    whole = int(seconds)
+    if whole < 100:
+        return f"{whole} s"
+    return f"{whole // 60} min" if whole < 7200 else f"{whole // 3600} h"

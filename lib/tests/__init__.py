@@ -1,0 +1,1 @@
+"""Unit tests of reraid-try: in lib, python3 -m unittest."""

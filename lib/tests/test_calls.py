@@ -1,0 +1,268 @@
+"""Set words, plans, the output of reraid, surveys, and what it is asked."""
+
+import unittest
+
+from reraid_try.calls import formats, sets
+from reraid_try.calls.formats import Held, Ranked
+from reraid_try.calls.plans import Mark, read_plan
+from reraid_try.calls.program import LAST, MOST_LINES, SPAN, Program
+from reraid_try.calls.sets import read_word, simplest
+from reraid_try.calls.surveys import KINDS, Request, Surveys
+from reraid_try.errors import OutsideError, Refused
+from reraid_try.units import counted, listed, percent
+from tests.standin import PLAN, Standin, put
+
+
+class Units(unittest.TestCase):
+    def test_numbers_in_words(self) -> None:
+        self.assertEqual((counted(1, "mark"), counted(2, "mark"), counted(0, "mark")), ("1 mark", "2 marks", "0 marks"))
+        self.assertEqual(listed([2048, 0, 2048]), "0,2048")
+        self.assertEqual((percent(1, 1000), percent(0, 10), percent(1, 3), percent(5, 5)), ("less than 1%", "0%", "33%", "100%"))
+
+
+class Sets(unittest.TestCase):
+    def test_word_taken_apart(self) -> None:
+        word = read_word("6:ls:by-data:128:2048+0+2048:3,0,-,2")
+        self.assertEqual((word.level, word.pattern, word.order, word.chunk), ("6", "ls", "by-data", 128))
+        self.assertEqual((word.offsets, word.offset, word.slots), ((2048, 0, 2048), 2048, (3, 0, None, 2)))
+        self.assertEqual((word.data, word.row, word.lost, word.spare, word.images), (2, 256, 1, 1, (3, 0, 2)))
+
+    def test_levels_survive_what_they_do(self) -> None:
+        spare = [read_word(text).spare for text in ("0:plain:none:8:0:0,1", "5:la:none:8:0:0,1,2", "5:la:none:8:0:0,1,-", "6:la:by-data:8:0:0,1,2,3")]
+        self.assertEqual(spare, [0, 1, 0, 2])
+
+    def test_mirrored(self) -> None:
+        word = read_word("near2:128:2048:0,1,2")
+        self.assertTrue(word.is_mirrored)
+        self.assertEqual((word.data, word.row, word.spare, word.pattern), (1.5, 192, 0, ""))
+        # Five rows of 128 sectors of three disks have 7.5 chunks, of which the last is half: whole sectors of 7.
+        self.assertEqual(word.sectors(2048 + 5 * 128), 7 * 128)
+        self.assertEqual(sets.mirrored(128, 2048, (0, None)).text, "near2:128:2048:0,-")
+
+    def test_sectors_are_of_whole_rows(self) -> None:
+        word = read_word("5:ls:none:128:2048:0,1,2")
+        self.assertEqual([word.sectors(end) for end in (2047, 2048 + 127, 2048 + 128, 2048 + 383)], [0, 0, 256, 512])
+
+    def test_without_images(self) -> None:
+        self.assertEqual(read_word("5:ls:none:8:0:2,0,1").without(frozenset({0})).text, "5:ls:none:8:0:2,-,1")
+
+    def test_folded(self) -> None:
+        self.assertEqual(read_word("5:ls:none:8:2048+2048:0,1").folded().text, "5:ls:none:8:2048:0,1")
+        self.assertEqual(read_word("5:ls:none:8:2048+0:0,1").folded().text, "5:ls:none:8:2048+0:0,1")
+        self.assertEqual(read_word("5:ls:none:8:7:0,1").folded().text, "5:ls:none:8:7:0,1")
+
+    def test_simplest_of_equal_sets(self) -> None:
+        # Q on the last slot, which is empty: the RAID 5 of the others, also with one of these lost.
+        self.assertEqual(simplest(read_word("6:ls-6:after-q:1024:0:0,-,1,2,-")).text, "5:ls:none:1024:0:0,-,1,2")
+        self.assertEqual(simplest(read_word("6:parity-first-6:after-q:8:0:0,1,2,-")).text, "5:parity-first:none:8:0:0,1,2")
+        # Fixed parity: without Q a RAID 5, without P too a RAID 0.
+        self.assertEqual(simplest(read_word("6:parity-last:by-data:8:0:0,1,2,-")).text, "5:parity-last:none:8:0:0,1,2")
+        self.assertEqual(simplest(read_word("6:parity-first:by-data:8:0:-,-,1,2")).text, "0:plain:none:8:0:1,2")
+        self.assertEqual(simplest(read_word("5:parity-first:none:8:0:-,1,0")).text, "0:plain:none:8:0:1,0")
+        self.assertEqual(simplest(read_word("5:parity-last:none:8:0:1,0,-")).text, "0:plain:none:8:0:1,0")
+
+    def test_others_stay(self) -> None:
+        for text in ("6:ls-6:after-q:8:0:0,1,2,3", "6:ls:after-q:8:0:0,1,2,-", "6:ls-6:after-q:8:0:-,0,1,2", "5:ls:none:8:0:-,0,1",
+                     "5:parity-first:none:8:0:0,-,1", "6:parity-first:by-data:8:0:-,0,1,2", "6:parity-last:by-data:8:0:0,1,-,2",
+                     "near2:8:0:0,-", "0:plain:none:8:0:0,1"):
+            self.assertEqual(simplest(read_word(text)).text, text)
+
+    def test_fewest_members_come_first(self) -> None:
+        words = [read_word(text) for text in ("6:ls:by-data:8:0:0,1,2,-,-", "6:ls:by-data:8:0:0,1,2,-", "5:ls:none:8:0:0,1,2,-")]
+        self.assertEqual([word.text[0] + str(len(word.slots)) for word in sorted(words, key=lambda it: it.simplicity)], ["54", "64", "65"])
+
+
+class Plans(unittest.TestCase):
+    def test_text_comes_back(self) -> None:
+        self.assertEqual(read_plan(PLAN).text(), PLAN)
+
+    def test_parts(self) -> None:
+        plan = read_plan(PLAN)
+        self.assertEqual((plan.version, plan.lengths, plan.end, plan.numbers("origins")), (1, (100000,) * 3, 100000, [0, 2048]))
+        self.assertEqual([(group.kind, group.place, len(group.marks), group.images()) for group in plan.groups],
+                         [("xfs", 0, 3, {0, 1}), ("ext", 1, 1, {2})])
+        self.assertEqual([group.name() for group in plan.groups], ["group 0 (xfs, 3 marks)", "group 1 (ext, 1 mark)"])
+
+    def test_rules(self) -> None:
+        every, either = Mark("agf", 0, 9, "every:49152:4:8"), Mark("boot", 0, 9, "either:7:5")
+        self.assertEqual((every.nearest, every.step, every.numbers), (8, 49152, [49152, 4, 8]))
+        self.assertEqual((either.nearest, either.step), (5, None))
+
+    def test_changed(self) -> None:
+        plan = read_plan(PLAN)
+        self.assertEqual(plan.having(misfits=8).values["misfits"], "8")
+        self.assertEqual([group.kind for group in plan.without({0}).groups], ["ext"])
+        self.assertEqual(plan.bare().groups, ())
+        self.assertEqual(plan.values["misfits"], "0")
+
+    def test_no_plan(self) -> None:
+        for text in ("", "reraid-plan x\n", PLAN.replace("done\n", ""), PLAN.replace("mark ext 2", "mark ext two"), PLAN.replace("end 100000\n", "")):
+            with self.assertRaises(OutsideError):
+                read_plan(text)
+
+
+class Formats(unittest.TestCase):
+    def test_page(self) -> None:
+        page = formats.read_page(put("7 5:ls:none:128:2048:0,1,2\n9 near2:8:0:0,1\nnext 20 of 60\n"))
+        self.assertEqual(page.sets, (Ranked(7, "5:ls:none:128:2048:0,1,2"), Ranked(9, "near2:8:0:0,1")))
+        self.assertEqual((page.following, page.total, page.late, page.estimate), (20, 60, False, 6))
+
+    def test_page_that_was_ended(self) -> None:
+        page = formats.read_page(put("7 5:ls:none:128:2048:0,1,2\n9 5:l", None))
+        self.assertEqual((len(page.sets), page.following, page.late, page.estimate), (1, None, True, 1))
+
+    def test_total_by_status_and_line(self) -> None:
+        self.assertEqual(formats.read_total(put("", 6, "reraid: cursor 18446744073709551615 is past 77\n")), 77)
+        self.assertEqual(formats.read_total(put(f"next {LAST} of {LAST}\n")), LAST)
+        self.assertIsNone(formats.read_total(put("", 5, "reraid: cursor 1 is past 77\n")))
+        self.assertIsNone(formats.read_total(put("", 5, "reraid: the product has more than 18446744073709551615 sets\n")))
+
+    def test_check(self) -> None:
+        told = formats.read_check(put("rank -\nunsound 5 of 1000\ngroup 0 xfs origin 2048 fits 3 misfits 4\ngroup 1 gpt none\nfail\n"))
+        assert told is not None
+        self.assertEqual((told.unsound, told.rows, told.fits), (5, 1000, 3))
+        self.assertEqual(told.groups, (Held("xfs", 2048, 3, 4), Held("gpt")))
+        self.assertEqual([it.short() for it in told.groups], ["xfs 3-4", "gpt none"])
+        self.assertEqual([it.text() for it in told.groups], ["xfs origin 2048 fits 3 misfits 4", "gpt none"])
+        self.assertEqual([it.doubtful for it in told.groups], [True, False])
+        self.assertEqual(Held("ext", 0, 3, 0).short(), "ext 3")
+        self.assertFalse(Held("ext", 0, 3, 3).doubtful)
+
+    def test_check_refused_or_late(self) -> None:
+        self.assertIsNone(formats.read_check(put("", 7)))
+        self.assertIsNone(formats.read_check(put("unsound 5 of 10\n", None)))
+
+    def test_classes(self) -> None:
+        self.assertEqual(formats.read_classes(put("0 a\n1 b\n0 c\nclasses 2 of 3\n")), [0, 1, 0])
+
+    def test_lost(self) -> None:
+        self.assertEqual(formats.read_lost(put("lost 5 8\ngood 92 of 100\n")), (8, 100))
+        self.assertIsNone(formats.read_lost(put("", 9)))
+
+
+class Asked(unittest.TestCase):
+    def test_operands_in_order(self) -> None:
+        request = Request().having(window=5, end=9).having(window=6)
+        self.assertEqual(request.words(["a"]), ["reraid", "survey", "end=9", "window=6", "--", "a"])
+        self.assertEqual((request.get("end"), request.number("badrows"), request.number("misfits", 3), request.is_each), ("9", 0, 3, False))
+        self.assertTrue(request.having(mode="each").is_each)
+
+    def test_filters_are_commands(self) -> None:
+        plan = read_plan(PLAN.replace("group ext\n", "group ntfs\n" + "".join(f"mark record 0 {k} at:6\n" for k in range(5)) + "group ext\n"))
+        request = Request(out=(1,), records=True)
+        self.assertEqual([words[0] for words in request.filters(plan)], ["sed", "awk"])
+        self.assertIn("n==2", str(request.filters(plan)[1][1]))
+        self.assertEqual(Request(records=True).filters(read_plan(PLAN)), [])
+
+
+class Surveyed(unittest.TestCase):
+    def setUp(self) -> None:
+        self.standin = Standin(("reraid survey", put(PLAN)))
+        self.surveys = Surveys(self.standin, ["a", "b", "c"])
+        self.request = Request().having(kinds=KINDS, offsets="0,2048", end=100000, origins="0,63")
+
+    def test_made_once(self) -> None:
+        self.surveys.plan(self.request)
+        self.surveys.plan(self.request.having(levels=5, offsets=2048))
+        self.assertEqual(self.standin.count("reraid survey"), 1)
+
+    def test_made_anew_where_other_marks_would_be_seen(self) -> None:
+        self.surveys.plan(self.request)
+        # A mark at 2,048 lies before this offset, and that of the ext behind this end.
+        self.surveys.plan(self.request.having(offsets=4096))
+        self.surveys.plan(self.request.having(end=7000))
+        self.surveys.plan(self.request.having(logical=4096))
+        self.assertEqual(self.standin.count("reraid survey"), 4)
+        self.surveys.plan(self.request.having(end=30000))
+        self.assertEqual(self.standin.count("reraid survey"), 4)
+        self.surveys.plan(self.request.having(end=200000))
+        self.assertEqual(self.standin.count("reraid survey"), 5)
+
+    def test_what_is_asked_stands_in_the_plan(self) -> None:
+        plan = self.surveys.plan(self.request.having(levels="5,6", badrows=9, mode="each", end=50000))
+        self.assertEqual((plan.values["levels"], plan.values["badrows"], plan.version, plan.end), ("5,6", "9", 2, 50000))
+        self.assertEqual((plan.values["origins"], plan.values["window"]), ("0,63,2048", "50000"))
+
+    def test_groups_and_records_left_out(self) -> None:
+        records = "group ntfs\n" + "".join(f"mark record 0 {k} at:6\n" for k in range(3000, 3005)) + "mark record 0 3005 at:8\ngroup ext\n"
+        surveys = Surveys(Standin(("reraid survey", put(PLAN.replace("group ext\n", records)))), ["a"])
+        plan = surveys.plan(Request(self.request.operands, (0,), True))
+        self.assertEqual([(group.kind, len(group.marks)) for group in plan.groups], [("ntfs", 1), ("ext", 1)])
+
+    def test_refused(self) -> None:
+        surveys = Surveys(Standin(("reraid survey", put("", 10, "reraid: image read fault\n"))), ["a"])
+        with self.assertRaisesRegex(Refused, "^reraid: image read fault$"):
+            surveys.plan(self.request)
+
+
+class Programs(unittest.TestCase):
+    def program(self, *rows: tuple[str, object], jobs: int = 2) -> tuple[Program, Standin]:
+        standin = Standin(*rows)  # type: ignore[arg-type]
+        return Program(standin, ["a", "b"], 5, jobs), standin
+
+    def test_total(self) -> None:
+        program, standin = self.program(("reraid list", put("", 6, "reraid: cursor 1 is past 12")))
+        self.assertEqual(program.total("plan"), 12)
+        self.assertEqual(standin.asked, [(["reraid", "list", f"from={LAST}", "--", "a", "b"], "plan")])
+        program, _ = self.program(("reraid list", put("", 2, "reraid: plan line 3 is not understood\n")))
+        with self.assertRaisesRegex(Refused, "^reraid: plan line 3 is not understood$"):
+            program.total("plan")
+
+    def listed(self, total: int, pages: dict[int, object]) -> tuple[Program, Standin]:
+        def answer(words: list[str], _text: str) -> object:
+            first = int(words[2].split("=")[1])
+            return put("", 6, f"reraid: cursor {LAST} is past {total}") if first == LAST else pages[first]
+        return self.program(("reraid list", answer))
+
+    def test_listing(self) -> None:
+        program, standin = self.listed(10, {0: put("3 5:a\n4 5:b\nnext 10 of 10\n")})
+        listing = program.listing(read_plan(PLAN))
+        self.assertEqual((len(listing.sets), listing.total, listing.whole, listing.line()), (2, 10, True, "2 sets of 10"))
+        self.assertIn(f"size={MOST_LINES}", standin.asked[1][0])
+
+    def test_listing_of_nothing(self) -> None:
+        program, standin = self.listed(0, {})
+        self.assertEqual(program.listing(read_plan(PLAN)).line(), "0 sets of 0")
+        self.assertEqual(standin.count("reraid list"), 1)
+
+    def test_listing_by_spans(self) -> None:
+        total = 2 * SPAN + 1
+        pages: dict[int, object] = {k * SPAN: put(f"{k} 5:a{k}\nnext {min(total, (k + 1) * SPAN)} of {total}\n") for k in range(3)}
+        program, standin = self.listed(total, pages)
+        listing = program.listing(read_plan(PLAN))
+        self.assertEqual(([it.rank for it in listing.sets], listing.whole), ([0, 1, 2], True))
+        self.assertEqual(standin.count("reraid list"), 4)
+
+    def test_listing_that_was_late_or_full(self) -> None:
+        program, _ = self.listed(10, {0: put("3 5:a\n", None)})
+        listing = program.listing(read_plan(PLAN))
+        self.assertEqual((listing.whole, listing.note), (False, "its time of 5 s was up before all were looked at"))
+        full = "".join(f"{k} 5:a\n" for k in range(MOST_LINES))
+        program, _ = self.listed(MOST_LINES + 5, {0: put(full + f"next {MOST_LINES} of {MOST_LINES + 5}\n")})
+        self.assertEqual(program.listing(read_plan(PLAN)).note, f"more than {MOST_LINES} pass")
+
+    def test_classes(self) -> None:
+        words = [read_word("5:ls:none:8:0:0,1,2"), read_word("5:ls:none:8:0:1,0,2")]
+        program, standin = self.program(("reraid classes", put("0 x\n0 y\nclasses 1 of 2\n")))
+        self.assertEqual(program.classes(words, 99), [0, 0])
+        self.assertEqual(standin.asked[0], (["reraid", "classes", "images=2", "end=99", "--"], "0 5:ls:none:8:0:0,1,2\n1 5:ls:none:8:0:1,0,2\n"))
+        program, _ = self.program(("reraid classes", put("", 13)))
+        self.assertEqual(program.classes(words, 99), [0, 1])
+
+    def test_mirrors(self) -> None:
+        program, _ = self.program()
+        self.assertEqual(program.mirror_words(4, 1, 7, [2048, 0], 99, 50),
+                         ["reraid", "mirrors", "members=4", "offsets=0,2048", "end=99", "missing=1", "badrows=7", "chunks=8", "window=50",
+                          f"size={MOST_LINES}", "--", "a", "b"])
+        self.assertNotIn("chunks=8", program.mirror_words(3, 0, 0, [0], 99, 50))
+
+    def test_check_and_lost(self) -> None:
+        program, standin = self.program(("reraid check", put("unsound 0 of 5\npass\n")), ("reraid salvage", put("good 5 of 5\n")))
+        told = program.check("5:x", read_plan(PLAN))
+        self.assertEqual((told and told.rows, standin.asked[0][1]), (5, PLAN))
+        self.assertEqual(program.lost("5:x", 9, "map 0\n"), (0, 5))
+        self.assertEqual(standin.asked[1], (["reraid", "salvage", "set=5:x", "form=lost", "end=9", "--", "a", "b"], "map 0\n"))
+
+
+if __name__ == "__main__":
+    unittest.main()

@@ -1,0 +1,549 @@
+"""Candidates, their tests, damage, kin, rows, and what is printed of them."""
+
+import dataclasses
+import json
+import unittest
+from collections.abc import Sequence
+from typing import cast
+from unittest import mock
+
+from reraid_try.calls.commands import Answer
+from reraid_try.calls.formats import Checked, Held
+from reraid_try.calls.program import Program
+from reraid_try.calls.sets import read_word
+from reraid_try.calls.surveys import Request
+from reraid_try.checks import damage, kin, rows
+from reraid_try.checks.candidates import Candidate, Inside, left_most
+from reraid_try.checks.lvm import Piece
+from reraid_try.checks.rows import Bounds, Near, Rows
+from reraid_try.checks.tests import Tests, in_classes
+from reraid_try.checks.verdicts import Finding, Score, Verdict
+from reraid_try.checks.volumes import Room
+from reraid_try.checks.wholes import Wholes
+from reraid_try.evidence.images import Image
+from reraid_try.evidence.maps import Map
+from reraid_try.options import Options
+from reraid_try.policy import cures
+from reraid_try.policy.hunt import Hunt
+from reraid_try.policy.shapes import Shape
+from reraid_try.policy.trials import Trial
+from reraid_try.report import table, words
+from reraid_try.report.diagnosis import Diagnosis
+from reraid_try.report.report import Report
+from reraid_try.units import SECTOR
+from tests.standin import InFolder, Standin, Told, plan_of, put
+from tests.test_policy import BASE, EXT, NTFS, XFS
+
+SET = "5:ls:none:128:2048:0,1,2"
+
+
+class Known:
+    """What stands for the evidence of a hunt."""
+
+    filled, window, end, unread = 1000, 8000, 8000, 0
+    images = tuple(Image(f"i{k}", k, 8000) for k in range(4))
+
+
+class Over:
+    """What stands for a hunt."""
+
+    def __init__(self, *answers: tuple[str, object]) -> None:
+        self.standin = Standin(*answers)  # type: ignore[arg-type]
+        self.program = Program(self.standin, ("i0", "i1", "i2", "i3"), 60, 1)
+        self.plan = plan_of(XFS, EXT)
+        self.evidence = Known()
+        self.surveys = self
+
+    def seen(self, _: Request) -> object:
+        """The survey of a request."""
+        return self.plan
+
+    def checked_by(self, _: Trial) -> object:
+        """The plan with which `check` is asked."""
+        return self.plan
+
+
+class OfPlan(Over):
+    """What stands for a hunt, and for its surveys."""
+
+    def __init__(self, *answers: tuple[str, object]) -> None:
+        super().__init__(*answers)
+        self.surveys = cast(Over, self.Made(self.plan))
+
+    @dataclasses.dataclass
+    class Made:
+        """What stands for surveys."""
+
+        made: object
+
+        def plan(self, _: Request) -> object:
+            """The plan of a request."""
+            return self.made
+
+
+def hunt_of(*answers: tuple[str, object]) -> Hunt:
+    """A hunt of which `reraid` says this."""
+    return cast(Hunt, OfPlan(*answers))
+
+
+def whole(clean: bool | None = True, longest: int = 1 << 20, kind: str = "xfs") -> Verdict:
+    """What was found in a good volume of 1,000 bytes."""
+    return Verdict([Finding("", kind, clean, "said", (Piece(0, 1000),))], Wholes(1, int(longest > 0), longest), [], 1000, 10, 100)
+
+
+def candidate(text: str = SET, verdict: Verdict | None = None, chosen: Sequence[cures.Cure] = (), number: int = 1, rank: int = 0,
+              **values: object) -> Candidate:
+    """A candidate of a trial."""
+    word = read_word(text)
+    trial = Trial(Shape(word.level, len(word.slots), word.lost), tuple(chosen), BASE, number)
+    hunt = cast(Hunt, values.pop("hunt", None) or hunt_of())
+    return Candidate(word, rank, trial, hunt, listed=None if word.is_mirrored else word, verdict=verdict, **values)  # type: ignore[arg-type]
+
+
+def place(it: Candidate) -> tuple[int, int, tuple[int, str], tuple[int, int, int]]:
+    """What a candidate is printed by."""
+    return it.place
+
+
+class OfCandidates(unittest.TestCase):
+    def test_doubtful(self) -> None:
+        self.assertFalse(candidate(unsound=500).mostly_unsound)
+        self.assertTrue(candidate(unsound=501).doubtful)
+        self.assertTrue(candidate(groups=(Held("xfs", 0, 2, 3),)).doubtful)
+        self.assertFalse(candidate(groups=(Held("xfs", 0, 3, 3), Held("gpt"))).doubtful)
+        self.assertEqual(candidate(groups=(Held("gpt", 0, 3, 3), Held("xfs", 8, 1, 0), Held("ext"))).origins, [8])
+
+    def test_most_marks_left_out(self) -> None:
+        plan = plan_of(XFS, EXT)
+        out = Trial(Shape("5", 3), (cures.group_cures(plan, True)[1],))
+        self.assertEqual(out.out, frozenset({0}))
+        self.assertTrue(left_most(out, plan, (Held("xfs"), Held("ext", 0, 1, 0))))
+        self.assertTrue(left_most(out, plan, (Held("xfs", 0, 1, 2), Held("ext"))))
+        self.assertFalse(left_most(out, plan, (Held("xfs", 0, 2, 0), Held("ext"))))
+        self.assertFalse(left_most(Trial(Shape("5", 3)), plan, (Held("xfs"), Held("ext"))))
+        self.assertFalse(left_most(Trial(Shape("5", 3), (cures.group_cures(plan, False)[0],)), plan, (Held("xfs"), Held("ext"))))
+
+    def test_less_than_half_of_the_marks_left_out(self) -> None:
+        plan = plan_of(XFS, NTFS)
+        out = Trial(Shape("5", 3), (cures.group_cures(plan, True)[0],))
+        self.assertEqual((out.out, left_most(out, plan, (Held("xfs"), Held("ntfs")))), (frozenset({0}), False))
+
+    def test_one_sign_less_then(self) -> None:
+        self.assertEqual([candidate(verdict=whole(longest=size), left_most=True).score for size in (1 << 20, 50)], [Score.CHECKED, Score.KNOWN])
+        self.assertEqual(candidate(verdict=whole(), left_most=True).doubts, ["a group with most of the marks was left out"])
+        self.assertEqual(candidate(verdict=whole(False), left_most=True).score, Score.NOTHING)
+
+    def test_printed_by_sign_fits_and_members(self) -> None:
+        fits = (Held("xfs", 0, 12, 0),)
+        order = [candidate(verdict=whole(), number=9), candidate(verdict=whole(longest=50), number=8, groups=fits),
+                 candidate(verdict=whole(longest=50), number=1), candidate(verdict=whole(None, 0), number=7, groups=fits),
+                 candidate(verdict=whole(False), groups=(Held("xfs", 0, 12, 1),)), candidate()]
+        self.assertEqual(sorted(reversed(order), key=place), order)
+        two = [candidate(SET, number=2), candidate("5:ls:none:128:2048:0,1,2,-", number=1)]
+        self.assertEqual(sorted(two, key=place), two)
+
+    def test_alike_said(self) -> None:
+        self.assertEqual(candidate().alike_said, "")
+        self.assertEqual(candidate(alike=["a", "b", "c", "d", "e"]).alike_said, "the same volume, so not told apart: a b c and 2 more")
+
+
+class Kin(unittest.TestCase):
+    images = [Image(f"i{k}", k, 9) for k in range(5)] + [Image("i5", 5, 9, like=0)]
+
+    def same(self, *texts: str) -> list[int | None]:
+        """Of sets, in this order, with which other one each has the same volume."""
+        order = kin.in_order([candidate(text, number=number) for number, text in enumerate(texts)], self.images)
+        return [it.same for it in order]
+
+    def test_same_volume(self) -> None:
+        self.assertEqual(self.same(SET, "5:ls:none:128:2048:5,1,2"), [None, 0])
+        self.assertEqual(self.same(SET, "5:ls:none:128:2048:1,0,2"), [None, None])
+        self.assertEqual(self.same("0:plain:none:8:0:0,1", "near2:8:0:0,2,1,-"), [None, 0])
+        self.assertEqual(self.same("0:plain:none:8:0:0,1", "near2:8:0:-,0,1,3"), [None, 0])
+        self.assertEqual(self.same("near2:8:0:0,1,2", "near2:8:0:0,2,1"), [None, None])
+        self.assertEqual(self.same("5:ls:none:8:0:0,1,2,-", "6:ls-6:after-q:8:0:0,1,2,-,-"), [None, 0])
+        self.assertEqual(self.same("0:plain:none:8:0:0,1", "5:parity-first:none:8:0:-,0,1"), [None, 0])
+
+    def inside(self, *texts: str) -> list[Inside | None]:
+        """In which other one's volume each begins."""
+        return [it.inside for it in kin.in_order([candidate(text, number=number) for number, text in enumerate(texts)], self.images)]
+
+    def test_inside_of_another(self) -> None:
+        self.assertEqual(self.inside("0:plain:none:8:0:0,1", "0:plain:none:8:24:0,1"), [None, Inside(0, 3)])
+        # From one row to the next the slots of the symmetric patterns turn.
+        self.assertEqual(self.inside("5:ls:none:8:0:0,1,2", "5:ls:none:8:8:2,0,1"), [None, Inside(0, 1)])
+        self.assertEqual(self.inside("5:rs:none:8:0:0,1,2", "5:rs:none:8:8:1,2,0"), [None, Inside(0, 1)])
+        self.assertEqual(self.inside("5:ls:none:8:0:0,1,2", "5:ls:none:8:8:0,1,2"), [None, None])
+        self.assertEqual(self.inside("5:la:none:8:0:0,1,2", "5:la:none:8:24:0,1,2"), [None, Inside(0, 3)])
+        self.assertEqual(self.inside("5:la:none:8:0:0,1,2", "5:la:none:8:8:0,1,2"), [None, None])
+        self.assertEqual(self.inside("6:ls:by-slot:8:0:0,1,2,3", "6:ls:by-slot:8:8:3,0,1,2"), [None, None])
+        self.assertEqual(self.inside("6:ls-6:after-q:8:0:0,1,2,3", "6:ls-6:after-q:8:24:0,1,2,3"), [None, Inside(0, 3)])
+        self.assertEqual(self.inside("0:plain:none:8:0:0,1", "0:plain:none:8:7:0,1"), [None, None])
+        self.assertEqual(self.inside("near2:8:0:0,1,2", "near2:8:8:0,1,2"), [None, None])
+
+    def test_text(self) -> None:
+        self.assertEqual(kin.text(candidate(same=3)), "the same volume as class 3")
+        self.assertEqual(kin.text(candidate(inside=Inside(3, 7))), "the volume of class 3 without its first 7 rows of chunks")
+        self.assertEqual(kin.text(candidate()), "")
+
+
+class Damaged(unittest.TestCase):
+    def test_doubted(self) -> None:
+        six = "6:ls:by-data:128:2048:0,1,2,3"
+        some = [candidate(six, unsound=9), candidate(six, unsound=5), candidate(six, unsound=0), candidate(six, unsound=501),
+                candidate("5:ls:none:128:2048:0,1,-", unsound=5), candidate("6:ls:by-data:128:2048+0+0+0:0,1,2,3", unsound=5)]
+        self.assertEqual([it.unsound for it in damage.doubted(some, False)], [5, 9])
+        good = candidate(six, whole(), unsound=7)
+        self.assertEqual([it.unsound for it in damage.doubted([*some, good], False)], [7])
+        self.assertEqual(damage.doubted([*some, good], True), [])
+        self.assertEqual(damage.doubted([candidate(SET, whole(), unsound=7)], False), [])
+        self.assertEqual(len(damage.doubted([candidate(unsound=5)] * 9, False)), 3)
+
+    def test_blamed(self) -> None:
+        self.assertEqual(damage.blamed(candidate(unsound=9), {0: 9, 1: 5, 2: 2, 3: 11}), [2, 1])
+
+    def test_lesser(self) -> None:
+        it = damage.lesser(candidate("6:ls-6:after-q:128:2048:0,1,2,3", unsound=9), frozenset({3}))
+        self.assertEqual((it.word.text, it.listed and it.listed.text), (SET, "6:ls-6:after-q:128:2048:0,1,2,-"))
+        self.assertEqual((it.trial.loosened, it.trial.shape.missing, it.unsound, it.whole and it.whole.unsound), (["without image 3"], 1, None, 9))
+
+
+class OfRows(unittest.TestCase):
+    @staticmethod
+    def unsound(*bad: int) -> tuple[str, object]:
+        """What `check` says of a set of which these rows of 1,000 are unsound."""
+        def answer(_: list[str], text: str) -> Answer:
+            window = min(1000, int(text.split("window ")[1].split()[0]))
+            return put(f"unsound {sum(row < window for row in bad)} of {window}\nfail\n")
+        return "reraid check", answer
+
+    def test_bounds(self) -> None:
+        found = Rows(hunt_of(self.unsound(7, 300, 999)))
+        near = Near(SET, plan_of(XFS))
+        self.assertTrue(found.ask(near))
+        self.assertEqual((near.told.unsound, found.bounds(near)), (3, Bounds(7, 999)))
+        self.assertEqual(near.line(Bounds(7, 999)), f"  {SET}: 3 unsound rows of 1000, first 7 and last 999; no landmarks")
+        near.told = dataclasses.replace(near.told, seconds=rows.SLOW)
+        self.assertEqual(found.bounds(near), Bounds())
+        self.assertFalse(Rows(hunt_of(("reraid check", Answer(None)))).ask(near))
+        self.assertEqual(near.told.unsound, 3)
+
+    def test_in_words(self) -> None:
+        told = Checked(3, 1000)
+        self.assertEqual(rows.rows_in_words(Checked(0, 1000), Bounds()), "parity holds in all 1000 rows")
+        self.assertEqual(rows.rows_in_words(told, Bounds()), "3 of 1000 rows unsound")
+        self.assertEqual(rows.rows_in_words(told, Bounds(7, 999)), "parity holds in rows 0 to 6; 3 of 1000 rows unsound, all from row 7 on")
+        self.assertEqual(rows.rows_in_words(told, Bounds(0, 12)), "3 of 1000 rows unsound, all in rows 0 to 12")
+
+    def test_whole(self) -> None:
+        found = Rows(hunt_of(self.unsound()))
+        self.assertEqual(found.whole(candidate()), "parity holds in all 1000 rows")
+        self.assertEqual(found.whole(candidate("5:ls:none:8:0:0,1,-")), "parity tells nothing with 1 disk missing")
+        self.assertEqual(found.whole(candidate("0:plain:none:8:0:0,1")), "parity tells nothing at level 0")
+        self.assertEqual(found.whole(candidate("near2:8:0:0,1")), "")
+        left_out = candidate("5:ls:none:8:0:0,1,-", whole=candidate(unsound=5))
+        self.assertEqual(found.whole(left_out), "with what is left out for bad rows 5 rows are unsound in what was tested")
+
+    def test_old_image(self) -> None:
+        hunt = hunt_of(self.unsound(600, 601, 700))
+        found = Rows(hunt).old(candidate("6:ls:by-data:128:2048:0,-,1,2"))
+        self.assertEqual([it.text(["a", "b", "c", "d.img"]) for it in found],
+                         ["d.img is old: as slot 1 parity holds with it in all rows but 3 of 1000, the first of them row 600"])
+        asked = cast(OfPlan, hunt).standin.asked[0][0]
+        self.assertIn("set=6:ls:by-data:128:2048:0,3,1,2", asked)
+        self.assertEqual(Rows(hunt).old(candidate("6:ls:by-data:128:2048:0,3,1,2")), [])
+        # With another one missing at level 5 parity tells nothing; where most rows are unsound, or none is, the image is not old.
+        self.assertEqual(Rows(hunt_of(self.unsound())).old(candidate("6:ls:by-data:128:2048:0,-,1,2")), [])
+        self.assertEqual(Rows(hunt_of(self.unsound(*range(500)))).old(candidate("6:ls:by-data:128:2048:0,-,1,2")), [])
+
+    def test_reshape(self) -> None:
+        marks = [("super", 0, 2048 + 1280 * k, "every:49152:4:0") for k in range(8)]
+
+        def answer(turn: int) -> tuple[str, object]:
+            def told(_: list[str], text: str) -> Answer:
+                end = int(text.split("end ")[1].split()[0])
+                before = [1280 * k for k in range(8) if 2048 + 1280 * k < end]
+                fits = sum(row < turn for row in before)
+                return put(f"unsound 0 of 1\ngroup 0 xfs origin 0 fits {fits} misfits {len(before) - fits}\nfail\n")
+            return "reraid check", told
+        plan = plan_of(("xfs", marks))
+        near = Near("5:ls:none:128:2048:0,1,2,3", plan, Checked(0, 9, (Held("xfs", 0, 4, 4),)))
+        turned = Rows(hunt_of(answer(1280 * 4))).turned(near)
+        assert turned
+        self.assertEqual(turned.row, 1280 * 4)
+        self.assertEqual(turned.text(), "perhaps a reshape that was stopped: 4 marks fit before row 5120, and from there on 4 do not")
+        few = Near(near.word, plan, Checked(0, 9, (Held("xfs", 0, 6, 2),)))
+        self.assertIsNone(Rows(hunt_of(answer(1280 * 6))).turned(few))
+
+        def mixed(_: list[str], text: str) -> Answer:
+            # Every other mark fits.
+            before = [k for k in range(8) if 2048 + 1280 * k < int(text.split("end ")[1].split()[0])]
+            fits = sum(k % 2 == 0 for k in before)
+            return put(f"unsound 0 of 1\ngroup 0 xfs origin 0 fits {fits} misfits {len(before) - fits}\nfail\n")
+        self.assertIsNone(Rows(hunt_of(("reraid check", mixed))).turned(near))
+
+
+class Tested(InFolder):
+    def over(self, *answers: tuple[str, object], maps: bool = False) -> Tests:
+        """Tests over three images."""
+        self.standin = Standin(*answers)  # type: ignore[arg-type]
+        self.report = Told()
+        room = Room(self.standin, self.folder, mounts=False)
+        self.addCleanup(room.close)
+        images = [Image(f"i{k}", k, 8000, map=Map("m", "0 +\n", ()) if maps else None) for k in range(3)]
+        return Tests(Options(("i0", "i1", "i2"), jobs=2), self.standin, self.report, room, images)
+
+    def test_one_of_each_class_the_simplest(self) -> None:
+        five, six, other = candidate("5:ls:none:8:0:0,1,2"), candidate("6:ls:by-data:8:0:0,1,2,-"), candidate("5:la:none:8:0:0,1,2")
+        standin = Standin(("reraid classes", put("0 x\n0 x\n1 x\nclasses 2 of 3\n")))
+        found = in_classes(Program(standin, ("a",), 5, 1), [six, five, other, candidate("near2:8:0:0,1")], 99)
+        self.assertEqual([it.word.text for it in found], [five.word.text, other.word.text, "near2:8:0:0,1"])
+        self.assertEqual(five.alike, [six.word.text])
+        self.assertEqual(in_classes(Program(Standin(), ("a",), 5, 1), [five], 99), [five])
+
+    def test_asked_once(self) -> None:
+        hunt = hunt_of(("reraid check", put("unsound 5 of 9\ngroup 0 xfs origin 0 fits 3 misfits 1\nfail\n")))
+        it = candidate(hunt=hunt)
+        tests = self.over()
+        tests.ask(it, False)
+        self.assertEqual((it.unsound, len(it.groups)), (None, 1))
+        tests.ask(it, False)
+        tests.ask(it)
+        tests.ask(it)
+        self.assertEqual((it.unsound, cast(OfPlan, hunt).standin.count("reraid check")), (5, 2))
+        self.assertIn("window 1\n", cast(OfPlan, hunt).standin.asked[0][1])
+        tests.ask(candidate("near2:8:0:0,1", hunt=hunt_of()))
+
+    def test_begins(self) -> None:
+        check = ("reraid check", put("unsound 0 of 1\ngroup 0 xfs origin 8 fits 3 misfits 0\npass\n"))
+        for data, told in ((b"XFSB", True), (bytes(8 * SECTOR) + b"XFSB", True), (bytes(9 * SECTOR) + b"XFSB", False)):
+            self.assertEqual(self.over(("reraid write", Answer(0, data))).begins(candidate(hunt=hunt_of(check))), told)
+
+    def test_read(self) -> None:
+        check = ("reraid check", put("unsound 0 of 1\ngroup 0 xfs origin 8 fits 3 misfits 0\npass\n"))
+        it = self.over(("reraid write", Answer(10))).read(candidate(hunt=hunt_of(check)))
+        self.assertEqual((it.found.text(), it.score), ("nothing known; no such files; its volume could not be written", Score.NOTHING))
+        with mock.patch("os.truncate", side_effect=OSError(28, "No space left on device")):
+            it = self.over(("reraid write", Answer(0))).read(candidate(hunt=hunt_of(check)))
+        self.assertEqual(it.found.notes, ["its volume could not be looked at: No space left on device"])
+
+    def test_how_much_is_lost(self) -> None:
+        word = read_word(SET)
+        self.assertEqual(self.over().lost(word), [])
+        lost = put("lost 5 8\ngood 992 of 1000\n")
+        self.assertEqual(self.over(("reraid salvage", lost), maps=True).lost(word), ["8 of 1000 sectors (less than 1%) lost by the maps"])
+        self.assertEqual(self.over(("reraid salvage", put("good 1000 of 1000\n")), maps=True).lost(word), ["nothing lost by the maps"])
+        self.assertEqual(self.over(("reraid salvage", Answer(9)), maps=True).lost(word), ["how much the maps leave lost is not known"])
+        self.assertEqual(self.over(maps=True).lost(read_word("near2:8:0:0,1")), ["its maps are not heeded"])
+
+    def test_doubtful_ones_are_put_off(self) -> None:
+        def told(answered: list[str], _: str) -> Answer:
+            return put("unsound 9 of 9\ngroup 0 xfs origin 0 fits 1 misfits 2\nfail\n" if "1,0,2" in answered[2] else "unsound 9 of 9\nfail\n")
+        hunt = hunt_of(("reraid check", told))
+        some = [candidate(text, hunt=hunt) for text in ("6:ls:by-data:8:0:0,1,2,3", "6:ls:by-data:8:0:1,0,2,3")]
+        tests = self.over()
+        self.assertEqual(tests.without_doubtful(some), some)
+        for it in some:
+            it.trial = dataclasses.replace(it.trial, request=BASE.having(misfits=8))
+        self.assertEqual((tests.without_doubtful(some), tests.put_off), (some[:1], some[1:]))
+        self.assertIn("1 of 2 sets are put off", self.report.text)
+        tests.late = True
+        self.assertEqual(tests.without_doubtful(some), some)
+
+    def test_too_many_where_parity_tells_nothing(self) -> None:
+        tests = self.over()
+        some = [candidate("0:plain:none:8:0:0,1")] * 1025
+        self.assertEqual((tests.test(some), len(tests.put_off)), ([], 1025))
+
+    def test_those_that_begin_with_something_first(self) -> None:
+        some = [candidate(f"5:ls:none:8:{k}:0,1,2", hunt=hunt_of(("reraid check", put("unsound 0 of 9\npass\n")))) for k in range(9)]
+
+        def data(answered: list[str], _: str) -> Answer:
+            return Answer(0, b"XFSB" if ":5:" in answered[2] else b"none")
+        tests = self.over(("reraid write", data))
+        self.assertEqual([[it.word.offset for it in part] for part in tests.parts(some)], [[5]])
+        self.assertEqual(len(tests.put_off), 8)
+        self.assertEqual(tests.parts(some[:8]), [some[:8]])
+        tests.late = True
+        self.assertEqual([len(part) for part in tests.parts(some)], [1, 8])
+
+    def test_images_that_make_rows_unsound(self) -> None:
+        def told(answered: list[str], _: str) -> Answer:
+            return put(f"unsound {2 if '-,1,2' in answered[2] else 5 if '0,-,2' in answered[2] else 9} of 9\nfail\n")
+        it = candidate("6:ls:by-data:8:0:0,1,2,3", hunt=hunt_of(("reraid check", told)), unsound=9)
+        self.assertEqual(self.over().left_out(it), [frozenset({0, 1})])
+        self.assertIn("9 rows are unsound, 7 by image 0, 4 by image 1", self.report.text)
+        self.assertEqual(self.over().left_out(candidate(unsound=9)), [frozenset({image}) for image in range(3)])
+
+    def test_told_once(self) -> None:
+        tests = self.over()
+        for verdict in (whole(), whole(), whole(None, 0)):
+            tests.tell(candidate(verdict=verdict))
+        self.assertEqual(self.report.lines, [f"  {SET}: xfs: said; 1 of 1 files whole"])
+
+
+class Printed(unittest.TestCase):
+    images = [Image(f"/x/{name}.img", k, 8000) for k, name in enumerate("abcd")]
+
+    def test_in_words(self) -> None:
+        names = [image.name for image in self.images]
+        self.assertEqual(words.in_words(read_word("5:ls:none:128:2048:2,-,1"), names),
+                         "RAID 5 of 3 disks, left-symmetric, chunks of 64 KiB, data from sector 2048; slots: c.img - b.img; in no slot: a.img d.img; "
+                         "missing: slot 1 of 0 to 2")
+        self.assertEqual(words.in_words(read_word("6:ls-6:by-data:1:0:0,1,2,3"), names),
+                         "RAID 6 of 4 disks, left-symmetric-6 (Q on the last slot), Q by the number of the data, chunks of 512 bytes, "
+                         "data from sector 0; slots: a.img b.img c.img d.img; in no slot: none; missing: none")
+        self.assertEqual(words.in_words(read_word("0:plain:none:8:7+9:1,0"), ["u/a", "v/a"]),
+                         "RAID 0 of 2 disks, chunks of 4 KiB, data from sector 7 of u/a, 9 of v/a; slots: v/a u/a; in no slot: none; missing: none")
+
+    def test_which_of_two_copies_cannot_be_known(self) -> None:
+        said = words.in_words(read_word("near2:128:2048:0,1,-,2"), [image.name for image in self.images[:3]])
+        self.assertEqual(said, "RAID 10 (near=2) of 4 disks, chunks of 64 KiB, data from sector 2048; slots: a.img=b.img -=c.img "
+                         "(which of two copies is the first cannot be known); in no slot: none; missing: one of slot 2 and slot 3 "
+                         "(which of the two copies is lost cannot be known)")
+        self.assertIn("missing: slot 1 of 0 to 2", words.missing(read_word("near2:128:2048:0,-,2")))
+
+    def test_left_out(self) -> None:
+        said = words.in_words(read_word("5:ls:none:8:0:0,-,1"), ["a", "b", "c", "d"], read_word("5:ls:none:8:0:0,3,1"))
+        self.assertIn("in no slot: c; left out for bad rows: d (slot 1); missing: slot 1", said)
+
+    def test_twins(self) -> None:
+        images = [*self.images[:2], Image("c", 2, 9, like=0), Image("d", 3, 9)]
+        self.assertEqual(words.twins(read_word("5:ls:none:8:0:0,1,3"), images),
+                         ["c and a.img hold the same: which of them stands there cannot be known"])
+        self.assertEqual(words.twins(read_word("5:ls:none:8:0:1,3,-"), images), [])
+
+    def test_mounts(self) -> None:
+        def lines(*findings: Finding) -> list[str]:
+            return words.mounts(Verdict(list(findings)), "class0/volume", 1000)
+        ext, xfs = Finding("", "ext4", True, "", (Piece(0, 500),)), Finding("", "xfs", True, "", (Piece(500, 500),))
+        self.assertEqual(lines(ext), ["mount -o ro,noload,loop class0/volume /mnt"])
+        self.assertEqual(lines(ext, xfs), ["mount -o ro,noload,loop,sizelimit=500 class0/volume /mnt",
+                                           "mount -o ro,norecovery,loop,offset=500 class0/volume /mnt"])
+        self.assertEqual(lines(Finding("", "LVM2_member", None, "", (Piece(512, 488),))),
+                         ["losetup -r -f --show -o 512 class0/volume", "vgchange -ay"])
+        self.assertEqual(lines(Finding("", "crypto_LUKS", None, "", (Piece(0, 9),))),
+                         ["cryptsetup open --readonly class0/volume class0", "mount -o ro /dev/mapper/class0 /mnt"])
+        self.assertEqual(lines(Finding("", "BitLocker", None, "", (Piece(512, 9),)))[0],
+                         "cryptsetup open --readonly --type bitlk $(losetup -r -f --show -o 512 class0/volume) class0")
+        self.assertEqual(lines(Finding("", "swap", None, "", (Piece(0, 9),)), Finding("", "xfs", True, "", (Piece(0, 9), Piece(20, 9)))), [])
+
+    def test_commands_of_a_volume_that_is_cut(self) -> None:
+        it = candidate(verdict=Verdict([Finding("", "xfs", True, "", (Piece(0, 900),), lacks=100)]))
+        length = read_word(SET).sectors(8000) * SECTOR + 100
+        self.assertEqual(words.commands(4, it, [Image("a b", 0, 8000), Image("c", 1, 8000)], 8000),
+                         [f"reraid-mount {SET} class4 'a b' c", "cp --sparse=always class4/volume class4.img", f"truncate -s {length} class4.img",
+                          "mount -o ro,norecovery,loop class4.img /mnt"])
+
+    def shown(self, *found: Candidate, as_json: bool = False, images: list[Image] | None = None) -> Told:
+        """What is printed of these candidates."""
+        report = Told(as_json)
+        table.show(report, found, images or self.images)
+        return report
+
+    def test_best(self) -> None:
+        two, one = candidate(verdict=whole(), number=1), candidate(verdict=whole(longest=50), number=2)
+        known = candidate(verdict=whole(None, 0))
+        self.assertEqual(words.best([two, one, known]), [(0, two)])
+        self.assertEqual(words.best([known, one]), [(1, one)])
+        self.assertEqual(words.best([known]), [])
+        self.assertEqual(words.best([dataclasses.replace(two, same=1)]), [])
+
+    def test_table(self) -> None:
+        it = candidate(verdict=whole(), unsound=3, groups=(Held("xfs", 0, 3, 1),), alike=["6:x"], old=("d.img is old",), rows="parity holds")
+        text = self.shown(it, candidate("5:la:none:128:2048:0,1,2", whole(False))).text
+        self.assertIn(f"++  0      {SET}  nothing   3 unsound xfs 3-1  xfs: said; 1 of 1 files whole\n           6:x", text)
+        self.assertIn("    1      5:la:none:128:2048:0,1,2", text)
+        self.assertIn("class 0: RAID 5 of 3 disks", text)
+        self.assertIn("\n  loosened: nothing; parity holds\n  the same volume, so not told apart: 6:x\n  d.img is old\n"
+                      "  to look into it, as root:\n    reraid-mount", text)
+        self.assertEqual(self.shown().lines[-1], "no candidates")
+
+    def test_why_there_is_no_sign(self) -> None:
+        little = whole()
+        little.length = 100000
+        self.assertIn("no sign: what was found covers 1% of the volume", self.shown(candidate(verdict=little)).text)
+        self.assertIn("one sign less: a group with most of the marks was left out", self.shown(candidate(verdict=whole(), left_most=True)).text)
+
+    def test_json(self) -> None:
+        report = self.shown(candidate(verdict=whole(), inside=None), as_json=True)
+        events = [json.loads(line) for line in report.lines]
+        self.assertEqual([it["event"] for it in events], ["candidate", "end", "words"])
+        self.assertEqual({name: events[0][name] for name in ("set", "score", "sign", "clean", "files", "files_whole", "loosened", "doubts")},
+                         {"set": SET, "score": 3, "sign": "++", "clean": True, "files": 1, "files_whole": 1, "loosened": [], "doubts": []})
+        self.assertEqual(events[2]["commands"][0], f"reraid-mount {SET} class0 /x/a.img /x/b.img /x/c.img /x/d.img")
+
+    def test_many(self) -> None:
+        many = [candidate(f"5:ls:none:8:{k}:0,1,2", whole(False, k), number=k) for k in range(30)]
+        text = self.shown(*many, candidate("5:la:none:8:0:0,1,2", Verdict())).text
+        self.assertIn("6 more: a checker found fault (--json has them all)\n1 more: nothing is known in the volume", text)
+        self.assertIn("5:ls:none:8:29:0,1,2", text)
+        self.assertNotIn("5:ls:none:8:5:0,1,2", text)
+        self.assertEqual(sum(line.startswith("{") for line in self.shown(*many, as_json=True).lines), 31)
+
+    def test_encrypted(self) -> None:
+        closed = [candidate(f"5:ls:none:8:{k}:0,1,2", whole(None, 0, "crypto_LUKS"), number=k) for k in (0, 2048)]
+        for it in closed:
+            it.found.files = Wholes()
+        text = self.shown(*closed).text
+        self.assertIn("encrypted (crypto_LUKS): no checker tells these classes from a wrong one. Try each with its key: class 0, 1\n"
+                      "class 0: RAID 5", text)
+        self.assertIn("    cryptsetup open --readonly class1/volume class1", text)
+
+    def test_maps_are_named(self) -> None:
+        images = [dataclasses.replace(image, map=Map("m", "", ())) for image in self.images]
+        self.assertIn("(this shows zeros where a map says unread; reraid salvage", self.shown(candidate(verdict=whole()), images=images).text)
+        self.assertNotIn("(this shows zeros", self.shown(candidate(verdict=whole())).text)
+
+
+class Reported(unittest.TestCase):
+    def test_lines_and_objects(self) -> None:
+        report = Told()
+        report.say("event", "text", number=1)
+        report.command("ls")
+        self.assertEqual(report.lines, ["text", "  $ ls"])
+        report = Told(True)
+        report.say("event", "text", number=1)
+        report.say("event", "täxt")
+        report.command("ls")
+        self.assertEqual([json.loads(line) for line in report.lines],
+                         [{"event": "event", "number": 1}, {"event": "event", "text": "täxt"}, {"event": "command", "command": "ls"}])
+
+    def test_progress(self) -> None:
+        report = Report()
+        report.total = 100 << 20
+        shown: list[str] = []
+        with mock.patch.object(report.bar, "show", shown.append):
+            report.progress("reraid survey", 20 << 20, 2)
+            report.progress("reraid list", 20 << 20, 2)
+        self.assertEqual(shown, ["reraid survey: 20 MiB read, 10 MiB/s, about 8 s left", "reraid list: 20 MiB read, 10 MiB/s"])
+
+
+class Nearest(unittest.TestCase):
+    def test_least_and_fewest(self) -> None:
+        def listed(_: list[str], text: str) -> Answer:
+            misfits, bad = (int(text.split(f"{name} ")[1].split()[0]) for name in ("misfits", "badrows"))
+            return put((f"1 {SET}\n" if misfits >= 5 and bad >= 100 else "") + "next 9 of 9\n")
+
+        def check(_: list[str], _text: str) -> Answer:
+            return put("unsound 100 of 1000\nfail\n")
+        found = Diagnosis(hunt_of(("reraid list", listed), ("reraid check", check)), Told(), 60, 1)
+        plan = plan_of(XFS)
+        self.assertEqual(found.least(plan.having(badrows=100), 12), 5)
+        self.assertIsNone(found.least(plan.having(badrows=100), 5))
+        self.assertEqual(found.fewest(plan.having(misfits=9), 8000), 100)
+        self.assertIsNone(found.fewest(plan, 8000))
+        found.until = 0
+        self.assertEqual(found.sets(plan.having(misfits=9, badrows=999), 5), [])
+
+    def test_order(self) -> None:
+        plan = plan_of(XFS)
+        near = [Near(SET, plan, Checked(5, 1000, (Held("xfs", 0, 3, 0),))), Near(SET, plan, Checked(50, 1000, (Held("xfs", 0, 9, 0),))),
+                Near(SET, plan, Checked(0, 1000, (Held("xfs", 0, 3, 4),)))]
+        self.assertLess(near[0].by_rows, near[1].by_rows)
+        self.assertLess(near[1].by_rows, near[2].by_rows)
+        self.assertEqual(min(it.by_marks for it in near), near[1].by_marks)
+
+
+if __name__ == "__main__":
+    unittest.main()

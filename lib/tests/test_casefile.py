@@ -1,0 +1,176 @@
+"""The page of a run: its strips, and that it shows what was said, as text alone."""
+
+import hashlib
+import html.parser
+import os
+import tempfile
+import unittest
+from typing import Any
+
+from reraid_try.casefile import drawing, page, strips
+from reraid_try.casefile.drawing import Bar, Lane
+from reraid_try.casefile.disks import Disks
+from reraid_try.casefile.record import Record
+
+# What has no end of its own in HTML.
+VOID = {"meta", "br", "path"}
+
+
+def image(number: int, sectors: int = 256, **more: Any) -> dict[str, Any]:
+    """An image as the run says it."""
+    return {"name": f"{number}.img", "number": number, "sectors": sectors, "rest": 0, "table": None, "own": False, "first": 0, "last": 9,
+            "like": None, "map": None, **more}
+
+
+class Nesting(html.parser.HTMLParser):
+    """Reads a page, and fails where an element ends that is not the last one open."""
+
+    def __init__(self) -> None:
+        super().__init__()
+        self.open: list[str] = []
+        self.words: list[str] = []
+
+    def handle_starttag(self, tag: str, attrs: list[tuple[str, str | None]]) -> None:
+        if tag not in VOID:
+            self.open.append(tag)
+
+    def handle_startendtag(self, tag: str, attrs: list[tuple[str, str | None]]) -> None:
+        pass
+
+    def handle_endtag(self, tag: str) -> None:
+        assert self.open and self.open[-1] == tag, (tag, self.open)
+        self.open.pop()
+
+    def handle_data(self, data: str) -> None:
+        self.words.append(data)
+
+
+def read(made: str) -> str:
+    """The text of a page whose elements are nested well."""
+    reader = Nesting()
+    reader.feed(made)
+    assert not reader.open, reader.open
+    return " ".join(" ".join(reader.words).split())
+
+
+class Strips(unittest.TestCase):
+    """Where images hold data."""
+
+    def setUp(self) -> None:
+        folder = tempfile.TemporaryDirectory()
+        self.addCleanup(folder.cleanup)
+        self.name = os.path.join(folder.name, "image")
+
+    def make(self, data: bytes) -> None:
+        """Makes the image."""
+        with open(self.name, "wb") as file:
+            file.write(data)
+
+    def test_one_scale(self) -> None:
+        self.assertEqual(strips.cell_of([256, 2560]), 10)
+        self.assertEqual(strips.cell_of([1]), 1)
+
+    def test_whole(self) -> None:
+        data = bytes(4096) + b"a" * 4096 + bytes(8192) + b"b" * 100
+        self.make(data)
+        answer = strips.whole(self.name, 3, 33, 16)
+        assert answer
+        self.assertEqual(answer[0], strips.Strip(3, 16, (50, 0, 100), 0))
+        self.assertEqual(answer[1], hashlib.sha256(data).hexdigest())
+
+    def test_sampled(self) -> None:
+        self.make(b"a" * 65536 + bytes(65536))
+        self.assertEqual(strips.sampled(self.name, 0, 256, 128), strips.Strip(0, 128, (100, 0), strips.LOOKS))
+
+    def test_little_is_not_nothing(self) -> None:
+        self.assertEqual(strips.percent(1, 1000), 1)
+        self.assertEqual(strips.percent(0, 1000), 0)
+        self.assertIsNone(strips.percent(0, 0))
+
+    def test_hashing(self) -> None:
+        self.make(b"a" * 1000)
+        hashing = strips.Hashing([(0, self.name, 1)], 1)
+        self.assertTrue(hashing.wait(60))
+        self.assertEqual((hashing.done, hashing.found[0].sha256), (1000, hashlib.sha256(b"a" * 1000).hexdigest()))
+
+
+class Drawing(unittest.TestCase):
+    """Bars of lanes."""
+
+    def test_joined(self) -> None:
+        self.assertEqual(drawing.joined([Bar(0, 1, "data"), Bar(1, 2, "data"), Bar(2, 3, "data", 50), Bar(4, 5, "data", 50)]),
+                         [Bar(0, 2, "data"), Bar(2, 3, "data", 50), Bar(4, 5, "data", 50)])
+
+    def test_scale(self) -> None:
+        made = drawing.lane(Lane("a<b", "told", (Bar(0, 50, "data"),), (25,), "xfs"), 100, 200)
+        self.assertIn("a&lt;b", made)
+        self.assertIn('class="data" d="M0 0h250v100h-250z"', made)
+        self.assertIn('class="tick xfs" d="M125 0V100"', made)
+
+
+class Pages(unittest.TestCase):
+    """The page of events."""
+
+    def made(self, *events: tuple[str, str, dict[str, Any]]) -> str:
+        """The text of the page of these."""
+        record = Record()
+        for event in events:
+            record.add(*event)
+        return read(page.page(record))
+
+    def test_nothing(self) -> None:
+        said = self.made()
+        self.assertIn("No candidate is told to be good", said)
+        self.assertIn("None: there was no trial", said)
+        self.assertIn("is not recorded where it was found", said)
+
+    def test_proved_only_with_a_kit(self) -> None:
+        run = {"began": "now", "words": ["reraid-try"], "kit": "kit-1"}
+        said = self.made(("run", "", run))
+        self.assertIn("it is proved that a listing holds exactly the sets that pass", said)
+        self.assertIn("proved and built with kit-1", said)
+
+    def test_names_are_texts(self) -> None:
+        said = self.made(("image", "", image(0, name='<script>"&.img')))
+        self.assertIn('image 0: <script>"&.img', said)
+
+    def test_hash(self) -> None:
+        first = {"image": 0, "sha256": "ab12", "bytes": 1024, "why": ""}
+        second = {"image": 1, "sha256": "", "bytes": 1024, "why": "the run was ended before"}
+        said = self.made(("image", "", image(0)), ("image", "", image(1)), ("hash", "", first), ("hash", "", second))
+        self.assertIn("SHA-256 ab12 of 1,024 bytes", said)
+        self.assertIn("SHA-256: the run was ended before", said)
+
+    def test_not_tried(self) -> None:
+        self.assertIn("levels 0: left out", self.made(("not tried", "levels 0: left out", {})))
+
+    def test_a_candidate(self) -> None:
+        candidate = {"class": 0, "set": "5:ls:none:128:2048:0,1,2", "alike": ["5:rs:none:128:2048:0,2,1"], "loosened": ["half the window"],
+                     "score": 3, "unsound": 7, "fits": ["ext 4"], "found": ["ext4: e2fsck clean"], "note": "", "trial": 2}
+        trial = {"number": 2, "shape": "levels 5, 3 members", "loosened": [], "listed": 1, "total": 9, "note": ""}
+        words = {"class": 0, "set": candidate["set"], "words": "RAID 5 of 3 disks", "rows": "", "commands": ["reraid-mount S d 0.img"]}
+        regions = [{"first": 0, "rows": 10, "tested": 10, "unsound": 3}, {"first": 10, "rows": 5, "tested": 5, "unsound": 0}]
+        said = self.made(("image", "", image(0)), ("trial", "", trial), ("candidate", "", candidate), ("words", "", words),
+                         ("parity", "", {"class": 0, "regions": regions}))
+        for wanted in ("++ class 0. RAID 5 of 3 disks", "reraid-mount S d 0.img", "7 rows unsound, ext 4", "candidates: class 0",
+                       "5:rs:none:128:2048:0,2,1", "3 of 15 rows that were tested are unsound, in 2 parts"):
+            self.assertIn(wanted, said)
+
+    def test_relations(self) -> None:
+        told = {"step": 10, "rows": [{"first": 0, "last": 40, "zero": [], "tied": [[0, 1]]}, {"first": 50, "last": 90, "zero": [1], "tied": []}],
+                "together": [{"images": [0, 1], "rows": 5}], "alone": [2], "free": 5, "total": 10}
+        record = Record()
+        for number in range(3):
+            record.add("image", "", image(number, 100))
+        record.add("relations", "", told)
+        made = Disks(record)
+        for number, wanted in enumerate(("tied in 5 rows, untied with data in 5", "tied in 5 rows, untied with data in 0",
+                                         "tied in 0 rows, untied with data in 10")):
+            lane = made.tied(number)
+            assert lane
+            self.assertEqual(lane.told, wanted)
+        self.assertIn("images 0, 1 stand together in 5 rows", read(page.page(record)))
+
+
+if __name__ == "__main__":
+    unittest.main()

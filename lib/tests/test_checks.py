@@ -1,0 +1,447 @@
+"""Volumes, file systems, verdicts, checkers, files that are whole, and logical volumes."""
+
+import bz2
+import gzip
+import io
+import lzma
+import os
+import struct
+import threading
+import unittest
+import zipfile
+import zlib
+from unittest import mock
+
+from reraid_try.calls.commands import Answer, Commands
+from reraid_try.calls.sets import read_word
+from reraid_try.checks import checkers, lvm, systems, volumes, wholes
+from reraid_try.checks.checkers import Checkers, lacking, seen_length
+from reraid_try.checks.lvm import Piece
+from reraid_try.checks.systems import SYSTEMS, system_of
+from reraid_try.checks.verdicts import Finding, Score, Verdict, covered
+from reraid_try.checks.volumes import Region, Room, Source, Volume
+from reraid_try.checks.wholes import Wholes
+from reraid_try.errors import OutsideError
+from reraid_try.units import KIB, MIB, SECTOR
+from tests.standin import InFolder, Standin, put
+from tests.test_images import ext_super, mbr
+
+NOISE = b"".join(struct.pack("<I", zlib.crc32(struct.pack("<I", k))) for k in range(64 * 1024))
+LVM = """vg {
+extent_size = 8 # sectors
+physical_volumes {
+pv0 {
+pe_start = 16
+}
+}
+logical_volumes {
+home {
+segment_count = 2
+segment2 {
+start_extent = 1
+extent_count = 3
+type = "striped"
+stripe_count = 1
+stripes = [
+"pv0", 10
+]
+}
+segment1 {
+start_extent = 0
+extent_count = 1
+type = "striped"
+stripe_count = 1
+stripes = [ "pv0", 0 ]
+}
+}
+wide {
+segment1 {
+start_extent = 0
+extent_count = 1
+type = "striped"
+stripe_count = 2
+stripes = [ "pv0", 0, "pv1", 0 ]
+}
+}
+}
+}
+"""
+
+
+class Logical(unittest.TestCase):
+    def test_pieces_in_order(self) -> None:
+        found = lvm.logical_volumes(LVM, 1000)
+        base = 1000 + 16 * SECTOR
+        self.assertEqual([it.name for it in found], ["home"])
+        self.assertEqual(found[0].pieces, (Piece(base, 8 * SECTOR), Piece(base + 80 * SECTOR, 24 * SECTOR)))
+
+    def test_no_text(self) -> None:
+        for text in ("", "vg {", "vg { physical_volumes { } }", LVM.replace("pe_start = 16", ""), LVM.replace("_count = 1", "_count = x")):
+            self.assertEqual(lvm.logical_volumes(text, 0), [])
+
+
+class Lengths(unittest.TestCase):
+    def test_by_their_heads(self) -> None:
+        def length(kind: str, *fields: tuple[int, bytes]) -> int:
+            head = bytearray(128 * KIB)
+            for place, data in fields:
+                head[place:place + len(data)] = data
+            return system_of(kind).length_of(bytes(head))
+        little = struct.Struct("<I").pack
+        self.assertEqual(length("ext4", (1024, ext_super())), 1000 * 4096)
+        self.assertEqual(length("ext4", (1024, ext_super()), (1024 + 96, little(0x80)), (1024 + 336, little(1))), (1000 + (1 << 32)) * 4096)
+        self.assertEqual(length("ext4", (1024, ext_super()), (1024 + 336, little(1))), 1000 * 4096)
+        self.assertEqual(length("xfs", (4, struct.pack(">IQ", 4096, 77))), 77 * 4096)
+        self.assertEqual(length("ntfs", (40, struct.pack("<Q", 99))), 100 * SECTOR)
+        self.assertEqual(length("btrfs", (65536 + 0xC9 + 8, struct.pack("<Q", 12345))), 12345)
+        self.assertEqual(length("vfat", (11, struct.pack("<H", 512)), (32, little(100000))), 512 * 100000)
+        self.assertEqual(length("vfat", (11, struct.pack("<H", 512)), (19, struct.pack("<H", 9000))), 512 * 9000)
+        self.assertEqual(length("exfat", (72, struct.pack("<Q", 50)), (108, b"\x09")), 50 * 512)
+        self.assertEqual((length("swap"), length("crypto_LUKS"), SYSTEMS["xfs"].length_of(b"XFSB")), (0, 0, 0))
+
+    def test_rows(self) -> None:
+        self.assertEqual(SYSTEMS["ext4"].command("v", 0), ["e2fsck", "-fn", "v"])
+        self.assertEqual(SYSTEMS["ext4"].command("v", 512), ["e2fsck", "-fn", "v?offset=512"])
+        self.assertEqual(SYSTEMS["xfs"].command("v", 512), ["xfs_repair", "-n", "-f", "v"])
+        with self.assertRaises(ValueError):
+            SYSTEMS["vfat"].command("v")
+        # A checker may change nothing, and a mount may not write, not even a journal.
+        for it in SYSTEMS.values():
+            self.assertTrue(it.tool is None or it.tool in ("pvck",) or any(word in it.words for word in ("-n", "-fn", "--readonly")))
+            self.assertTrue(it.mount is None or it.mount.startswith("ro"))
+            self.assertTrue(not it.opened or "--readonly" in it.opened)
+        self.assertEqual([kind for kind, it in SYSTEMS.items() if it.mount == "ro,noload"], ["ext3", "ext4"])
+
+
+class Verdicts(unittest.TestCase):
+    def verdict(self, *findings: Finding, files: Wholes | None = None, length: int = 1000, **values: object) -> Verdict:
+        """What was found in a volume of 1,000 bytes, chunks of 10 and rows of 30."""
+        return Verdict(list(findings), files or Wholes(), [], length, 10, 30, **values)  # type: ignore[arg-type]
+
+    def found(self, kind: str = "xfs", clean: bool | None = True, length: int = 1000, table: bool = False) -> Finding:
+        """A file system at the start."""
+        return Finding("", kind, clean, "", (Piece(0, length),), table=table)
+
+    def test_scores(self) -> None:
+        rows: list[tuple[Verdict, Score]] = [
+            (self.verdict(), Score.NOTHING),
+            (self.verdict(self.found()), Score.CHECKED),
+            (self.verdict(self.found(clean=False)), Score.NOTHING),
+            (self.verdict(self.found(), self.found(clean=False)), Score.NOTHING),
+            (self.verdict(self.found(clean=None)), Score.KNOWN),
+            (self.verdict(self.found(), empty=True), Score.NOTHING),
+            (self.verdict(self.found(), files=Wholes(2, 1, 31)), Score.WHOLE),
+            (self.verdict(self.found(), files=Wholes(2, 1, 30)), Score.CHECKED),
+            (self.verdict(self.found(), files=Wholes(3, 1, 31)), Score.CHECKED),
+            (self.verdict(self.found(clean=None), files=Wholes(2, 1, 31)), Score.WHOLE),
+            (self.verdict(self.found(clean=None), files=Wholes(2, 0, 0)), Score.NOTHING),
+            (self.verdict(self.found(), files=Wholes(2, 0, 0)), Score.CHECKED),
+            (self.verdict(self.found("btrfs")), Score.WHOLE),
+            (self.verdict(self.found("btrfs", None)), Score.KNOWN),
+            (self.verdict(self.found(), files=Wholes(2, 2, 9, True, Wholes(1, 1, 31))), Score.WHOLE),
+        ]
+        for number, (verdict, score) in enumerate(rows):
+            self.assertEqual(verdict.score, score, number)
+        self.assertEqual([score.sign for score in Score], ["", "", "+", "++"])
+
+    def test_no_sign_where_little_of_the_volume_is_covered(self) -> None:
+        little = self.verdict(self.found(length=249), files=Wholes(2, 2, 31))
+        self.assertEqual((little.score, little.doubts), (Score.KNOWN, ["what was found covers 24% of the volume"]))
+        self.assertEqual(self.verdict(self.found(length=250)).doubts, [])
+        two = self.verdict(self.found(length=200), Finding("", "ext4", True, "", (Piece(100, 149),)))
+        self.assertEqual((two.covers, two.score), (249, Score.KNOWN))
+        # What lies in a physical volume or a table counts, not these.
+        self.assertEqual(self.verdict(self.found("LVM2_member", None), self.found(length=100)).score, Score.KNOWN)
+
+    def test_no_sign_where_only_files_within_a_chunk_are_whole(self) -> None:
+        within = self.verdict(self.found(), files=Wholes(64, 61, 10))
+        self.assertEqual((within.score, within.doubts), (Score.KNOWN, ["only files within one chunk are whole, as in any order of the chunks"]))
+        for files in (Wholes(64, 61, 11), Wholes(64, 64, 10), Wholes(4, 0, 0)):
+            self.assertEqual(self.verdict(self.found(), files=files).score, Score.CHECKED)
+
+    def test_covered(self) -> None:
+        self.assertEqual(covered([Piece(0, 10), Piece(5, 10), Piece(95, 10)], 100), 20)
+        self.assertEqual(covered([Piece(50, 10), Piece(0, 100)], 100), 100)
+        self.assertEqual(covered([], 100), 0)
+
+    def test_text(self) -> None:
+        verdict = self.verdict(Finding("at 9", "xfs", True, "xfs_repair clean"), files=Wholes(64, 61, 10, True))
+        verdict.notes.append("cut")
+        self.assertEqual(verdict.text(), "at 9 xfs: xfs_repair clean; 61 of the first 64 files whole, none longer than a chunk; cut")
+        self.assertEqual(self.verdict().text(), "nothing known; no such files")
+        self.assertEqual(self.verdict(self.found("btrfs")).text(), "btrfs")
+        self.assertEqual(Wholes(3, 2, 30).text(10, 30), "2 of 3 files whole, none longer than a row of chunks")
+        self.assertEqual(Wholes(3, 2, 31, True, Wholes(2, 1, 5)).text(10, 30), "2 of the first 3 files whole, 1 of 2 that may be long")
+        self.assertEqual(Wholes(3, 0, 0).text(10, 30), "0 of 3 files whole")
+
+    def test_encrypted_and_gain(self) -> None:
+        self.assertEqual(len(self.verdict(self.found("crypto_LUKS", None), self.found()).encrypted), 1)
+        self.assertGreater(self.verdict(self.found(), files=Wholes(2, 2, 9)).gain, self.verdict(self.found(), files=Wholes(2, 1, 9)).gain)
+
+
+def png(size: int) -> bytes:
+    """A picture of one chunk of so many bytes."""
+    def chunk(kind: bytes, body: bytes) -> bytes:
+        return struct.pack(">I", len(body)) + kind + body + struct.pack(">I", zlib.crc32(kind + body))
+    return b"\x89PNG\r\n\x1a\n" + chunk(b"IDAT", NOISE[:size]) + chunk(b"IEND", b"")
+
+
+def zipped(method: int, size: int) -> bytes:
+    """A zip of one member."""
+    out = io.BytesIO()
+    with zipfile.ZipFile(out, "w", method) as archive:
+        archive.writestr("member", NOISE[:size])
+    return out.getvalue()
+
+
+class Files(InFolder):
+    def test_each_kind_whole_and_broken(self) -> None:
+        made = {"gzip": gzip.compress(NOISE[:9000]), "bzip2": bz2.compress(NOISE[:9000]), "xz": lzma.compress(NOISE[:9000]), "png": png(9000),
+                "zip": zipped(zipfile.ZIP_DEFLATED, 9000), "stored": zipped(zipfile.ZIP_STORED, 9000)}
+        for kind, data in made.items():
+            broken = bytearray(data)
+            broken[len(data) // 2] ^= 1
+            name = self.file(kind, bytes(SECTOR) + data + bytes(4 * SECTOR - len(data) % SECTOR) + bytes(broken) + bytes(9000))
+            told = wholes.count(name)
+            self.assertEqual((told.found, told.whole), (2, 1), kind)
+            self.assertGreater(told.longest, 8000)
+            self.assertLessEqual(told.longest, len(data))
+            name = self.file("cut", data[:len(data) * 2 // 3])
+            self.assertEqual((wholes.count(name).found, wholes.count(name).whole), (1, 0), kind)
+
+    def test_only_at_sectors_and_not_inside_of_whole_ones(self) -> None:
+        name = self.file("a", b"x" + gzip.compress(b"a" * 9) + bytes(999))
+        self.assertEqual(wholes.count(name).found, 0)
+        inner = gzip.compress(NOISE[:700]).ljust(1024, b"\0")
+        name = self.file("a", png(300)[:-12].ljust(SECTOR, b"\0") + inner)
+        self.assertEqual((wholes.count(name).found, wholes.count(name).whole), (2, 1))
+
+    def test_many(self) -> None:
+        one = gzip.compress(b"a").ljust(SECTOR, b"\0")
+        told = wholes.count(self.file("a", one * 5), most=3)
+        self.assertEqual((told.found, told.whole, told.more), (3, 3, True))
+        self.assertFalse(wholes.count(self.file("a", one * 3), most=3).more)
+        self.assertEqual(wholes.count(self.file("a", one * 3), seconds=-1).found, 0)
+
+    def test_the_longest_ones(self) -> None:
+        small, large = gzip.compress(b"a").ljust(SECTOR, b"\0"), gzip.compress(NOISE[:200 * KIB])
+        name = self.file("a", small * 20 + large.ljust(400 * SECTOR + 512, b"\0") + small * 5)
+        told = wholes.count_long(name, os.path.getsize(name), 100 * KIB, 20)
+        self.assertEqual((told.found, told.whole), (1, 1))
+        self.assertEqual(told.longest, len(large))
+
+    def test_zip_that_does_not_say_where_it_ends(self) -> None:
+        head = b"PK\3\4" + struct.pack("<HHH4xIIIHH", 20, 8, 0, 0, 0, 0, 1, 0) + b"a"
+        told = wholes.count(self.file("a", head.ljust(4096, b"\0")))
+        self.assertEqual((told.found, told.whole), (0, 0))
+
+
+class Rooms(InFolder):
+    def room(self, *rows: tuple[str, Answer]) -> Room:
+        """A room without mounts."""
+        room = Room(Standin(*rows), self.folder, mounts=False)
+        self.addCleanup(room.close)
+        return room
+
+    def test_source(self) -> None:
+        source = Source(read_word("5:ls:none:128:2048:0,1,2"), ("a", "b", "c"), 2048 + 128 * 10)
+        self.assertEqual(source.length, 20 * 128 * SECTOR)
+        self.assertEqual(source.command(99), (["reraid", "write", "set=5:ls:none:128:2048:0,1,2", "end=99", "--", "a", "b", "c"], None))
+        self.assertEqual(Source(source.word, ("a",), 9, "map 0\n").command(9)[0][1], "salvage")
+        self.assertEqual(Source(read_word("near2:8:0:0,1"), ("a",), 9, "map 0\n").command(9),
+                         (["reraid", "mirrorwrite", "set=near2:8:0:0,1", "end=9", "--", "a"], None))
+        self.assertEqual((source.row_end(2), source.row_end(99)), (2048 + 256, 2048 + 1280))
+
+    def test_written_and_cut(self) -> None:
+        source = Source(read_word("0:plain:none:8:0:0,1"), ("a", "b"), 80)
+        commands = Commands()
+        room = Room(commands, self.folder, mounts=False)
+        with mock.patch.object(Source, "command", lambda _, end: (["sh", "-c", f"head -c {end * 2 * SECTOR} /dev/zero | tr '\\0' x"], None)):
+            with room.volume(source, 1 << 30, 9) as volume:
+                assert volume
+                self.assertEqual((os.path.getsize(volume.path), volume.cut, volume.mounted), (160 * SECTOR, False, False))
+            with room.volume(source, 40 * SECTOR, 9) as volume:
+                assert volume
+                self.assertTrue(volume.cut)
+                with open(volume.path, "rb") as file:
+                    data = file.read()
+                # Two rows of chunks, of 16 sectors each.
+                self.assertEqual(data, b"x" * 32 * SECTOR + bytes(128 * SECTOR))
+        self.assertEqual(os.listdir(room.base), ["lock"])
+        room.close()
+        self.assertEqual(os.listdir(self.folder), [])
+
+    def test_that_could_not_be_written(self) -> None:
+        with self.room(("reraid write", Answer(10))).volume(Source(read_word("0:plain:none:8:0:0,1"), ("a", "b"), 80), 1 << 30, 9) as volume:
+            self.assertIsNone(volume)
+
+    def test_no_room(self) -> None:
+        with self.assertRaisesRegex(OutsideError, "^.*/none cannot be written: No such file.*--room"):
+            Room(Standin(), f"{self.folder}/none")
+
+    def test_regions(self) -> None:
+        data = b"a" * 1000 + b"b" * 1000 + bytes(1000)
+        volume = Volume(self.file("v", data), 3000)
+        room = self.room()
+        with room.region(volume, Region("", (Piece(0, 3000),)), 3000) as path:
+            self.assertEqual(path, volume.path)
+        with room.region(volume, Region("", (Piece(1000, 500), Piece(0, 500))), 900) as path:
+            assert path
+            with open(path, "rb") as file:
+                self.assertEqual(file.read(), b"b" * 500 + b"a" * 400)
+        with room.region(volume, Region("", (Piece(0, 3000),)), 4000) as path:
+            assert path
+            with open(path, "rb") as file:
+                self.assertEqual(file.read(), data + bytes(1000))
+        with mock.patch.object(Room, "free", lambda _: 100):
+            with room.region(volume, Region("", (Piece(0, 1500),)), 1500) as path:
+                self.assertIsNone(path)
+        region = Region("", (Piece(1000, 500), Piece(2900, 500)))
+        self.assertEqual((region.there(3000), region.first, region.length), (600, 1000, 1000))
+        self.assertEqual(region.up_to(700), (Piece(1000, 500), Piece(2900, 200)))
+
+    def test_what_a_killed_run_left_is_taken_away(self) -> None:
+        old, kept, new = (f"{self.folder}/{volumes.PREFIX}{name}" for name in ("old", "kept", "new"))
+        for name in (old, kept, new):
+            os.mkdir(name)
+            with open(f"{name}/{volumes.LOCK}", "w", encoding="ascii"):
+                pass
+        lock = volumes.locked(f"{kept}/{volumes.LOCK}", "r")
+        for name in (old, kept):
+            os.utime(name, (1, 1))
+        os.mkdir(f"{self.folder}/other")
+        self.room()
+        self.assertEqual([os.path.exists(name) for name in (old, kept, new, f"{self.folder}/other")], [False, True, True, True])
+        assert lock
+        lock.close()
+
+
+class Looks(InFolder):
+    def checkers(self, *rows: tuple[str, Answer | object], there: tuple[str, ...] = systems.TOOLS) -> Checkers:
+        """Checkers with these tools and answers."""
+        self.standin = Standin(*rows)  # type: ignore[arg-type]
+        room = Room(self.standin, self.folder, mounts=False)
+        self.addCleanup(room.close)
+        found = Checkers(self.standin, room, 60, 1 << 40)
+        found.there = set(there)
+        return found
+
+    def volume(self, *parts: tuple[int, bytes], length: int = 4 * MIB) -> Volume:
+        """A volume with these bytes at these sectors."""
+        data = bytearray(length)
+        for sector, part in parts:
+            data[sector * SECTOR:sector * SECTOR + len(part)] = part
+        return Volume(self.file("volume", bytes(data)), length)
+
+    def xfs(self, length: int) -> bytes:
+        """The head of an XFS."""
+        return b"XFSB" + struct.pack(">IQ", 4096, length // 4096)
+
+    def test_clean_file_system(self) -> None:
+        verdict = self.checkers(("xfs_repair", put(""))).look(self.volume((0, self.xfs(4 * MIB))), [0], 4096, 8192)
+        self.assertEqual((verdict.text(), verdict.score), ("xfs: xfs_repair clean; no such files", Score.CHECKED))
+        self.assertEqual(self.standin.count("xfs_repair -n -f"), 1)
+
+    def test_fault(self) -> None:
+        verdict = self.checkers(("xfs_repair", Answer(1))).look(self.volume((0, self.xfs(4 * MIB))), [], 4096, 8192)
+        self.assertEqual((verdict.findings[0].said, verdict.score), ("xfs_repair status 1", Score.NOTHING))
+        verdict = self.checkers(("xfs_repair", Answer(None))).look(self.volume((0, self.xfs(4 * MIB))), [], 4096, 8192)
+        self.assertEqual((verdict.findings[0].said, verdict.score), ("xfs_repair took too long", Score.KNOWN))
+
+    def test_tool_that_is_not_there(self) -> None:
+        verdict = self.checkers(there=()).look(self.volume((0, self.xfs(4 * MIB))), [], 4096, 8192)
+        self.assertEqual((verdict.findings[0].said, verdict.score), ("no xfs_repair here", Score.KNOWN))
+
+    def test_partitions_and_origins(self) -> None:
+        table = mbr((0, 0x83, 2048, 4096))
+        found = self.checkers(("xfs_repair", put("")), ("e2fsck", put("")))
+        verdict = found.look(self.volume((0, table), (2048, self.xfs(2 * MIB)), (7000, bytes(1024) + ext_super())), [7000, 7000, 99999], 4096, 8192)
+        self.assertEqual([finding.text() for finding in verdict.findings], ["MBR", "at 2048 xfs: xfs_repair clean", "at 7000 ext4: e2fsck clean"])
+        self.assertIn(["e2fsck", "-fn", f"{self.folder}/volume?offset={7000 * SECTOR}"], [words for words, _ in self.standin.asked])
+        self.assertTrue(verdict.findings[0].table)
+
+    def test_table_alone_is_empty(self) -> None:
+        verdict = self.checkers().look(self.volume((0, mbr((0, 0x83, 2048, 4096)))), [], 4096, 8192)
+        self.assertEqual((verdict.text(), verdict.score), ("MBR: nothing known in it; no such files", Score.NOTHING))
+
+    def test_logical_volumes(self) -> None:
+        place = 16 + 80
+        found = self.checkers(("pvck", put(LVM.replace("stripes = [ \"pv0\", 0 ]", "stripes = [ \"pv0\", 9 ]"))), ("xfs_repair", put("")))
+        head = bytes(SECTOR) + b"LABELONE"
+        verdict = found.look(self.volume((0, head), (16 + 72, self.xfs(32 * SECTOR))), [], 4096, 8192)
+        self.assertEqual(len(verdict.findings), 1)
+        one = LVM.replace('"pv0", 0 ]', '"pv0", 9 ]').replace("extent_count = 1\n", "extent_count = 64\n").replace("segment2", "nothing2")
+        found = self.checkers(("pvck", put(one)), ("xfs_repair", put("")))
+        verdict = found.look(self.volume((0, head), (16 + 72, self.xfs(64 * 8 * SECTOR))), [], 4096, 8192)
+        self.assertEqual([finding.text() for finding in verdict.findings], ["LVM2_member: pvck clean", "logical volume home: xfs: xfs_repair clean"])
+        self.assertIsNone(verdict.findings[0].clean)
+        self.assertEqual(place, 96)
+
+    def test_volume_that_ends_too_soon(self) -> None:
+        seen: list[int] = []
+
+        def sized(words: list[str], _: str) -> Answer:
+            seen.append(os.path.getsize(words[-1]))
+            return Answer(0)
+        found = self.checkers(("xfs_repair", sized))
+        verdict = found.look(self.volume((0, self.xfs(5 * MIB))), [], 4096, 8192)
+        self.assertEqual((seen, verdict.findings[0].lacks), ([5 * MIB], MIB))
+        self.assertEqual(verdict.findings[0].said, "xfs_repair clean, with zeros for its last 1.0 MiB, which are not there")
+        # Where most of it is missing nothing is put behind it.
+        found.look(self.volume((0, self.xfs(50 * MIB))), [], 4096, 8192)
+        self.assertEqual(seen[1:], [4 * MIB])
+        self.assertEqual((lacking(100, 75), lacking(100, 74), lacking(100, 200)), (25, 0, 0))
+
+    def test_ntfs_sees_no_more_than_it_has(self) -> None:
+        seen: list[int] = []
+
+        def sized(words: list[str], _: str) -> Answer:
+            seen.append(os.path.getsize(words[-1]))
+            return Answer(0)
+        self.checkers(("ntfsfix", sized)).look(self.volume((0, b"\xeb\x52\x90NTFS    ".ljust(40, b"\0") + struct.pack("<Q", 4095))), [], 4096, 8192)
+        self.assertEqual(seen, [2 * MIB])
+
+        def ends_as_it_begins(words: list[str], _: str) -> Answer:
+            with open(words[-1], "rb") as file:
+                data = file.read()
+            return Answer(int(len(data) != 5 * MIB or data[-SECTOR:] != data[:SECTOR] or any(data[-MIB:-SECTOR])))
+        head = b"\xeb\x52\x90NTFS    ".ljust(40, b"\0") + struct.pack("<Q", 10239)
+        verdict = self.checkers(("ntfsfix", ends_as_it_begins)).look(self.volume((0, head)), [], 4096, 8192)
+        self.assertEqual(verdict.findings[0].text(), "ntfs: ntfsfix clean, with zeros and a copy of its first sector for its last 1.0 MiB, "
+                         "which are not there")
+        self.assertEqual((seen_length(SYSTEMS["ntfs"], 0, 50, 0), seen_length(SYSTEMS["xfs"], 40, 50, 0)), (50, 50))
+
+    def test_encrypted(self) -> None:
+        verdict = self.checkers().look(self.volume((0, b"LUKS\xba\xbe")), [], 4096, 8192)
+        self.assertEqual((verdict.text(), verdict.score), ("crypto_LUKS: encrypted; no such files", Score.KNOWN))
+
+    def test_blkid_is_asked_where_it_is_there(self) -> None:
+        found = self.checkers(("blkid", put("DEVNAME=x\nTYPE=xfs\n")), ("xfs_repair", put("")), there=("blkid", "xfs_repair"))
+        self.assertEqual(found.kind_of("v", Region("", (Piece(5, 9),))), "xfs")
+        self.assertEqual(self.standin.asked[0][0], ["blkid", "-p", "-O", "5", "-S", "9", "-o", "export", "v"])
+        self.assertIsNone(self.checkers(("blkid", Answer(2)), there=("blkid",)).kind_of("v", Region("", (Piece(5, 9),))))
+
+    def test_files_are_counted_but_not_where_all_sums_are_right(self) -> None:
+        one = gzip.compress(NOISE[:9000])
+        verdict = self.checkers(("xfs_repair", put(""))).look(self.volume((0, self.xfs(4 * MIB)), (100, one)), [], 512, 1024)
+        self.assertEqual((verdict.files.found, verdict.files.whole, verdict.score), (1, 1, Score.WHOLE))
+        head = bytes(65600) + b"_BHRfS_M"
+        verdict = self.checkers(("btrfs check", put(""))).look(self.volume((0, head), (1000, one)), [], 512, 1024)
+        self.assertEqual((verdict.files.found, verdict.text()), (0, "btrfs: btrfs clean, the sums of all data right"))
+
+    def test_long_files_are_looked_for_where_the_first_are_short(self) -> None:
+        small = gzip.compress(b"a").ljust(SECTOR, b"\0")
+        volume = self.volume((0, self.xfs(4 * MIB)), (8, small * 70), (200, gzip.compress(NOISE[:100 * KIB])))
+        verdict = self.checkers(("xfs_repair", put(""))).look(volume, [], 32 * KIB, 64 * KIB)
+        self.assertTrue(verdict.files.long and verdict.files.long.whole == 1)
+        self.assertEqual(verdict.score, Score.WHOLE)
+
+    def test_is_there(self) -> None:
+        self.assertTrue(checkers.is_there("sh"))
+        self.assertFalse(checkers.is_there("no-such-command-here"))
+        self.assertEqual((checkers.size_said(1), checkers.size_said(3 * MIB // 2)), ("1 byte", "1.5 MiB"))
+        self.assertTrue(threading.active_count() >= 1)
+
+
+if __name__ == "__main__":
+    unittest.main()

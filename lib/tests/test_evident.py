@@ -1,0 +1,163 @@
+"""What is tried of images by their evidence, in which order, and what is left."""
+
+import random
+import types
+import unittest
+from collections.abc import Sequence
+from typing import Any, cast
+
+from reraid_try.calls.commands import Answer, Words
+from reraid_try.evidence.images import Image
+from reraid_try.evidence.tables import Partition, Table
+from reraid_try.options import Options
+from reraid_try.policy.evident import Evident, Part
+from reraid_try.policy.plain import Aim, Span
+from reraid_try.policy.shapes import Shape
+from reraid_try.policy.steps import Step
+
+from . import rows
+from .standin import Told
+from .test_ties import Standin, disks
+
+
+class NoTools(Standin):
+    """`mdadm` finds nothing."""
+
+    def run(self, words: Words, text: str | None = None, seconds: float | None = None) -> Answer:
+        """The relations of images; of `mdadm` that there is nothing."""
+        return super().run(words, text, seconds) if words[0] == "reraid" else Answer(1)
+
+
+def evident(images: Sequence[Image], runner: Standin, options: Options) -> tuple[Evident, Told]:
+    """The evidence of a search over these images, and its report."""
+    report = Told()
+    room = types.SimpleNamespace(base="/nowhere")
+    search = types.SimpleNamespace(images=images, options=options, report=report, commands=runner, room=room, tested=[])
+    return Evident(cast(Any, search)), report
+
+
+class Without(Evident):
+    """Evidence that finds no text of LVM2, and of which stated aims say enough."""
+
+    good: frozenset[int] = frozenset()
+    tried: list[Aim]
+    order: Sequence[Aim] = ()
+
+    def aims(self, part: Part) -> list[Aim]:
+        """Those that are stated."""
+        return list(self.order)
+
+    def seek(self, aim: Aim) -> bool:
+        """The trial of an aim says enough where that is stated."""
+        self.tried.append(aim)
+        return self.order.index(aim) in self.good
+
+
+class Order(unittest.TestCase):
+    """Which aims are tried."""
+
+    def tried(self, good: frozenset[int], *aims: Aim) -> tuple[bool, list[int]]:
+        """Whether some aim says enough, and which were tried."""
+        it = Without(cast(Any, types.SimpleNamespace(options=Options(("a",)))))
+        it.good, it.order, it.tried = good, aims, []
+        done = it.of_part(Part((0, 1, 2), Span(0, 9)))
+        return done, [aims.index(aim) for aim in it.tried]
+
+    def test_solved(self) -> None:
+        """What is known enough is tried no more, and other images are."""
+        first, again, other = (Aim(images, Span(0, 9), why) for images, why in (((0, 1, 2), "a"), ((1, 2), "b"), ((3, 4), "c")))
+        self.assertEqual(self.tried(frozenset({0}), first, again, other), (True, [0, 2]))
+        self.assertEqual(self.tried(frozenset(), first, again, other), (False, [0, 1, 2]))
+        self.assertEqual(self.tried(frozenset({1}), first, again, other), (True, [0, 1, 2]))
+
+
+class Zeros(Evident):
+    """Evidence that keeps in which order an aim is tried."""
+
+    order: list[str]
+
+    def by_places(self, hunt: Any, aim: Aim) -> bool:
+        """What zeros allow is asked."""
+        self.order.append("zeros")
+        return False
+
+
+class Attempts(unittest.TestCase):
+    """In which order the shapes of an aim are tried."""
+
+    def order(self, shape: Shape, groups: bool) -> list[str]:
+        """What is asked of a shape, with marks or without."""
+        asked: list[str] = []
+
+        def step(it: Step, _hunt: Any) -> bool:
+            """A listing with so much loosened."""
+            asked.append(f"list {it.count}")
+            return False
+
+        def bare(_hunt: Any, _shape: Shape) -> bool:
+            """A listing without landmarks."""
+            asked.append("bare")
+            return False
+        it = Zeros(cast(Any, types.SimpleNamespace(options=Options(("a",)), take_step=step, attempt_bare=bare, tested=[])))
+        it.order = asked
+        hunt = types.SimpleNamespace(plan=types.SimpleNamespace(groups=["a group"] if groups else []))
+        it.attempt(cast(Any, hunt), Aim((0, 1, 2), Span(0, 9), "why", (shape,), tied=True), 0)
+        return asked
+
+    def test_marks_and_parity(self) -> None:
+        """Where parity tells something and there are marks a plain listing comes before what zeros allow."""
+        self.assertEqual(self.order(Shape("6", 6, 1), True), ["list 0", "zeros", "list 1", "list 2"])
+
+    def test_no_parity_or_no_marks(self) -> None:
+        """Where no parity is left, or without marks, zeros come first; without both all sets are listed too."""
+        self.assertEqual(self.order(Shape("5", 6, 1), True), ["zeros", "list 0", "list 1", "list 2"])
+        self.assertEqual(self.order(Shape("6", 6), False), ["zeros", "list 0", "list 1", "list 2"])
+        self.assertEqual(self.order(Shape("0", 3), False), ["zeros", "list 0", "bare", "list 1", "list 2"])
+
+
+class Evidence(unittest.TestCase):
+    """What images say."""
+
+    def aims(self, images: Sequence[Image], runner: Standin, options: Options | None = None) -> tuple[list[Aim], list[str]]:
+        """The aims of all parts, and what was said."""
+        found, report = evident(images, runner, options or Options(tuple(image.name for image in images)))
+        setattr(found, "by_metadata", lambda part: [])
+        return [aim for part in found.parts() for aim in found.aims(part)], report.lines
+
+    def test_level_6_with_a_foreign_disk(self) -> None:
+        """The images that belong together are searched, at the level and with as many lost as ties say."""
+        rnd = random.Random(2)
+        made = rows.beside(rows.without(rows.striped(rnd, 6, 6, 600, chunk=16), 1), rows.alone(rnd, 600))
+        runner, images = disks(made)
+        found, said = self.aims(images, runner)
+        self.assertEqual([(aim.images, aim.shapes, dict(aim.asked), aim.begin) for aim in found],
+                         [((0, 1, 2, 3, 4), (Shape("6", 6, 1),), {"chunks": "16"}, 0)])
+        self.assertEqual(len(said), 2)
+
+    def test_an_image_twice_and_an_empty_one(self) -> None:
+        """An image that is there twice counts once, and one of zeros not at all; that two are the same is tried as RAID 10 after that."""
+        rnd = random.Random(3)
+        runner, images = disks([[*row, row[1], bytes(rows.COLUMNS)] for row in rows.striped(rnd, 4, 5, 300)])
+        images[4] = Image(images[4].name, 4, 300, first=0, like=1)
+        images[5] = Image(images[5].name, 5, 300)
+        found, _ = self.aims(images, runner)
+        self.assertEqual([(aim.images, aim.shapes, aim.copied) for aim in found],
+                         [((0, 1, 2, 3), (Shape("5", 4),), False), ((0, 1, 2, 3, 4), (), True)])
+
+    def test_no_relations(self) -> None:
+        """Where no relations were had in their time nothing is tried for their sake."""
+        runner, images = disks([[bytes(rows.COLUMNS)] * 3] * 4)
+        runner.answer = Answer(None)
+        self.assertEqual(self.aims(images, runner), ([], []))
+
+    def test_partitions(self) -> None:
+        """Without a table in common the whole disks are one part."""
+        _, images = disks([[bytes(rows.COLUMNS)] * 2] * 64)
+        table = Table("MBR", True, (Partition(8, 20, "fd"),))
+        seen = [Image(it.name, it.number, 64, first=0, table=table if it.number else Table()) for it in images]
+        found, _ = evident(seen, NoTools({}), Options(("a",)))
+        self.assertEqual(list(found.parts()), [Part((0, 1), Span(0, 64))])
+
+
+if __name__ == "__main__":
+    unittest.main()

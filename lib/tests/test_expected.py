@@ -1,0 +1,57 @@
+"""What is said of refused words."""
+
+import unittest
+
+from reraid_words.expected import expected
+from reraid_words.values import sectors
+
+
+def said(command: str, *words: str, place: int = 0) -> str:
+    """The lines, as one text."""
+    return "\n".join(expected(command, words, place))
+
+
+class Expected(unittest.TestCase):
+    """Each kind of mistake, with the word that is meant."""
+
+    def test_units(self) -> None:
+        self.assertEqual(sectors("64K"), 128)
+        self.assertEqual(sectors("1MiB"), 2048)
+        self.assertIsNone(sectors("64"))
+        self.assertIn("so 128 for 64K", said("survey", "chunks=64K"))
+        self.assertIn("so 2048 for 1M", said("nbd", "set=5:ls:none:128:1M:0,1,2"))
+
+    def test_names_of_mdadm(self) -> None:
+        self.assertIn("is la meant?", said("survey", "patterns=left-asymmetric"))
+        self.assertIn("is ls meant?", said("nbd", "set=5:left-symmetric:none:128:2048:0,1,2"))
+        self.assertIn("is ext meant?", said("survey", "kinds=ext4"))
+        self.assertIn("reraid mirrors", said("survey", "levels=10"))
+
+    def test_operands(self) -> None:
+        self.assertIn("is chunks meant?", said("survey", "chunk=128"))
+        self.assertIn("is members meant?", said("survey", "--raid-devices=4"))
+        self.assertIn("the operands are set= end= and", said("write", "form=json"))
+        self.assertIn("stands twice", said("survey", "levels=5", "levels=6", place=1))
+
+    def test_lists(self) -> None:
+        self.assertIn("kinds=gpt,xfs", said("survey", "kinds=xfs,gpt"))
+        self.assertIn("kinds are gpt,ntfs,xfs,btrfs,lvm,ext, in this order", said("survey", "kinds=zfs"))
+        self.assertIn("chunks=64,128", said("survey", "chunks=128,64"))
+        self.assertIn("powers of two", said("survey", "chunks=100"))
+        self.assertIn("from 2 to 24", said("survey", "members=25"))
+
+    def test_sets(self) -> None:
+        self.assertIn("LEVEL:PATTERN:ORDER:CHUNK:OFFSET:SLOTS", said("nbd", "set=5:ls"))
+        self.assertIn("near2:CHUNK", said("nbd", "set=near2:128"))
+        self.assertIn("after-q or by-data or by-slot", said("nbd", "set=6:ls:none:128:2048:0,1,2,3"))
+        self.assertIn("numbers of images", said("nbd", "set=5:ls:none:128:2048:a,b,c"))
+        self.assertEqual(said("nbd", "set=5:ls:none:128:2048:0,1,-"), "")
+
+    def test_shape(self) -> None:
+        self.assertIn("before the images stands --", said("nbd", "set=5:ls:none:128:2048:0,1,2", "a.img", place=1))
+        self.assertIn("-- and the images", said("nbd", "set=5:ls:none:128:2048:0,1,2", place=1))
+        self.assertIn("is survey meant?", said("survy"))
+
+
+if __name__ == "__main__":
+    unittest.main()

@@ -1,0 +1,171 @@
+"""Hints, the counts of filled sectors, and what is gathered."""
+
+import unittest
+
+from reraid_try.calls import surveys
+from reraid_try.calls.surveys import Surveys
+from reraid_try.errors import OutsideError
+from reraid_try.evidence import gathered, hints
+from reraid_try.evidence.filling import Filling
+from reraid_try.evidence.gathered import Pairs
+from reraid_try.evidence.heads import Head
+from reraid_try.evidence.hints import Hint, Source, What
+from reraid_try.evidence.images import Image
+from reraid_try.evidence.maps import Map
+from reraid_try.evidence.tables import Partition, Table
+from reraid_try.units import SECTOR
+from tests.standin import InFolder, Standin, plan_of, put
+from tests.test_images import mbr
+
+EVERY = "every:49152:4:0"
+
+
+def image(number: int, name: str = "", sectors: int = 100000, **values: object) -> Image:
+    """An image."""
+    return Image(name or f"i{number}", number, sectors, **values)  # type: ignore[arg-type]
+
+
+class Offsets(unittest.TestCase):
+    def test_first_mark_less_its_distance(self) -> None:
+        plan = plan_of(("xfs", [("super", 0, 2048, EVERY), ("super", 1, 26624, EVERY), ("agf", 0, 2056, "every:49152:4:8")]),
+                       ("ext", [("ext", 2, 7426, "at:262144")]))
+        found = hints.offsets(plan, [])
+        self.assertEqual([(hint.value, hint.shown, hint.spread, hint.source) for hint in found], [(2048, 1, 2, Source.MARK)])
+        self.assertEqual(found[0].line(), "hint: offset 2048, from mark super of image 0 at sector 2048, less 0; on 1 image")
+
+    def test_those_that_more_images_show_come_first(self) -> None:
+        plan = plan_of(("btrfs", [("btrfs", 0, 128, "at:128"), ("btrfs", 0, 4224, "at:128"), ("btrfs", 1, 128, "at:128")]),
+                       ("lvm", [("lvm", 2, 5001, "at:1")]))
+        found = hints.offsets(plan, [Head("mbr", 1, 9), Head("mbr", 2, 9), Head("mbr", 2, 5000)])
+        self.assertEqual([(hint.value, hint.shown) for hint in found], [(0, 2), (9, 2), (5000, 1)])
+        self.assertEqual(found[1].source, Source.HEAD)
+
+    def test_one_for_each_value(self) -> None:
+        found = hints.by_images([Hint(What.OFFSET, value, Source.HEAD, "why", shown) for value, shown in ((5, 1), (7, 2), (5, 3))])
+        self.assertEqual([(hint.value, hint.shown) for hint in found], [(5, 3), (7, 2)])
+
+    def test_places_of_a_group(self) -> None:
+        # A group of four allocation groups of 49,152 sectors, on three data disks with chunks of 128: without its first superblock.
+        marks = [("super", k, 6144 + 49152 * k // 3, EVERY) for k in (1, 2, 3)]
+        found = hints.placed_offsets(plan_of(("xfs", marks)), [3], [0], [])
+        self.assertEqual((found[0].value, found[0].source), (6144, Source.PLACES))
+        self.assertIn("3 places of group 0 (xfs, 3 marks), for 3 data disks and chunks of", found[0].why)
+        self.assertEqual(hints.placed_offsets(plan_of(("xfs", marks)), [3], [0], [6144]), [])
+        self.assertEqual(hints.placed_offsets(plan_of(("xfs", marks[:2])), [3], [0], []), [])
+
+
+class Data(unittest.TestCase):
+    def test_by_distances(self) -> None:
+        marks = [("super", k, 2048 + 16384 * k, EVERY) for k in range(4)]
+        found = hints.data_disks(plan_of(("xfs", marks)), 6)
+        self.assertEqual([(hint.value, hint.shown, hint.what) for hint in found], [(3, 4, What.DATA)])
+        self.assertEqual(hints.data_disks(plan_of(("xfs", marks)), 2), [])
+
+    def test_one_disk_is_no_array(self) -> None:
+        self.assertEqual(hints.data_disks(plan_of(("xfs", [("super", 0, 2048 + 49152 * k, EVERY) for k in range(3)])), 6), [])
+
+    def test_marks_at_known_places(self) -> None:
+        found = hints.data_disks(plan_of(("btrfs", [("btrfs", 0, 2048 + 32, "at:128"), ("btrfs", 1, 2048 + 32768, "at:131072")])), 6)
+        self.assertEqual([hint.value for hint in found], [4])
+
+    def test_level_by_copies(self) -> None:
+        def level(*images: int) -> list[Hint]:
+            return hints.level(plan_of(("xfs", [("super", it, 2048, EVERY) for it in images])), [])
+        self.assertEqual([hint.value for hint in level(0) + level(0, 1) + level(0, 1, 2)], [0, 5, 6])
+        self.assertEqual(level(0, 1, 2, 3) + hints.level(plan_of(), []), [])
+        self.assertIn("as two copies of RAID 10 do too", level(0, 1)[0].line())
+        self.assertIn("perhaps level 0, from a sector of one kind that 1 image shows at one place", level(2)[0].line())
+        self.assertEqual(hints.level(plan_of(), [Head("mbr", 0, 5), Head("mbr", 1, 5)])[0].value, 5)
+
+
+class OnImages(InFolder):
+    def test_lvm(self) -> None:
+        text = b'LABELONE' + bytes(4096) + b'extent_size = 8192\npe_start = 2048\nstripes = [\n"pv0", 3\n]\n"pv0", 0\n'
+        name = self.file("a", bytes(SECTOR) + text)
+        found = hints.lvm_origins(plan_of(("lvm", [("lvm", 0, 1, "at:1")])), {0: image(0, name)})
+        self.assertEqual([(hint.value, hint.source) for hint in found], [(2048, Source.LVM), (2048 + 3 * 8192, Source.LVM)])
+
+    def test_tables(self) -> None:
+        name = self.file("a", bytes(2048 * SECTOR) + mbr((0, 0xEE, 1, 99), (0, 7, 63, 99), (0, 7, 4096, 9)))
+        one = image(0, name, heads=(Head("mbr", 0, 2048), Head("ext", 0, 4)))
+        self.assertEqual([hint.value for hint in hints.table_origins([one], {2048, 4})], [63, 4096])
+        self.assertEqual(hints.table_origins([one], {0}), [])
+
+    def test_large_blocks(self) -> None:
+        name = self.file("a", bytes(8 * SECTOR) + mbr((0, 0xEE, 1, 99)) + bytes(7 * SECTOR) + b"EFI PART")
+        plan = plan_of(("gpt", [("gpt", 0, 16, "at:1")]))
+        self.assertEqual([(hint.what, hint.value) for hint in hints.logical(plan, {0: image(0, name)})], [(What.LOGICAL, 4096)])
+        near = self.file("b", bytes(8 * SECTOR) + mbr((0, 0xEE, 1, 99)) + bytes(6 * SECTOR) + mbr((0, 0xEE, 1, 99)))
+        self.assertEqual(hints.logical(plan, {0: image(0, near)}), [])
+
+    def test_what_cannot_be_read(self) -> None:
+        with self.assertRaises(OutsideError):
+            hints.read_at(f"{self.folder}/none", 0)
+
+    def test_bad_rows(self) -> None:
+        seen = [image(0), image(1, map=Map("m", "", ((0, 1024, "+"), (1024, 512, "-"))))]
+        self.assertEqual([(hint.value, hint.what) for hint in hints.bad_rows(seen, 100)], [(2, What.BAD_ROWS)])
+        self.assertEqual(hints.bad_rows(seen, 1), [])
+
+    def test_own_tables(self) -> None:
+        table = Table("MBR", True, (Partition(2048, 1000, "83"), Partition(4096, 5000, "83")))
+        seen = [image(0, table=table), image(1, table=table), image(2, table=Table("MBR", False, (Partition(7, 1, "83"),)))]
+        self.assertEqual([(hint.value, hint.shown) for hint in hints.own_offsets(seen, 1)], [(2048, 2)])
+        self.assertEqual([hint.value for hint in hints.own_offsets(seen, 9)], [2048, 4096])
+        self.assertEqual(hints.own_end(seen, 99999), [])
+        self.assertEqual([hint.value for hint in hints.own_end(seen[:2], 99999)], [9096])
+        self.assertEqual(hints.own_end(seen[:2], 9096), [])
+
+    def test_filling(self) -> None:
+        name = self.file("a", bytes(10 * SECTOR) + b"x" * 5 * SECTOR + bytes(10 * SECTOR) + b"y")
+        filling = Filling([name], [0, 12], 14, 26)
+        self.assertEqual([filling.behind(0), filling.behind(12), filling.behind(0, 11), filling.behind(5), filling.behind(40)], [4, 4, 1, 5, 0])
+
+
+class Gathered(InFolder):
+    def gather(self, text: str, pairs: Pairs | None = None, **values: object) -> gathered.Evidence:
+        """What is gathered of three images and a survey."""
+        names = [self.file(f"{k}.img", b"x" * 8000 * SECTOR) for k in range(3)]
+        seen = [image(k, name, 8000, **values) for k, name in enumerate(names)]
+        return gathered.gather(Surveys(Standin(("reraid survey", put(text))), names), seen, 1 << 30, pairs)
+
+    def plan(self, *marks: str) -> str:
+        """A survey's text with one group."""
+        return plan_of(lengths=(8000,) * 3).text().replace("done", "group xfs\n" + "".join(f"mark {mark}\n" for mark in marks) + "done")
+
+    def test_all_of_it(self) -> None:
+        found = self.gather(self.plan("super 0 2048 every:4096:2:0", "super 1 4096 every:4096:2:0"))
+        self.assertEqual((found.end, found.window, found.filled, found.unread), (8000, 8000, 8000, 0))
+        self.assertEqual((found.offset_values[0], [hint.value for hint in found.data], [hint.value for hint in found.levels]), (2048, [2], [0]))
+        self.assertEqual(found.tried, (0, 2048))
+        self.assertEqual((found.base.get("offsets"), found.base.get("origins"), found.base.get("kinds")), ("0,2048", "0,2048", surveys.KINDS))
+        self.assertEqual([hint.what for hint in found.said], [What.OFFSET, What.DATA, What.LEVEL])
+
+    def test_copies_say_no_level(self) -> None:
+        self.assertEqual(self.gather(self.plan("super 0 2048 every:4096:2:0"), like=0).levels, ())
+
+    def test_own_tables_end_it(self) -> None:
+        table = Table("MBR", True, (Partition(2048, 4000, "83"),))
+        found = self.gather(self.plan("super 0 2048 every:4096:2:0"), table=table)
+        self.assertEqual((found.end, found.window, found.base.get("end"), found.said[0].what), (6048, 6048, "6048", What.END))
+        self.assertEqual(found.tried, (0, 2048, 4096))
+
+    def test_maps(self) -> None:
+        few, many = Map("m", "", ((0, 512 * 99, "-"),)), Map("m", "", ((0, 512 * 999, "-"),))
+        self.assertEqual([self.gather(self.plan(), map=it).unread for it in (few, many)], [300, 0])
+        self.assertEqual(self.gather(self.plan(), map=many).bad, 3000)
+
+    def test_mirrors_say_the_offsets(self) -> None:
+        found = self.gather(self.plan("super 0 4096 every:4096:2:0"), Pairs((None, None, None), (16, 2048)))
+        self.assertEqual((found.offset_values, found.tried), ([16, 2048], (16, 2048)))
+        self.assertEqual([hint.what for hint in self.gather(self.plan(), Pairs((None,) * 3, (16,), True)).said], [])
+
+    def test_a_far_mark_is_a_stray_one(self) -> None:
+        near, far = Hint(What.OFFSET, 100, Source.MARK, "", 2, 2), Hint(What.OFFSET, 100 + gathered.FAR + 1, Source.MARK, "", 2, 2)
+        self.assertTrue(gathered.is_far(far, [near, far]))
+        self.assertFalse(gathered.is_far(Hint(What.OFFSET, 99999, Source.MARK, "", 3, 3), [near]))
+        self.assertEqual(gathered.offsets_tried([near, far], [], None, 5000), (0, 100, 2048))
+
+
+if __name__ == "__main__":
+    unittest.main()

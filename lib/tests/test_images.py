@@ -1,0 +1,198 @@
+"""Images, tables, heads and maps."""
+
+import os
+import struct
+import unittest
+import zlib
+
+from reraid_try.errors import OutsideError
+from reraid_try.evidence import heads, images, maps, reading, tables
+from reraid_try.evidence.heads import Head
+from reraid_try.evidence.tables import Partition
+from reraid_try.units import MIB, SECTOR
+from tests.standin import InFolder
+
+
+def mbr(*entries: tuple[int, int, int, int]) -> bytes:
+    """An MBR of entries: active, type, first sector, sectors."""
+    table = b"".join(struct.pack("<B3xB3xII", *entry) for entry in entries)
+    return bytes(446) + table.ljust(64, b"\0") + b"\x55\xaa"
+
+
+def gpt(partitions: list[tuple[int, int]], last: int, block: int = SECTOR) -> bytes:
+    """The first blocks of a disk with a GPT: a protective MBR, the header, and a block of entries."""
+    head = bytearray(92)
+    head[:16] = b"EFI PART" + struct.pack("<II", 0x10000, 92)
+    struct.pack_into("<QQ", head, 24, 1, last)
+    struct.pack_into("<QII", head, 72, 2, 128, 128)
+    head[16:20] = struct.pack("<I", zlib.crc32(head))
+    entries = b"".join(b"t" * 16 + b"u" * 16 + struct.pack("<QQ", first, end) + bytes(80) for first, end in partitions)
+    return mbr((0, 0xEE, 1, 100)).ljust(block, b"\0") + bytes(head).ljust(block, b"\0") + entries.ljust(128 * 128, b"\0")
+
+
+def ext_super(group: int = 0) -> bytes:
+    """A superblock of ext."""
+    sector = bytearray(SECTOR)
+    struct.pack_into("<I", sector, 4, 1000)
+    struct.pack_into("<I", sector, 24, 2)
+    struct.pack_into("<I", sector, 32, 32768)
+    sector[56:58] = b"\x53\xef"
+    struct.pack_into("<H", sector, 90, group)
+    return bytes(sector)
+
+
+def reader(data: bytes) -> tables.Read:
+    """What reads these bytes."""
+    return lambda place, count: data[place:place + count]
+
+
+class Tables(unittest.TestCase):
+    def test_mbr(self) -> None:
+        self.assertEqual(tables.read_mbr(mbr((0x80, 7, 2048, 100), (0, 0x83, 4096, 5))), (Partition(2048, 100, "07"), Partition(4096, 5, "83")))
+
+    def test_no_mbr(self) -> None:
+        for sector in (bytes(SECTOR), mbr(), mbr((5, 7, 2048, 100)), mbr((0, 0, 2048, 100)), mbr((0, 7, 0, 100)), mbr((0, 7, 2048, 0)),
+                       mbr((0, 7, 1, 1))[:511], b"\xeb\x52\x90NTFS" + mbr((0, 7, 1, 1))[7:]):
+            self.assertEqual(tables.read_mbr(sector), ())
+        self.assertEqual(tables.read_mbr(mbr((0, 7, 90, 11)), 100), ())
+        self.assertEqual(len(tables.read_mbr(mbr((0, 7, 90, 10)), 100)), 1)
+
+    def test_gpt(self) -> None:
+        table = tables.read_table(reader(gpt([(2048, 4095), (4096, 4096)], 9999)), 10000)
+        self.assertEqual((table.kind, table.own), ("GPT of 512 bytes", True))
+        self.assertEqual(table.partitions, (Partition(2048, 2048, "gpt"), Partition(4096, 1, "gpt")))
+        self.assertFalse(tables.read_table(reader(gpt([(2048, 4095)], 9998)), 10000).own)
+
+    def test_gpt_of_large_blocks_counts_in_sectors(self) -> None:
+        table = tables.read_table(reader(gpt([(256, 511)], 1249, 4096)), 10000)
+        self.assertEqual((table.kind, table.own, table.partitions), ("GPT of 4096 bytes", True, (Partition(2048, 2048, "gpt"),)))
+
+    def test_gpt_with_wrong_sum(self) -> None:
+        data = bytearray(gpt([(2048, 4095)], 9999))
+        data[SECTOR + 40] ^= 1
+        self.assertIsNone(tables.read_table(reader(bytes(data)), 10000).kind)
+
+    def test_mbr_of_another_disk(self) -> None:
+        data = mbr((0, 7, 2048, 1000))
+        self.assertTrue(tables.read_table(reader(data), 3048).own)
+        self.assertFalse(tables.read_table(reader(data), 3047).own)
+        self.assertEqual(tables.read_table(reader(mbr((0, 0xEE, 1, 1))), 99).kind, None)
+
+
+class Heads(unittest.TestCase):
+    def test_sniffed(self) -> None:
+        def at(place: int, magic: bytes) -> bytes:
+            return (bytes(place) + magic).ljust(heads.HEAD_BYTES, b"\0")
+        fat = struct.pack("<HBHB", 512, 8, 32, 2)
+        for kind, head in (("xfs", at(0, b"XFSB")), ("ntfs", at(3, b"NTFS    ")), ("exfat", at(3, b"EXFAT   ")), ("btrfs", at(65600, b"_BHRfS_M")),
+                           ("LVM2_member", at(512, b"LABELONE")), ("crypto_LUKS", at(0, b"LUKS\xba\xbe")), ("BitLocker", at(3, b"-FVE-FS-")),
+                           ("ext4", at(1024, ext_super())), ("vfat", at(11, fat)[:82] + b"FAT32   " + bytes(9)), ("MBR", at(0, mbr((0, 7, 63, 9))))):
+            self.assertEqual(heads.sniff(head), kind)
+        for head in (bytes(4096), b"", at(1024, ext_super(1)), at(65599, b"_BHRfS_M"), at(54, b"FAT16   ")):
+            self.assertIsNone(heads.sniff(head))
+
+    def test_ext(self) -> None:
+        self.assertTrue(heads.is_ext(ext_super()))
+        for place, value in ((24, 7), (32, 0), (32, 8 * 4096 + 1), (4, 0)):
+            sector = bytearray(ext_super())
+            struct.pack_into("<I", sector, place, value)
+            self.assertFalse(heads.is_ext(bytes(sector)))
+
+
+class InImages(InFolder):
+    def test_heads_wherever_they_stand(self) -> None:
+        data = bytearray(40 * SECTOR)
+        data[5 * SECTOR:6 * SECTOR] = mbr((0, 7, 2048, 100))
+        data[9 * SECTOR:10 * SECTOR] = ext_super()
+        data[20 * SECTOR:20 * SECTOR + 6] = b"LUKS\xba\xbe"
+        data[1 * SECTOR:2 * SECTOR] = ext_super()
+        with open(self.file("a", bytes(data)), "rb") as file:
+            found = heads.find_heads(file, 3, len(data))
+        self.assertEqual(set(found), {Head("mbr", 3, 5), Head("ext", 3, 7), Head("luks", 3, 20)})
+
+    def test_first_and_last_data(self) -> None:
+        data = bytes(3 * SECTOR) + b"x" + bytes(2 * MIB) + b"y" + bytes(5000)
+        with open(self.file("a", data), "rb") as file:
+            self.assertEqual(reading.first_data(file, len(data)), 3)
+            self.assertEqual(reading.last_data(file, 0, len(data)), (3 * SECTOR + 1 + 2 * MIB) // SECTOR)
+            self.assertIsNone(reading.first_data(file, 3 * SECTOR))
+            self.assertIsNone(reading.last_data(file, len(data) - 4000, len(data)))
+
+    def test_data_up_to_the_end_of_a_sector(self) -> None:
+        with open(self.file("a", bytes(SECTOR) + b"x" * SECTOR + bytes(SECTOR)), "rb") as file:
+            self.assertEqual((reading.first_data(file, 3 * SECTOR), reading.last_data(file, 0, 3 * SECTOR)), (1, 1))
+
+    def test_strided(self) -> None:
+        self.assertEqual(reading.strided(bytes(512) + b"\1" + bytes(1023) + b"\1", 0, 1), [1, 3])
+
+    def test_holes_are_passed_over(self) -> None:
+        name = self.file("a")
+        os.truncate(name, 64 * MIB)
+        with open(name, "r+b") as file:
+            file.seek(32 * MIB)
+            file.write(b"x")
+        with open(name, "rb") as file:
+            self.assertEqual([place for place, _ in reading.blocks(file, 0, 64 * MIB)], [32 * MIB])
+
+    def test_look(self) -> None:
+        data = gpt([(40, 99)], 199).ljust(200 * SECTOR, b"\0") + b"rest"
+        name = self.file("a.img", data)
+        self.file("a.map", "0 +\n0x0 0x10 +\n")
+        image = images.look(name, 2, MIB)
+        self.assertEqual((image.sectors, image.rest, image.first, image.last, image.table.own), (200, 4, 0, 2, True))
+        self.assertEqual(image.line(), f"image 2 {name}: 200 sectors and 4 bytes, no whole sector, which are not looked at, data from sector 0 to 2, "
+                         f"its own GPT of 512 bytes with 40+60, its map is {self.folder}/a.map")
+        self.assertEqual(image.fields()["partitions"], [{"first": 40, "count": 60, "kind": "gpt"}])
+
+    def test_images_that_are_alike(self) -> None:
+        one, other = self.file("a", b"x" * 5000), self.file("b", b"x" * 5000)
+        third, empty = self.file("c", b"x" * 4999 + b"y"), self.file("d", bytes(5000))
+        found = images.look_at_all([one, other, third, empty, self.file("e", bytes(5000))], MIB)
+        self.assertEqual([image.like for image in found], [None, 0, 0, None, None])
+        self.assertIn("nothing but zeros", found[3].line())
+        self.assertIn("the same as image 0", found[1].line())
+        shorter = images.look_at_all([one, self.file("f", b"x" * 4600), self.file("g", b"x" * 4000 + b"z" * 1000)], MIB)
+        self.assertEqual([image.like for image in shorter], [None, None, None])
+
+    def test_what_cannot_be_read(self) -> None:
+        with self.assertRaisesRegex(OutsideError, "^image 4 .*: No such file"):
+            images.look(f"{self.folder}/none", 4, MIB)
+        with self.assertRaisesRegex(OutsideError, "^image 0 .*: Is a directory"):
+            images.look(self.folder, 0, MIB)
+
+    def test_is_image(self) -> None:
+        self.assertTrue(images.is_image(self.file("a")))
+        self.assertFalse(images.is_image(self.folder) or images.is_image(f"{self.folder}/none") or images.is_image("/dev/null"))
+
+    def test_filled(self) -> None:
+        names = [self.file("a", bytes(SECTOR) + b"x" + bytes(3 * SECTOR)), self.file("b", bytes(4 * SECTOR) + b"y")]
+        self.assertEqual(list(images.filled(names, 0, 6)), [0, 1, 0, 0, 1, 0])
+        self.assertEqual(list(images.filled(names, 1, 3)), [1, 0])
+
+
+class Maps(InFolder):
+    def test_read(self) -> None:
+        name = self.file("a.map", "# comment\n0x200 ?\n0x0 0x400 +\n1024 0x201 -\n0x601 512 *\n")
+        found = maps.read_map(name)
+        self.assertEqual(found.blocks, ((0, 1024, "+"), (1024, 513, "-"), (1537, 512, "*")))
+        # 513 bytes touch three sectors at most, 512 that begin inside of one touch two.
+        self.assertEqual([found.unread(end) for end in (2, 3, 100)], [0, 2, 5])
+
+    def test_no_map(self) -> None:
+        for text, line in (("", "it has no lines"), ("0 +\nfile one\n", "line 2"), ("0 +\n0 5 x\n", "line 2"), ("0 +\n0 5 +\n6 5 +\n", "line 3"),
+                           ("0 +\n# x\n0 0 +\n", "line 3"), ("0 +\n0 5\n", "line 2"), ("0 +\n0 5 +-\n", "line 2"), ("0 +\n0 5 + +\n", "line 2")):
+            with self.assertRaisesRegex(OutsideError, line):
+                maps.read_map(self.file("a.map", text))
+        with self.assertRaisesRegex(OutsideError, "it is no text"):
+            maps.read_map(self.file("a.map", b"\xff\xfe"))
+        with self.assertRaisesRegex(OutsideError, "cannot be read: Is a directory"):
+            maps.read_map(self.folder)
+
+    def test_as_one_text(self) -> None:
+        one = maps.Map("a", "0 +\n0 5 +", ())
+        self.assertEqual(maps.maps_text([None, one, one]), "map 1\n0 +\n0 5 +\nmap 2\n0 +\n0 5 +\n")
+        self.assertIsNone(maps.maps_text([None, None]))
+
+
+if __name__ == "__main__":
+    unittest.main()

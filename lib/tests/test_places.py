@@ -1,0 +1,116 @@
+"""Where parity lies by zeros: rows of arrays whose data are zeros in a part, by `rows`."""
+
+import random
+import unittest
+from collections.abc import Sequence
+
+from reraid_try.calls.sets import Word, made
+from reraid_try.evidence import places, relations
+from reraid_try.evidence.places import Places
+
+from . import rows
+
+
+def told(made_rows: Sequence[rows.Row], level: str, members: int, first: int = 64) -> Places:
+    """The places of all images of some rows, of which the first is that of a sector."""
+    return Places(relations.read(rows.text(list(made_rows), first, 1), 1), range(len(made_rows[0])), level, members)
+
+
+def shuffled(made_rows: Sequence[rows.Row], order: Sequence[int]) -> list[rows.Row]:
+    """The rows with the images in another order: image k is what stood at a place."""
+    return [[row[place] for place in order] for row in made_rows]
+
+
+class Best(unittest.TestCase):
+    """The placements that zeros allow."""
+
+    def setUp(self) -> None:
+        self.rnd = random.Random(12)
+
+    def test_level_5_lost(self) -> None:
+        """A RAID 5 left-symmetric of five disks of which slot 1 is lost: order, chunk and turn; the order turned round with the other turn is the
+        same."""
+        whole = rows.striped(self.rnd, 5, 5, 1600, chunk=16, sparse=0.6)
+        found = told(shuffled(whole, (3, 0, 4, 2)), "5", 5).best([64])
+        self.assertEqual({(it.turn.patterns[0][0], it.chunk, it.slots, it.against) for it in found},
+                         {("ls", 16, (1, None, 3, 0, 2), 0), ("rs", 16, (2, 0, 3, None, 1), 0)})
+        self.assertEqual(list(found[0].words("5", {0: 0, 1: 1, 2: 2, 3: 3})), ["5:ls:none:16:64:1,-,3,0,2", "5:la:none:16:64:1,-,3,0,2"])
+
+    def test_level_6_two_lost(self) -> None:
+        """A RAID 6 of which two disks are lost."""
+        whole = rows.striped(self.rnd, 6, 6, 1600, chunk=8, sparse=0.6)
+        found = told(shuffled(whole, (5, 2, 0, 3)), "6", 6).best([64])
+        self.assertIn(("ls", 8, (2, None, 1, 3, None, 0)), {(it.turn.patterns[0][0], it.chunk, it.slots) for it in found})
+
+    def test_offset(self) -> None:
+        """From another offset on, rows further, the order is turned; from one within a chunk nothing fits."""
+        whole = rows.striped(self.rnd, 4, 5, 1600, chunk=16, sparse=0.5)
+        it = told(rows.without(whole, 2), "5", 4)
+        self.assertEqual([place.slots for place in it.best([64]) if place.turn.patterns[0][0] == "ls"], [(0, 1, None, 2)])
+        self.assertEqual([place.slots for place in it.best([64 + 16]) if place.turn.patterns[0][0] == "ls"], [(2, 0, 1, None)])
+        self.assertEqual(it.best([64 + 8], [16]), [])
+
+    def test_full(self) -> None:
+        """Where no sector is zeros nothing is told."""
+        it = told(rows.without(rows.striped(self.rnd, 4, 5, 400), 2), "5", 4)
+        self.assertEqual((it.told, it.best([64])), (False, []))
+        self.assertTrue(it.allows(made_word((2, 0, 1, None))))
+
+
+def made_word(slots: tuple[int | None, ...], pattern: str = "ls", chunk: int = 16) -> Word:
+    """A set of level 5 from sector 64 on."""
+    return made("5", pattern, "none", chunk, (64,), slots)
+
+
+class Allowed(unittest.TestCase):
+    """Which sets zeros allow."""
+
+    def test_sets(self) -> None:
+        """The true set and its like, and none with another order, chunk or turn; of what is not known here nothing is said."""
+        whole = rows.striped(random.Random(5), 4, 5, 1600, chunk=16, sparse=0.5)
+        it = told(rows.without(whole, 2), "5", 4)
+        self.assertTrue(it.allows(made_word((0, 1, None, 2))))
+        self.assertTrue(it.allows(made_word((0, 1, None, 2), "la")))
+        self.assertFalse(it.allows(made_word((1, 0, None, 2))))
+        self.assertFalse(it.allows(made_word((0, 1, 2, None))))
+        self.assertFalse(it.allows(made_word((0, 1, None, 2), "rs")))
+        self.assertFalse(it.allows(made_word((0, 1, None, 2), chunk=32)))
+        self.assertTrue(it.allows(made_word((0, 1, None, 2), "unheard-of")))
+        self.assertTrue(it.allows(made_word((0, 1, None, 9))))
+
+    def test_fixed(self) -> None:
+        """Parity that stands on one disk: which that is."""
+        rnd = random.Random(6)
+        made_rows = []
+        for number in range(400):
+            data = [rows.sector(rnd) if (number // 8 + place) % 3 else bytes(rows.COLUMNS) for place in range(3)]
+            made_rows.append([*data[:2], rows.plus(rows.plus(data[0], data[1]), data[2])])
+        it = told(made_rows, "5", 4)
+        self.assertTrue(it.allows(made_word((0, 1, None, 2), "parity-last")))
+        self.assertTrue(it.allows(made_word((1, None, 0, 2), "parity-last")))
+        self.assertFalse(it.allows(made_word((0, 2, None, 1), "parity-last")))
+
+
+class Turns(unittest.TestCase):
+    """Where P and Q lie, by the pictures of md's layouts of four disks."""
+
+    PICTURES = {("ls", "after-q"): "Q..P ..PQ .PQ. PQ..", ("rs", "after-q"): "PQ.. .PQ. ..PQ Q..P",
+                ("n-restart", "by-slot"): "..PQ .PQ. PQ.. Q..P",
+                ("n-continue", "by-slot"): "..QP .QP. QP.. P..Q", ("ls-6", "after-q"): "..PQ .P.Q P..Q ..PQ",
+                ("rs-6", "after-q"): "P..Q .P.Q ..PQ P..Q", ("parity-last", "after-q"): "..PQ ..PQ ..PQ ..PQ"}
+
+    def test_level_6(self) -> None:
+        """Each turn of level 6."""
+        for turn in places.TURNS_6:
+            with self.subTest(turn.patterns[0]):
+                drawn = [(picture.index("P"), picture.index("Q")) for picture in self.PICTURES[turn.patterns[0]].split()]
+                self.assertEqual([turn.parity(row, 4) for row in range(4)], drawn)
+
+    def test_level_5(self) -> None:
+        """Each turn of level 5."""
+        self.assertEqual([[turn.parity(row, 4) for row in range(5)] for turn in places.TURNS_5],
+                         [[(3,), (2,), (1,), (0,), (3,)], [(0,), (1,), (2,), (3,), (0,)], [(3,)] * 5])
+
+
+if __name__ == "__main__":
+    unittest.main()

@@ -1,0 +1,100 @@
+"""What is tried first, by what is known of images."""
+
+import unittest
+
+from reraid_try.evidence.families import Family, Old
+from reraid_try.evidence.metadata import Member
+from reraid_try.evidence.ties import Known, Told
+from reraid_try.evidence.unlike import Unlike
+from reraid_try.options import Options
+from reraid_try.policy import plain
+from reraid_try.policy.plain import Span
+from reraid_try.policy.shapes import Shape
+
+SPAN = Span(0, 1000)
+ALL = Options(("a", "b"))
+
+
+def family(images: int, level: str, parity: int, old: tuple[Old, ...] = (), others: tuple[int, ...] = (), loose: int = 0) -> Family:
+    """A family of so many images from 0 on."""
+    return Family(tuple(range(images)), 500, 8, 900, level, parity, old, None, others, loose, 8 if loose else None)
+
+
+class Shapes(unittest.TestCase):
+    """The shapes of a family."""
+
+    def shapes(self, it: Family) -> list[Shape]:
+        """What is tried of it."""
+        aims = plain.tied(Told((Known(it),), (), True), it.images, SPAN, ALL)
+        return [shape for aim in aims for shape in aim.shapes]
+
+    def test_by_parity(self) -> None:
+        """As many disks are lost as ties say."""
+        self.assertEqual(self.shapes(family(4, "5", 1)), [Shape("5", 4)])
+        self.assertEqual(self.shapes(family(4, "5", 0)), [Shape("5", 5, 1)])
+        self.assertEqual([self.shapes(family(6, "6", parity)) for parity in (2, 1, 0)], [[Shape("6", 6)], [Shape("6", 7, 1)], [Shape("6", 8, 2)]])
+
+    def test_old(self) -> None:
+        """An old disk is left out and counts as lost."""
+        it = family(6, "6", 2, (Old(4, 100, 50),))
+        aim, = plain.tied(Told((Known(it, 256),), (), True), it.images, SPAN, ALL)
+        self.assertEqual((aim.images, aim.shapes, aim.asked), ((0, 1, 2, 3, 5), (Shape("6", 6, 1),), (("chunks", "256"),)))
+
+    def test_in_doubt(self) -> None:
+        """Where not few rows say another number of ties, that is tried after; where rows are not tied, that one of the disks is old."""
+        self.assertEqual(self.shapes(family(4, "5", 0, others=(1,))), [Shape("5", 5, 1), Shape("5", 4)])
+        self.assertEqual(self.shapes(family(4, "5", 1, loose=9)), [Shape("5", 4), Shape("5", 4, 1, 1)])
+
+    def test_options(self) -> None:
+        """Levels and members that are not asked for are not tried."""
+        told = Told((Known(family(4, "5", 1)),), (), True)
+        self.assertEqual(plain.tied(told, range(4), SPAN, Options(("a",), levels=("0", "6"))), [])
+        self.assertEqual(plain.tied(told, range(4), SPAN, Options(("a",), members=(5,))), [])
+
+
+class Aims(unittest.TestCase):
+    """What is tried of images."""
+
+    def test_two_arrays(self) -> None:
+        """Each family is searched for itself."""
+        other = Family((7, 8, 9), 500, 8, 900, "5", 1)
+        aims = plain.tied(Told((Known(family(5, "6", 1)), Known(other)), (5, 6), True), range(10), SPAN, ALL)
+        self.assertEqual([(aim.images, aim.shapes) for aim in aims], [((0, 1, 2, 3, 4), (Shape("6", 6, 1),)), ((7, 8, 9), (Shape("5", 3),))])
+        self.assertEqual(plain.untied(Told((Known(other),), (), True), range(10), SPAN, ALL), [])
+
+    def test_copies(self) -> None:
+        """Copies are searched as RAID 10 of all images, and not where that is not asked for."""
+        told = Told((Known(Family((0, 2), 500, 8, 900, "10", 0, copies=((0, 2),))),), (1,), True)
+        aim, = plain.copied(told, range(3), SPAN, ALL)
+        self.assertEqual((aim.images, aim.copied, aim.shapes, aim.why), ((0, 1, 2), True, (), "images 0 and 2 hold the same"))
+        self.assertEqual(plain.copied(told, range(3), SPAN, Options(("a",), levels=("5",))), [])
+        self.assertEqual(plain.tied(told, range(3), SPAN, ALL), [])
+
+    def test_untied(self) -> None:
+        """What nothing ties may be a RAID 0, or has lost what it bears; where relations were not to be had nothing is said."""
+        aim, = plain.untied(Told((), (0, 1, 2), True), range(3), SPAN, ALL)
+        self.assertEqual(aim.shapes, (Shape("0", 3), Shape("5", 4, 1), Shape("6", 5, 2)))
+        self.assertEqual(plain.untied(Told(), range(3), SPAN, ALL), [])
+
+    def test_unlike(self) -> None:
+        """Images whose data begin at unlike sectors are asked for with an offset for each."""
+        aim = plain.unlike_aim(Unlike((16, 64, 16), Known(family(3, "5", 1))), range(3), SPAN, ALL)
+        self.assertEqual(dict(aim.asked) | {"window": ""}, {"mode": "each", "offsets": "16,64", "window": ""})
+        self.assertTrue(aim.is_each)
+        self.assertEqual(aim.shapes, (Shape("5", 3),))
+
+    def test_metadata(self) -> None:
+        """What metadata name: layout, chunk and offset; a disk is lost where a slot is not named, and an old one is left out."""
+        seen = ((0, 3, 9), (2, 0, 9), (3, 1, 9), (5, 2, 4))
+        said = [Member(image, "md 1.2", "a", "raid6", 5, "left-symmetric", 128, slot, 2048, events) for image, slot, events in seen]
+        aim = plain.metadata_aim(said, SPAN, ALL)
+        assert aim
+        self.assertEqual((aim.images, aim.shapes), ((0, 2, 3), (Shape("6", 5, 2),)))
+        self.assertEqual(dict(aim.asked), {"patterns": "ls", "syndromes": "after-q", "offsets": "2048", "chunks": "128"})
+        self.assertIn("may be wrong", aim.why)
+        self.assertIsNone(plain.metadata_aim([Member(0, "md 1.2", "a", "raid10", 4, "near=2", 128, 0, 2048)], SPAN, ALL))
+        self.assertIsNone(plain.metadata_aim([Member(0, "md 1.2", "a", "raid1", 2, "", None, 0, 2048)], SPAN, ALL))
+
+
+if __name__ == "__main__":
+    unittest.main()

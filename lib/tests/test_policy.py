@@ -1,0 +1,405 @@
+"""Shapes, cures, what is asked for, questions, hunts and mirrors."""
+
+import dataclasses
+import unittest
+
+from reraid_try.calls.commands import Answer
+from reraid_try.calls.plans import Plan
+from reraid_try.calls.program import LAST, Program
+from reraid_try.calls.surveys import KINDS, Request, Surveys
+from reraid_try.evidence.filling import Filling
+from reraid_try.evidence.gathered import Evidence, Pairs
+from reraid_try.evidence.hints import Hint, Source, What
+from reraid_try.evidence.images import Image
+from reraid_try.options import Options
+from reraid_try.policy import cures
+from reraid_try.policy.cures import Family
+from reraid_try.policy.hunt import Hunt
+from reraid_try.policy.mirrors import Mirrors, pair, pairings
+from reraid_try.policy.plans import Asking
+from reraid_try.policy.questions import Questions
+from reraid_try.policy.shapes import Shape, Shapes
+from reraid_try.policy.trials import Trial
+from reraid_try.calls.formats import Ranked
+from reraid_try.calls.sets import read_word
+from reraid_try.units import SECTOR
+from tests.standin import OPTIONS, InFolder, Reply, Standin, plan_of, put
+
+Marked = tuple[str, list[tuple[str, int, int, str]]]
+XFS = ("xfs", [("super", 0, 2048, "every:49152:4:0"), ("super", 1, 26624, "every:49152:4:0")])
+EXT = ("ext", [("ext", 2, 7426, "at:262144")])
+NTFS = ("ntfs", [("boot", 1, 2048, "either:0:9000"), ("record", 1, 2056, "at:8"), ("record", 2, 2058, "at:8")])
+BASE = Request().having(kinds=KINDS, offsets="0,2048", end=100000, origins="0,2048")
+
+
+class Filled(Filling):
+    """So many filled sectors behind each offset; behind others none."""
+
+    def __init__(self, behind: dict[int, int]) -> None:
+        super().__init__([], [], 100000, 100000)
+        self.told = behind
+
+    def behind(self, offset: int, before: int | None = None) -> int:
+        """How many, less those behind the other offset."""
+        return self.told.get(offset, 0) - (self.told.get(before, 0) if before else 0)
+
+
+def evidence(count: int = 3, data: tuple[tuple[int, int], ...] = (), level: int | None = None, groups: tuple[Marked, ...] = (XFS, EXT),
+             bad: int = 0, pairs: Pairs | None = None, offsets: tuple[int, ...] = (2048,), filled: dict[int, int] | None = None) -> Evidence:
+    """What is known of so many images: data disks with how many images show them, the level, and the groups."""
+    seen = tuple(Image(f"i{k}", k, 100000) for k in range(count))
+    plan = plan_of(*groups, lengths=(100000,) * count)
+    told = tuple(Hint(What.DATA, value, Source.DISTANCES, "", shown) for value, shown in data)
+    levels = (Hint(What.LEVEL, level, Source.COPIES, ""),) if level is not None else ()
+    found = tuple(Hint(What.OFFSET, value, Source.MARK, "") for value in offsets)
+    return Evidence(seen, pairs, BASE, plan, found, told, levels, bad, (), 100000, 100000, Filled(filled or {0: 90000, 2048: 90000}), (0, 2048))
+
+
+class OfShapes(unittest.TestCase):
+    def shapes(self, known: Evidence, **values: object) -> Shapes:
+        """The shapes of an evidence."""
+        return Shapes(known, dataclasses.replace(OPTIONS, **values))
+
+    def test_line_and_what_parity_tells(self) -> None:
+        self.assertEqual(Shape("5,6", 5, 1, 2).line(), "levels 5,6, 5 members, 1 missing, 2 foreign")
+        self.assertEqual([Shape("0,5,6,10", 4, missing).telling for missing in (0, 1, 2)], ["5,6", "6", ""])
+        self.assertEqual([Shape("6", 4, missing).parity for missing in (1, 2)], [True, False])
+
+    def test_hinted(self) -> None:
+        self.assertEqual(self.shapes(evidence(3, ((2, 3),), 6)).hinted(), [Shape("6", 4, 1), Shape("5", 3), Shape("0", 2, 0, 1)])
+        self.assertEqual(self.shapes(evidence(5, ((2, 3),))).hinted(), [Shape("5", 3, 0, 2), Shape("6", 4, 0, 1)])
+        self.assertEqual(self.shapes(evidence(3, ((9, 3),))).hinted(), [])
+
+    def test_what_one_image_says_comes_last(self) -> None:
+        shapes = self.shapes(evidence(4, ((3, 2), (2, 1))))
+        self.assertEqual((shapes.data_told(), shapes.data_told(True)), ([3], [2]))
+        self.assertEqual(self.shapes(evidence(4, ((3, 1), (2, 1)))).data_told(), [3, 2])
+        self.assertEqual(shapes.tiers().rest[-1], Shape("0", 2, 0, 2))
+
+    def test_tiers(self) -> None:
+        tiers = self.shapes(evidence(4, ((3, 2),), 5)).tiers()
+        self.assertEqual(tiers.hinted, (Shape("5", 4),))
+        self.assertEqual(tiers.told, (Shape("6", 4), Shape("6", 5, 1), Shape("5", 3, 0, 1)))
+        self.assertEqual(tiers.rest[:4], (Shape("0", 4), Shape("5", 5, 1), Shape("6", 6, 2), Shape("0", 3, 0, 1)))
+        self.assertEqual(len(set(tiers.all)), len(tiers.all))
+
+    def test_told_alone_levels_and_members(self) -> None:
+        self.assertEqual({shape.levels for shape in self.shapes(evidence(4), levels=("6",)).tiers().all}, {"6"})
+        self.assertEqual({shape.members for shape in self.shapes(evidence(4), members=(5,)).tiers().all}, {5})
+        self.assertEqual(self.shapes(evidence(24)).allowed(Shape("5", 25, 1)), None)
+        self.assertEqual(self.shapes(evidence(3)).allowed(Shape("5,6", 3)), Shape("5", 3))
+
+    def test_pairs_are_a_raid_0(self) -> None:
+        self.assertEqual(self.shapes(evidence(2, pairs=Pairs((None, None), ()))).tiers().all, (Shape("0", 2),))
+
+    def test_speak_for(self) -> None:
+        shapes = self.shapes(evidence(4, ((3, 2),)))
+        self.assertEqual([shapes.speak_for(it) for it in (Shape("5", 4), Shape("6", 5, 1), Shape("6", 4), Shape("0", 3, 0, 1))],
+                         [True, True, False, False])
+
+
+class OfCures(unittest.TestCase):
+    def setUp(self) -> None:
+        self.plan = plan_of(XFS, EXT, NTFS)
+        self.asked = cures.Asked(256, [2048], [[0, 2048]], [16], False, False)
+
+    def test_order(self) -> None:
+        names = [cure.name for cure in cures.in_order(self.plan, self.asked)]
+        self.assertEqual(names, ["half the window", "an end before a superblock", "file records of number 0 left out",
+                                 "without group 1 (ext, 1 mark)", "without group 0 (xfs, 2 marks)", "without group 2 (ntfs, 3 marks)",
+                                 "group 2 (ntfs, 3 marks) alone", "group 0 (xfs, 2 marks) alone", "8 misfits", "badrows 256", "more offsets",
+                                 "more origins", "offsets 0,2048, each image its own"])
+
+    def test_most_of_the_marks_only_where_all_is_tried(self) -> None:
+        plan = plan_of(XFS, EXT)
+        self.assertEqual([cure.number for cure in cures.group_cures(plan, False)], [1])
+        self.assertEqual([cure.number for cure in cures.group_cures(plan, True)], [1, 0])
+
+    def test_what_one_image_shows(self) -> None:
+        found = list(cures.image_cures(self.plan))
+        self.assertEqual([(cure.name, cure.out, cure.number) for cure in found], [("without what image 2 alone shows", frozenset({1}), 2)])
+        foreign = dataclasses.replace(self.asked, foreign=True)
+        self.assertEqual(cures.in_order(self.plan, foreign)[0].family, Family.IMAGE)
+
+    def test_requests(self) -> None:
+        request = BASE.having(window=5000)
+        self.assertEqual(cures.half_window(self.plan).of(request).get("window"), "2500")
+        self.assertEqual(cures.half_window(self.plan).of(BASE).get("window"), "50000")
+        # 100,000 sectors: the last whole 64 KiB begin at 99,968, and controllers have some more.
+        self.assertEqual(cures.before_superblock(self.plan).of(BASE).get("end"), str(99968 - 384))
+        large = plan_of(XFS, lengths=[(1 << 22) + 1] * 3)
+        self.assertEqual(cures.before_superblock(large).of(BASE.having(end=1 << 22)).get("end"), str((1 << 22) + 1 - 65536 - 384))
+        self.assertTrue(cures.no_records().of(BASE).records)
+        self.assertEqual(cures.misfits().of(BASE).get("misfits"), "8")
+        self.assertEqual(cures.bad_rows(7, [2048, 4096]).of(BASE).operands, BASE.having(badrows=7, offsets=2048).operands)
+        self.assertEqual(cures.bad_rows(7, [4096]).of(BASE).get("offsets"), "0,2048")
+        self.assertEqual(cures.more_offsets([16, 100000]).of(BASE).get("offsets"), "0,16,2048")
+        self.assertIn(",63,", cures.more_origins().of(BASE).get("origins"))
+        each = cures.offsets_each([0, 2048]).of(BASE)
+        self.assertEqual((each.is_each, each.get("window"), cures.offsets_each([0]).slow), (True, "8192", True))
+        self.assertEqual(cures.bare(self.plan).of(BASE).out, (0, 1, 2))
+        self.assertEqual(cures.group_cures(self.plan, True)[0].of(BASE).out, (1,))
+        self.assertEqual(cures.alone(self.plan, self.plan.groups[1]).of(BASE).out, (0, 2))
+
+    def test_which_go_together(self) -> None:
+        found = {cure.name: cure for cure in cures.in_order(self.plan, self.asked)}
+
+        def go(*names: str) -> bool:
+            return cures.go_together([next(cure for name, cure in found.items() if name.startswith(begin)) for begin in names])
+        self.assertTrue(go("without group 1", "without group 0") and go("half", "8 misfits") and go("half", "an end"))
+        for one, other in (("file records", "8 misfits"), ("without group 1", "group 2"), ("badrows", "half"), ("badrows", "an end"),
+                           ("badrows", "offsets 0"), ("more offsets", "offsets 0"), ("group 2", "group 0")):
+            self.assertFalse(go(one, other), (one, other))
+
+    def test_choices(self) -> None:
+        found = cures.in_order(self.plan, self.asked)
+        self.assertEqual(cures.choices(found, 0), [()])
+        self.assertEqual(cures.choices(found, 1)[-1][0].slow, True)
+        both = cures.choices(found, 2)
+        self.assertTrue(any(cure.slow for cure in both[-1]) and not any(cure.slow for cure in both[0]))
+
+    def test_loosened(self) -> None:
+        request = cures.loosened(BASE, [cures.misfits(), cures.bad_rows(9, [0])])
+        self.assertEqual((request.get("misfits"), request.get("badrows")), ("8", "9"))
+
+    def test_trial(self) -> None:
+        plan = plan_of(XFS, EXT)
+        trial = Trial(Shape("5", 3), (cures.group_cures(plan, True)[1], cures.misfits()), BASE.having(misfits=8))
+        self.assertEqual(trial.line(), "levels 5, 3 members: without group 0 (xfs, 2 marks) and 8 misfits")
+        self.assertEqual((trial.out, trial.lenient, trial.has_bad_rows, trial.is_bare), (frozenset({0}), True, False, False))
+        self.assertEqual(Trial(Shape("5", 3)).line(), "levels 5, 3 members: nothing loosened")
+        self.assertTrue(Trial(Shape("5", 3), (cures.bare(plan),), BASE).is_bare)
+        bad = Trial(Shape("5", 3), (), BASE.having(badrows=1))
+        self.assertEqual((bad.has_bad_rows, bad.lenient), (True, True))
+        self.assertFalse(Trial(Shape("10", 4)).lenient)
+
+
+class OfAsking(unittest.TestCase):
+    def test_request(self) -> None:
+        request = Asking(evidence(), OPTIONS).request(Shape("5", 4, 1, 2))
+        self.assertEqual({name: request.get(name) for name in ("levels", "members", "missing", "foreign", "offsets", "badrows")},
+                         {"levels": "5", "members": "4", "missing": "1", "foreign": "2", "offsets": "0,2048", "badrows": ""})
+
+    def test_offsets_with_little_behind_them_come_last(self) -> None:
+        asking = Asking(evidence(filled={0: 90000, 2048: 90000 // 16 - 1}), OPTIONS)
+        self.assertEqual(asking.request(Shape("5", 3)).get("offsets"), "0")
+        self.assertEqual(asking.request(Shape("5", 3), True).get("offsets"), "0,2048")
+
+    def test_unread_rows(self) -> None:
+        asking = Asking(evidence(bad=100), OPTIONS)
+        shape = Shape("5", 3)
+        self.assertEqual(asking.request(shape).number("badrows"), 100)
+        self.assertEqual(asking.request(Shape("0", 3)).number("badrows"), 0)
+        self.assertEqual([cure.name for cure in asking.unread_cure(shape, asking.request(shape))], ["badrows 100 from the maps"])
+        self.assertEqual(asking.unread_cure(shape, BASE.having(badrows=200)), ())
+        self.assertEqual(len(asking.unread_cure(Shape("10", 4), None)), 1)
+        self.assertEqual(asking.unread_cure(Shape("0", 4), None), ())
+        self.assertEqual(Asking(evidence(bad=30000), OPTIONS).request(shape).number("badrows"), 0)
+        few = Asking(evidence(bad=100, filled={0: 90000, 2048: 200}), OPTIONS)
+        self.assertEqual((few.tells(2048), few.tells(0)), (False, True))
+
+    def test_first_rows_and_bare(self) -> None:
+        asking = Asking(evidence(bad=100), OPTIONS)
+        self.assertEqual(asking.first_rows(Shape("5", 3)).operands, asking.request(Shape("5", 3)).having(window=65536, badrows=0).operands)
+        self.assertEqual(asking.bare(Shape("5", 3)).out, (0, 1))
+
+    def test_most_bad(self) -> None:
+        asking = Asking(evidence(data=((2, 2),)), OPTIONS)
+        self.assertEqual(asking.most_bad(Shape("5", 3)), 90000 // 4)
+        self.assertEqual(asking.most_bad(Shape("6", 3)), 100000 // 64)
+        self.assertEqual(Asking(evidence(filled={0: 16}), OPTIONS).most_bad(Shape("6", 3)), 128)
+
+    def test_cures_that_make_sense(self) -> None:
+        asking = Asking(evidence(), OPTIONS)
+
+        def families(shape: Shape, every: bool = False, quick: bool = False) -> set[Family]:
+            return {cure.family for cure in asking.cures(shape, every, quick)}
+        self.assertNotIn(Family.BAD_ROWS, families(Shape("0", 3)))
+        self.assertNotIn(Family.WINDOW, families(Shape("0", 3)))
+        self.assertIn(Family.BAD_ROWS, families(Shape("5", 3)))
+        self.assertNotIn(Family.BAD_ROWS, families(Shape("6", 4, 1), quick=True))
+        self.assertIn(Family.BAD_ROWS, families(Shape("6", 4, 1)))
+        self.assertFalse(any(cure.slow for cure in asking.cures(Shape("5", 3), quick=True) + asking.cures(Shape("5", 2, 0, 1))))
+        self.assertTrue(any(cure.slow for cure in asking.cures(Shape("5", 3))))
+        self.assertFalse(any(cure.kind for cure in asking.cures(Shape("5", 3))))
+        self.assertTrue(any(cure.kind for cure in Asking(evidence(groups=(NTFS,)), OPTIONS).cures(Shape("5", 3))))
+        self.assertNotIn(Family.ORIGINS, {cure.family for cure in Asking(evidence(groups=()), OPTIONS).cures(Shape("5", 3))})
+
+    def test_unlike_offsets(self) -> None:
+        self.assertEqual(Asking(evidence(), OPTIONS).unlike_offsets(), [[2048, 4096], [0, 2048]])
+        self.assertEqual(Asking(evidence(offsets=(4096, 2048, 9)), OPTIONS).unlike_offsets(), [[2048, 4096], [4096, 6144]])
+        self.assertEqual(Asking(evidence(offsets=(99000,)), OPTIONS).unlike_offsets(), [[96952, 99000]])
+
+
+class Asked(unittest.TestCase):
+    """Questions over a program that answers by the plan's text."""
+
+    def questions(self, answer: Reply, known: Evidence | None = None) -> tuple[Questions, Standin, list[str]]:
+        """Questions with an answer to each page, and what was late."""
+        known = known or evidence(data=((2, 2),))
+        standin = Standin(("reraid list", answer), ("reraid survey", put(known.plan.text())))
+        late: list[str] = []
+        program = Program(standin, known.names, 5, 1)
+        return Questions(program, Surveys(standin, known.names), Asking(known, OPTIONS), late.append), standin, late
+
+    def plan(self, **values: str | int) -> Plan:
+        """A plan with groups."""
+        return plan_of(XFS, EXT).having(levels="5", **values)
+
+    def test_asked_once(self) -> None:
+        questions, standin, late = self.questions(lambda *_: put("3 5:la:none:8:0:0,1,2\nnext 4 of 9\n"))
+        for _ in range(2):
+            self.assertEqual(questions.landmarks_allow(self.plan()).text, "5:la:none:8:0:0,1,2")
+        self.assertTrue(questions.parity_allows(self.plan(misfits=8), Shape("5", 3)).there)
+        self.assertTrue(questions.parity_allows(self.plan(misfits=0), Shape("5", 3)).there)
+        self.assertEqual((standin.count("reraid list"), late), (2, []))
+        self.assertNotIn("group", standin.asked[1][1])
+        self.assertIn("window 1\n", standin.asked[0][1])
+
+    def test_late_counts_as_allowed(self) -> None:
+        questions, _, late = self.questions(lambda *_: Answer(None))
+        self.assertTrue(questions.may_list(self.plan(), Shape("6", 3)))
+        self.assertEqual(late, ["landmarks alone allow", "parity alone allows"])
+
+    def test_passed_over_where_landmarks_or_parity_allow_none(self) -> None:
+        def answer(none: str) -> Reply:
+            some = "1 5:la:none:8:0:0,1,2\nnext 2 of 9\n"
+            return lambda _, text: put("next 9 of 9\n" if ("group" in text) == (none == "landmarks") else some)
+        for none in ("landmarks", "parity"):
+            questions, _, _ = self.questions(answer(none))
+            self.assertFalse(questions.may_list(self.plan(), Shape("6", 3)))
+        questions, _, _ = self.questions(answer("parity"))
+        self.assertTrue(questions.may_list(self.plan(), Shape("0", 3)))
+        self.assertTrue(questions.may_list(self.plan(badrows=9), Shape("5", 3)))
+
+    def test_climb(self) -> None:
+        def answer(words: list[str], text: str) -> Answer:
+            if f"from={LAST}" in words:
+                return put("", 6, "reraid: cursor 1 is past 9")
+            rows = int(text.split("badrows ")[1].split()[0])
+            return put(("4 5:la:none:8:0:0,1,2\n" if rows >= 500 else "") + "next 9 of 9\n")
+        questions, standin, _ = self.questions(answer)
+        self.assertEqual(questions.climb(self.plan(badrows=9999)).bad_rows, 512)
+        asked = [text.split("badrows ")[1].split()[0] for words, text in standin.asked if "from=0" in words]
+        self.assertEqual(asked, ["1", "128", "512"])
+        self.assertEqual(self.questions(answer)[0].climb(self.plan(badrows=200)).bad_rows, 200)
+
+    def test_smallest_offset_that_parity_allows(self) -> None:
+        def answer(_words: list[str], text: str) -> Answer:
+            offsets = text.split("offsets ")[1].split("\n")[0].split(",")
+            return put(f"1 5:la:none:8:{offsets[-1]}:0,1,2\nnext 2 of 9\n")
+        questions, _, _ = self.questions(answer)
+        asking = questions.asking
+        # Of a shape that hints speak for it asks on, for smaller ones; of another it takes the first.
+        self.assertEqual(questions.first_allowed(asking.request(Shape("5", 3)), Shape("5", 3)), 0)
+        self.assertEqual(questions.first_allowed(asking.request(Shape("6", 3)), Shape("6", 3)), 2048)
+        none, _, _ = self.questions(lambda *_: put("next 9 of 9\n"))
+        self.assertIsNone(none.first_allowed(asking.request(Shape("5", 3)), Shape("5", 3)))
+
+    def test_needing(self) -> None:
+        allows, _, _ = self.questions(lambda *_: put("1 5:la:none:8:0:0,1,2\nnext 2 of 9\n"))
+        refuses, _, _ = self.questions(lambda *_: put("next 9 of 9\n"))
+        end = cures.before_superblock(plan_of(XFS))
+        for questions, found in ((allows, []), (refuses, [0, 2048])):
+            request = end.of(questions.asking.request(Shape("5", 3)))
+            self.assertEqual(questions.needing(Shape("5", 3), [end], request), found)
+        half = cures.half_window(plan_of(XFS))
+        self.assertEqual(allows.needing(Shape("5", 3), [half], half.of(allows.asking.request(Shape("5", 3)))), [0, 2048])
+        self.assertEqual((allows.is_unsound(Shape("5", 3)), refuses.is_unsound(Shape("5", 3))), (False, True))
+
+    def test_far_before(self) -> None:
+        questions, _, _ = self.questions(put(""), evidence(data=((2, 2),), filled={0: 90000, 2048: 50000}))  # type: ignore[arg-type]
+        self.assertTrue(questions.far_before(0, 2048, Shape("5", 3)))
+        self.assertFalse(questions.far_before(0, 2048, Shape("6", 3)))
+        self.assertFalse(questions.far_before(2048, 0, Shape("5", 3)))
+
+
+class Hunts(InFolder):
+    def hunt(self, answer: Reply, groups: tuple[Marked, ...] = (XFS, EXT), pairs: Pairs | None = None) -> tuple[Hunt, Standin]:
+        """A hunt over three images of which reraid says this."""
+        names = [self.file(f"{k}.img", b"x" * 8000 * SECTOR) for k in range(3)]
+        text = plan_of(*groups, lengths=(8000,) * 3).text()
+        standin = Standin(("reraid survey", put(text)), ("reraid list", answer))
+        seen = [Image(name, k, 8000) for k, name in enumerate(names)]
+        return Hunt(Options(tuple(names)), standin, seen, lambda _: None, pairs), standin
+
+    def test_listed_once(self) -> None:
+        hunt, _ = self.hunt(lambda *_: put("next 9 of 9\n"))
+        request = hunt.asking.request(Shape("5", 3))
+        self.assertIsNotNone(hunt.to_list(Shape("5", 3), request))
+        self.assertIsNone(hunt.to_list(Shape("5", 3), request))
+
+    def test_nothing_that_rules_sets_out(self) -> None:
+        hunt, _ = self.hunt(lambda *_: put(""))
+        bare = hunt.asking.bare(Shape("5,6", 4, 1))
+        self.assertIsNone(hunt.to_list(Shape("5,6", 4, 1), bare))
+        self.assertIsNotNone(hunt.to_list(Shape("5,6", 4, 1), bare, last=True))
+        none, _ = self.hunt(lambda *_: put(""), ())
+        self.assertIsNone(none.to_list(Shape("0", 3), none.asking.request(Shape("0", 3))))
+        plan = none.to_list(Shape("5,6", 4, 1), none.asking.request(Shape("5,6", 4, 1)))
+        self.assertEqual(plan and plan.values["levels"], "6")
+
+    def test_passed_over_is_counted(self) -> None:
+        hunt, _ = self.hunt(lambda *_: put("next 9 of 9\n"))
+        plan = hunt.to_list(Shape("5", 3), hunt.asking.request(Shape("5", 3)))
+        assert plan
+        self.assertEqual((hunt.may_list(plan, Shape("5", 3)), hunt.passed_over), (False, 1))
+
+    def test_ways(self) -> None:
+        hunt, _ = self.hunt(lambda *_: put("next 9 of 9\n"))
+        self.assertEqual([chosen for chosen, _ in hunt.ways(Shape("0", 3), 0)], [()])
+        names = [chosen[0].name for chosen, _ in hunt.ways(Shape("5", 3), 1)]
+        self.assertIn("an end before a superblock", names)
+        allows, _ = self.hunt(lambda *_: put("1 5:la:none:8:0:0,1,2\nnext 2 of 9\n"))
+        names = [chosen[0].name for chosen, _ in allows.ways(Shape("5", 3), 1)]
+        self.assertNotIn("an end before a superblock", names)
+        self.assertIn("8 misfits", names)
+        self.assertIn("an end before a superblock", [chosen[0].name for chosen, _ in allows.ways(Shape("5", 3), 1, every=True)])
+
+    def test_listing_is_told(self) -> None:
+        hunt, standin = self.hunt(lambda words, _: put("", 6, "reraid: cursor 1 is past 0") if f"from={LAST}" in words else put("next 9 of 9\n"))
+        request = dataclasses.replace(hunt.asking.request(Shape("6", 3)), out=(1,))
+        plan = hunt.to_list(Shape("6", 3), request)
+        assert plan
+        self.assertEqual(hunt.listing(Shape("6", 3), request, plan).total, 0)
+        self.assertRegex(standin.told[0], r"^reraid survey .* \| awk .*n==2.* \| reraid list size=20000 -- ")
+
+    def test_words(self) -> None:
+        hunt, _ = self.hunt(lambda *_: put(""))
+        self.assertEqual(hunt.word("5:la:none:8:7+7+7:0,1,2").text, "5:la:none:8:7:0,1,2")
+        mirrors, _ = self.hunt(lambda *_: put(""), pairs=Pairs((5, None, 4), (2048,)))
+        self.assertEqual(mirrors.word("0:plain:none:8:2048:2,0,1").text, "near2:8:2048:2,4,0,5,1,-")
+
+    def test_checked_by_all_groups(self) -> None:
+        hunt, _ = self.hunt(lambda *_: put(""))
+        plan = hunt.checked_by(Trial(Shape("5", 3), (), hunt.asking.bare(Shape("5", 3))))
+        self.assertEqual(plan and len(plan.groups), 2)
+        self.assertIsNone(hunt.checked_by(Trial(Shape("10", 4))))
+
+    def test_mirrors(self) -> None:
+        hunt, _ = self.hunt(lambda *_: put(""))
+        standin = Standin(("reraid mirrors", put("5 near2:8:2048:0,1,2,-\n7 near2:8:4096:1,0,-,2\nnext 9 of 9\n")))
+        hunt.program.commands = standin
+        listing = Mirrors(hunt, standin).listing(4, 1)
+        self.assertEqual((len(listing.sets), listing.total, listing.whole), (2, 9, True))
+        self.assertEqual(standin.count("reraid mirrors"), 1)
+        found = pairings(listing.sets)
+        self.assertEqual([(it.pairs, it.offsets) for it in found], [(((0, 1), (2, None)), (2048, 4096))])
+        images = [Image("a", 0, 9), Image("b", 1, 9, like=0), Image("c", 2, 9)]
+        self.assertEqual(found[0].line(images), "  pairs 0=1 image 2 alone: a RAID 0 of 2 disks")
+        self.assertEqual(found[0].partners(images), Pairs((1, None), (2048, 4096), True))
+        self.assertFalse(found[0].partners([Image("a", 0, 9), Image("b", 1, 9), Image("c", 2, 9)]).same)
+        self.assertEqual((pair(None, 3), pair(4, 2), pair(None, None)), ((3, None), (2, 4), None))
+
+    def test_mirrors_that_were_late(self) -> None:
+        hunt, _ = self.hunt(lambda *_: put(""))
+        hunt.program.commands = Standin(("reraid mirrors", put("5 near2:8:2048:0,1,2,-\n", None)))
+        listing = Mirrors(hunt, hunt.program.commands).listing(4, 1)
+        self.assertEqual((len(listing.sets), listing.whole, listing.note), (1, False, "its time of 60 s was up before all were looked at"))
+
+    def test_pairings_of_none(self) -> None:
+        self.assertEqual(pairings([Ranked(0, read_word("near2:8:0:0,1").text)])[0].pairs, ((0, 1),))
+
+
+if __name__ == "__main__":
+    unittest.main()

@@ -1,0 +1,185 @@
+"""The lines of `reraid relations`, and what they tell of arrays. The rows are made by `rows`."""
+
+import random
+import unittest
+
+from reraid_try.evidence import families, relations
+
+from . import rows
+
+NUMBER = 400
+
+
+def told(made: list[rows.Row], step: int = 1) -> list[families.Family]:
+    """The families of some rows."""
+    return families.families(relations.read(rows.text(made, 2048, step), step), range(len(made[0])))
+
+
+class Lines(unittest.TestCase):
+    """What is read of the output."""
+
+    TEXT = ("rows 2048 2112 zero - tied 5=143*0+1*2 6=1*1\n"
+            "rows 2176 2176 zero 0,3 tied -\n"
+            "together 0,2,5 in 2 rows\n"
+            "together 1,6 in 2 rows\n"
+            "others 3\n"
+            "alone 3,4\n"
+            "free 1 of 3\n")
+
+    def test_whole(self) -> None:
+        """All parts of an output."""
+        found = relations.read(self.TEXT, 64)
+        first, second = found.rows
+        self.assertEqual((first.first, first.last, first.zero), (2048, 2112, frozenset()))
+        self.assertEqual(first.ties, (relations.Tie(5, ((0, 143), (2, 1))), relations.Tie(6, ((1, 1),))))
+        self.assertEqual([tie.plain for tie in first.ties], [False, True])
+        self.assertEqual(sorted(sorted(it) for it in first.tied()), [[0, 2, 5], [1, 6]])
+        self.assertEqual((found.count(first), found.count(second)), (2, 1))
+        self.assertEqual((second.zero, second.ties), (frozenset({0, 3}), ()))
+        self.assertEqual([(sorted(it.images), it.rows) for it in found.together], [([0, 2, 5], 2), ([1, 6], 2)])
+        self.assertEqual((found.alone, found.free, found.total, found.others), (frozenset({3, 4}), 1, 3, 3))
+
+    def test_objects(self) -> None:
+        """The same output as objects of JSON."""
+        objects = ('{"rows":[2048,2112],"zero":[],"tied":[[5,[[143,0],[1,2]]],[6,[[1,1]]]]}\n'
+                   '{"rows":[2176,2176],"zero":[0,3],"tied":[]}\n'
+                   '{"together":[0,2,5],"rows":2}\n{"together":[1,6],"rows":2}\n{"others":3}\n{"alone":[3,4]}\n{"free":1,"of":3}\n')
+        self.assertEqual(relations.read(objects, 64), relations.read(self.TEXT, 64))
+
+    def test_cut_off(self) -> None:
+        """What came before a fault stands."""
+        found = relations.read(self.TEXT[:self.TEXT.index("together")], 64)
+        self.assertEqual((len(found.rows), found.total), (2, 0))
+
+    def test_no_line(self) -> None:
+        """A line that is none is refused."""
+        texts = ("rows 1 2 zero - tied", "rows 1 2 zero - tied 4=0*", "reraid: plan line 3", "alone")
+        for line in (*texts, "{", '{"rows":[1],"zero":[],"tied":[]}', "{}"):
+            with self.subTest(line), self.assertRaises(relations.Unreadable):
+                relations.read(line + "\n", 1)
+
+    def test_made_rows(self) -> None:
+        """The rows that tests are made of have the ties of a RAID 6 by its definition: P is the sum of the data, Q that with the powers of 2."""
+        row = rows.striped(random.Random(1), 5, 6, 1)[0]
+        data, p, q = [row[1], row[2], row[3]], row[4], row[0]
+        self.assertEqual(rows.table([*data, p, q]), ([], {3: {0: 1, 1: 1, 2: 1}, 4: {0: 1, 1: 2, 2: 4}}))
+
+
+class Families(unittest.TestCase):
+    """What the rows of arrays tell."""
+
+    def setUp(self) -> None:
+        self.rnd = random.Random(7)
+
+    def test_level_5(self) -> None:
+        """All disks of a RAID 5 and a foreign one."""
+        found, = told(rows.beside(rows.striped(self.rnd, 4, 5, NUMBER), rows.alone(self.rnd, NUMBER)))
+        self.assertEqual((found.images, found.level, found.parity, found.lost, found.members), ((0, 1, 2, 3), "5", 1, 0, 4))
+        self.assertEqual((found.first, found.last, found.old, found.reshape, found.loose), (2048, 2048 + NUMBER - 1, (), None, 0))
+
+    def test_level_5_lost(self) -> None:
+        """A RAID 5 that lacks a disk is known by rows of which most is zeros."""
+        found, = told(rows.without(rows.striped(self.rnd, 5, 5, 4 * NUMBER, sparse=0.6), 2))
+        self.assertEqual((found.images, found.level, found.parity, found.lost, found.members), ((0, 1, 2, 3), "5", 0, 1, 5))
+
+    def test_level_6(self) -> None:
+        """All disks of a RAID 6, and the same with one or two lost."""
+        made = rows.striped(self.rnd, 6, 6, 4 * NUMBER, sparse=0.4)
+        for lost in range(3):
+            with self.subTest(lost=lost):
+                found, = told(made)
+                self.assertEqual((len(found.images), found.level, found.parity, found.lost, found.members), (6 - lost, "6", 2 - lost, lost, 6))
+            made = rows.without(made, 1)
+
+    def test_mostly_empty(self) -> None:
+        """A RAID 6 of which all but a part is zeros, behind metadata of each disk's own: all its disks are there, also where each row has zeros."""
+        metadata, rest = rows.beside(*(rows.alone(self.rnd, 200) for _ in range(5))), [[bytes(rows.COLUMNS)] * 5] * 300
+        found, = told(metadata + rows.striped(self.rnd, 5, 6, 24) + rest)
+        self.assertEqual((found.level, found.parity, found.lost, found.first, found.loose), ("6", 2, 0, 2048 + 200, 0))
+        sparse = [row for row in rows.striped(self.rnd, 5, 6, 400, sparse=0.6) if bytes(rows.COLUMNS) in row]
+        found, = told(metadata + sparse + rest)
+        self.assertEqual((found.level, found.parity, found.lost), ("6", 2, 0))
+
+    def test_level_0(self) -> None:
+        """Disks of a RAID 0 are tied nowhere."""
+        self.assertEqual(told([[rows.sector(self.rnd) for _ in range(4)] for _ in range(NUMBER)]), [])
+
+    def test_two_arrays(self) -> None:
+        """Two arrays in one heap, the one of them a RAID 6 that lacks a disk."""
+        six, five = rows.without(rows.striped(self.rnd, 6, 6, NUMBER), 3), rows.striped(self.rnd, 3, 5, NUMBER)
+        found = told(rows.beside(six, five))
+        self.assertEqual([(it.images, it.level, it.lost) for it in found], [((0, 1, 2, 3, 4), "6", 1), ((5, 6, 7), "5", 0)])
+
+    def test_old(self) -> None:
+        """A disk of a RAID 6 that dropped out: from row 100 on rows were written without it, but for each fifth."""
+        made = rows.striped(self.rnd, 6, 6, NUMBER)
+        for number, row in enumerate(made):
+            if number >= 100 and number % 5:
+                row[4] = rows.sector(self.rnd)
+        found, = told(made)
+        self.assertEqual([(it.image, it.rows, it.first) for it in found.old], [(4, 240, 2048 + 101)])
+        self.assertEqual((found.current, found.lost, found.members), ((0, 1, 2, 3, 5), 1, 6))
+        self.assertIn("sector 2149", found.old[0].line("d.img"))
+
+    def test_bad_rows(self) -> None:
+        """Rows of a RAID 5 that do not cancel: how many, and from where on."""
+        made = rows.striped(self.rnd, 4, 5, NUMBER)
+        for number in range(200, 230):
+            made[number][1] = rows.sector(self.rnd)
+        found, = told(made)
+        self.assertEqual((found.level, found.parity, found.loose, found.loose_first), ("5", 1, 30, 2248))
+
+    def test_reshape(self) -> None:
+        """A RAID 5 that was grown from four disks to five as far as row 160."""
+        before, after = rows.striped(self.rnd, 5, 5, 160), rows.striped(self.rnd, 4, 5, NUMBER - 160)
+        found, = told(before + rows.beside(after, [[bytes(rows.COLUMNS)]] * len(after)))
+        assert found.reshape
+        self.assertEqual((found.reshape.sector, sorted(found.reshape.before), sorted(found.reshape.after)), (2208, [0, 1, 2, 3, 4], [0, 1, 2, 3]))
+
+    def test_no_reshape(self) -> None:
+        """Neither an array of which an end is empty nor one with an old disk is a reshape."""
+        made = rows.striped(self.rnd, 6, 6, NUMBER)
+        for row in made[200:]:
+            row[2] = rows.sector(self.rnd)
+        self.assertIsNone(told(made)[0].reshape)
+        self.assertIsNone(told(rows.striped(self.rnd, 4, 5, 200) + [[bytes(rows.COLUMNS)] * 4] * 200)[0].reshape)
+
+    def test_copies(self) -> None:
+        """The pairs of a RAID 10 are copies, and no RAID 5 of two disks."""
+        made = []
+        for _ in range(NUMBER):
+            one, other = rows.sector(self.rnd), rows.sector(self.rnd)
+            made.append([one, other, one, other])
+        self.assertEqual([(it.images, it.level, it.copies) for it in told(made)], [((0, 2), "10", ((0, 2),)), ((1, 3), "10", ((1, 3),))])
+
+    def test_turning_copies(self) -> None:
+        """Copies of a RAID 10 of five disks, of which each row has other pairs, are no RAID 5."""
+        made = []
+        for number in range(NUMBER):
+            one, other, last = (rows.sector(self.rnd) for _ in range(3))
+            made.append([one, one, other, other, last] if number // 8 % 2 else [last, one, one, other, other])
+        found, = told(made)
+        self.assertEqual((found.images, found.level, found.copies, found.lost), ((0, 1, 2, 3, 4), "10", (), None))
+
+
+class Chunks(unittest.TestCase):
+    """How long a chunk is, by where ties change."""
+
+    def test_level_6(self) -> None:
+        """The places of P and Q turn at each border, at level 6 with none and with one lost."""
+        for lost in (0, 1):
+            made = rows.striped(random.Random(3), 6, 6, 320, chunk=32)
+            made = rows.without(made, 2) if lost else made
+            for step in (1, 8):
+                with self.subTest(lost=lost, step=step):
+                    found = relations.read(rows.text(made[::step], 2048 + 16, step), step)
+                    self.assertEqual(families.chunk_of(found, range(6 - lost)), (32, 16))
+
+    def test_level_5(self) -> None:
+        """At level 5 the ties are the same in all rows."""
+        found = relations.read(rows.text(rows.striped(random.Random(3), 5, 5, 320)), 1)
+        self.assertIsNone(families.chunk_of(found, range(5)))
+
+
+if __name__ == "__main__":
+    unittest.main()

@@ -1,0 +1,81 @@
+"""Partitions that disks have in common: disks of a NAS, made by hand."""
+
+import dataclasses
+import os
+import random
+import tempfile
+import unittest
+
+from reraid_try.evidence import shared
+from reraid_try.evidence.images import Image
+from reraid_try.evidence.tables import Partition, Table
+
+
+def disk(number: int, *partitions: tuple[int, int], own: bool = True, folder: str = "") -> Image:
+    """A disk with partitions at these places."""
+    table = Table("GPT of 512 bytes", own, tuple(Partition(first, count, "gpt") for first, count in partitions)) if partitions else Table()
+    return Image(os.path.join(folder, f"{number}.img"), number, 4096, table=table)
+
+
+class Places(unittest.TestCase):
+    """Which places are in common."""
+
+    def test_equal_tables(self) -> None:
+        """The same three partitions on each of three disks: the largest comes first."""
+        found = shared.places([disk(number, (8, 100), (108, 50), (158, 900)) for number in range(3)])
+        self.assertEqual([(it.first, it.count, it.images) for it in found], [(158, 900, (0, 1, 2)), (8, 100, (0, 1, 2)), (108, 50, (0, 1, 2))])
+        self.assertEqual((found[0].end, found[0].offsets((0, 20, 2048))), (1058, (158, 178)))
+
+    def test_larger_disks(self) -> None:
+        """Two larger disks among four have a further partition, and one disk a longer last one: the shortest counts."""
+        small, longer, large = ((8, 100), (108, 300)), ((8, 100), (108, 310)), ((8, 100), (108, 300), (408, 500))
+        found = shared.places([disk(0, *small), disk(1, *longer), disk(2, *large), disk(3, *large)])
+        self.assertEqual([(it.first, it.count, it.images) for it in found], [(108, 300, (0, 1, 2, 3)), (408, 500, (2, 3)), (8, 100, (0, 1, 2, 3))])
+
+    def test_table_of_the_array(self) -> None:
+        """The table that an array of whole disks begins with is of none of them; nor do a few disks with tables speak for many without."""
+        self.assertEqual(shared.places([disk(0, (8, 100), own=False), disk(1, (8, 100), own=False)]), [])
+        self.assertEqual(shared.places([disk(0, (8, 100)), disk(1, (8, 100)), disk(2), disk(3)]), [])
+        self.assertEqual(shared.places([disk(0, (8, 100)), disk(1)]), [])
+
+    def test_one_disk_twice(self) -> None:
+        """A disk that was imaged twice has nothing in common with itself."""
+        again = dataclasses.replace(disk(1, (8, 100)), like=0)
+        self.assertEqual(shared.places([disk(0, (8, 100)), again]), [])
+        self.assertEqual([it.images for it in shared.places([disk(0, (8, 100)), again, disk(2, (8, 100))])], [(0, 2)])
+
+
+class Contents(unittest.TestCase):
+    """What the images hold at a place."""
+
+    def setUp(self) -> None:
+        folder = tempfile.TemporaryDirectory()
+        self.addCleanup(folder.cleanup)
+        rnd = random.Random(5)
+        mirror = rnd.randbytes(1000 * 512)
+        self.disks = [disk(number, (0, 1000), (1000, 1000), (2000, 2000), folder=folder.name) for number in range(3)]
+        for it in self.disks:
+            with open(it.name, "wb") as file:
+                # Metadata of md tell the copies of a mirror apart.
+                file.write(mirror[:4096] + rnd.randbytes(4096) + mirror[8192:])
+                file.seek(2000 * 512)
+                file.write(rnd.randbytes(2000 * 512))
+
+    def test_kinds(self) -> None:
+        """An array, an empty place, and a mirror with metadata of their own on each."""
+        found = {it.first: it for it in shared.looked_at(self.disks)}
+        self.assertEqual({first: (it.copied, it.empty) for first, it in found.items()}, {0: (True, False), 1000: (False, True), 2000: (False, False)})
+        self.assertIn("the same on each", found[0].line())
+        self.assertIn("nothing but zeros", found[1000].line())
+        self.assertIn("an array of its own", found[2000].line())
+
+    def test_searched(self) -> None:
+        """Arrays alone are searched; where all there is are copies, the largest of these."""
+        found = shared.looked_at(self.disks)
+        self.assertEqual([it.first for it in shared.searched(found)], [2000])
+        self.assertEqual([it.first for it in shared.searched(it for it in found if it.first < 2000)], [0])
+        self.assertEqual(shared.searched(it for it in found if it.first == 1000), [])
+
+
+if __name__ == "__main__":
+    unittest.main()

@@ -1,0 +1,79 @@
+"""How far apart images hold the same sectors: files made by hand."""
+
+import os
+import random
+import tempfile
+import unittest
+
+from reraid_try.evidence import shifts
+from reraid_try.evidence.shifts import Shift
+
+ZERO = bytes(512)
+
+
+class Distances(unittest.TestCase):
+    """What files tell."""
+
+    def setUp(self) -> None:
+        folder = tempfile.TemporaryDirectory()
+        self.addCleanup(folder.cleanup)
+        self.folder, self.rnd = folder.name, random.Random(3)
+
+    def write(self, number: int, sectors: list[bytes]) -> str:
+        """A file of sectors."""
+        name = os.path.join(self.folder, str(number))
+        with open(name, "wb") as file:
+            file.write(b"".join(sectors))
+        return name
+
+    def sectors(self, count: int) -> list[bytes]:
+        """So many sectors, each of its own."""
+        return [self.rnd.randbytes(512) for _ in range(count)]
+
+    def test_moved(self) -> None:
+        """An image that holds what another one does 24 sectors further, beside contents of its own; what is on an image twice tells nothing."""
+        same, table = self.sectors(40), self.sectors(1)[0]
+        names = {2: self.write(2, self.sectors(20) + same + [table] * 30), 5: self.write(5, self.sectors(44) + same + [table] * 30 + [ZERO] * 99)}
+        self.assertEqual(shifts.shifts(names, 0, 90), [Shift(2, 5, 24, 40)])
+        self.assertEqual(shifts.shifts(names, 0, 60), [Shift(2, 5, 24, 16)])
+
+    def test_too_few(self) -> None:
+        """A few sectors in common, and many of which no distance stands out, tell none."""
+        few = self.sectors(shifts.LEAST_SHOWN - 1)
+        names = {0: self.write(0, few + self.sectors(9)), 1: self.write(1, self.sectors(9) + few)}
+        self.assertEqual(shifts.shifts(names, 0, 20), [])
+        many = self.sectors(200)
+        mixed = many[:]
+        self.rnd.shuffle(mixed)
+        self.assertEqual(shifts.shifts({0: self.write(0, many), 1: self.write(1, mixed)}, 0, 200), [])
+
+    def test_some_taken(self) -> None:
+        """Of many sectors some are taken, the same of each image."""
+        same = self.sectors(512)
+        one, other = self.write(0, same), self.write(1, [ZERO] * 8 + same)
+        taken, moved = shifts.taken(one, 0, 512, 8), shifts.taken(other, 0, 520, 8)
+        self.assertTrue(20 < len(taken) < 150)
+        self.assertEqual(shifts.shift(taken, moved), (8, len(taken)))
+
+
+class Told(unittest.TestCase):
+    """What distances tell."""
+
+    def test_potentials(self) -> None:
+        """Beginnings that agree, whichever image comes first; none of a circle, as copies on the next disk make, nor of two groups."""
+        self.assertEqual(shifts.potentials([Shift(0, 1, 8, 20), Shift(1, 2, -24, 30), Shift(0, 2, -16, 25)]), {0: 16, 1: 24, 2: 0})
+        self.assertIsNone(shifts.potentials([Shift(0, 1, 8, 20), Shift(1, 2, 8, 30), Shift(0, 2, -8, 25)]))
+        self.assertIsNone(shifts.potentials([Shift(0, 1, 8, 20), Shift(2, 3, 8, 30)]))
+        self.assertIsNone(shifts.potentials([]))
+
+    def test_apart(self) -> None:
+        """Copies one chunk further on the next disk, as of a RAID 10 with the layout offset=2; far ones; beginnings are none."""
+        self.assertEqual(shifts.apart([Shift(0, 1, -128, 90), Shift(0, 2, 128, 90), Shift(1, 3, -128, 90), Shift(2, 3, 128, 90)]), 128)
+        self.assertEqual(shifts.apart([Shift(0, 1, 90112, 50), Shift(1, 2, 90112, 50), Shift(0, 2, -90112, 50)]), 90112)
+        self.assertIsNone(shifts.apart([Shift(0, 1, 8, 20), Shift(1, 2, -24, 30), Shift(0, 2, -16, 25)]))
+        self.assertIsNone(shifts.apart([Shift(0, 1, 0, 20)]))
+        self.assertEqual([shifts.layout(128), shifts.layout(90112), shifts.layout(65536)], ["offset", "far", "far"])
+
+
+if __name__ == "__main__":
+    unittest.main()

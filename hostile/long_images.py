@@ -16,7 +16,7 @@ import sys
 import tempfile
 import time
 
-BENCH = pathlib.Path(__file__).resolve().parent.parent / "bench"
+BENCH = pathlib.Path(__file__).resolve().parent.parent / "bench/making"
 sys.dont_write_bytecode = True
 sys.path.insert(0, str(BENCH))
 import disks  # noqa: E402

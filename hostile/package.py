@@ -7,8 +7,10 @@ With --all it runs every command of README from there, for which it takes the De
 how many checks were as they should be; status 1 where one was not.
 """
 
+import gzip
 import os
 import pathlib
+import re
 import stat
 import subprocess
 import sys
@@ -16,7 +18,7 @@ import tempfile
 
 TOP = pathlib.Path(__file__).resolve().parent.parent
 sys.dont_write_bytecode = True
-sys.path.insert(0, str(TOP / "bench"))
+sys.path.insert(0, str(TOP / "bench/pages"))
 import as_printed  # noqa: E402
 
 NEEDED = ("Package", "Version", "Architecture", "Maintainer", "Installed-Size", "Depends", "Section", "Priority", "Description")
@@ -33,12 +35,23 @@ COMPLETIONS = [
     ("reraid write set=", ["0:", "5:", "6:"]),
     ("reraid write set=5:parity-", ["parity-first:", "parity-last:"]),
     ("reraid write set=6:ls:after-q:12", ["128:"]),
-    ("reraid write set=5:ls:none:128:2048:", []),
+    ("reraid write set=5:ls:none:128:2048:", ["expected:"]),
+    ("reraid survey patterns=la,left-symmetric", ["la,ls"]),
+    ("reraid survey chunks=64,512K", ["64,1024"]),
+    ("reraid survey kinds=zfs", ["expected:"]),
+    ("reraid survey window=1G", ["2097152"]),
+    ("reraid survey window=100", []),
+    ("reraid-mount 5:left-asym", ["expected:"]),
+    ("reraid-mount 5:left-asymmetric", ["la"]),
+    ("reraid-try --first 16X", ["expected:"]),
     ("reraid mirrorwrite set=near2:64:2", ["2048:", "262144:", "264192:"]),
     ("reraid write -- a", []),
     ("reraid-nbd set=n", ["near2:"]),
     ("reraid-mount 6:ls:by-", ["by-data:", "by-slot:"]),
     ("reraid-try --le", ["--levels"]),
+    ("reraid-nbd --", ["--"]),
+    ("reraid-nbd --v", ["--version"]),
+    ("reraid-mount --h", ["--help"]),
     ("reraid-try --levels 5,", ["5,0", "5,6", "5,10"]),
     ("reraid-ranges s", ["split"]),
 ]
@@ -79,7 +92,7 @@ def check_owners(checks, package):
     for line in output("dpkg-deb", "--contents", package).splitlines():
         mode, owner, _, _, _, name = line.split(maxsplit=5)
         checks.that(owner == "root/root", f"{name} belongs to root, not {owner}")
-        program = name.startswith("./usr/bin/") or name.endswith(".py") and "/examples/" in name
+        program = name.startswith("./usr/bin/") or name == "./usr/libexec/reraid/reraid-nbd" or name.endswith(".py") and "/examples/" in name
         wanted = {"d": "drwxr-xr-x", "l": "lrwxrwxrwx", "-": "-rwxr-xr-x" if program else "-rw-r--r--"}[mode[0]]
         checks.that(mode == wanted or name == "./usr/bin/", f"{name} has mode {mode}, not {wanted}")
         checks.that(name == "./" or name.startswith("./usr/"), f"{name} is outside of usr")
@@ -93,7 +106,7 @@ def check_files(checks, tree, sums):
     files = [path for path in tree.rglob("*") if path.is_file() and not path.is_symlink()]
     checks.that(len(files) == len(sums.splitlines()), "each file has a sum")
     for path in files:
-        checks.that(path.stat().st_size, f"{path.name} is not empty")
+        checks.that(path.stat().st_size or path.name == "__init__.py", f"{path.name} is not empty")
         if path.suffix == ".gz":
             checks.that(subprocess.run(["gzip", "-t", path], check=False).returncode == 0, f"{path.name} is whole")
     for path in sorted((tree / "usr/bin").iterdir()):
@@ -107,9 +120,23 @@ def check_files(checks, tree, sums):
             checks.that(False, f"{path.name}: {error}")
 
 
+def check_versions(checks, tree, fields):
+    """Each script says the number of VERSION, which the version of the package begins with; and the help of each begins as it should."""
+    version = (TOP / "VERSION").read_text().strip()
+    checks.that(fields["Version"].split("+")[0] == version, "the version of the package is that of VERSION")
+    for path in sorted((tree / "usr/bin").glob("reraid-*")):
+        checks.that(output(path, "--version").strip() == f"{path.name} {version}", f"{path.name} --version")
+        checks.that("usage:" in output(path, "--help"), f"{path.name} --help")
+    for page in (tree / "usr/share/man/man1").iterdir():
+        text = gzip.decompress(page.read_bytes()).decode()
+        checks.that(f'"reraid {version}"' in text, f"{page.name} has the version")
+        for name in re.findall(r"(?:docs/)?[\w\\-]+\.md", text):
+            checks.that((tree / "usr/share/doc/reraid" / name.replace("\\", "")).exists(), f"{name} of {page.name} is there")
+
+
 def check_libraries(checks, tree, fields):
     """The libraries of the programs belong to libc6 alone, whose version is said."""
-    for path in sorted((tree / "usr/bin").iterdir()):
+    for path in [*sorted((tree / "usr/bin").iterdir()), tree / "usr/libexec/reraid/reraid-nbd"]:
         if path.read_bytes()[:4] != b"\x7fELF":
             continue
         for line in output("ldd", path).splitlines():
@@ -127,6 +154,7 @@ def check_completions(checks, tree):
            '"_${name//-/_}"; printf "%s\\n" "${COMPREPLY[@]}"')
     for line, wanted in COMPLETIONS:
         got = output("bash", "-c", run, "bash", script, line).split()
+        got = got[:1] if got[:1] == ["expected:"] else got
         checks.that(got == wanted, f"completion of `{line}`: {got}")
 
 
@@ -152,15 +180,16 @@ def main(words):
     checks = Checks()
     with tempfile.TemporaryDirectory() as folder:
         os.chmod(folder, 0o755)
-        package = output(TOP / "bench/deb.sh", folder, stderr=subprocess.DEVNULL).strip()
+        package = output(TOP / "bench/making/deb.sh", folder, stderr=subprocess.DEVNULL).strip()
         twice = pathlib.Path(package).read_bytes()
-        output(TOP / "bench/deb.sh", folder, stderr=subprocess.DEVNULL)
+        output(TOP / "bench/making/deb.sh", folder, stderr=subprocess.DEVNULL)
         checks.that(twice == pathlib.Path(package).read_bytes(), "the package is the same when it is made again")
         tree = pathlib.Path(folder) / "tree"
         output("dpkg", "-x", package, tree)
         fields = check_fields(checks, package)
         check_owners(checks, package)
         check_files(checks, tree, output("dpkg-deb", "--info", package, "md5sums"))
+        check_versions(checks, tree, fields)
         check_libraries(checks, tree, fields)
         check_completions(checks, tree)
         check_listing(checks, tree, "--all" in words)

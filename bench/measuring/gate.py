@@ -1,0 +1,59 @@
+#!/usr/bin/env python3
+"""Runs the gate, and prints the minutes of the clock that it took, the minutes of the processors by proofs, tests and edits, and a
+table of the crates by them. It looks at the prover's processes each half second, so what runs shorter is not seen.
+
+What earlier runs proved is kept by the kit and not proved again: for the times from nothing move what is kept away first. Nothing
+else should run.
+
+Usage: bench/measuring/gate.py [COMMAND..], rt ci if left out
+"""
+
+import collections
+import os
+import pathlib
+import subprocess
+import sys
+import time
+
+TICKS = os.sysconf("SC_CLK_TCK")
+KINDS = ("proof", "tests", "edits")
+
+
+def processes():
+    """The prover's processes: each by its number and start, with its crate, what it is for, and its seconds of the processor."""
+    for entry in pathlib.Path("/proc").iterdir():
+        if not entry.name.isdigit():
+            continue
+        try:
+            words = (entry / "cmdline").read_bytes().decode().split("\0")
+            if os.path.basename(words[0]) != "rattle" or "--crate-name" not in words:
+                continue
+            fields = (entry / "stat").read_text().rsplit(")", 1)[1].split()
+            kind = "edits" if "rt-edit" in os.readlink(entry / "cwd") else "tests" if "--test" in words else "proof"
+        except OSError:
+            continue
+        name = words[words.index("--crate-name") + 1]
+        yield (entry.name, fields[19]), (name, kind), sum(int(field) for field in fields[11:15]) / TICKS
+
+
+def main():
+    seen, begin = {}, time.monotonic()
+    with subprocess.Popen(sys.argv[1:] or ["rt", "ci"]) as run:
+        while run.poll() is None:
+            for number, crate, seconds in processes():
+                seen[number] = (crate, seconds)
+            time.sleep(0.5)
+    clock = time.monotonic() - begin
+    sums = collections.defaultdict(collections.Counter)
+    for (name, kind), seconds in seen.values():
+        sums[name][kind] += seconds
+    print(f"\n{clock / 60:.1f} minutes of the clock; of the processors: "
+          + ", ".join(f"{kind} {sum(crate[kind] for crate in sums.values()) / 60:.1f}" for kind in KINDS))
+    print("\n| crate | proof, s | tests, s | edits, s |\n|---|---|---|---|")
+    for name, crate in sorted(sums.items(), key=lambda item: -sum(item[1].values())):
+        print(f"| `{name}` | {' | '.join(f'{crate[kind]:.0f}' for kind in KINDS)} |")
+    return run.returncode
+
+
+if __name__ == "__main__":
+    sys.exit(main())

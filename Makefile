@@ -20,7 +20,8 @@ check:
 
 # The gate: the unit tests of the Python modules, then every proof, every edit that must fail, every test and program. The last line is that
 # of `rt ci`.
-test: units
+test:
+	$(MAKE) units
 	rt ci
 
 # The unit tests of the Python modules: they need Python alone.

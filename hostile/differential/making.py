@@ -17,6 +17,7 @@ class Case:
     def __init__(self, words, text=b"", files=None, large=False):
         self.words, self.text, self.files = words, text, files or {}
         self.large = large  # a plan of more sets than can be gone through, of which the words ask for a few
+        self.failing = None  # the read of an image that fails, counted from 1
 
 
 # Arrays

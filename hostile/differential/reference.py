@@ -12,13 +12,17 @@ import math
 import random
 
 import mirrors
+import relations
 import salvage
 from arrays import Row, Sums, cells, held, layout_name, turns, unsound_rows, volume_sector
 from generated import array_images, put_file_system, volume_of
 from landmarks import first_blocks, groups_of, sightings
 from product import Product, page
-from texts import (LEVELS, LISTS, MOST, PATTERNS, RANKS, SECTOR, SYNDROMES, USUAL_KINDS, Plan, Set, Stop, broken_bases,
+from texts import (LEVELS, LISTS, MOST, MOST_RELATED, PATTERNS, RANKS, SECTOR, SYNDROMES, USUAL_KINDS, Plan, Set, Stop, broken_bases,
                    broken_mirror_rule, broken_rule, read_plan, read_sets, read_words)
+
+# Rows of `relations`: as many where no step is given, and the most.
+USUAL_ROWS, MOST_ROWS = 4096, 1048576
 
 
 def given_images(kind, given, planned):
@@ -233,6 +237,28 @@ def write_mirror(given, images):
     return mirrors.volume(found, images, end)
 
 
+def related_rows(given, images):
+    """The rows that are looked at, and the sector of row 0 of each image, where these are as many and the rows neither too far nor too many."""
+    count, offsets = len(images), given.get("offsets", [0] * len(images))
+    for bad, most in ((count < 2, 2), (count > MOST_RELATED, MOST_RELATED)):
+        if bad:
+            given_images("count", count, most)
+    if len(offsets) != count:
+        given_images("offsets", len(offsets), count)
+    common = min(max(0, len(image) // SECTOR - offset) for image, offset in zip(images, offsets))
+    first, end = given.get("from", 0), given.get("end", common)
+    if end > common:
+        given_images("end", end, common)
+    rows = range(first, end, given.get("step", max(1, -(-(end - first) // USUAL_ROWS))))
+    if len(rows) > MOST_ROWS:
+        given_images("rows", len(rows), MOST_ROWS)
+    return rows, offsets
+
+
+def relate(given, images):
+    return relations.report(images, *related_rows(given, images), given.get("form", "text")).encode()
+
+
 def answer(words, text, files):
     """Status, standard output and standard error of a run."""
     try:
@@ -247,7 +273,8 @@ def answer(words, text, files):
                 "check": lambda: check(given, text, images), "map": lambda: map_sector(given, images),
                 "write": lambda: write(given, images), "rebuild": lambda: rebuild(given, images), "sample": lambda: sample(given),
                 "classes": lambda: classes(given, text), "salvage": lambda: salvage_volume(given, text, images),
-                "mirrors": lambda: list_mirrors(given, images), "mirrorwrite": lambda: write_mirror(given, images)}
+                "mirrors": lambda: list_mirrors(given, images), "mirrorwrite": lambda: write_mirror(given, images),
+                "relations": lambda: relate(given, images)}
         return 0, jobs[command](), b""
     except Stop as stop:
         return stop.status, b"", (stop.line + "\n").encode()

@@ -33,7 +33,7 @@ def scaled(weight, sector):
 
 
 def added(one, other):
-    return bytes(a ^ b for a, b in zip(one, other))
+    return (int.from_bytes(one, "big") ^ int.from_bytes(other, "big")).to_bytes(len(one), "big")
 
 
 def table(sectors):

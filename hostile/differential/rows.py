@@ -13,7 +13,7 @@ import zlib
 import reference
 from texts import PATTERNS, SECTOR, SYNDROMES
 
-NAMES = "abcdefghijklmnopqrstuvwx"
+NAMES = [*"abcdefghijklmnopqrstuvwx", *(f"n{place}" for place in range(24, 66))]
 ROWS = []
 
 
@@ -261,6 +261,54 @@ def earlier():
         row(words, [sectors("00")], status=1, line=f"word {place} is not understood")
 
 
+# How the images of a row depend on one another
+
+def units(*weights):
+    """A sector that begins with these bytes: a sum of the sectors with one 1, each with its weight."""
+    return bytes(weights).ljust(SECTOR, b"\0")
+
+
+def relations():
+    alike, other = units(1), units(0, 1)
+    row("relations", [alike + alike] * 2, out="rows 0 1 zero - tied 1=1*0\ntogether 0,1 in 2 rows\nalone -\nfree 0 of 2\n")
+    row("relations", [alike, other, units(1, 1)], out="rows 0 0 zero - tied 2=1*0+1*1\ntogether 0,1,2 in 1 rows\nalone -\nfree 0 of 1\n")
+    # 1 = 2*0, and the weight's product past eight bits: 2 * 80 = 100 is 1D, less the polynomial
+    row("relations", [units(0x80), units(0x1D)], out="rows 0 0 zero - tied 1=2*0\ntogether 0,1 in 1 rows\nalone -\nfree 0 of 1\n")
+    row("relations", [bytes(SECTOR), alike], out="rows 0 0 zero 0 tied -\nalone 0,1\nfree 1 of 1\n")
+    # Level 6 of eight members with the sixth data lost: Q = 1*d0 + 2*d1 + 4*d2 + 8*d3 + 16*d4 + 32*d5, and d5 is the sum of P and the others
+    data = [units(*(int(place == item) for place in range(6))) for item in range(5)]
+    row("relations", [*data, units(1, 1, 1, 1, 1, 1), units(1, 2, 4, 8, 16, 32)],
+        out="rows 0 0 zero - tied 6=33*0+34*1+36*2+40*3+48*4+32*5\ntogether 0,1,2,3,4,5,6 in 1 rows\nalone -\nfree 0 of 1\n")
+    # Two arrays, one of which ends after a row, and a foreign image
+    images = [alike + alike, units(0, 0, 5) * 2, alike + other, units(0, 0, 0, 1) * 2, units(0, 0, 0, 2) * 2]
+    row("relations", images, out="rows 0 0 zero - tied 2=1*0 4=2*3\nrows 1 1 zero - tied 4=2*3\ntogether 3,4 in 2 rows\n"
+        "together 0,2 in 1 rows\nalone 1\nfree 0 of 2\n")
+    row("relations form=json", images, out='{"rows":[0,0],"zero":[],"tied":[[2,[[1,0]]],[4,[[2,3]]]]}\n'
+        '{"rows":[1,1],"zero":[],"tied":[[4,[[2,3]]]]}\n{"together":[3,4],"rows":2}\n{"together":[0,2],"rows":1}\n{"alone":[1]}\n{"free":0,"of":2}\n')
+    row("relations from=1", images, out="rows 1 1 zero - tied 4=2*3\ntogether 3,4 in 1 rows\nalone 0,1,2\nfree 0 of 1\n")
+    row("relations step=2 end=2", images, out="rows 0 0 zero - tied 2=1*0 4=2*3\ntogether 0,2 in 1 rows\ntogether 3,4 in 1 rows\n"
+        "alone 1\nfree 0 of 1\n")
+    row("relations offsets=0+1", [alike + other, other + alike + other],
+        out="rows 0 1 zero - tied 1=1*0\ntogether 0,1 in 2 rows\nalone -\nfree 0 of 2\n")
+    row("relations from=2", [alike + alike] * 2, out="alone 0,1\nfree 0 of 0\n")
+    row("relations", [alike * 4097] * 2, out="rows 0 4096 zero - tied 1=1*0\ntogether 0,1 in 2049 rows\nalone -\nfree 0 of 2049\n")
+    row("relations", [units(*(int(place == item) for place in range(63))) for item in range(63)] + [units(*[1] * 63)],
+        out=f"rows 0 0 zero - tied 63={'+'.join(f'1*{place}' for place in range(63))}\ntogether {','.join(map(str, range(64)))} in 1 rows\n"
+        "alone -\nfree 0 of 1\n")
+    refused_relations()
+
+
+def refused_relations():
+    for count, words, line in ((1, "", "count given 1 planned 2"), (65, "", "count given 65 planned 64"),
+                               (2, "offsets=1+2+3", "offsets given 3 planned 2"), (1, "offsets=1+2", "count given 1 planned 2"), (2, "offsets=0", "offsets given 1 planned 2"),
+                               (2, "end=3", "end given 3 planned 2"), (2, "end=2 offsets=0+1", "end given 2 planned 1"),
+                               (2, "end=1 offsets=0+9", "end given 1 planned 0")):
+        row(f"relations {words}", [units(1) * 2] * count, status=4, line=f"images: {line}")
+    for words, place in (("step=0", 2), ("from=1 offsets=", 3), ("form=data", 2), ("end=36028797018963968", 2), ("set=5", 2), ("offsets=1,2", 2),
+                         ("from=1 from=1", 3), (f"offsets={'+'.join(['0'] * 65)}", 2)):
+        row(f"relations {words}", [units(1)] * 2, status=1, line=f"word {place} is not understood")
+
+
 def differs(words, images, text, out, status, line, ends):
     """What the reference answers, where that is another answer."""
     given = words.split()
@@ -277,7 +325,7 @@ def differs(words, images, text, out, status, line, ends):
 
 
 def main():
-    for rows in (earlier, own_offsets, large_blocks, rescue, near, file_systems):
+    for rows in (earlier, own_offsets, large_blocks, rescue, near, file_systems, relations):
         rows()
     differing = 0
     for words, *rest in ROWS:

@@ -8,6 +8,7 @@ MOVED = 2 ** 54  # lengths and offsets are below it where each image has an offs
 RANKS = 2 ** 64
 PLAN_BYTES = 4194304
 MOST = 24
+MOST_RELATED = 64  # images of `relations`
 MOST_LINES = 4000000
 MOST_SETS = 1024
 LEVELS = [0, 5, 6]
@@ -138,6 +139,12 @@ class Mirror(Array):
         return f"near2:{self.chunk}:{self.offset}:{self.slot_words()}"
 
 
+def places(text):
+    """A place of each image, in any order."""
+    found = [number(part, 0, FAR - 1) for part in text.split("+")]
+    return None if None in found or len(found) > MOST_RELATED else found
+
+
 def slots_word(text):
     slots = [-1 if part == "-" else number(part, 0, MOST - 1) for part in text.split(",")]
     return None if None in slots or len(slots) > MOST else [None if slot == -1 else slot for slot in slots]
@@ -248,9 +255,11 @@ OPERANDS = {
     "mirrors": {**{name: LISTS[name] for name in ("members", "chunks", "offsets", "foreign", "badrows", "window")}, "missing": one(0, 1),
                 **END, **RANGE},
     "mirrorwrite": {"set": mirror_word, **END},
+    "relations": {"from": one(0, FAR - 1), **END, "step": one(1, FAR - 1), "offsets": places, "form": either("text", "json")},
 }
 REQUIRED = {"survey": [], "list": [], "check": ["set"], "map": ["set", "sector"], "write": ["set"], "rebuild": ["set", "slot"],
-            "sample": ["number", "set", "rows"], "classes": ["images", "end"], "salvage": ["set"], "mirrors": [], "mirrorwrite": ["set"]}
+            "sample": ["number", "set", "rows"], "classes": ["images", "end"], "salvage": ["set"], "mirrors": [], "mirrorwrite": ["set"],
+            "relations": []}
 
 
 def clash(given):

@@ -148,10 +148,12 @@ def searched(checks, folder):
     words = ["reraid-try", "--json", "--report", "case.html", "--hash", *names]
     done = subprocess.run(words, cwd=folder, env=env, capture_output=True, text=True, check=False)
     events = [json.loads(line) for line in done.stdout.splitlines()]
-    checks.that(done.returncode in (0, 1), f"reraid-try ends by itself: {done.returncode} {done.stderr[-300:]}")
+    checks.that(done.returncode in (0, 1) and "Traceback" not in done.stderr, f"reraid-try ends by itself: {done.returncode} {done.stderr[-600:]}")
     for kind in ("run", "image", "container", "strip", "hash", "trial", "not tried", "end", "finished", "page"):
         checks.that(any(it["event"] == kind for it in events), f"--json has the event {kind}")
     page = folder / "case.html"
+    if not page.exists():
+        return None
     text = page.read_text(encoding="utf-8")
     elements = Elements()
     elements.feed(text)
@@ -175,7 +177,8 @@ def main(words):
     if page is None:
         make(folder)
         page = searched(checks, folder)
-    in_chromium(checks, pathlib.Path(page).resolve(), folder)
+    if page:
+        in_chromium(checks, pathlib.Path(page).resolve(), folder)
     print(f"pictures are in {folder}")
     print(f"{checks.done} checks, {checks.failed} not as they should be")
     return checks.failed > 0

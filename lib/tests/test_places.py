@@ -78,6 +78,14 @@ class Allowed(unittest.TestCase):
         self.assertTrue(it.allows(made_word((0, 1, None, 2), "unheard-of")))
         self.assertTrue(it.allows(made_word((0, 1, None, 9))))
 
+    def test_other_shapes(self) -> None:
+        """Of sets with more members or fewer, and of those of another level, nothing is said."""
+        whole = rows.striped(random.Random(5), 4, 5, 1600, chunk=16, sparse=0.5)
+        it = told(rows.without(whole, 2), "5", 4)
+        for slots in ((1, 0, 2), (1, 0, None, 2, None), (1, 0, 2, None, None)):
+            self.assertTrue(it.allows(made_word(slots)), slots)
+        self.assertTrue(it.allows(made("6", "ls", "after-q", 16, (64,), (1, 0, None, 2))))
+
     def test_fixed(self) -> None:
         """Parity that stands on one disk: which that is."""
         rnd = random.Random(6)

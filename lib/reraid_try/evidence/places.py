@@ -151,8 +151,8 @@ class Places:
         return next((turn for turn in self.turns if any(pattern == name for name, _ in turn.patterns)), None)
 
     def allows(self, word: Word) -> bool:
-        """Few rows speak against a set, or too little is known."""
-        turn = self.turn_of(word.pattern)
+        """Few rows speak against a set, or too little is known: of another level or another number of members it is not known where parity lies."""
+        turn = self.turn_of(word.pattern) if (word.level, len(word.slots)) == (self.level, self.members) else None
         if turn is None or word.is_each or not self.told or not set(word.images) <= set(self.images):
             return True
         costs = self.costs(turn, word.chunk, word.offset)

@@ -12,6 +12,16 @@ here=$(cd "$(dirname "$0")" && pwd)
 bench=$here/../bench
 program=$(realpath "$1") server=$(realpath "$2")
 shift 2
+export PATH=$PATH:/usr/sbin:/sbin
+missing=
+for tool in nbdinfo:libnbd-bin nbdcopy:libnbd-bin nbdfuse:libnbd-bin nbdkit:nbdkit qemu-img:qemu-utils mke2fs:e2fsprogs mkfs.xfs:xfsprogs \
+    mkfs.btrfs:btrfs-progs; do
+    command -v "${tool%:*}" >/dev/null || missing="$missing ${tool%:*} (${tool#*:})"
+done
+[ -z "$missing" ] || { echo "nbd.sh: nothing was tried, since these are not installed:$missing" >&2; exit 2; }
+# The module of libnbd is one of Debian's own Python.
+libnbd=yes
+/usr/bin/python3 -c "import nbd" 2>/dev/null || { libnbd=; echo "left out: what libnbd is asked for by itself (python3-libnbd is not installed)"; }
 folder=$(mktemp -d "${TMPDIR:-/tmp}/reraid-nbd.XXXXXX") || exit 2
 listener=
 ended() {
@@ -100,6 +110,7 @@ copied() {
 
 # What libnbd refuses by itself is asked all the same.
 asked() {
+    [ -n "$libnbd" ] || return 0
     cat >ask.py <<'END'
 import sys
 import nbd

@@ -171,7 +171,8 @@ long=$(printf 'n%.0s' $(seq 255))
 cp a "$long"
 for name in absent inside fifo socket /dev/null /dev/zero /dev/full /dev/tty broken loop a/ a/b "" "$(printf 'n%.0s' $(seq 256))" \
     "$(printf 'n%.0s' $(seq 4096))" "$(printf './%.0s' $(seq 2048))a"; do
-    for command in "survey" "list" "check set=$set" "map set=$set sector=0" "write set=$set" "rebuild set=5:ls:none:1:0:-,0,1 slot=0"; do
+    for command in "survey" "list" "check set=$set" "map set=$set sector=0" "write set=$set" "rebuild set=5:ls:none:1:0:-,0,1 slot=0" \
+        "mirrors" "mirrorwrite set=near2:1:0:0,1,2" "salvage set=$set" "salvage set=$set form=lost"; do
         expect "${command%% *} with the name ${name:0:20}" 10 "$fault" "" $command -- a "$name" c
     done
 done
@@ -350,9 +351,14 @@ if sha256sum --quiet -c sums; then
 else
     failures=$((failures + 1))
 fi
-for command in "survey" "list" "check set=$set" "map set=$set sector=0" "write set=$set" "rebuild set=5:ls:none:1:0:-,1,2 slot=0"; do
+for command in "survey" "list" "check set=$set" "map set=$set sector=0" "write set=$set" "rebuild set=5:ls:none:1:0:-,1,2 slot=0" \
+    "mirrors chunks=1 offsets=0" "mirrorwrite set=near2:1:0:0,1,2" "salvage set=$set" "salvage set=$set form=lost"; do
     runs=$((runs + 1))
-    strace -f -qq -o trace "$program" $command -- a b c <plan >/dev/null 2>/dev/null
+    case $command in
+    salvage*) input=empty ;;
+    *) input=plan ;;
+    esac
+    strace -f -qq -o trace "$program" $command -- a b c <$input >/dev/null 2>/dev/null
     opened=$(grep -cE 'open(at|at2)?\(.*"[abc]", O_RDONLY(\||,|\))' trace)
     written=$(grep -E 'open(at|at2)?\(|creat\(' trace | grep -cE 'O_(WRONLY|RDWR|CREAT|TRUNC|APPEND)|creat\(')
     others=$(grep -vE ' (write\((1|2),|exit_group)' trace |

@@ -23,6 +23,8 @@ sys.path.insert(0, str(TOP / "lib"))
 from reraid_try import containers, opening  # noqa: E402
 from reraid_try.errors import OutsideError  # noqa: E402
 
+# A run that is refused takes no longer.
+SECONDS = 120
 ENV = os.environ | {"PATH": os.pathsep.join([str(TOP / "crates/reraid/out"), str(TOP / "bin"), os.environ["PATH"], "/usr/sbin", "/sbin"])}
 # How a disk is put into each kind: the commands, and the file that is named.
 MADE = {
@@ -35,6 +37,13 @@ MADE = {
     "VHD": (["qemu-img convert -O vpc d.dd d.vhd"], "d.vhd"), "fixed": (["qemu-img convert -O vpc -o subformat=fixed d.dd d.vhd"], "d.vhd"),
     "VHDX": (["qemu-img convert -O vhdx d.dd d.vhdx"], "d.vhdx"), "VDI": (["qemu-img convert -O vdi d.dd d.vdi"], "d.vdi"),
     "child": (["qemu-img create -f qcow2 -b d.dd -F raw d.qcow2"], "d.qcow2")}
+# Containers that are not whole: the commands that make each of d.dd, and what is said of it.
+CUT = {"cut.vmdk": ("head -c 5M d.vmdk > cut.vmdk", "points after EOF"),
+       "cut.qcow2": ("qemu-img convert -O qcow2 d.dd q && head -c 5M q > cut.qcow2", "qemu-img check"),
+       "cut.vhdx": ("qemu-img convert -O vhdx d.dd x && head -c 9M x > cut.vhdx", "qemu-img check"),
+       "cut.vdi": ("qemu-img convert -O vdi d.dd v && head -c 5M v > cut.vdi", "is cut off"),
+       "flat.vmdk": ("qemu-img convert -O vmdk -o subformat=monolithicFlat d.dd flat.vmdk && truncate -s 5M flat-flat.vmdk", "is shorter than"),
+       "e.E01": ("ewfacquire -u -q -t e -f encase6 -S 3MiB -c fast ./d.dd && rm e.E03", "a further file follows, and there is none")}
 
 
 class Checks:
@@ -86,9 +95,15 @@ def opened(checks, base):
 def refused(checks, base):
     """What cannot be opened, or is cut."""
     with tempfile.TemporaryDirectory(dir=base) as folder:
-        run(folder, "sh", "-c", "head -c 7M /dev/urandom > d.dd; qemu-img convert -O vmdk d.dd d.vmdk; head -c 100K d.vmdk > cut.vmdk; gzip -k d.dd")
-        done = subprocess.run(["reraid-try", "cut.vmdk", "d.dd"], cwd=folder, env=ENV, capture_output=True, text=True, check=False)
-        checks.that(done.returncode == 3 and "qemu-nbd" in done.stderr + done.stdout and "does not open it" in done.stderr, f"a cut one: {done.stderr}")
+        run(folder, "sh", "-c", "head -c 7M /dev/urandom > d.dd; qemu-img convert -O vmdk d.dd d.vmdk; gzip -k d.dd")
+        for name, (command, wanted) in CUT.items():
+            run(folder, "sh", "-c", command)
+            done = subprocess.run(["reraid-try", name, "d.dd"], cwd=folder, env=ENV, capture_output=True, text=True, timeout=SECONDS, check=False)
+            checks.that(done.returncode == 3 and "it is not whole" in done.stderr and wanted in done.stderr, f"{name}: {done.returncode} {done.stderr}")
+        bad = b"EVF\x09\x0d\x0a\xff\x00\x01\x01\x00" + bytes(3000) + b"done".ljust(76, b"\0")
+        (pathlib.Path(folder) / "bad.E01").write_bytes(bad)
+        done = subprocess.run(["reraid-try", "bad.E01", "d.dd"], cwd=folder, env=ENV, capture_output=True, text=True, timeout=SECONDS, check=False)
+        checks.that(done.returncode == 3 and "ewfmount does not open it" in done.stderr, f"one that its tool does not open: {done.stderr}")
         done = subprocess.run(["reraid-try", "d.dd.gz", "d.dd"], cwd=folder, env=ENV, capture_output=True, text=True, check=False)
         checks.that(done.returncode == 3 and "unpack it first" in done.stderr, f"a compressed one: {done.stderr}")
         alone = ENV | {"PATH": os.pathsep.join([*ENV["PATH"].split(os.pathsep)[:3], f"{folder}/few"])}

@@ -178,19 +178,23 @@ def gap(parts: Sequence[str]) -> str | None:
     return f"{match[1]}{int(match[2]) + 1:0{width}}" if later else None
 
 
-def extents(name: str, head: bytes) -> set[str]:
-    """The other files that the text of a VMDK names."""
-    text = head
+def described(name: str, head: bytes) -> bytes:
+    """The text of a VMDK, in which its extents are named; nothing where it has none."""
     if head.startswith(b"KDMV") and len(head) >= 44:
         first, count = struct.unpack_from("<QQ", head, 28)
         with open(name, "rb") as file:
             file.seek(first * SECTOR)
-            text = file.read(min(count, 64) * SECTOR) if first else b""
-    elif head.startswith(b"# Disk DescriptorFile"):
+            return file.read(min(count, 64) * SECTOR) if first else b""
+    if head.startswith(b"# Disk DescriptorFile"):
         with open(name, "rb") as file:
-            text = file.read(1 << 16)
+            return file.read(1 << 16)
+    return b""
+
+
+def extents(name: str, head: bytes) -> set[str]:
+    """The other files that the text of a VMDK names."""
     folder = os.path.dirname(name)
-    return {os.path.join(folder, it.decode(errors="surrogateescape")) for it in EXTENT.findall(text)} - {name}
+    return {os.path.join(folder, it.decode(errors="surrogateescape")) for it in EXTENT.findall(described(name, head))} - {name}
 
 
 def part_of(name: str, whole: dict[str, str], kind: str | None, head: bytes) -> str | None:

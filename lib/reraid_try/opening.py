@@ -10,7 +10,9 @@ import time
 from collections.abc import Callable, Sequence
 
 from .containers import PACKAGES, Container
-from .errors import OutsideError
+from .errors import OutsideError, said
+from .intact import fault
+from .units import SECTOR
 
 # Seconds until a container has to be open: an image may lie on a slow disk.
 MOST_SECONDS = 60.0
@@ -65,12 +67,21 @@ class Opener:
             packages = " ".join(dict.fromkeys(PACKAGES[tool] for tool in missing))
             raise OutsideError(f"{it.line()}, which is no raw image: {' and '.join(missing)} would open it (Debian: apt install {packages}); "
                                "--raw searches the files as they are")
+        try:
+            wrong = fault(it)
+        except OSError as error:
+            raise OutsideError(f"{it.line()}, and it cannot be read: {said(error)}") from error
+        if wrong:
+            raise OutsideError(f"{it.line()}, and it is not whole: {wrong}. What is missing would look like zeros, so nothing is searched; opened by "
+                               "hand (docs/IMAGES.md) it can be all the same")
         folder = os.path.join(self.base, f"opened{len(self.mounts)}")
         os.mkdir(folder)
         words = it.command(folder)
         self.note(shlex.join(words))
         path = os.path.join(folder, it.shown())
         error = self.begin(it, words, folder, path)
+        if error is None and os.path.getsize(path) < SECTOR:
+            error = "it shows a disk without a sector"
         if error is not None:
             raise OutsideError(f"{it.line()}, and {it.tools()[0]} does not open it: {error or 'it says nothing'}")
         return path

@@ -152,9 +152,18 @@ class Pages(unittest.TestCase):
         regions = [{"first": 0, "rows": 10, "tested": 10, "unsound": 3}, {"first": 10, "rows": 5, "tested": 5, "unsound": 0}]
         said = self.made(("image", "", image(0)), ("trial", "", trial), ("candidate", "", candidate), ("words", "", words),
                          ("parity", "", {"class": 0, "regions": regions}))
+        self.assertNotIn("put off", said)
         for wanted in ("++ class 0. RAID 5 of 3 disks", "reraid-mount S d 0.img", "7 rows unsound, ext 4", "candidates: class 0",
                        "5:rs:none:128:2048:0,2,1", "3 of 15 rows that were tested are unsound, in 2 parts"):
             self.assertIn(wanted, said)
+
+    def test_outcomes(self) -> None:
+        """A trial whose sets were put off says so, and only that one; of many candidates those that follow one another are one."""
+        trials = [("trial", "", {"number": number, "shape": "levels 5", "loosened": [], "listed": 9, "total": 9, "note": ""}) for number in (1, 2, 3)]
+        found = [("candidate", "", {"class": number, "set": "s", "loosened": [], "score": 1, "trial": 3}) for number in (0, 1, 2, 4, 6, 7)]
+        said = self.made(trials[0], ("put off", "", {"sets": 9}), *trials[1:], *found)
+        self.assertEqual(said.count("put off; no new candidate"), 1)
+        self.assertIn("candidates: class 0 to 2, 4, 6, 7", said)
 
     def test_relations(self) -> None:
         told = {"step": 10, "rows": [{"first": 0, "last": 40, "zero": [], "tied": [[0, 1]]}, {"first": 50, "last": 90, "zero": [1], "tied": []}],

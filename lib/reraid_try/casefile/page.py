@@ -5,7 +5,7 @@ from collections.abc import Sequence
 from . import drawing
 from .disks import LEAST, UPPER, Disks, scale
 from .drawing import HEIGHT, Bar, Lane
-from .parts import box, bullets, code, legend, listed, section, soft, table, text
+from .parts import box, bullets, code, legend, listed, runs, section, soft, table, text
 from .record import Event, Record
 from .style import STYLE
 
@@ -103,10 +103,21 @@ class Page:
 
     def outcome(self, trial: Event) -> str:
         """What came of a trial: its note, and which candidates are of it."""
-        classes = [str(it["class"]) for it in self.found if it.get("trial") == trial["number"]]
+        classes = [int(it["class"]) for it in self.found if it.get("trial") == trial["number"]]
         told = [trial["note"]] if trial.get("note") else []
-        told += [f"candidates: class {', '.join(classes)}"] if classes else ["no new candidate" if trial["listed"] else "no set passes"]
+        told += ["its sets were put off"] if trial["number"] in self.put_off() else []
+        told += [f"candidates: class {runs(classes)}"] if classes else ["no new candidate" if trial["listed"] else "no set passes"]
         return "; ".join(told)
+
+    def put_off(self) -> set[int]:
+        """The trials whose sets were put off, which is said right behind each."""
+        found, number = set(), 0
+        for it in self.record.of("trial", "put off"):
+            if it["event"] == "trial":
+                number = it["number"]
+            else:
+                found.add(number)
+        return found
 
     def not_tried(self) -> str:
         """What was not tried, or not to its end, and why."""

@@ -28,6 +28,17 @@ def size(count: int) -> str:
     return f"{count} bytes"
 
 
+def runs(numbers: Iterable[int]) -> str:
+    """Numbers in order, those that follow one another as one: 0 to 3, 7."""
+    found: list[list[int]] = []
+    for number in sorted(set(numbers)):
+        if found and found[-1][1] == number - 1:
+            found[-1][1] = number
+        else:
+            found.append([number, number])
+    return ", ".join(str(first) if first == last else f"{first}, {last}" if last == first + 1 else f"{first} to {last}" for first, last in found)
+
+
 def soft(told: str) -> str:
     """A paragraph beside what matters; it is HTML already."""
     return f'<p class="soft">{told}</p>'

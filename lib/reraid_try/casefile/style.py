@@ -3,10 +3,10 @@
 STYLE = """
 :root { color-scheme: light dark; --ink: #1a1a1a; --soft: #595959; --paper: #fff; --panel: #f5f5f3; --line: #d4d4d0; --ground: #e4e4df;
   --data: #0072b2; --unread: #d55e00; --tied: #009e73; --untied: #d55e00; --sound: #009e73; --unsound: #d55e00;
-  --gpt: #1a1a1a; --ntfs: #0072b2; --xfs: #009e73; --btrfs: #b3568a; --lvm: #e69f00; --ext: #d55e00; }
+  --gpt: #1a1a1a; --ntfs: #0072b2; --xfs: #009e73; --btrfs: #b3568a; --lvm: #e69f00; --ext: #7a4a1e; }
 @media (prefers-color-scheme: dark) { :root { --ink: #ececec; --soft: #a8a8a8; --paper: #16181a; --panel: #202326; --line: #3a3f44;
   --ground: #34393e; --data: #56b4e9; --unread: #ff8c3b; --tied: #2bc79b; --untied: #ff8c3b; --sound: #2bc79b; --unsound: #ff8c3b;
-  --gpt: #ececec; --ntfs: #56b4e9; --xfs: #2bc79b; --btrfs: #e29cc4; --lvm: #f0c419; --ext: #ff8c3b; } }
+  --gpt: #ececec; --ntfs: #56b4e9; --xfs: #2bc79b; --btrfs: #e29cc4; --lvm: #f0c419; --ext: #c9a27e; } }
 * { box-sizing: border-box; }
 body { margin: 0 auto; padding: 1.5rem clamp(.75rem, 3vw, 2.5rem) 3rem; max-width: 1200px; background: var(--paper); color: var(--ink);
   font: 15px/1.5 system-ui, "Segoe UI", Roboto, "DejaVu Sans", sans-serif; }
@@ -38,7 +38,9 @@ pre { background: var(--panel); border: 1px solid var(--line); border-radius: 4p
 table { border-collapse: collapse; width: 100%; font-size: .87rem; margin: .5rem 0; }
 th { text-align: left; font-weight: 600; color: var(--soft); white-space: nowrap; }
 th, td { padding: .3rem .7rem .3rem 0; vertical-align: top; border-bottom: 1px solid var(--line); }
-td { overflow-wrap: anywhere; }
+td { overflow-wrap: anywhere; min-width: 5em; }
+td[data-name="what"], td[data-name="set"] { min-width: 13em; } td[data-name="why"] { min-width: 16em; } td[data-name="loosened"] { min-width: 8em; }
+td.n { min-width: 0; }
 td.n, th.n { text-align: right; white-space: nowrap; }
 tr { break-inside: avoid; }
 .sign { font-weight: 700; white-space: nowrap; }
@@ -53,6 +55,7 @@ ul.plain { padding-left: 1.2em; margin: .4rem 0; } ul.plain li { margin: .15rem 
   table, tbody, tr, td { display: block; width: 100%; }
   thead { position: absolute; left: -9999px; }
   tr { border-bottom: 1px solid var(--line); padding: .4rem 0; }
+  tr td, tr td.n { min-width: 0; }
   td, td.n { border: 0; padding: .08rem 0; text-align: left; white-space: normal; display: grid; grid-template-columns: 6.8em 1fr; gap: .5em; }
   td > div { min-width: 0; overflow-wrap: anywhere; } td.empty { display: none; }
   td::before { content: attr(data-name); color: var(--soft); }
@@ -61,7 +64,7 @@ ul.plain { padding-left: 1.2em; margin: .4rem 0; } ul.plain li { margin: .15rem 
 @media print {
   :root { color-scheme: light; --ink: #000; --soft: #444; --paper: #fff; --panel: #f5f5f3; --line: #bbb; --ground: #e4e4df; --data: #0072b2;
     --unread: #d55e00; --tied: #009e73; --untied: #d55e00; --sound: #009e73; --unsound: #d55e00; --gpt: #000; --ntfs: #0072b2; --xfs: #009e73;
-    --btrfs: #b3568a; --lvm: #e69f00; --ext: #d55e00; }
+    --btrfs: #b3568a; --lvm: #e69f00; --ext: #7a4a1e; }
   * { print-color-adjust: exact; -webkit-print-color-adjust: exact; }
   body { max-width: none; padding: 0; font-size: 10.5pt; }
   h2, h3 { break-after: avoid; }

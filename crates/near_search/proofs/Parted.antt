@@ -1,5 +1,5 @@
--- What the table of a head says of its ranks.
-use Rattle.std.proofs.Common.{ℕ, zero, suc, ◌≡◌, ◌+◌, ◌-◌, ◌<◌, ◌≤◌, Bool, true, false, cond, ◌&&◌, nat_le, List, [], ◌∷◌, ◌++◌, length, take, filter, append-nil, get_or, slice_get, refl, sym, ap, ap₂, ◌∙◌, subst, arith, Option, Some, None, IfSome}
+-- What the table of a head says of beginnings, and of its ranks.
+use Rattle.std.proofs.Common.{ℕ, zero, suc, ◌≡◌, ◌+◌, ◌-◌, ◌<◌, ◌≤◌, Bool, true, false, cond, ◌&&◌, nat_le, List, [], ◌∷◌, ◌++◌, length, take, filter, append-nil, get_or, slice_get, refl, sym, ap, ap₂, ◌∙◌, subst, arith, Option, Some, None, IfSome, IsTrue}
 use Rattle.std.specs.List.{list_all, range_with_len}
 use Rattle.std.specs.Option.{option_map_or}
 use Rattle.std.proofs.lemmas.Bool.{le-leb, lt-leb}
@@ -13,11 +13,14 @@ use Rattle.slot_math.proofs.Listed.{listed}
 use Rattle.candidate_enum.specs.Survivors.{all_admitted}
 use Rattle.page_loop.specs.Parts.{Added}
 use Rattle.near_mirror.specs.Copies.{near_rows}
+use Rattle.near_mirror.specs.Validity.{is_valid_near}
+use Rattle.near_mirror.specs.declared.types.NearHead.{NearHead}
 use Rattle.near_mirror.specs.declared.types.NearSet.{NearSet}
-use Rattle.near_tables.specs.Tables.{IsTornTable, TornCounts, table_torn}
-use Rattle.near_tables.specs.Torn.{near_passes, tested_below, torn, with_slots}
+use Rattle.near_tables.specs.Tables.{TornCounts, table_torn}
+use Rattle.near_tables.specs.Torn.{near_passes, torn, with_slots}
 use Rattle.near_tables.proofs.Told.{tables_tell}
 use Rattle.near_search.specs.Product.{near_product, passes_at, set_of}
+use Rattle.near_search.specs.Hopeful.{AdmitsHopeful, IsHeadTable, is_near_admitted, is_near_hopeful, NearAsked}
 use Rattle.near_search.specs.Walk.{Gathers, IsHeadSets, list_passes, passes_told}
 use Rattle.near_search.specs.declared.ask.NearAsk.{NearAsk}
 use Rattle.near_search.specs.declared.heads.NearSets.{NearSets}
@@ -47,23 +50,28 @@ begun_images s p few some = by_case (are_images s.images p) refl
     by_case true e = more_images s.images MOST p few (all_images s.images p e)
     by_case false e = let none = none_unknown s p e in absurd (omega arith)
 
-all_same : (f g : ℕ → Bool) (a n : ℕ) → ((x : ℕ) → f x ≡ g x) → list_all f (range_with_len a n) ≡ list_all g (range_with_len a n)
-all_same f g a zero same = refl
-all_same f g a (suc n) same = ap₂ (λ (b c : Bool). b && c) (same a) (all_same f g (a + 1) n same)
+all_same : (n : ℕ) (f g : List (Option ℕ) → Bool) (slots : List (Option ℕ)) (a k : ℕ) → ((prefix : List (Option ℕ)) → AllImages n prefix → f prefix ≡ g prefix) → AllImages n slots →
+    list_all (λ i. f (take i slots)) (range_with_len a k) ≡ list_all (λ i. g (take i slots)) (range_with_len a k)
+all_same n f g slots a zero same images = refl
+all_same n f g slots a (suc k) same images = ap₂ (λ (b c : Bool). b && c) (same (take a slots) (take_images n a slots images)) (all_same n f g slots (a + 1) k same images)
 
--- the family admits just the hopeful beginnings
-admitted : (bytes : List (List ℕ)) (many : ℕ) (ask : NearAsk) (sets : NearSets) (table : TornCounts) (slots : List (Option ℕ)) → IsHeadSets many ask sets → 1 ≤ near_rows sets.head ask.end →
-    IsTornTable bytes many sets.head (tested_below sets.head ask.end ask.window) table → AllImages many slots →
-    all_admitted (λ prefix. nat_le (table_torn table sets.space.members prefix) ask.badrows) slots ≡ near_passes bytes ask.end ask.window ask.badrows (with_slots sets.head slots)
+-- a family that admits just the hopeful beginnings admits all of a slot list where it passes
+admitted : (bytes : List (List ℕ)) (many : ℕ) (ask : NearAsk) (head : NearHead) (asked : NearAsked) (slots : List (Option ℕ)) → AdmitsHopeful bytes many ask head asked → AllImages many slots →
+    all_admitted (is_near_admitted asked) slots ≡ near_passes bytes ask.end ask.window ask.badrows (with_slots head slots)
 unfolding all_admitted
-admitted bytes many ask sets table slots head rows is images =
-    let size = (space_size many ask sets head).1 in
-    let row : nat_le 1 (near_rows sets.head ask.end) ≡ true = le-leb 1 (near_rows sets.head ask.end) rows in
-    all_same (λ k. nat_le (table_torn table sets.space.members (take k slots)) ask.badrows) (λ k. near_passes bytes ask.end ask.window ask.badrows (with_slots sets.head (take k slots))) 0 (length slots + 1)
-    (λ k. ap (λ (n : ℕ). nat_le (table_torn table n (take k slots)) ask.badrows) size
-    ∙ ap (λ (n : ℕ). nat_le n ask.badrows) (tables_tell bytes many ask.end ask.window sets.head table (take k slots) head.valid (take_images many k slots images) is)
-    ∙ sym (ap (λ (b : Bool). b && nat_le (torn bytes ask.end ask.window (with_slots sets.head (take k slots))) ask.badrows) row))
-    ∙ hopeful bytes ask.end ask.window ask.badrows sets.head slots
+admitted bytes many ask head asked slots admits images =
+    all_same many (is_near_admitted asked) (is_near_hopeful bytes ask head) slots 0 (length slots + 1) admits images
+    ∙ hopeful bytes ask.end ask.window ask.badrows head slots
+
+-- the table of a head tells which beginnings are hopeful
+pub admits_hopeful : (bytes : List (List ℕ)) (many : ℕ) (ask : NearAsk) (head : NearHead) (space : Space) (table : Option TornCounts) → IsTrue (is_valid_near head) → space.members ≡ head.members →
+    IsHeadTable bytes many ask head table → AdmitsHopeful bytes many ask head (record { space = space; table = table; most = ask.badrows })
+admits_hopeful bytes many ask head space None valid members none = λ prefix images.
+    sym (ap (λ (b : Bool). b && nat_le (torn bytes ask.end ask.window (with_slots head prefix)) ask.badrows) (lt-leb 1 (near_rows head ask.end) (omega arith)))
+admits_hopeful bytes many ask head space (Some table) valid members (rows, is) = λ prefix images.
+    ap (λ (n : ℕ). nat_le (table_torn table n prefix) ask.badrows) members
+    ∙ ap (λ (n : ℕ). nat_le n ask.badrows) (tables_tell bytes many ask.end ask.window head table prefix valid images is)
+    ∙ sym (ap (λ (b : Bool). b && nat_le (torn bytes ask.end ask.window (with_slots head prefix)) ask.badrows) (le-leb 1 (near_rows head ask.end) rows))
 
 -- the list of a rank of the head
 record HasList (many : ℕ) (ask : NearAsk) (sets : NearSets) (rank : ℕ) : Type 0 where
@@ -82,15 +90,14 @@ has_list many ask sets rank head low high =
       set = ap (slice_get (near_product many ask)) at ∙ head.stand (rank - sets.first) (get_or (lists_of sets.space) (rank - sets.first) []) here;
     }
 
-pub tells : (bytes : List (List ℕ)) (many : ℕ) (ask : NearAsk) (sets : NearSets) (table : TornCounts) (rank : ℕ) → IsHeadSets many ask sets → 1 ≤ near_rows sets.head ask.end →
-    IsTornTable bytes many sets.head (tested_below sets.head ask.end ask.window) table → sets.first ≤ rank → rank < sets.first + sets.count →
-    list_passes (λ prefix. nat_le (table_torn table sets.space.members prefix) ask.badrows) sets rank ≡ passes_at bytes many ask rank
-tells bytes many ask sets table rank head rows is low high =
+pub tells : (bytes : List (List ℕ)) (many : ℕ) (ask : NearAsk) (sets : NearSets) (asked : NearAsked) (rank : ℕ) → IsHeadSets many ask sets → AdmitsHopeful bytes many ask sets.head asked →
+    sets.first ≤ rank → rank < sets.first + sets.count → list_passes (is_near_admitted asked) sets rank ≡ passes_at bytes many ask rank
+tells bytes many ask sets asked rank head admits low high =
     let has = has_list many ask sets rank head low high in
     let shape = listed sets.space.images sets.space.members sets.space.low sets.space.high (rank - sets.first) has.slots has.list in
     let images : AllImages many has.slots = subst (λ (n : ℕ). AllImages n has.slots) (space_size many ask sets head).0 shape.1 in
-    ap (λ (o : Option (List (Option ℕ))). option_map_or (all_admitted (λ prefix. nat_le (table_torn table sets.space.members prefix) ask.badrows)) o false) has.list
-    ∙ admitted bytes many ask sets table has.slots head rows is images
+    ap (λ (o : Option (List (Option ℕ))). option_map_or (all_admitted (is_near_admitted asked)) o false) has.list
+    ∙ admitted bytes many ask sets.head asked has.slots admits images
     ∙ sym (ap (λ (o : Option NearSet). option_map_or (near_passes bytes ask.end ask.window ask.badrows) o false) has.set)
 
 -- without a whole row none passes

@@ -1,5 +1,5 @@
 -- A walk over the sets of a search for mirrors.
-use Rattle.std.specs.Prelude.{ℕ, ◌≡◌, ◌+◌, ◌-◌, ◌*◌, ◌<◌, ◌≤◌, ◌^◌, ◌⊎◌, Bool, false, if◌then◌else◌, IsTrue, MatchOption, nat_le, List, take, length, slice_get}
+use Rattle.std.specs.Prelude.{ℕ, ◌≡◌, ◌+◌, ◌-◌, ◌*◌, ◌<◌, ◌≤◌, ◌^◌, ◌⊎◌, Bool, false, if◌then◌else◌, IsTrue, MatchOption, List, take, length, slice_get}
 use Rattle.std.specs.List.{AllByRecursion, sum_by}
 use Rattle.std.specs.Option.{option_map, option_map_or}
 use Rattle.std.specs.declared.option.Option.{Option}
@@ -7,12 +7,10 @@ use Rattle.std.specs.declared.option.Option.TheVariants.{Some}
 use Rattle.outside.specs.Causes.{Rose}
 use Rattle.outside.specs.Seen.{OnlyReads, Seen}
 use Rattle.slot_math.specs.Space.{lists_of}
-use Rattle.slot_math.specs.declared.space.Space.{Space}
 use Rattle.candidate_enum.specs.Left.{overlaps}
 use Rattle.candidate_enum.specs.Survivors.{all_admitted}
 use Rattle.page_loop.specs.Parts.{Added, Fills}
 use Rattle.near_mirror.specs.Validity.{is_valid_near}
-use Rattle.near_tables.specs.Tables.{table_torn, TornCounts}
 use Rattle.near_tables.specs.Torn.{tested_below}
 use Rattle.near_tables.specs.declared.torn_table.TableFault.{TableFault}
 use Rattle.near_tables.specs.declared.torn_table.TableFault.TheVariants.{ReadFault, Memory}
@@ -20,16 +18,6 @@ use Rattle.near_search.specs.Product.{near_heads, near_numbered, near_product, n
 use Rattle.near_search.specs.declared.ask.NearAsk.{NearAsk}
 use Rattle.near_search.specs.declared.heads.NearSets.{NearSets}
 use Rattle.near_search.specs.declared.parts.NearLine.{NearLine}
-
--- what is asked of a walk over the slot lists of a head: the lists, the table of torn sectors, and how many may be torn
-pub record NearAsked : Type 0 where
-  pub space : Space
-  pub table : TornCounts
-  pub most : ℕ
-
--- a prefix is admitted: no more of the sectors of its slots are torn than may be
-abbrev pub is_near_admitted : NearAsked → List (Option ℕ) → Bool
-is_near_admitted asked prefix = nat_le (table_torn asked.table asked.space.members prefix) asked.most
 
 -- the line holds the set of its rank
 abbrev pub HoldsNear : ℕ → NearAsk → NearLine → Type 0

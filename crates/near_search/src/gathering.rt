@@ -8,7 +8,8 @@ ghost use Rattle.near_tables.specs.Torn.{tested_below};
 ghost use Rattle.near_search.specs.declared.ask.NearAsk.{NearAsk as NearAskOf};
 ghost use Rattle.near_search.specs.Asks.{HasImages, IsNearAsk};
 ghost use Rattle.near_search.specs.Product.{near_numbered, passes_at};
-ghost use Rattle.near_search.specs.Walk.{EndsWalk, Gathers, HoldsNear, IsHeadSets, is_near_admitted, IsPart, list_passes, passes_told};
+ghost use Rattle.near_search.specs.Hopeful.{is_near_admitted};
+ghost use Rattle.near_search.specs.Walk.{EndsWalk, Gathers, HoldsNear, IsHeadSets, IsPart, list_passes, passes_told};
 
 use crate::ask::NearAsk;
 use crate::heads::NearSets;
@@ -16,7 +17,7 @@ use crate::hopeful::NearHopeful;
 use crate::parts::{NearLine, NearLines};
 use candidate_enum::Survivors;
 use near_mirror::NearSet;
-use near_tables::{TableFault, TornTable, near_rows, tested_sectors};
+use near_tables::{TableFault, near_rows};
 use outside::{Images, Memory};
 use std::alloc::Global;
 
@@ -84,13 +85,7 @@ pub(crate) fn gather_head<I: Images>(
     if near_rows(&sets.head, ask.end) == 0 {
         return Ok(None);
     }
-    let limit = tested_sectors(&sets.head, ask.end, ask.window);
-    let table = TornTable::build(alloc, images, usize::from(many), &sets.head, limit)?;
-    let family = NearHopeful {
-        space: sets.space,
-        table,
-        most: ask.badrows,
-    };
+    let family = NearHopeful::of_head(alloc, images, many, ask, &sets.head, sets.space)?;
     let full = gather_lists(&family, sets, from, to, size, page).map_err(|_| TableFault::Memory)?;
     Ok(full)
 }

@@ -3,9 +3,9 @@
 //! [`near_page`] goes through all parameter sets of a [`NearAsk`], in the order of its members, chunks, offsets and slot lists,
 //! and gives those with no more torn sectors than may be. For each head the images are read once, into a table of the sectors in
 //! which each two of them differ (`near_tables`); the slot lists are walked place by place (`candidate_enum`), and a beginning in
-//! which more is torn than may be is passed over with all that begins so. The page is made head after head (`page_loop`).
+//! which more is torn than may be is passed over with all that begins so: [`NearHopeful`] admits just the others. The page is made head after head (`page_loop`).
 //!
-//! The product stands in `specs/Product`, and pages with what is read for them in `specs/Pages`.
+//! The product stands in `specs/Product`, hopeful beginnings in `specs/Hopeful`, and pages with what is read for them in `specs/Pages`.
 #![tactic(auto)]
 
 mod ask;
@@ -21,6 +21,7 @@ mod walk;
 
 pub use ask::NearAsk;
 pub use heads::NearSets;
+pub use hopeful::NearHopeful;
 pub use laws::passing_mirrors_are_hopeful;
 pub use paging::near_page;
 pub use parts::{NearFault, NearLine, NearLines, NearPage};

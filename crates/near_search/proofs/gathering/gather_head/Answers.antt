@@ -1,11 +1,10 @@
-use Rattle.std.proofs.Common.{rules, ℕ, ◌≡◌, ◌<◌, ◌≤◌, nat_le, false, IfSome, arith, sym, ◌∙◌}
+use Rattle.std.proofs.Common.{rules, ℕ, ◌≡◌, ◌<◌, ◌≤◌, false, arith, sym, ◌∙◌}
 use Rattle.outside.specs.Attached.{told_all}
 use Rattle.member_regions.proofs.IfTold.{if_any, if_told}
 use Rattle.near_mirror.specs.Copies.{near_rows}
-use Rattle.near_mirror.proofs.Heads.{few_members, some_members}
-use Rattle.near_tables.specs.Tables.{IsTornTable, table_torn}
-use Rattle.near_tables.specs.Torn.{tested_below}
+use Rattle.near_mirror.proofs.Heads.{few_members}
 use Rattle.near_search.specs.Product.{passes_at}
+use Rattle.near_search.specs.Hopeful.{AdmitsHopeful, is_near_admitted}
 use Rattle.near_search.specs.Walk.{list_passes}
 use Rattle.near_search.proofs.Leafwise.{ranks, ranks_length}
 use Rattle.near_search.proofs.Parted.{gathers_none, gathers_told, rowless, space_size, tells}
@@ -25,16 +24,6 @@ returns-then-near_rows-eq0-clause-gathers g c =
       omega arith,
     )
 
-pub invariant_of-family : goal.invariant_of-family
-invariant_of-family g c =
-    let size = space_size c.args.many c.args.ask.now c.args.sets.now c.requires.head in
-    let images = size.0 in
-    let members = size.1 in
-    let some = some_members c.args.sets.now.head c.requires.head.valid in
-    let few = c.requires.images.few in
-    let many = c.requires.many in
-    (omega arith, omega arith)
-
 pub gather_lists-requires-clause-images : goal.gather_lists-requires-clause-images
 gather_lists-requires-clause-images g c =
     let images = (space_size c.args.many c.args.ask.now c.args.sets.now c.requires.head).0 in
@@ -48,22 +37,23 @@ gather_lists-requires-clause-members g c =
     let few = few_members c.args.sets.now.head c.requires.head.valid in
     omega arith
 
+pub of_head-requires-clause-over : goal.of_head-requires-clause-over
+of_head-requires-clause-over g c = (space_size c.args.many c.args.ask.now c.args.sets.now c.requires.head).0
+
+pub of_head-requires-clause-members : goal.of_head-requires-clause-members
+of_head-requires-clause-members g c = (space_size c.args.many c.args.ask.now c.args.sets.now c.requires.head).1
+
 pub returns-clause-gathers : goal.returns-clause-gathers
 returns-clause-gathers g c =
     let part = c.requires.part in
     let begins = part.begins in
     let ends = part.ends in
-    let rows : 1 ≤ near_rows c.args.sets.now.head c.args.ask.now.end = (let some = c.if-near_rows-eq0.false in let is = c.near_rows.ensures in omega arith) in
-    let limit : c.tested_sectors-limit.result ≡ tested_below c.args.sets.now.head c.args.ask.now.end c.args.ask.now.window = c.tested_sectors-limit.ensures in
-    let many : c.from.result ≡ c.args.many = c.from.ensures in
-    let told : IfSome (told_all (g.I.Images.seen c.args.images.now).attached)
-    (λ bytes. IsTornTable bytes c.args.many c.args.sets.now.head (tested_below c.args.sets.now.head c.args.ask.now.end c.args.ask.now.window) c.in_ok-table.table) = rw (← limit, ← many) c.in_ok-table.ensures.told in
     gathers_told (told_all (g.I.Images.seen c.args.images.now).attached) c.args.many c.args.ask.now
-    (list_passes (λ prefix. nat_le (table_torn c.in_ok-table.table c.args.sets.now.space.members prefix) c.args.ask.now.badrows) c.args.sets.now) c.args.size c.args.from c.args.to (ranks c.args.page.now) (ranks c.gather_lists.new.page) c.in_ok-full.full
+    (list_passes (is_near_admitted c.in_ok-family.family) c.args.sets.now) c.args.size c.args.from c.args.to (ranks c.args.page.now) (ranks c.gather_lists.new.page) c.in_ok-full.full
     part.ordered
     (if_told (told_all (g.I.Images.seen c.args.images.now).attached)
-    (λ bytes. IsTornTable bytes c.args.many c.args.sets.now.head (tested_below c.args.sets.now.head c.args.ask.now.end c.args.ask.now.window) c.in_ok-table.table)
-    (λ bytes. (rank : ℕ) → c.args.from ≤ rank → rank < c.args.to → list_passes (λ prefix. nat_le (table_torn c.in_ok-table.table c.args.sets.now.space.members prefix) c.args.ask.now.badrows) c.args.sets.now rank ≡ passes_at bytes c.args.many c.args.ask.now rank)
-    (λ bytes is rank low high. tells bytes c.args.many c.args.ask.now c.args.sets.now c.in_ok-table.table rank c.requires.head rows is (omega arith) (omega arith))
-    told)
+    (λ bytes. AdmitsHopeful bytes c.args.many c.args.ask.now c.args.sets.now.head c.in_ok-family.family)
+    (λ bytes. (rank : ℕ) → c.args.from ≤ rank → rank < c.args.to → list_passes (is_near_admitted c.in_ok-family.family) c.args.sets.now rank ≡ passes_at bytes c.args.many c.args.ask.now rank)
+    (λ bytes is rank low high. tells bytes c.args.many c.args.ask.now c.args.sets.now c.in_ok-family.family rank c.requires.head is (omega arith) (omega arith))
+    c.in_ok-family.ensures.hopeful)
     (search rules)

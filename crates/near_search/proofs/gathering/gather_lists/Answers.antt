@@ -2,7 +2,7 @@ use Rattle.std.proofs.Common.{◌≡◌, ◌+◌, ◌-◌, ◌++◌, ◌∷◌, 
 use Rattle.slot_math.specs.declared.space.Space.{Space}
 use Rattle.candidate_enum.specs.Survivors.{question, survivors}
 use Rattle.near_search.proofs.Leafwise.{below, given_more, holds_more, line_of, lines_more, next_leaf, page_full, page_short}
-use Rattle.near_search.specs.Walk.{is_near_admitted}
+use Rattle.near_search.specs.Hopeful.{is_near_admitted}
 use Rattle.near_search.proofs.gathering.gather_lists.Goals as goal
 
 pub loop-leaf-init : goal.loop-leaf-init

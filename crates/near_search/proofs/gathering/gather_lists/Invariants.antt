@@ -4,7 +4,7 @@ use Rattle.candidate_enum.specs.declared.leaf.Leaf.{Leaf}
 use Rattle.near_search.specs.Walk.{HoldsNear, IsHeadSets}
 use Rattle.near_search.specs.declared.ask.NearAsk.{NearAsk}
 use Rattle.near_search.proofs.Leafwise.{asked, line_of}
-use Rattle.near_search.specs.Walk.{is_near_admitted}
+use Rattle.near_search.specs.Hopeful.{is_near_admitted}
 use Rattle.near_search.proofs.gathering.gather_lists.Given as goal
 
 abbrev pub invariant-loop-leaf : goal.invariant-loop-leaf

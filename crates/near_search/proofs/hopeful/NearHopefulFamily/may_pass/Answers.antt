@@ -2,7 +2,7 @@ use Rattle.std.proofs.Common.{◌<◌, length, filter, sym, subst}
 use Rattle.slot_math.specs.Space.{begins, lists_of}
 use Rattle.slot_math.specs.Ways.{AllImages}
 use Rattle.raid_params.specs.declared.limits.TheConstants.{MOST}
-use Rattle.near_search.specs.Walk.{NearAsked}
+use Rattle.near_search.specs.Hopeful.{NearAsked}
 use Rattle.near_search.proofs.Parted.{begun_images}
 use Rattle.near_search.proofs.hopeful.NearHopefulFamily.may_pass.Goals as goal
 

@@ -15,13 +15,13 @@ use Rattle.raid_params.specs.declared.types.Syndrome.TheVariants.{NoQ}
 use Rattle.near_mirror.specs.Words.{HasNearWord}
 use Rattle.near_mirror.specs.declared.types.NearSet.{NearSet}
 use Rattle.value_text.specs.SetText.{HasWord, common}
-use Rattle.command_words.specs.Commands.{BeginsLine, MayFollow, can_move, command_of, form_or, lost_or, marks_or, mirror_in, mirrors_of, number_in, number_or, set_in, survey_of, verb_word}
+use Rattle.command_words.specs.Commands.{BeginsLine, MayFollow, can_move, command_of, form_or, lost_or, marks_or, mirror_in, mirrors_of, number_in, number_or, relations_of, set_in, survey_of, verb_word}
 use Rattle.command_words.specs.Steps.{can_go_on, lines_fit}
 use Rattle.command_words.specs.Operands.{AreFitting, AreOperands, IsOperand, IsValueOf, kind_of, operand_word, operands_of, same_name, value_of}
 use Rattle.command_words.specs.declared.command.Command.{Command}
-use Rattle.command_words.specs.declared.command.Command.TheVariants.{Survey as SurveyCommand, List as ListCommand, Check as CheckCommand, Map as MapCommand, Write as WriteCommand, Rebuild as RebuildCommand, Sample as SampleCommand, Classes as ClassesCommand, MirrorWrite as MirrorWriteCommand, Salvage as SalvageCommand}
+use Rattle.command_words.specs.declared.command.Command.TheVariants.{Survey as SurveyCommand, List as ListCommand, Check as CheckCommand, Map as MapCommand, Write as WriteCommand, Rebuild as RebuildCommand, Sample as SampleCommand, Classes as ClassesCommand, MirrorWrite as MirrorWriteCommand, Salvage as SalvageCommand, Relations as RelationsCommand}
 use Rattle.command_words.specs.declared.command.Verb.{Verb}
-use Rattle.command_words.specs.declared.command.Verb.TheVariants.{Survey, List as ListVerb, Check, Map, Write, Rebuild, Sample, Classes, Mirrors, MirrorWrite, Salvage}
+use Rattle.command_words.specs.declared.command.Verb.TheVariants.{Survey, List as ListVerb, Check, Map, Write, Rebuild, Sample, Classes, Mirrors, MirrorWrite, Salvage, Relations}
 use Rattle.command_words.specs.declared.operands.Operand.{Operand}
 use Rattle.command_words.specs.declared.table.Name.{Name}
 use Rattle.command_words.specs.declared.table.Name.TheVariants.{End as EndName, Form as FormName, From as FromName, Marks as MarksName, Size as SizeName, Span as SpanName, Pages as PagesName, Set as SetName, Sector as SectorName, Slot as SlotName, Number as NumberName, Rows as RowsName, Images as ImagesName, Mode as ModeName, Foreign as ForeignName, Offsets as OffsetsName}
@@ -87,6 +87,7 @@ helpful Classes = number_operand ImagesName 1 ∷ number_operand EndName 0 ∷ [
 helpful Mirrors = []
 helpful MirrorWrite = mirror_operand ∷ []
 helpful Salvage = set_operand ∷ []
+helpful Relations = []
 
 is_set_operand : (verb : Verb) → kind_of verb SetName ≡ SetKind → Contains (operands_of verb) SetName → IsOperand verb set_operand
 is_set_operand verb kind taken = record { taken = taken; fitting = subst (λ k. IsValueOf (Set some_set) k) (sym kind) (some_set, refl, has_word) }
@@ -114,6 +115,7 @@ helpful_operands Classes =
 helpful_operands Mirrors = All-nil (IsOperand Mirrors)
 helpful_operands MirrorWrite = All-cons (IsOperand MirrorWrite) mirror_operand [] (record { taken = (0, (omega arith), refl); fitting = (some_mirror, refl, has_near_word) }) (All-nil (IsOperand MirrorWrite))
 helpful_operands Salvage = All-cons (IsOperand Salvage) set_operand [] (is_set_operand Salvage refl (0, (omega arith), refl)) (All-nil (IsOperand Salvage))
+helpful_operands Relations = All-nil (IsOperand Relations)
 
 -- operands after these, as far as they were not given
 record HasMore (verb : Verb) (os helps : List Operand) : Type 0 where
@@ -279,6 +281,7 @@ says Salvage os all fit found going n =
       SalvageCommand set.0 (lost_or (value_of FormName all)) (number_in (value_of EndName all)) n,
       ap (option_map (λ set. SalvageCommand set (lost_or (value_of FormName all)) (number_in (value_of EndName all)) n)) (ap set_in (found SetName) ∙ set.1),
     )
+says Relations os all fit found going n = (RelationsCommand (relations_of all n), refl)
 
 no_names : (verb : Verb) → MayFollow [] verb
 no_names verb none = refl

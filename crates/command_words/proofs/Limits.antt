@@ -12,26 +12,27 @@ use Rattle.raid_params.specs.declared.limits.TheConstants.{MOST, MOST_MISSING}
 use Rattle.raid_params.specs.declared.wide.Wide.{Wide}
 use Rattle.near_mirror.specs.Words.{HasNearWord}
 use Rattle.near_mirror.specs.declared.types.NearSet.{NearSet}
-use Rattle.value_text.specs.Bounded.{AreMembers}
+use Rattle.value_text.specs.Bounded.{AreMembers, ArePlaces}
 use Rattle.value_text.specs.SetText.{HasWord}
 use Rattle.raid_params.specs.Places.{level_place, pattern_place, syndrome_place, AreRising}
 use Rattle.landmark_rules.specs.Tests.{AreTests}
 use Rattle.search_scope.specs.Scopes.{AreBounds}
-use Rattle.command_words.specs.Commands.{AreAsked, IsCommandLine, IsWithin, bounds_of, can_move, chunks_or, command_of, drops_or, each_or, kinds_or, large_or, levels_or, members_or, mirror_in, mirrors_of, number_in, number_or, offsets_or, patterns_or, plain_survey, sectors_or, set_in, survey_of, syndromes_or, tests_of, unit_of}
+use Rattle.command_words.specs.Commands.{AreAsked, AreRelations, IsCommandLine, IsWithin, SaysAlone, bounds_of, can_move, chunks_or, command_of, drops_or, each_or, kinds_or, large_or, levels_or, members_or, mirror_in, mirrors_of, number_in, number_or, offsets_or, patterns_or, places_or, plain_survey, relations_of, sectors_or, set_in, survey_of, syndromes_or, tests_of, unit_of}
 use Rattle.mark_kinds.proofs.Asked.{among_some}
 use Rattle.mark_kinds.specs.Table.{group_place, some_asked}
 use Rattle.command_words.specs.Operands.{AreDrops, AreFitting, IsFitting, IsValueOf, kind_of, value_of}
 use Rattle.command_words.specs.declared.command.Command.{Command}
+use Rattle.command_words.specs.declared.command.Command.TheVariants.{Help, Version}
 use Rattle.command_words.specs.declared.command.Verb.{Verb}
-use Rattle.command_words.specs.declared.command.Verb.TheVariants.{Survey, List as ListVerb, Check, Map, Write, Rebuild, Sample, Classes, Mirrors, MirrorWrite, Salvage}
+use Rattle.command_words.specs.declared.command.Verb.TheVariants.{Survey, List as ListVerb, Check, Map, Write, Rebuild, Sample, Classes, Mirrors, MirrorWrite, Salvage, Relations}
 use Rattle.command_words.specs.declared.operands.Operand.{Operand}
 use Rattle.command_words.specs.declared.table.Name.{Name}
-use Rattle.command_words.specs.declared.table.Name.TheVariants.{Levels as LevelsName, Members as MembersName, Patterns as PatternsName, Syndromes as SyndromesName, Chunks as ChunksName, Offsets as OffsetsName, Origins as OriginsName, Missing as MissingName, Foreign as ForeignName, Badrows as BadrowsName, Misfits as MisfitsName, Least as LeastName, Window as WindowName, End as EndName, Kinds as KindsName, Dropped as DropName, Size as SizeName, Span as SpanName, Pages as PagesName, Set as SetName, Slot as SlotName, Rows as RowsName, Images as ImagesName, Mode as ModeName, Logical as LogicalName}
-use Rattle.command_words.specs.declared.table.ValueKind.TheVariants.{Number as NumberKind, Levels as LevelsKind, Members as MembersKind, Patterns as PatternsKind, Syndromes as SyndromesKind, Chunks as ChunksKind, Sectors as SectorsKind, Landmarks as LandmarksKind, Drops as DropsKind, Set as SetKind, Mirror as MirrorKind}
+use Rattle.command_words.specs.declared.table.Name.TheVariants.{Levels as LevelsName, Members as MembersName, Patterns as PatternsName, Syndromes as SyndromesName, Chunks as ChunksName, Offsets as OffsetsName, Origins as OriginsName, Missing as MissingName, Foreign as ForeignName, Badrows as BadrowsName, Misfits as MisfitsName, Least as LeastName, Window as WindowName, End as EndName, Kinds as KindsName, Dropped as DropName, Size as SizeName, Span as SpanName, Pages as PagesName, Set as SetName, Slot as SlotName, Rows as RowsName, Images as ImagesName, Mode as ModeName, Logical as LogicalName, From as FromName, Step as StepName}
+use Rattle.command_words.specs.declared.table.ValueKind.TheVariants.{Number as NumberKind, Levels as LevelsKind, Members as MembersKind, Patterns as PatternsKind, Syndromes as SyndromesKind, Chunks as ChunksKind, Sectors as SectorsKind, Places as PlacesKind, Landmarks as LandmarksKind, Drops as DropsKind, Set as SetKind, Mirror as MirrorKind}
 use Rattle.command_words.specs.declared.table.ValueKind.{ValueKind}
 use Rattle.command_words.specs.declared.values.Value.{Value}
 use Rattle.command_words.proofs.LookUps.{fitting_value, number_below, number_within, operands_fit}
-use Rattle.command_words.proofs.Said.{moves, made_check, made_list, made_map, made_classes, made_mirror_write, made_mirrors, made_rebuild, made_salvage, made_sample, made_survey, made_write}
+use Rattle.command_words.proofs.Said.{moves, made_check, made_list, made_map, made_classes, made_mirror_write, made_mirrors, made_rebuild, made_relations, made_salvage, made_sample, made_survey, made_write}
 
 -- numbers that rise, tested
 rises : List ℕ → Bool
@@ -91,30 +92,34 @@ unfolding rises is_chunk
 chunks_are None fits = (are_rising (chunks_or None).items (lit≤ tt) refl, all_if IsPower is_chunk (λ n is. is) (chunks_or None).items refl)
 chunks_are (Some v) fits = let is = fits v refl in subst (λ w. AreSizes (chunks_or (Some w)).items) (sym is.1) is.2
 
-abbrev ArePlaces : List ℕ → Type 0
-ArePlaces ns = AreRising ns × (length ns ≤ 64) × All (λ n. n < 2 ^ 55) ns
+abbrev AreTried : List ℕ → Type 0
+AreTried ns = AreRising ns × (length ns ≤ 64) × All (λ n. n < 2 ^ 55) ns
 
 abbrev IsNear : ℕ → Type 0
 IsNear n = n < 2 ^ 55
 
-sectors_are : (others : List ℕ) (r : Option Value) → ArePlaces others → Fits r SectorsKind → ArePlaces (sectors_or others r).items
+sectors_are : (others : List ℕ) (r : Option Value) → AreTried others → Fits r SectorsKind → AreTried (sectors_or others r).items
 sectors_are others None are fits = are
-sectors_are others (Some v) are fits = let is = fits v refl in subst (λ w. ArePlaces (sectors_or others (Some w)).items) (sym is.1) is.2
+sectors_are others (Some v) are fits = let is = fits v refl in subst (λ w. AreTried (sectors_or others (Some w)).items) (sym is.1) is.2
 
 near_if : (n : ℕ) → nat_lt n 4194304 ≡ true → IsNear n
 near_if n is = let below = first_below n 4194304 is in omega arith
 
-offsets_are : ArePlaces (0 ∷ 2048 ∷ 262144 ∷ 264192 ∷ [])
+offsets_are : AreTried (0 ∷ 2048 ∷ 262144 ∷ 264192 ∷ [])
 unfolding rises
 offsets_are = (are_rising (0 ∷ 2048 ∷ 262144 ∷ 264192 ∷ []) (lit≤ tt) refl, (lit≤ tt), all_if IsNear (λ n. nat_lt n 4194304) near_if (0 ∷ 2048 ∷ 262144 ∷ 264192 ∷ []) refl)
 
-origins_are : ArePlaces (0 ∷ 2048 ∷ [])
+origins_are : AreTried (0 ∷ 2048 ∷ [])
 unfolding rises
 origins_are = (are_rising (0 ∷ 2048 ∷ []) (lit≤ tt) refl, (lit≤ tt), all_if IsNear (λ n. nat_lt n 4194304) near_if (0 ∷ 2048 ∷ []) refl)
 
 members_are : (r : Option Value) → Fits r MembersKind → ((members_or r).items ≡ []) ⊎ AreMembers (members_or r).items
 members_are None fits = inl refl
 members_are (Some v) fits = let is = fits v refl in subst (λ w. ((members_or (Some w)).items ≡ []) ⊎ AreMembers (members_or (Some w)).items) (sym is.1) (inr is.2)
+
+places_are : (r : Option Value) → Fits r PlacesKind → ((places_or r).items ≡ []) ⊎ ArePlaces (places_or r).items
+places_are None fits = inl refl
+places_are (Some v) fits = let is = fits v refl in subst (λ w. ((places_or (Some w)).items ≡ []) ⊎ ArePlaces (places_or (Some w)).items) (sym is.1) (inr is.2)
 
 drops_are : (r : Option Value) → Fits r DropsKind → ((drops_or r).items ≡ []) ⊎ AreDrops (drops_or r).items
 drops_are None fits = inl refl
@@ -251,6 +256,15 @@ mirrors_are os n fit = record {
   span = (number_or_within Mirrors SpanName os 1 (2 ^ 64 - 1) (2 ^ 64 - 1) refl fit ((lit≤ tt), (lit≤ tt))).0;
 }
 
+-- what relations are asked for
+relations_are : (os : List Operand) (n : ℕ) → AreFitting Relations os → AreRelations (relations_of os n)
+relations_are os n fit = record {
+  from = below_end Relations FromName os 0 0 refl fit (lit≤ tt) (lit< tt);
+  end = end_is Relations os fit;
+  step = window_is (number_in (value_of StepName os)) (number_within Relations StepName os 1 (2 ^ 55 - 1) refl fit);
+  offsets = places_are (value_of OffsetsName os) (fits_of Relations os fit OffsetsName);
+}
+
 lines_are : (m n : ℕ) → nat_le (m * n) 4000000 ≡ true → m * n ≤ 4000000
 lines_are m n is = leb-true (m * n) 4000000 is
 
@@ -285,6 +299,16 @@ within Classes os n command fit e = made_classes os n command IsWithin e (λ ima
 within Mirrors os n command fit e = made_mirrors os n command IsWithin e (mirrors_are os n fit)
 within MirrorWrite os n command fit e = made_mirror_write os n command IsWithin e (λ set is. (mirror_fits (value_of SetName os) set (fits_of MirrorWrite os fit SetName) is, end_is MirrorWrite os fit))
 within Salvage os n command fit e = made_salvage os n command IsWithin e (λ set is. (set_is Salvage os set refl fit is, end_is Salvage os fit))
+within Relations os n command fit e = made_relations os n command IsWithin e (relations_are os n fit)
+
+-- what a word asks for alone has no values
+alone_within : (word : List ℕ) (command : Command) → SaysAlone word command → IsWithin command
+alone_within word Help e = tt
+alone_within word Version e = tt
+alone_within word _ e = absurd e
 
 pub line_within : (words : List (List ℕ)) (command : Command) → IsCommandLine words command → IsWithin command
-line_within words command line = within line.verb line.operands (length line.operands + 2) command (operands_fit line.verb line.operands line.are.each) line.says
+line_within words command line = elim line [
+  | inl has ↦ within has.verb has.operands (length has.operands + 2) command (operands_fit has.verb has.operands has.are.each) has.says
+  | inr alone ↦ alone_within alone.0 command alone.2
+]

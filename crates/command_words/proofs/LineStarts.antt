@@ -1,5 +1,5 @@
 -- How the words of a command line begin: its operands one after the other, up to `--`.
-use Rattle.std.proofs.Common.{◌≡◌, ℕ, ◌≤◌, ◌+◌, ◌⊎◌, inl, inr, true, false, cond, List, [], ◌∷◌, ◌++◌, All, Option, None, Some, length, map, codes, refl, sym, ap, ◌∙◌, subst, arith}
+use Rattle.std.proofs.Common.{◌≡◌, ℕ, ◌≤◌, ◌+◌, ◌==◌, ◌⊎◌, inl, inr, Bool, true, false, cond, List, [], ◌∷◌, ◌++◌, All, Option, None, Some, length, map, codes, refl, sym, ap, ◌∙◌, subst, arith}
 use Rattle.std.specs.List.{AllByRecursion, IsDistinct, find}
 use Rattle.std.specs.Set.{is_member}
 use Rattle.std.specs.Str.{bytes_eq}
@@ -8,14 +8,15 @@ use Rattle.std.proofs.lemmas.List.{length-map}
 use Rattle.std.proofs.lemmas.List.Elements.{All-contains, All-head, All-map, All-push, All-tail, All-weaker}
 use Rattle.std.proofs.lemmas.Map.Keys.{IsDistinct-head, IsDistinct-push, IsDistinct-tail}
 use Rattle.std.proofs.lemmas.Map.Made.{is_member-Decides, length-le_from_is_member}
-use Rattle.command_words.specs.Commands.{IsCommandLine, MayFollow, command_of, verb_word}
+use Rattle.command_words.specs.Commands.{HasOperands, IsAlone, IsCommandLine, MayFollow, SaysAlone, command_of, verb_word}
 use Rattle.command_words.specs.Operands.{AreOperands, IsOperand, name_text, operand_word, operands_of, same_name, value_of, value_text}
 use Rattle.command_words.specs.declared.command.Command.{Command}
+use Rattle.command_words.specs.declared.command.Command.TheVariants.{Help, Version}
 use Rattle.command_words.specs.declared.command.Verb.{Verb}
-use Rattle.command_words.specs.declared.command.Verb.TheVariants.{Survey, List as ListVerb, Check, Map, Write, Rebuild, Sample, Classes, Mirrors, MirrorWrite, Salvage}
+use Rattle.command_words.specs.declared.command.Verb.TheVariants.{Survey, List as ListVerb, Check, Map, Write, Rebuild, Sample, Classes, Mirrors, MirrorWrite, Salvage, Relations}
 use Rattle.command_words.specs.declared.operands.Operand.{Operand}
 use Rattle.command_words.specs.declared.table.Name.{Name}
-use Rattle.command_words.specs.declared.table.Name.TheVariants.{Levels as LevelsName, Members as MembersName, Patterns as PatternsName, Syndromes as SyndromesName, Chunks as ChunksName, Offsets as OffsetsName, Origins as OriginsName, Missing as MissingName, Foreign as ForeignName, Badrows as BadrowsName, Misfits as MisfitsName, Least as LeastName, Window as WindowName, End as EndName, Kinds as KindsName, Dropped as DropName, From as FromName, Size as SizeName, Span as SpanName, Pages as PagesName, Form as FormName, Set as SetName, Sector as SectorName, Slot as SlotName, Number as NumberName, Rows as RowsName, Marks as MarksName, Images as ImagesName, Mode as ModeName, Logical as LogicalName}
+use Rattle.command_words.specs.declared.table.Name.TheVariants.{Levels as LevelsName, Members as MembersName, Patterns as PatternsName, Syndromes as SyndromesName, Chunks as ChunksName, Offsets as OffsetsName, Origins as OriginsName, Missing as MissingName, Foreign as ForeignName, Badrows as BadrowsName, Misfits as MisfitsName, Least as LeastName, Window as WindowName, End as EndName, Kinds as KindsName, Dropped as DropName, From as FromName, Size as SizeName, Span as SpanName, Pages as PagesName, Form as FormName, Set as SetName, Sector as SectorName, Slot as SlotName, Number as NumberName, Rows as RowsName, Marks as MarksName, Images as ImagesName, Mode as ModeName, Logical as LogicalName, Step as StepName}
 use Rattle.command_words.proofs.LookUps.{names_in, none_named}
 use Rattle.command_words.proofs.NameTexts.{same_name_decides, same_name_equiv}
 use Rattle.command_words.proofs.Spelled.{one_operand}
@@ -51,6 +52,7 @@ no_dashes MarksName value = refl
 no_dashes ImagesName value = refl
 no_dashes ModeName value = refl
 no_dashes LogicalName value = refl
+no_dashes StepName value = refl
 
 -- an operand is no `--`
 pub not_dashes : (o : Operand) → bytes_eq (operand_word o) (codes "--") ≡ false
@@ -64,7 +66,7 @@ dashes_differ o e =
 
 -- the command that a word is
 verb_by : List ℕ → Option Verb
-verb_by text = find (λ verb. bytes_eq text (verb_word verb)) (Survey ∷ ListVerb ∷ Check ∷ Map ∷ Write ∷ Rebuild ∷ Sample ∷ Classes ∷ Mirrors ∷ MirrorWrite ∷ Salvage ∷ [])
+verb_by text = find (λ verb. bytes_eq text (verb_word verb)) (Survey ∷ ListVerb ∷ Check ∷ Map ∷ Write ∷ Rebuild ∷ Sample ∷ Classes ∷ Mirrors ∷ MirrorWrite ∷ Salvage ∷ Relations ∷ [])
 
 is_verb : (verb : Verb) → verb_by (verb_word verb) ≡ Some verb
 unfolding verb_by
@@ -79,9 +81,46 @@ is_verb Classes = refl
 is_verb Mirrors = refl
 is_verb MirrorWrite = refl
 is_verb Salvage = refl
+is_verb Relations = refl
 
 pub one_verb : (a b : Verb) → verb_word a ≡ verb_word b → a ≡ b
 one_verb a b e = let same : Some a ≡ Some b = sym (is_verb a) ∙ ap verb_by e ∙ is_verb b in cc
+
+-- a word begins with a dash
+begins_dashed : List ℕ → Bool
+begins_dashed [] = false
+begins_dashed (byte ∷ bytes) = byte == 45
+
+undashed : (verb : Verb) → begins_dashed (verb_word verb) ≡ false
+unfolding begins_dashed
+undashed Survey = refl
+undashed ListVerb = refl
+undashed Check = refl
+undashed Map = refl
+undashed Write = refl
+undashed Rebuild = refl
+undashed Sample = refl
+undashed Classes = refl
+undashed Mirrors = refl
+undashed MirrorWrite = refl
+undashed Salvage = refl
+undashed Relations = refl
+
+dashed : (word : List ℕ) (command : Command) → SaysAlone word command → begins_dashed word ≡ true
+unfolding begins_dashed
+dashed word Help e = ap begins_dashed e
+dashed word Version e = ap begins_dashed e
+dashed word _ e = absurd e
+
+-- a command with operands is no word that says something alone
+pub not_alone : (verb : Verb) (command : Command) → SaysAlone (verb_word verb) command → ⊥
+not_alone verb command alone = false≢true (sym (undashed verb) ∙ dashed (verb_word verb) command alone)
+
+pub none_alone : (verb : Verb) (words : List (List ℕ)) (command : Command) → IsAlone (verb_word verb ∷ words) command → ⊥
+none_alone verb words command alone =
+    let e = alone.1 in
+    let same : alone.0 ≡ verb_word verb = cc in
+    not_alone verb command (subst (λ (w : List ℕ). SaysAlone w command) same alone.2)
 
 -- a command line after its first word
 pub record IsLineOf (verb : Verb) (words : List (List ℕ)) (command : Command) : Type 0 where
@@ -92,12 +131,18 @@ pub record IsLineOf (verb : Verb) (words : List (List ℕ)) (command : Command) 
   pub follow : MayFollow names verb
   pub says : command_of verb operands (length operands + 2) ≡ Some command
 
-pub after_verb : (verb : Verb) (words : List (List ℕ)) (command : Command) → IsCommandLine (verb_word verb ∷ words) command → IsLineOf verb words command
-after_verb verb words command line =
+pub after_operands : (verb : Verb) (words : List (List ℕ)) (command : Command) → HasOperands (verb_word verb ∷ words) command → IsLineOf verb words command
+after_operands verb words command line =
     let first : verb_word verb ≡ verb_word line.verb = let e = line.spelled in cc in
     let rest : words ≡ map operand_word line.operands ++ codes "--" ∷ line.names = let e = line.spelled in cc in
     let same : line.verb ≡ verb = one_verb line.verb verb (sym first) in
     subst (λ v. IsLineOf v words command) same (record { operands = line.operands; names = line.names; spelled = rest; are = line.are; follow = line.follow; says = line.says })
+
+pub after_verb : (verb : Verb) (words : List (List ℕ)) (command : Command) → IsCommandLine (verb_word verb ∷ words) command → IsLineOf verb words command
+after_verb verb words command line = elim line [
+  | inl has ↦ after_operands verb words command has
+  | inr alone ↦ absurd (none_alone verb words command alone)
+]
 
 -- where the operands of a line meet other ones: `--` comes where these end, or one more operand
 abbrev pub Meets : Verb → List Operand → List ℕ → List (List ℕ) → List Operand → List (List ℕ) → Type 0
@@ -164,6 +209,7 @@ few_names Classes = omega arith
 few_names Mirrors = omega arith
 few_names MirrorWrite = omega arith
 few_names Salvage = omega arith
+few_names Relations = omega arith
 
 taken_name : (verb : Verb) (os : List Operand) → All (IsOperand verb) os → All (λ name. is_member same_name (operands_of verb) name ≡ true) (names_in os)
 taken_name verb os all =

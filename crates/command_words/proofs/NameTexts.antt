@@ -7,11 +7,11 @@ use Rattle.std.specs.Str.{bytes_eq}
 use Rattle.std.proofs.lemmas.Bool.{and_parts}
 use Rattle.std.proofs.lemmas.List.Elements.{All-nil, All-cons}
 use Rattle.std.proofs.lemmas.Slice.Eq.{bytes_eq-Decides}
-use Rattle.command_words.specs.Operands.{form_kind, kind_of, most_missing, name_text, same_name, set_kind}
+use Rattle.command_words.specs.Operands.{form_kind, kind_of, most_from, most_missing, name_text, offsets_kind, same_name, set_kind}
 use Rattle.command_words.specs.declared.command.Verb.{Verb}
-use Rattle.command_words.specs.declared.command.Verb.TheVariants.{Mirrors, MirrorWrite, Salvage}
+use Rattle.command_words.specs.declared.command.Verb.TheVariants.{Mirrors, MirrorWrite, Salvage, Relations}
 use Rattle.command_words.specs.declared.table.Name.{Name}
-use Rattle.command_words.specs.declared.table.Name.TheVariants.{Levels as LevelsName, Members as MembersName, Patterns as PatternsName, Syndromes as SyndromesName, Chunks as ChunksName, Offsets as OffsetsName, Origins as OriginsName, Missing as MissingName, Foreign as ForeignName, Badrows as BadrowsName, Misfits as MisfitsName, Least as LeastName, Window as WindowName, End as EndName, Kinds as KindsName, Dropped as DropName, From as FromName, Size as SizeName, Span as SpanName, Pages as PagesName, Form as FormName, Set as SetName, Sector as SectorName, Slot as SlotName, Number as NumberName, Rows as RowsName, Marks as MarksName, Images as ImagesName, Mode as ModeName, Logical as LogicalName}
+use Rattle.command_words.specs.declared.table.Name.TheVariants.{Levels as LevelsName, Members as MembersName, Patterns as PatternsName, Syndromes as SyndromesName, Chunks as ChunksName, Offsets as OffsetsName, Origins as OriginsName, Missing as MissingName, Foreign as ForeignName, Badrows as BadrowsName, Misfits as MisfitsName, Least as LeastName, Window as WindowName, End as EndName, Kinds as KindsName, Dropped as DropName, From as FromName, Size as SizeName, Span as SpanName, Pages as PagesName, Form as FormName, Set as SetName, Sector as SectorName, Slot as SlotName, Number as NumberName, Rows as RowsName, Marks as MarksName, Images as ImagesName, Mode as ModeName, Logical as LogicalName, Step as StepName}
 use Rattle.command_words.specs.declared.table.ValueKind.{ValueKind}
 use Rattle.command_words.specs.declared.table.ValueKind.TheVariants.{Number as NumberKind}
 
@@ -56,10 +56,11 @@ plain_name MarksName = no_equals (name_text MarksName) refl
 plain_name ImagesName = no_equals (name_text ImagesName) refl
 plain_name ModeName = no_equals (name_text ModeName) refl
 plain_name LogicalName = no_equals (name_text LogicalName) refl
+plain_name StepName = no_equals (name_text StepName) refl
 
 -- all names
 all_names : List Name
-all_names = LevelsName ∷ MembersName ∷ PatternsName ∷ SyndromesName ∷ ChunksName ∷ OffsetsName ∷ OriginsName ∷ MissingName ∷ ForeignName ∷ BadrowsName ∷ MisfitsName ∷ LeastName ∷ WindowName ∷ EndName ∷ KindsName ∷ DropName ∷ FromName ∷ SizeName ∷ SpanName ∷ PagesName ∷ FormName ∷ SetName ∷ SectorName ∷ SlotName ∷ NumberName ∷ RowsName ∷ MarksName ∷ ImagesName ∷ ModeName ∷ LogicalName ∷ []
+all_names = LevelsName ∷ MembersName ∷ PatternsName ∷ SyndromesName ∷ ChunksName ∷ OffsetsName ∷ OriginsName ∷ MissingName ∷ ForeignName ∷ BadrowsName ∷ MisfitsName ∷ LeastName ∷ WindowName ∷ EndName ∷ KindsName ∷ DropName ∷ FromName ∷ SizeName ∷ SpanName ∷ PagesName ∷ FormName ∷ SetName ∷ SectorName ∷ SlotName ∷ NumberName ∷ RowsName ∷ MarksName ∷ ImagesName ∷ ModeName ∷ LogicalName ∷ StepName ∷ []
 
 -- the name that a text is
 named_by : List ℕ → Option Name
@@ -97,6 +98,7 @@ is_named MarksName = refl
 is_named ImagesName = refl
 is_named ModeName = refl
 is_named LogicalName = refl
+is_named StepName = refl
 
 -- names are spelled differently
 pub one_name : (m n : Name) → name_text m ≡ name_text n → m ≡ n
@@ -119,6 +121,14 @@ few_missing : (verb : Verb) → most_missing verb < 2 ^ 64
 few_missing Mirrors = lit< tt
 few_missing _ = lit< tt
 
+few_from : (verb : Verb) → most_from verb < 2 ^ 64
+few_from Relations = lit< tt
+few_from _ = lit< tt
+
+short_offsets : (verb : Verb) → IsShort (offsets_kind verb)
+short_offsets Relations = tt
+short_offsets _ = tt
+
 short_set : (verb : Verb) → IsShort (set_kind verb)
 short_set MirrorWrite = tt
 short_set _ = tt
@@ -133,7 +143,7 @@ short_kind verb MembersName = tt
 short_kind verb PatternsName = tt
 short_kind verb SyndromesName = tt
 short_kind verb ChunksName = tt
-short_kind verb OffsetsName = tt
+short_kind verb OffsetsName = short_offsets verb
 short_kind verb OriginsName = tt
 short_kind verb MissingName = few_missing verb
 short_kind verb ForeignName = lit< tt
@@ -144,7 +154,7 @@ short_kind verb WindowName = lit< tt
 short_kind verb EndName = lit< tt
 short_kind verb KindsName = tt
 short_kind verb DropName = tt
-short_kind verb FromName = lit< tt
+short_kind verb FromName = few_from verb
 short_kind verb SizeName = lit< tt
 short_kind verb SpanName = lit< tt
 short_kind verb PagesName = lit< tt
@@ -158,6 +168,7 @@ short_kind verb MarksName = tt
 short_kind verb ImagesName = lit< tt
 short_kind verb ModeName = tt
 short_kind verb LogicalName = tt
+short_kind verb StepName = lit< tt
 
 -- a text that was compared with a name, and differs
 pub is_other : (name text bytes : List ℕ) (r : Bool) → bytes ≡ name → r ≡ bytes_eq bytes text → r ≡ false → text ≢ name

@@ -3,21 +3,49 @@ use Rattle.std.proofs.Common.{◌≡◌, ℕ, zero, suc, ◌+◌, ◌-◌, ◌�
 use Rattle.std.proofs.lemmas.Bool.{cases_lt}
 use Rattle.std.proofs.lemmas.List.{take-append-drop}
 use Rattle.command_words.specs.declared.command.Command.{Command}
+use Rattle.command_words.specs.declared.command.Command.TheVariants.{Help, Version}
 use Rattle.command_words.specs.declared.operands.Operand.{Operand}
-use Rattle.command_words.specs.Commands.{BeginsLine, IsCommandLine, IsRefusedWord, Reads, command_of}
+use Rattle.command_words.specs.Commands.{BeginsLine, HasOperands, IsCommandLine, IsRefusedWord, Reads, SaysAlone, command_of, verb_word}
 use Rattle.command_words.specs.Operands.{operand_word}
-use Rattle.command_words.proofs.LineStarts.{after_verb, dashes_differ, meets}
+use Rattle.command_words.proofs.LineStarts.{after_verb, dashes_differ, meets, not_alone}
 use Rattle.command_words.proofs.Refusals.{fewer}
 
--- a command line says one command
-one_command : (words : List (List ℕ)) (a b : Command) → IsCommandLine words a → IsCommandLine words b → a ≡ b
-one_command words a b one other =
+-- a command with operands says one command
+one_with_operands : (words : List (List ℕ)) (a b : Command) → HasOperands words a → IsCommandLine words b → a ≡ b
+one_with_operands words a b one other =
     let after = after_verb one.verb (map operand_word one.operands ++ codes "--" ∷ one.names) b (subst (λ ws. IsCommandLine ws b) one.spelled other) in
     elim (meets one.verb one.operands (codes "--") one.names after.operands after.names one.are.each after.are.each after.spelled) [
       | inl same ↦ (let says : command_of one.verb one.operands (length one.operands + 2) ≡ Some b = ap (λ (xs : List Operand). command_of one.verb xs (length xs + 2)) (sym same.0) ∙ after.says in
           let both : Some a ≡ Some b = sym one.says ∙ says in cc)
       | inr more ↦ absurd (dashes_differ more.0 (sym more.3))
     ]
+
+-- a word alone says one command
+one_alone : (word : List ℕ) (a b : Command) → SaysAlone word a → SaysAlone word b → a ≡ b
+one_alone word Help Help p q = refl
+one_alone word Version Version p q = refl
+one_alone word Help Version p q = let differ : codes "--help" ≡ codes "--version" = sym p ∙ q in cc
+one_alone word Version Help p q = let differ : codes "--version" ≡ codes "--help" = sym p ∙ q in cc
+one_alone word Help _ p q = absurd q
+one_alone word Version _ p q = absurd q
+one_alone word _ b p q = absurd p
+
+alone_first : (words : List (List ℕ)) (word : List ℕ) (a b : Command) → words ≡ word ∷ [] → SaysAlone word a → IsCommandLine words b → a ≡ b
+alone_first words word a b e p other = elim other [
+  | inl has ↦ (let is = has.spelled in
+      let same : word ≡ verb_word has.verb = cc in
+      absurd (not_alone has.verb a (subst (λ (w : List ℕ). SaysAlone w a) same p)))
+  | inr lone ↦ (let is = lone.1 in
+      let same : lone.0 ≡ word = cc in
+      one_alone word a b p (subst (λ (w : List ℕ). SaysAlone w b) same lone.2))
+]
+
+-- a command line says one command
+one_command : (words : List (List ℕ)) (a b : Command) → IsCommandLine words a → IsCommandLine words b → a ≡ b
+one_command words a b one other = elim one [
+  | inl has ↦ one_with_operands words a b has other
+  | inr alone ↦ alone_first words alone.0 a b alone.1 alone.2 other
+]
 
 take_within : (m n : ℕ) (words : List (List ℕ)) → m ≤ n → take m (take n words) ≡ take m words
 take_within zero n words le = refl

@@ -1,5 +1,5 @@
 -- Which word is refused, and why.
-use Rattle.std.proofs.Common.{◌≡◌, ◌≢◌, ℕ, suc, ◌^◌, ◌≤◌, ◌+◌, ◌-◌, ◌*◌, inl, inr, Bool, true, false, cond, nat_le, nat_eq, nat_lt, ◌&&◌, List, [], ◌∷◌, ◌++◌, All, Option, None, Some, length, map, take, codes, refl, sym, ap, ap₂, ◌∙◌, subst, arith, append_assoc, append-nil, length-append}
+use Rattle.std.proofs.Common.{◌≡◌, ◌≢◌, ℕ, suc, ◌^◌, ◌≤◌, ◌+◌, ◌-◌, ◌*◌, ◌==◌, inl, inr, Bool, true, false, cond, nat_le, nat_eq, nat_lt, ◌&&◌, List, [], ◌∷◌, ◌++◌, All, Option, None, Some, length, map, take, codes, refl, sym, ap, ap₂, ◌∙◌, subst, arith, append_assoc, append-nil, length-append}
 use Rattle.std.specs.List.{IsDistinct, list_all}
 use Rattle.std.specs.Option.{option_or, unwrap_or}
 use Rattle.std.specs.Set.{is_member}
@@ -8,30 +8,34 @@ use Rattle.std.proofs.lemmas.Bool.{false≢true}
 use Rattle.std.proofs.lemmas.List.{length-map}
 use Rattle.std.proofs.lemmas.List.Elements.{All-head, All-tail}
 use Rattle.std.proofs.lemmas.Map.Made.{is_member-Decides}
-use Rattle.command_words.specs.Commands.{BeginsLine, IsCommandLine, IsRefusedWord, can_move, command_of, each_or, form_or, number_in, number_or, offsets_or, survey_of, takes_names, verb_word}
+use Rattle.command_words.specs.Commands.{BeginsLine, HasOperands, IsAlone, IsCommandLine, IsRefusedWord, SaysAlone, can_move, command_of, each_or, form_or, number_in, number_or, offsets_or, survey_of, takes_names, verb_word}
 use Rattle.command_words.specs.Steps.{can_go_on, lines_fit}
 use Rattle.command_words.specs.Operands.{AreOperands, IsOperand, operand_word, operands_of, same_name, value_of}
 use Rattle.command_words.specs.declared.command.Command.{Command}
 use Rattle.command_words.specs.declared.command.Command.TheVariants.{Survey as SurveyCommand, List as ListCommand}
 use Rattle.command_words.specs.declared.command.Verb.{Verb}
-use Rattle.command_words.specs.declared.command.Verb.TheVariants.{Survey, List as ListVerb, Check, Map, Write, Rebuild, Sample, Classes, Mirrors, MirrorWrite, Salvage}
+use Rattle.command_words.specs.declared.command.Verb.TheVariants.{Survey, List as ListVerb, Check, Map, Write, Rebuild, Sample, Classes, Mirrors, MirrorWrite, Salvage, Relations}
 use Rattle.command_words.specs.declared.operands.Operand.{Operand}
 use Rattle.command_words.specs.declared.table.Name.{Name}
 use Rattle.command_words.specs.declared.table.Name.TheVariants.{Foreign as ForeignName, Form as FormName, Mode as ModeName, Offsets as OffsetsName, From as FromName, Size as SizeName, Span as SpanName, Pages as PagesName}
 use Rattle.command_words.specs.declared.values.Value.{Value}
 use Rattle.command_words.proofs.Completions.{begins}
-use Rattle.command_words.proofs.LineStarts.{IsLineOf, after_verb, dashes_differ, fresh_name, meets, no_end}
+use Rattle.command_words.proofs.LineStarts.{IsLineOf, after_operands, after_verb, dashes_differ, fresh_name, meets, no_end, none_alone, not_alone}
 use Rattle.command_words.proofs.LookUps.{names_in, value_append}
 use Rattle.command_words.proofs.NameTexts.{same_name_decides}
 use Rattle.command_words.proofs.Spelled.{one_operand}
 
--- no command line begins with these words
+-- no command with what belongs to it begins with these words
 abbrev pub BeginNone : List (List ℕ) → Type 0
-BeginNone words = (rest : List (List ℕ)) (command : Command) → IsCommandLine (words ++ rest) command → ⊥
+BeginNone words = (rest : List (List ℕ)) (command : Command) → HasOperands (words ++ rest) command → ⊥
+
+-- they ask for nothing alone
+abbrev pub AskNone : List (List ℕ) → Type 0
+AskNone words = (command : Command) → IsAlone words command → ⊥
 
 -- the word after a prefix that begins some line, where the two begin none
-pub refused_at : (words front : List (List ℕ)) (word : List ℕ) (rest : List (List ℕ)) (n : ℕ) → words ≡ front ++ word ∷ rest → n ≡ length front + 1 → BeginsLine front → BeginNone (front ++ word ∷ []) → IsRefusedWord words n
-refused_at words front word rest n at count some none =
+pub refused_at : (words front : List (List ℕ)) (word : List ℕ) (rest : List (List ℕ)) (n : ℕ) → words ≡ front ++ word ∷ rest → n ≡ length front + 1 → BeginsLine front → BeginNone (front ++ word ∷ []) → AskNone words → IsRefusedWord words n
+refused_at words front word rest n at count some none lone =
     let long : length words ≡ length front + suc (length rest) = ap length at ∙ length-append front (word ∷ rest) in
     let seam : words ≡ (front ++ word ∷ []) ++ rest = at ∙ sym (append_assoc front (word ∷ []) rest) in
     let before : take (n - 1) words ≡ front =
@@ -44,7 +48,10 @@ refused_at words front word rest n at count some none =
       counted = (omega arith, omega arith);
       begins = subst BeginsLine (sym before) some;
       stops = λ within line. let is = subst BeginsLine with_it line in none is.0 is.1 is.2;
-      none = λ command line. none rest command (subst (λ ws. IsCommandLine ws command) seam line);
+      none = λ command line. elim line [
+        | inl has ↦ none rest command (subst (λ ws. HasOperands ws command) seam has)
+        | inr alone ↦ lone command alone
+      ];
     }
 
 -- the words end where a line still goes on
@@ -62,7 +69,7 @@ refused_end words n count some none =
 
 -- what these words begin they begin with fewer, too
 pub fewer : (front more : List (List ℕ)) → BeginsLine (front ++ more) → BeginsLine front
-fewer front more line = (more ++ line.0, line.1, subst (λ ws. IsCommandLine ws line.1) (append_assoc front more line.0) line.2)
+fewer front more line = (more ++ line.0, line.1, subst (λ ws. HasOperands ws line.1) (append_assoc front more line.0) line.2)
 
 pub nothing : (verb : Verb) → AreOperands verb []
 unfolding IsDistinct
@@ -76,12 +83,28 @@ begins_at_once = fewer [] (verb_word ListVerb ∷ []) (begins_with ListVerb)
 
 -- there are no words
 pub no_words : (words : List (List ℕ)) → length words ≡ 0 → IsRefusedWord words 1
-no_words [] e = refused_end [] 1 refl begins_at_once (λ command line. let is = line.spelled in cc)
+no_words [] e = refused_end [] 1 refl begins_at_once (λ command line. elim line [
+  | inl has ↦ (let is = has.spelled in cc)
+  | inr alone ↦ (let is = alone.1 in cc)
+])
 no_words (word ∷ words) e = absurd (omega arith)
 
 -- the first word is no command
-pub no_command : (words : List (List ℕ)) (word : List ℕ) (rest : List (List ℕ)) → words ≡ word ∷ rest → ((verb : Verb) → word ≢ verb_word verb) → IsRefusedWord words 1
-no_command words word rest e none = refused_at words [] word rest 1 e refl begins_at_once (λ more command line. let is = line.spelled in none line.verb (cc))
+pub no_command : (words : List (List ℕ)) (word : List ℕ) (rest : List (List ℕ)) → words ≡ word ∷ rest → ((command : Command) → SaysAlone word command → ⊥) → ((verb : Verb) → word ≢ verb_word verb) → IsRefusedWord words 1
+no_command words word rest e silent none =
+    refused_at words [] word rest 1 e refl begins_at_once (λ more command has. let is = has.spelled in none has.verb (cc)) (λ command alone.
+    let is = alone.1 in
+    let same : alone.0 ≡ word = cc in
+    silent command (subst (λ (w : List ℕ). SaysAlone w command) same alone.2))
+
+-- a word that asks for something alone, with more words behind it
+pub not_alone_then : (words : List (List ℕ)) (word : List ℕ) (rest : List (List ℕ)) (command : Command) → words ≡ word ∷ rest → (length rest == 0) ≡ false → SaysAlone word command → IsRefusedWord words 1
+not_alone_then words word [] command e some alone = absurd (false≢true (sym some))
+not_alone_then words word (next ∷ rest) command e some alone =
+    refused_at words [] word (next ∷ rest) 1 e refl begins_at_once (λ more other has.
+    let is = has.spelled in
+    let same : word ≡ verb_word has.verb = cc in
+    not_alone has.verb command (subst (λ (w : List ℕ). SaysAlone w command) same alone)) (λ other lone. let is = lone.1 in cc)
 
 abbrev pub CanGoOn : List Operand → Type 0
 CanGoOn os = can_go_on os ≡ true
@@ -94,8 +117,9 @@ pub refused_after : (verb : Verb) (words : List (List ℕ)) (os : List Operand) 
     IsRefusedWord (verb_word verb ∷ words) n
 refused_after verb words os word rest n at count are short stops =
     refused_at (verb_word verb ∷ words) (verb_word verb ∷ map operand_word os) word rest n (ap (λ (ws : List (List ℕ)). verb_word verb ∷ ws) at) (let same = length-map os operand_word in omega arith) (begins verb os are short)
-    (λ more command line. stops more command (after_verb verb (map operand_word os ++ word ∷ more) command
-    (subst (λ ws. IsCommandLine (verb_word verb ∷ ws) command) (append_assoc (map operand_word os) (word ∷ []) more) line)))
+    (λ more command has. stops more command (after_operands verb (map operand_word os ++ word ∷ more) command
+    (subst (λ ws. HasOperands (verb_word verb ∷ ws) command) (append_assoc (map operand_word os) (word ∷ []) more) has)))
+    (none_alone verb words)
 
 -- a word that is no `--` and no operand of the command
 pub no_operand : (verb : Verb) (os : List Operand) (word : List ℕ) → AreOperands verb os → word ≢ codes "--" → ((o : Operand) → IsOperand verb o → word ≢ operand_word o) → StopsAt verb os word
@@ -232,6 +256,7 @@ cannot_go_on Classes os more n are stuck = absurd (false≢true (sym stuck ∙ u
 cannot_go_on Mirrors os more n are stuck = absurd (false≢true (sym stuck ∙ ap₂ (λ (a b : Bool). a && b) (unpaged Mirrors refl os are) (unmoved Mirrors refl os are)))
 cannot_go_on MirrorWrite os more n are stuck = absurd (false≢true (sym stuck ∙ unlisted MirrorWrite refl refl os are))
 cannot_go_on Salvage os more n are stuck = absurd (false≢true (sym stuck ∙ unlisted Salvage refl refl os are))
+cannot_go_on Relations os more n are stuck = absurd (false≢true (sym stuck ∙ unlisted Relations refl refl os are))
 
 -- an operand with which no command goes on
 pub stuck_with : (verb : Verb) (os : List Operand) (word : List ℕ) (o : Operand) → AreOperands verb os → AreOperands verb (os ++ o ∷ []) → IsOperand verb o → word ≡ operand_word o →
@@ -259,7 +284,7 @@ name_too_many verb words os name names command n nameless at are says count =
     let front = verb_word verb ∷ (map operand_word os ++ codes "--" ∷ []) in
     let whole : verb_word verb ∷ words ≡ front ++ name ∷ names = ap (λ (ws : List (List ℕ)). verb_word verb ∷ ws) (at ∙ sym (append_assoc (map operand_word os) (codes "--" ∷ []) (name ∷ names))) in
     let long : length front ≡ length os + 2 = let a = length-append (map operand_word os) (codes "--" ∷ []) in let b = length-map os operand_word in omega arith in
-    let line : IsCommandLine (front ++ []) command = record {
+    let line : HasOperands (front ++ []) command = record {
       verb = verb;
       operands = os;
       names = [];
@@ -270,13 +295,14 @@ name_too_many verb words os name names command n nameless at are says count =
     } in
     refused_at (verb_word verb ∷ words) front name names n whole (omega arith) ([], command, line)
     (λ more other is.
-    let after = after_verb verb (map operand_word os ++ codes "--" ∷ (name ∷ more)) other
-    (subst (λ ws. IsCommandLine (verb_word verb ∷ ws) other) (append_assoc (map operand_word os ++ codes "--" ∷ []) (name ∷ []) more ∙ append_assoc (map operand_word os) (codes "--" ∷ []) (name ∷ more)) is) in
+    let after = after_operands verb (map operand_word os ++ codes "--" ∷ (name ∷ more)) other
+    (subst (λ ws. HasOperands (verb_word verb ∷ ws) other) (append_assoc (map operand_word os ++ codes "--" ∷ []) (name ∷ []) more ∙ append_assoc (map operand_word os) (codes "--" ∷ []) (name ∷ more)) is) in
     elim (meets verb os (codes "--") (name ∷ more) after.operands after.names are.each after.are.each after.spelled) [
       | inl ends ↦ (let none : after.names ≡ [] = after.follow nameless in
           let contra : name ∷ more ≡ [] = ends.2 ∙ none in cc)
       | inr more ↦ dashes_differ more.0 (sym more.3)
     ])
+    (none_alone verb words)
 
 -- the words end before `--`
 pub no_dashes_come : (verb : Verb) (words : List (List ℕ)) (os : List Operand) (n : ℕ) → words ≡ map operand_word os → n ≡ length words + 2 → AreOperands verb os → CanGoOn os → IsRefusedWord (verb_word verb ∷ words) n

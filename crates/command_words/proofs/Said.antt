@@ -1,16 +1,16 @@
 -- What the words of a command say of its names.
-use Rattle.std.proofs.Common.{◌≡◌, ℕ, suc, ◌+◌, ◌-◌, ◌*◌, ◌^◌, nat_le, Bool, true, false, cond, List, [], ◌∷◌, ◌++◌, length, map, drop, None, Some, Option, MatchOption, refl, sym, ap, ◌∙◌, subst, arith, codes, length-append}
+use Rattle.std.proofs.Common.{◌≡◌, inl, inr, ℕ, suc, ◌+◌, ◌-◌, ◌*◌, ◌^◌, nat_le, Bool, true, false, cond, List, [], ◌∷◌, ◌++◌, length, map, drop, None, Some, Option, MatchOption, refl, sym, ap, ◌∙◌, subst, arith, codes, length-append}
 use Rattle.std.specs.Str.{bytes_eq}
 use Rattle.std.specs.Prelude.{option_and_then, option_map}
 use Rattle.std.proofs.lemmas.List.{length-map}
 use Rattle.raid_params.specs.declared.wide.Wide.{Wide}
 use Rattle.near_mirror.specs.declared.types.NearSet.{NearSet}
 use Rattle.command_words.specs.declared.command.Command.{Command}
-use Rattle.command_words.specs.declared.command.Command.TheVariants.{Survey as SurveyCommand, List as ListCommand, Check as CheckCommand, Map as MapCommand, Write as WriteCommand, Rebuild as RebuildCommand, Sample as SampleCommand, Classes as ClassesCommand, MirrorWrite as MirrorWriteCommand, Salvage as SalvageCommand}
+use Rattle.command_words.specs.declared.command.Command.TheVariants.{Survey as SurveyCommand, List as ListCommand, Check as CheckCommand, Map as MapCommand, Write as WriteCommand, Rebuild as RebuildCommand, Sample as SampleCommand, Classes as ClassesCommand, MirrorWrite as MirrorWriteCommand, Salvage as SalvageCommand, Relations as RelationsCommand, Help, Version}
 use Rattle.command_words.specs.declared.command.Verb.{Verb}
-use Rattle.command_words.specs.declared.command.Verb.TheVariants.{Survey, List as ListVerb, Check, Map, Write, Rebuild, Sample, Classes, Mirrors, MirrorWrite, Salvage}
+use Rattle.command_words.specs.declared.command.Verb.TheVariants.{Survey, List as ListVerb, Check, Map, Write, Rebuild, Sample, Classes, Mirrors, MirrorWrite, Salvage, Relations}
 use Rattle.command_words.specs.declared.operands.Operand.{Operand}
-use Rattle.command_words.specs.Commands.{EndFrom, EndsInNames, IsCommandLine, can_move, command_of, form_or, lost_or, marks_or, mirror_in, mirrors_of, names_after, names_of, number_in, number_or, set_in, survey_of, takes_names, verb_word}
+use Rattle.command_words.specs.Commands.{EndFrom, EndsInNames, HasOperands, IsCommandLine, SaysAlone, can_move, command_of, form_or, lost_or, marks_or, mirror_in, mirrors_of, names_after, names_of, number_in, number_or, relations_of, set_in, survey_of, takes_names, verb_word}
 use Rattle.command_words.specs.Operands.{operand_word, value_of}
 use Rattle.command_words.specs.declared.table.Name.TheVariants.{End as EndName, Form as FormName, From as FromName, Marks as MarksName, Number as NumberName, Pages as PagesName, Rows as RowsName, Sector as SectorName, Set as SetName, Size as SizeName, Slot as SlotName, Span as SpanName, Images as ImagesName, Mode as ModeName, Foreign as ForeignName, Offsets as OffsetsName}
 use Rattle.command_words.proofs.LineStarts.{not_dashes}
@@ -86,6 +86,9 @@ pub made_salvage : (os : List Operand) (n : ℕ) (command : Command) (P : Comman
     ((set : Wide) → set_in (value_of SetName os) ≡ Some set → P (SalvageCommand set (lost_or (value_of FormName os)) (number_in (value_of EndName os)) n)) → P command
 made_salvage os n command P e is = mapped Wide (λ set. SalvageCommand set (lost_or (value_of FormName os)) (number_in (value_of EndName os)) n) (set_in (value_of SetName os)) P command e is
 
+pub made_relations : (os : List Operand) (n : ℕ) (command : Command) (P : Command → Type 0) → command_of Relations os n ≡ Some command → P (RelationsCommand (relations_of os n)) → P command
+made_relations os n command P e is = let same : RelationsCommand (relations_of os n) ≡ command = cc in subst P same is
+
 -- the number of words up to the names
 abbrev Counts : Verb → ℕ → Command → Type 0
 Counts verb n command = MatchOption (names_of command) (takes_names verb ≡ false) (λ names. names ≡ n)
@@ -102,6 +105,7 @@ count_said Classes os n command e = made_classes os n command (Counts Classes n)
 count_said Mirrors os n command e = made_mirrors os n command (Counts Mirrors n) e refl
 count_said MirrorWrite os n command e = made_mirror_write os n command (Counts MirrorWrite n) e (λ set is. refl)
 count_said Salvage os n command e = made_salvage os n command (Counts Salvage n) e (λ set is. refl)
+count_said Relations os n command e = made_relations os n command (Counts Relations n) e refl
 
 -- the names are what follows the operands and `--`
 names_past : (operands : List Operand) (names : List (List ℕ)) → names_after (map operand_word operands ++ codes "--" ∷ names) ≡ names
@@ -128,14 +132,15 @@ verb_no_dashes Classes = refl
 verb_no_dashes Mirrors = refl
 verb_no_dashes MirrorWrite = refl
 verb_no_dashes Salvage = refl
+verb_no_dashes Relations = refl
 
 ends : (r : Option ℕ) (words : List (List ℕ)) (verb : Verb) (n : ℕ) → MatchOption r (takes_names verb ≡ false) (λ names. names ≡ n) → (takes_names verb ≡ false → names_after words ≡ []) → EndFrom words n → MatchOption r (names_after words ≡ []) (EndFrom words)
 ends None words verb n is none from = none is
 ends (Some names) words verb n is none from = subst (EndFrom words) (sym is) from
 
--- the names of a command line
-pub line_names : (words : List (List ℕ)) (command : Command) → IsCommandLine words command → EndsInNames words command
-line_names words command line =
+-- the names of a command with operands
+operand_names : (words : List (List ℕ)) (command : Command) → HasOperands words command → EndsInNames words command
+operand_names words command line =
     let n = length line.operands + 2 in
     let k : n ≡ suc (length line.operands + 1) = omega arith in
     let after : names_after words ≡ line.names =
@@ -149,3 +154,16 @@ line_names words command line =
     ends (names_of command) words line.verb n (count_said line.verb line.operands n command line.says)
     (λ none. after ∙ line.follow none)
     (omega arith, after ∙ sym dropped)
+
+-- a word alone names none
+alone_names : (word : List ℕ) (command : Command) → SaysAlone word command → EndsInNames (word ∷ []) command
+alone_names word Help e = ap (λ (w : List ℕ). names_after (w ∷ [])) e
+alone_names word Version e = ap (λ (w : List ℕ). names_after (w ∷ [])) e
+alone_names word _ e = absurd e
+
+-- the names of a command line
+pub line_names : (words : List (List ℕ)) (command : Command) → IsCommandLine words command → EndsInNames words command
+line_names words command line = elim line [
+  | inl has ↦ operand_names words command has
+  | inr alone ↦ subst (λ (ws : List (List ℕ)). EndsInNames ws command) (sym alone.1) (alone_names alone.0 command alone.2)
+]

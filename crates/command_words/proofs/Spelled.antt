@@ -15,7 +15,8 @@ use Rattle.value_text.proofs.Fits.{chunks_are_short, members_are_bytes, offsets_
 use Rattle.value_text.proofs.Lists.{some_value}
 use Rattle.value_text.proofs.SetWords.{one_spelling}
 use Rattle.near_mirror.proofs.NearWords.{one_spelling as one_near_spelling}
-use Rattle.value_text.proofs.Spellings.{same_list}
+use Rattle.value_text.proofs.Offsets.{numbers_join}
+use Rattle.value_text.proofs.Spellings.{same_joined, same_list}
 use Rattle.raid_params.specs.Places.{level_place, pattern_place, syndrome_place}
 use Rattle.mark_kinds.specs.declared.looking.DropAt.{DropAt}
 use Rattle.mark_kinds.specs.Table.{group_place}
@@ -27,9 +28,9 @@ use Rattle.mark_kinds.specs.declared.groups.GroupKind.{GroupKind}
 use Rattle.command_words.specs.declared.operands.Operand.{Operand}
 use Rattle.command_words.specs.declared.table.Name.{Name}
 use Rattle.command_words.specs.declared.table.ValueKind.{ValueKind}
-use Rattle.command_words.specs.declared.table.ValueKind.TheVariants.{Number as NumberKind, Levels as LevelsKind, Members as MembersKind, Patterns as PatternsKind, Syndromes as SyndromesKind, Chunks as ChunksKind, Sectors as SectorsKind, Landmarks as LandmarksKind, Drops as DropsKind, Form as FormKind, Salvaged as SalvagedKind, Marks as MarksKind, Set as SetKind, Mirror as MirrorKind, Mode as ModeKind, Logical as LogicalKind}
+use Rattle.command_words.specs.declared.table.ValueKind.TheVariants.{Number as NumberKind, Levels as LevelsKind, Members as MembersKind, Patterns as PatternsKind, Syndromes as SyndromesKind, Chunks as ChunksKind, Sectors as SectorsKind, Places as PlacesKind, Landmarks as LandmarksKind, Drops as DropsKind, Form as FormKind, Salvaged as SalvagedKind, Marks as MarksKind, Set as SetKind, Mirror as MirrorKind, Mode as ModeKind, Logical as LogicalKind}
 use Rattle.command_words.specs.declared.values.Value.{Value}
-use Rattle.command_words.specs.declared.values.Value.TheVariants.{Number, Levels, Members, Patterns, Syndromes, Chunks, Sectors, Landmarks, Drops, Form as FormValue, Salvaged, Marks, Set, Mirror, Mode, Logical}
+use Rattle.command_words.specs.declared.values.Value.TheVariants.{Number, Levels, Members, Patterns, Syndromes, Chunks, Sectors, Places, Landmarks, Drops, Form as FormValue, Salvaged, Marks, Set, Mirror, Mode, Logical}
 use Rattle.command_words.proofs.NameTexts.{IsShort, one_name, plain_name, short_kind}
 
 -- two texts that are cut at the first `=` are the same where their parts are
@@ -129,6 +130,9 @@ one_value ChunksKind short v w a b e =
 one_value SectorsKind short v w a b e =
     let same = same_list decimal (λ n. n < 2 ^ 64) (in_lists decimal (λ n. n < 2 ^ 64) number_law) a.0.items b.0.items a.2.0.some b.2.0.some (offsets_are_short a.0.items a.2.2) (offsets_are_short b.0.items b.2.2) (texts (λ xs. Sectors xs) a.0 b.0 v w a.1 b.1 e) in
     same_held (λ (xs : List ℕ). Sectors (record { items = xs })) a.0.items b.0.items v w a.1 b.1 same
+one_value PlacesKind short v w a b e =
+    let same = same_joined 43 decimal (λ n. n < 2 ^ 64) numbers_join a.0.items b.0.items a.2.0 b.2.0 (offsets_are_short a.0.items a.2.2) (offsets_are_short b.0.items b.2.2) (texts (λ xs. Places xs) a.0 b.0 v w a.1 b.1 e) in
+    same_held (λ (xs : List ℕ). Places (record { items = xs })) a.0.items b.0.items v w a.1 b.1 same
 one_value LandmarksKind short v w a b e =
     let same = same_list group_name (λ x. Unit {0}) (in_lists group_name (λ x. Unit {0}) group_law) a.0.items b.0.items (some_value group_place a.0.items a.2.rising) (some_value group_place b.0.items b.2.rising) (λ k d lt. tt) (λ k d lt. tt) (texts (λ xs. Landmarks xs) a.0 b.0 v w a.1 b.1 e) in
     same_held (λ (xs : List GroupKind). Landmarks (record { items = xs })) a.0.items b.0.items v w a.1 b.1 same

@@ -17,7 +17,7 @@ use Rattle.raid_params.specs.declared.wide.Wide.{Wide}
 use Rattle.landmark_rules.specs.declared.marks.MarkTests.{MarkTests}
 use Rattle.near_mirror.specs.Words.{HasNearWord}
 use Rattle.near_mirror.specs.declared.types.NearSet.{NearSet}
-use Rattle.value_text.specs.Bounded.{AreChunks, AreMembers, AreSectors}
+use Rattle.value_text.specs.Bounded.{AreChunks, AreMembers, ArePlaces, AreSectors}
 use Rattle.value_text.specs.SetText.{HasWord}
 use Rattle.landmark_rules.specs.Tests.{AreTests}
 use Rattle.search_scope.specs.Scopes.{AreBounds}
@@ -26,16 +26,17 @@ use Rattle.mark_kinds.specs.declared.looking.Kinds.{Kinds}
 use Rattle.mark_kinds.specs.Table.{usual_kinds, kinds_among, some_asked}
 use Rattle.command_words.specs.Operands.{AreDrops, AreOperands, operand_word, value_of}
 use Rattle.command_words.specs.declared.command.Command.{Command}
-use Rattle.command_words.specs.declared.command.Command.TheVariants.{Survey as SurveyCommand, List as ListCommand, Check as CheckCommand, Map as MapCommand, Write as WriteCommand, Rebuild as RebuildCommand, Sample as SampleCommand, Classes as ClassesCommand, Mirrors as MirrorsCommand, MirrorWrite as MirrorWriteCommand, Salvage as SalvageCommand}
+use Rattle.command_words.specs.declared.command.Command.TheVariants.{Survey as SurveyCommand, List as ListCommand, Check as CheckCommand, Map as MapCommand, Write as WriteCommand, Rebuild as RebuildCommand, Sample as SampleCommand, Classes as ClassesCommand, Mirrors as MirrorsCommand, MirrorWrite as MirrorWriteCommand, Salvage as SalvageCommand, Relations as RelationsCommand, Help, Version}
 use Rattle.command_words.specs.declared.command.Form.{Form}
 use Rattle.command_words.specs.declared.command.Form.TheVariants.{Text}
+use Rattle.command_words.specs.declared.command.RelationWords.{RelationWords}
 use Rattle.command_words.specs.declared.command.SurveyWords.{SurveyWords}
 use Rattle.command_words.specs.declared.command.Verb.{Verb}
-use Rattle.command_words.specs.declared.command.Verb.TheVariants.{Survey, List as ListVerb, Check, Map, Write, Rebuild, Sample, Classes, Mirrors, MirrorWrite, Salvage}
+use Rattle.command_words.specs.declared.command.Verb.TheVariants.{Survey, List as ListVerb, Check, Map, Write, Rebuild, Sample, Classes, Mirrors, MirrorWrite, Salvage, Relations}
 use Rattle.command_words.specs.declared.operands.Operand.{Operand}
-use Rattle.command_words.specs.declared.table.Name.TheVariants.{Levels as LevelsName, Members as MembersName, Patterns as PatternsName, Syndromes as SyndromesName, Chunks as ChunksName, Offsets as OffsetsName, Origins as OriginsName, Missing as MissingName, Foreign as ForeignName, Badrows as BadrowsName, Misfits as MisfitsName, Least as LeastName, Window as WindowName, End as EndName, Kinds as KindsName, Dropped as DropName, From as FromName, Size as SizeName, Span as SpanName, Pages as PagesName, Form as FormName, Set as SetName, Sector as SectorName, Slot as SlotName, Number as NumberName, Rows as RowsName, Marks as MarksName, Images as ImagesName, Mode as ModeName, Logical as LogicalName}
+use Rattle.command_words.specs.declared.table.Name.TheVariants.{Levels as LevelsName, Members as MembersName, Patterns as PatternsName, Syndromes as SyndromesName, Chunks as ChunksName, Offsets as OffsetsName, Origins as OriginsName, Missing as MissingName, Foreign as ForeignName, Badrows as BadrowsName, Misfits as MisfitsName, Least as LeastName, Window as WindowName, End as EndName, Kinds as KindsName, Dropped as DropName, From as FromName, Size as SizeName, Span as SpanName, Pages as PagesName, Form as FormName, Set as SetName, Sector as SectorName, Slot as SlotName, Number as NumberName, Rows as RowsName, Marks as MarksName, Images as ImagesName, Mode as ModeName, Logical as LogicalName, Step as StepName}
 use Rattle.command_words.specs.declared.values.Value.{Value}
-use Rattle.command_words.specs.declared.values.Value.TheVariants.{Number, Levels, Members, Patterns, Syndromes, Chunks, Sectors, Landmarks, Drops, Form as FormValue, Salvaged, Marks, Set, Mirror, Mode, Logical}
+use Rattle.command_words.specs.declared.values.Value.TheVariants.{Number, Levels, Members, Patterns, Syndromes, Chunks, Sectors, Places, Landmarks, Drops, Form as FormValue, Salvaged, Marks, Set, Mirror, Mode, Logical}
 
 -- the word of a command
 abbrev pub verb_word : Verb → List ℕ
@@ -50,6 +51,7 @@ verb_word Classes = codes "classes"
 verb_word Mirrors = codes "mirrors"
 verb_word MirrorWrite = codes "mirrorwrite"
 verb_word Salvage = codes "salvage"
+verb_word Relations = codes "relations"
 
 -- the values of operands that were given, and the defaults of those that were not
 abbrev pub number_in : Option Value → Option ℕ
@@ -87,6 +89,10 @@ chunks_or _ = record { items = 8 ∷ 16 ∷ 32 ∷ 64 ∷ 128 ∷ 256 ∷ 512 �
 abbrev pub sectors_or : List ℕ → Option Value → ArrayVec ℕ
 sectors_or others (Some (Sectors ns)) = ns
 sectors_or others _ = record { items = others }
+
+abbrev pub places_or : Option Value → ArrayVec ℕ
+places_or (Some (Places ns)) = ns
+places_or _ = record { items = [] }
 
 abbrev pub drops_or : Option Value → ArrayVec DropAt
 drops_or (Some (Drops ds)) = ds
@@ -179,6 +185,17 @@ mirrors_of operands names =
     (number_in (value_of WindowName operands)) (number_in (value_of EndName operands))
     (number_or 0 (value_of FromName operands)) (number_or 100 (value_of SizeName operands)) (number_or (2 ^ 64 - 1) (value_of SpanName operands)) names
 
+-- what `relations` is asked for
+abbrev pub relations_of : List Operand → ℕ → RelationWords
+relations_of operands names = record {
+  from = number_or 0 (value_of FromName operands);
+  end = number_in (value_of EndName operands);
+  step = number_in (value_of StepName operands);
+  offsets = places_or (value_of OffsetsName operands);
+  form = form_or (value_of FormName operands);
+  names = names;
+}
+
 -- the command with these operands and `names` words up to the names, unless an operand is missing that it
 -- asks for. The images of a survey can have offsets of their own where they are to. A listing has 4,000,000 lines at most on all its pages together
 abbrev pub command_of : Verb → List Operand → ℕ → Option Command
@@ -201,6 +218,7 @@ command_of Classes operands names =
 command_of Mirrors operands names = Some (mirrors_of operands names)
 command_of MirrorWrite operands names = option_map (λ set. MirrorWriteCommand set (number_in (value_of EndName operands)) names) (mirror_in (value_of SetName operands))
 command_of Salvage operands names = option_map (λ set. SalvageCommand set (lost_or (value_of FormName operands)) (number_in (value_of EndName operands)) names) (set_in (value_of SetName operands))
+command_of Relations operands names = Some (RelationsCommand (relations_of operands names))
 
 -- names may follow the `--` of each command but `sample` and `classes`
 abbrev pub takes_names : Verb → Bool
@@ -216,7 +234,7 @@ abbrev pub line_of : Verb → List Operand → List (List ℕ) → List (List �
 line_of verb operands names = verb_word verb ∷ (map operand_word operands ++ codes "--" ∷ names)
 
 -- the words are a command with its operands, in any order, `--` and the names of the images
-pub record IsCommandLine (words : List (List ℕ)) (command : Command) : Type 0 where
+pub record HasOperands (words : List (List ℕ)) (command : Command) : Type 0 where
   pub verb : Verb
   pub operands : List Operand
   pub names : List (List ℕ)
@@ -225,12 +243,26 @@ pub record IsCommandLine (words : List (List ℕ)) (command : Command) : Type 0 
   pub follow : MayFollow names verb
   pub says : command_of verb operands (length operands + 2) ≡ Some command
 
--- with some words after them, these are a command line
-abbrev pub BeginsLine : List (List ℕ) → Type 0
-BeginsLine start = (rest : List (List ℕ)) × (command : Command) × IsCommandLine (start ++ rest) command
+-- the word asks for this alone
+abbrev pub SaysAlone : List ℕ → Command → Type 0
+SaysAlone word Help = word ≡ codes "--help"
+SaysAlone word Version = word ≡ codes "--version"
+SaysAlone word _ = ⊥
 
--- word n, counted from 1, is the refused one: with those before it some command line begins, and with it
--- none. Where all begin one but are none, it is the word after the last
+abbrev pub IsAlone : List (List ℕ) → Command → Type 0
+IsAlone words command = (word : List ℕ) × (words ≡ word ∷ []) × SaysAlone word command
+
+-- the words are a command with what belongs to it, or one word that asks for something alone
+abbrev pub IsCommandLine : List (List ℕ) → Command → Type 0
+IsCommandLine words command = HasOperands words command ⊎ IsAlone words command
+
+-- with some words after them, these are a command with what belongs to it
+abbrev pub BeginsLine : List (List ℕ) → Type 0
+BeginsLine start = (rest : List (List ℕ)) × (command : Command) × HasOperands (start ++ rest) command
+
+-- word n, counted from 1, is the refused one: with those before it some command with what belongs to it begins, and with it
+-- none. Where all begin one but are none, it is the word after the last. So a word that asks for something alone is refused where another
+-- follows it
 pub record IsRefusedWord (words : List (List ℕ)) (n : ℕ) : Type 0 where
   pub counted : (1 ≤ n) × (n ≤ length words + 1)
   pub begins : BeginsLine (take (n - 1) words)
@@ -251,7 +283,7 @@ names_after (word ∷ words) = if bytes_eq word (codes "--") then words else nam
 abbrev pub EndFrom : List (List ℕ) → ℕ → Type 0
 EndFrom words names = (names ≤ length words) × (names_after words ≡ drop names words)
 
--- how many words a command has up to the names of its images. `sample` and `classes` have no names
+-- how many words a command has up to the names of its images. `sample`, `classes` and what a word asks for alone have no names
 abbrev pub names_of : Command → Option ℕ
 names_of (SurveyCommand asked) = Some asked.names
 names_of (ListCommand from size span pages form names) = Some names
@@ -264,6 +296,9 @@ names_of (ClassesCommand images end) = None
 names_of (MirrorsCommand members chunks offsets missing foreign badrows window end from size span names) = Some names
 names_of (MirrorWriteCommand set end names) = Some names
 names_of (SalvageCommand set lost end names) = Some names
+names_of (RelationsCommand asked) = Some asked.names
+names_of Help = None
+names_of Version = None
 
 -- the names of a command's images are the last words, from the one of this number on, or there are none
 abbrev pub EndsInNames : List (List ℕ) → Command → Type 0
@@ -295,6 +330,13 @@ pub record AreMirrors (counts sizes places : List ℕ) (empty others torn : ℕ)
   pub size : (1 ≤ lines) × (lines ≤ 1000000)
   pub span : 1 ≤ ranks
 
+-- what relations are asked for is within the limits of the words
+pub record AreRelations (asked : RelationWords) : Type 0 where
+  pub from : asked.from < 2 ^ 55
+  pub end : IfSome asked.end (λ n. n < 2 ^ 55)
+  pub step : IfSome asked.step (λ n. (1 ≤ n) × (n < 2 ^ 55))
+  pub offsets : (asked.offsets.items ≡ []) ⊎ ArePlaces asked.offsets.items
+
 -- the values of a command are within the limits of its operands
 abbrev pub IsWithin : Command → Type 0
 IsWithin (SurveyCommand asked) = AreAsked asked
@@ -308,3 +350,6 @@ IsWithin (ClassesCommand images end) = (1 ≤ images) × (images ≤ MOST) × (e
 IsWithin (MirrorsCommand members chunks offsets missing foreign badrows window end from size span names) = AreMirrors members.items chunks.items offsets.items missing foreign badrows window end size span
 IsWithin (MirrorWriteCommand set end names) = HasNearWord set × IfSome end (λ n. n < 2 ^ 55)
 IsWithin (SalvageCommand set lost end names) = HasWord set × IfSome end (λ n. n < 2 ^ 55)
+IsWithin (RelationsCommand asked) = AreRelations asked
+IsWithin Help = Unit {0}
+IsWithin Version = Unit {0}

@@ -13,8 +13,8 @@ use Rattle.raid_params.specs.declared.wide.Wide.{Wide}
 use Rattle.near_mirror.specs.Words.{HasNearWord, near_word}
 use Rattle.near_mirror.specs.declared.types.NearSet.{NearSet}
 use Rattle.value_text.specs.SetText.{HasWord, set_word}
-use Rattle.value_text.specs.Bounded.{AreChunks, AreMembers, AreSectors}
-use Rattle.value_text.specs.Spelling.{level_name, pattern_name, syndrome_name, commas}
+use Rattle.value_text.specs.Bounded.{AreChunks, AreMembers, ArePlaces, AreSectors}
+use Rattle.value_text.specs.Spelling.{level_name, pattern_name, syndrome_name, commas, pluses}
 use Rattle.landmark_text.specs.Names.{IsDrop, group_name, drop_name, drop_place}
 use Rattle.raid_params.specs.Places.{level_place, pattern_place, syndrome_place, AreRising}
 use Rattle.mark_kinds.specs.declared.looking.DropAt.{DropAt}
@@ -23,15 +23,15 @@ use Rattle.mark_kinds.specs.declared.groups.TheConstants.{GROUP_COUNT}
 use Rattle.command_words.specs.declared.command.Form.{Form}
 use Rattle.command_words.specs.declared.command.Form.TheVariants.{Text, Json}
 use Rattle.command_words.specs.declared.command.Verb.{Verb}
-use Rattle.command_words.specs.declared.command.Verb.TheVariants.{Survey, List as ListVerb, Check, Map, Write, Rebuild, Sample, Classes, Mirrors, MirrorWrite, Salvage}
+use Rattle.command_words.specs.declared.command.Verb.TheVariants.{Survey, List as ListVerb, Check, Map, Write, Rebuild, Sample, Classes, Mirrors, MirrorWrite, Salvage, Relations}
 use Rattle.mark_kinds.specs.declared.groups.GroupKind.{GroupKind}
 use Rattle.command_words.specs.declared.operands.Operand.{Operand}
 use Rattle.command_words.specs.declared.table.Name.{Name}
-use Rattle.command_words.specs.declared.table.Name.TheVariants.{Levels as LevelsName, Members as MembersName, Patterns as PatternsName, Syndromes as SyndromesName, Chunks as ChunksName, Offsets as OffsetsName, Origins as OriginsName, Missing as MissingName, Foreign as ForeignName, Badrows as BadrowsName, Misfits as MisfitsName, Least as LeastName, Window as WindowName, End as EndName, Kinds as KindsName, Dropped as DropName, From as FromName, Size as SizeName, Span as SpanName, Pages as PagesName, Form as FormName, Set as SetName, Sector as SectorName, Slot as SlotName, Number as NumberName, Rows as RowsName, Marks as MarksName, Images as ImagesName, Mode as ModeName, Logical as LogicalName}
+use Rattle.command_words.specs.declared.table.Name.TheVariants.{Levels as LevelsName, Members as MembersName, Patterns as PatternsName, Syndromes as SyndromesName, Chunks as ChunksName, Offsets as OffsetsName, Origins as OriginsName, Missing as MissingName, Foreign as ForeignName, Badrows as BadrowsName, Misfits as MisfitsName, Least as LeastName, Window as WindowName, End as EndName, Kinds as KindsName, Dropped as DropName, From as FromName, Size as SizeName, Span as SpanName, Pages as PagesName, Form as FormName, Set as SetName, Sector as SectorName, Slot as SlotName, Number as NumberName, Rows as RowsName, Marks as MarksName, Images as ImagesName, Mode as ModeName, Logical as LogicalName, Step as StepName}
 use Rattle.command_words.specs.declared.table.ValueKind.{ValueKind}
-use Rattle.command_words.specs.declared.table.ValueKind.TheVariants.{Number as NumberKind, Levels as LevelsKind, Members as MembersKind, Patterns as PatternsKind, Syndromes as SyndromesKind, Chunks as ChunksKind, Sectors as SectorsKind, Landmarks as LandmarksKind, Drops as DropsKind, Form as FormKind, Salvaged as SalvagedKind, Marks as MarksKind, Set as SetKind, Mirror as MirrorKind, Mode as ModeKind, Logical as LogicalKind}
+use Rattle.command_words.specs.declared.table.ValueKind.TheVariants.{Number as NumberKind, Levels as LevelsKind, Members as MembersKind, Patterns as PatternsKind, Syndromes as SyndromesKind, Chunks as ChunksKind, Sectors as SectorsKind, Places as PlacesKind, Landmarks as LandmarksKind, Drops as DropsKind, Form as FormKind, Salvaged as SalvagedKind, Marks as MarksKind, Set as SetKind, Mirror as MirrorKind, Mode as ModeKind, Logical as LogicalKind}
 use Rattle.command_words.specs.declared.values.Value.{Value}
-use Rattle.command_words.specs.declared.values.Value.TheVariants.{Number, Levels, Members, Patterns, Syndromes, Chunks, Sectors, Landmarks, Drops, Form as FormValue, Salvaged, Marks, Set, Mirror, Mode, Logical}
+use Rattle.command_words.specs.declared.values.Value.TheVariants.{Number, Levels, Members, Patterns, Syndromes, Chunks, Sectors, Places, Landmarks, Drops, Form as FormValue, Salvaged, Marks, Set, Mirror, Mode, Logical}
 
 abbrev pub name_text : Name → List ℕ
 name_text LevelsName = codes "levels"
@@ -64,11 +64,22 @@ name_text MarksName = codes "marks"
 name_text ImagesName = codes "images"
 name_text ModeName = codes "mode"
 name_text LogicalName = codes "logical"
+name_text StepName = codes "step"
 
 -- the most empty slots: of the two copies of a mirror's chunk one is left where one member is missing
 abbrev pub most_missing : Verb → ℕ
 most_missing Mirrors = 1
 most_missing _ = MOST_MISSING
+
+-- the largest `from`: that of `relations` is a row, which lies where a sector may; any other is a rank
+abbrev pub most_from : Verb → ℕ
+most_from Relations = 2 ^ 55 - 1
+most_from _ = 2 ^ 64 - 1
+
+-- what `offsets` are: `relations` takes one for each image, and not places to try
+abbrev pub offsets_kind : Verb → ValueKind
+offsets_kind Relations = PlacesKind
+offsets_kind _ = SectorsKind
 
 -- what a `set` is: `mirrorwrite` takes that of a mirror
 abbrev pub set_kind : Verb → ValueKind
@@ -87,7 +98,7 @@ kind_of _ MembersName = MembersKind
 kind_of _ PatternsName = PatternsKind
 kind_of _ SyndromesName = SyndromesKind
 kind_of _ ChunksName = ChunksKind
-kind_of _ OffsetsName = SectorsKind
+kind_of verb OffsetsName = offsets_kind verb
 kind_of _ OriginsName = SectorsKind
 kind_of verb MissingName = NumberKind 0 (most_missing verb)
 kind_of _ ForeignName = NumberKind 0 MOST
@@ -98,7 +109,7 @@ kind_of _ WindowName = NumberKind 1 (2 ^ 55 - 1)
 kind_of _ EndName = NumberKind 0 (2 ^ 55 - 1)
 kind_of _ KindsName = LandmarksKind
 kind_of _ DropName = DropsKind
-kind_of _ FromName = NumberKind 0 (2 ^ 64 - 1)
+kind_of verb FromName = NumberKind 0 (most_from verb)
 kind_of _ SizeName = NumberKind 1 1000000
 kind_of _ SpanName = NumberKind 1 (2 ^ 64 - 1)
 kind_of _ PagesName = NumberKind 1 1000000
@@ -112,6 +123,7 @@ kind_of _ MarksName = MarksKind
 kind_of _ ImagesName = NumberKind 1 MOST
 kind_of _ ModeName = ModeKind
 kind_of _ LogicalName = LogicalKind
+kind_of _ StepName = NumberKind 1 (2 ^ 55 - 1)
 
 -- the operands that a command takes
 abbrev pub operands_of : Verb → List Name
@@ -126,6 +138,7 @@ operands_of Classes = ImagesName ∷ EndName ∷ []
 operands_of Mirrors = MembersName ∷ ChunksName ∷ OffsetsName ∷ MissingName ∷ ForeignName ∷ BadrowsName ∷ WindowName ∷ EndName ∷ FromName ∷ SizeName ∷ SpanName ∷ []
 operands_of MirrorWrite = SetName ∷ EndName ∷ []
 operands_of Salvage = SetName ∷ FormName ∷ EndName ∷ []
+operands_of Relations = FromName ∷ EndName ∷ StepName ∷ OffsetsName ∷ FormName ∷ []
 
 abbrev pub form_text : Form → List ℕ
 form_text Text = codes "text"
@@ -170,6 +183,7 @@ IsValueOf value PatternsKind = (xs : ArrayVec Pattern) × (value ≡ Patterns xs
 IsValueOf value SyndromesKind = (xs : ArrayVec Syndrome) × (value ≡ Syndromes xs) × IsList syndrome_place MOST_SYNDROMES xs.items
 IsValueOf value ChunksKind = (ns : ArrayVec ℕ) × (value ≡ Chunks ns) × AreChunks ns.items
 IsValueOf value SectorsKind = (ns : ArrayVec ℕ) × (value ≡ Sectors ns) × AreSectors 64 ns.items
+IsValueOf value PlacesKind = (ns : ArrayVec ℕ) × (value ≡ Places ns) × ArePlaces ns.items
 IsValueOf value LandmarksKind = (xs : ArrayVec GroupKind) × (value ≡ Landmarks xs) × IsList group_place GROUP_COUNT xs.items
 IsValueOf value DropsKind = (ds : ArrayVec DropAt) × (value ≡ Drops ds) × AreDrops ds.items
 IsValueOf value FormKind = (form : Form) × (value ≡ FormValue form)
@@ -189,6 +203,7 @@ value_text (Patterns xs) = commas (map pattern_name xs.items)
 value_text (Syndromes xs) = commas (map syndrome_name xs.items)
 value_text (Chunks ns) = commas (map decimal ns.items)
 value_text (Sectors ns) = commas (map decimal ns.items)
+value_text (Places ns) = pluses (map decimal ns.items)
 value_text (Landmarks xs) = commas (map group_name xs.items)
 value_text (Drops ds) = commas (map drop_name ds.items)
 value_text (FormValue form) = form_text form

@@ -1,11 +1,11 @@
 //! The commands, from their operands and defaults.
 ghost use Rattle.std.specs.Prelude.{◌≡◌, ◌≤◌, ◌<◌, ◌^◌, IfSome, Some, length, nat_lt};
 ghost use Rattle.std.specs.List.{list_all};
-ghost use Rattle.command_words.specs.Commands.{AreAsked, plain_survey as plain_survey_words, bounds_of, can_move as can_move_with, chunks_or, command_of, drops_or, each_or, form_or, large_or, kinds_or, levels_or, lost_or, marks_or, members_or, mirror_in, number_in, patterns_or, sectors_or, set_in, survey_of, syndromes_or, tests_of, unit_of};
+ghost use Rattle.command_words.specs.Commands.{AreAsked, plain_survey as plain_survey_words, bounds_of, can_move as can_move_with, chunks_or, command_of, drops_or, each_or, form_or, large_or, kinds_or, levels_or, lost_or, marks_or, members_or, mirror_in, number_in, patterns_or, places_or, relations_of, sectors_or, set_in, survey_of, syndromes_or, tests_of, unit_of};
 ghost use Rattle.command_words.specs.Operands.{AreFitting, value_of};
 ghost use Rattle.command_words.specs.Steps.{can_go_on as can_go_on_with, lines_fit};
 
-use crate::command::{Command, Form, SurveyWords, Verb};
+use crate::command::{Command, Form, MOST_RELATED, RelationWords, SurveyWords, Verb};
 use crate::operands::{Operand, find_value};
 use crate::table::Name;
 use crate::values::Value;
@@ -77,6 +77,7 @@ pub fn build(verb: Verb, operands: &[Operand], names: usize) -> Option<Command>
             names,
         }),
         Verb::Salvage => salvage(operands, names),
+        Verb::Relations => Some(Command::Relations(relations(operands, names))),
     }
 }
 
@@ -135,6 +136,20 @@ fn salvage(operands: &[Operand], names: usize) -> Option<Command>
         end: number(operands, Name::End),
         names,
     })
+}
+
+/// How the images depend on one another.
+fn relations(operands: &[Operand], names: usize) -> RelationWords
+    ensures { result ≡ relations_of operands.now names }
+{
+    RelationWords {
+        from: number(operands, Name::From).unwrap_or(0),
+        end: number(operands, Name::End),
+        step: number(operands, Name::Step),
+        offsets: places(operands),
+        form: form(operands),
+        names,
+    }
 }
 
 /// A listing, unless it becomes too long.
@@ -325,6 +340,17 @@ fn sectors(operands: &[Operand], name: Name, others: &[u64]) -> ArrayVec<u64, MO
         list_of(sectors)
     } else {
         list_of(others)
+    }
+}
+
+/// None where `offsets` is not given.
+fn places(operands: &[Operand]) -> ArrayVec<u64, MOST_RELATED>
+    ensures { result ≡ places_or (value_of Name.Offsets operands.now) }
+{
+    if let Some(Value::Places(places)) = find_value(operands, Name::Offsets) {
+        list_of(places)
+    } else {
+        ArrayVec::new()
     }
 }
 

@@ -30,6 +30,8 @@ pub enum Verb {
     MirrorWrite,
     /// `salvage`: the volume of damaged members, or what of it is lost.
     Salvage,
+    /// `relations`: how the images depend on one another.
+    Relations,
 }
 
 /// How a listing is written.
@@ -67,6 +69,26 @@ pub struct SurveyWords {
     /// The number of words up to the names of the images.
     pub names: usize,
 }
+
+/// What `relations` is asked for. What depends on the images where it is not among the words is empty or None here.
+#[derive(Drop)]
+pub struct RelationWords {
+    /// The first row.
+    pub from: u64,
+    /// The row after the last one that may be looked at.
+    pub end: Option<u64>,
+    /// How many rows lie from one to the next, at least 1.
+    pub step: Option<u64>,
+    /// The sector of row 0 of each image, in the order of the images; empty: row 0 is sector 0 of each.
+    pub offsets: ArrayVec<u64, MOST_RELATED>,
+    /// How the lines are written.
+    pub form: Form,
+    /// The number of words up to the names of the images.
+    pub names: usize,
+}
+
+/// The most images that `relations` takes.
+pub const MOST_RELATED: usize = 64;
 
 /// What the words ask for. In each, `names` is the number of words up to `--` and with it: the names of
 /// the images follow. `end` is the image sector after the last one that may belong to the array; where it
@@ -180,4 +202,10 @@ pub enum Command {
         end: Option<u64>,
         names: usize,
     },
+    /// How the images depend on one another.
+    Relations(RelationWords),
+    /// The text that says how the program is used. It reads no images.
+    Help,
+    /// The version of the program. It reads no images.
+    Version,
 }

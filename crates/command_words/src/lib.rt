@@ -1,7 +1,7 @@
 //! The command line: its words, and what they ask for.
 //!
 //! The words are a command, its operands `name=value` in any order, each at most once, the word
-//! `--`, and the names of the images. Any other list of words asks for nothing, and the first word
+//! `--`, and the names of the images; or `--help` or `--version` alone. Any other list of words asks for nothing, and the first word
 //! with which no such list goes on is the refused one.
 //!
 //! `reraid_cli` calls [`read_words`] first of all, and `reraid_nbd_cli`, whose words have no command in front, [`read_words_after`]. The
@@ -22,7 +22,7 @@ mod values;
 mod word;
 
 pub use building::plain_survey;
-pub use command::{Command, Form, SurveyWords, Verb};
+pub use command::{Command, Form, MOST_RELATED, RelationWords, SurveyWords, Verb};
 pub use laws::words_have_one_reading;
 pub use reading::{read_words, read_words_after};
 pub use word::Word;

@@ -1,7 +1,8 @@
 //! Reading the words of a command line.
 ghost use Rattle.std.specs.Prelude.{◌≡◌, ◌≢◌, ◌<◌, ◌^◌, ◌∷◌, IfOk, MatchOption, MatchResult, length};
-ghost use Rattle.command_words.specs.Commands.{EndsInNames, IsRefusedWord, IsWithin, Reads, verb_word};
+ghost use Rattle.command_words.specs.Commands.{EndsInNames, IsRefusedWord, IsWithin, Reads, SaysAlone, verb_word};
 ghost use Rattle.command_words.specs.Steps.{StandBefore};
+ghost use Rattle.command_words.specs.declared.command.Command.{Command as CommandOf};
 ghost use Rattle.command_words.specs.declared.command.Verb.{Verb as VerbOf};
 
 use crate::building::{build, can_go_on};
@@ -11,10 +12,10 @@ use crate::word::Word;
 use arrayvec::ArrayVec;
 
 /// Reads the words: a command, its operands in any order, each at most once, then `--` and the
-/// names of the images. It takes no memory.
+/// names of the images; or `--help` or `--version` alone. It takes no memory.
 ///
 /// Where they are no such list, the answer is the number of the refused word, counted from 1: with the
-/// words before it some such list begins, and with it none. It is one more than the words are where the
+/// words before it some command with its operands begins, and with it none. It is one more than the words are where the
 /// list is only not at its end.
 #[inline(never)]
 #[tactic(auto, using(crate::proofs::WhatWasRead::all_within, crate::proofs::WhatWasRead::all_names))]
@@ -33,10 +34,24 @@ fn read_line(words: &[Word]) -> Result<Command, u64>
     let Some((first, rest)) = words.split_first() else {
         return Err(1);
     };
+    if let Some(command) = read_alone(first) {
+        return if rest.is_empty() { Ok(command) } else { Err(1) };
+    }
     let Some(verb) = read_verb(first) else {
         return Err(1);
     };
     read_line_after(verb, rest)
+}
+
+/// What the word asks for alone.
+fn read_alone(word: &Word) -> Option<Command>
+    ensures { MatchOption result ((command : CommandOf) → SaysAlone word.now command → ⊥) (λ command. SaysAlone word.now command) }
+{
+    match word.as_str() {
+        "--help" => Some(Command::Help),
+        "--version" => Some(Command::Version),
+        _ => None,
+    }
 }
 
 /// Reads the words that follow the word of a command, as `read_words` reads them behind it. It takes no memory.
@@ -75,6 +90,7 @@ fn read_verb(word: &Word) -> Option<Verb>
         "mirrors" => Some(Verb::Mirrors),
         "mirrorwrite" => Some(Verb::MirrorWrite),
         "salvage" => Some(Verb::Salvage),
+        "relations" => Some(Verb::Relations),
         _ => None,
     }
 }

@@ -1,6 +1,6 @@
 //! The operands: how they are named, what values they take, and which command takes which.
 ghost use Rattle.std.specs.Prelude.{◌≡◌};
-ghost use Rattle.command_words.specs.Operands.{form_kind as form_kind_of, kind_of, most_missing as most_missing_of, name_text, operands_of, set_kind as set_kind_of};
+ghost use Rattle.command_words.specs.Operands.{form_kind as form_kind_of, kind_of, most_from as most_from_of, most_missing as most_missing_of, name_text, offsets_kind as offsets_kind_of, operands_of, set_kind as set_kind_of};
 ghost use Rattle.command_words.specs.Commands.{takes_names as verb_takes_names};
 
 use crate::command::Verb;
@@ -84,6 +84,8 @@ pub enum Name {
     Mode,
     /// The bytes of a block of a partition table.
     Logical,
+    /// How many rows lie from one that is looked at to the next.
+    Step,
 }
 
 /// What values an operand takes. Lists rise strictly.
@@ -108,6 +110,8 @@ pub enum ValueKind {
     Chunks,
     /// Places on an image or on the volume.
     Sectors,
+    /// A place for each image, in the order of the images: these need not rise.
+    Places,
     /// Kinds of landmarks.
     Landmarks,
     /// Sectors of images.
@@ -181,6 +185,14 @@ static MIRROR_WRITE_OPERANDS: [Name; 2] = [Name::Set, Name::End];
 
 static SALVAGE_OPERANDS: [Name; 3] = [Name::Set, Name::Form, Name::End];
 
+static RELATIONS_OPERANDS: [Name; 5] = [
+    Name::From,
+    Name::End,
+    Name::Step,
+    Name::Offsets,
+    Name::Form,
+];
+
 impl Verb {
     /// The names of the operands that the command takes.
     pub fn operands(&self) -> &'static [Name]
@@ -198,6 +210,7 @@ impl Verb {
             Verb::Mirrors => &MIRRORS_OPERANDS,
             Verb::MirrorWrite => &MIRROR_WRITE_OPERANDS,
             Verb::Salvage => &SALVAGE_OPERANDS,
+            Verb::Relations => &RELATIONS_OPERANDS,
         }
     }
 
@@ -208,6 +221,26 @@ impl Verb {
         match self {
             Verb::Mirrors => MOST_MISSING_OF_MIRRORS,
             _ => MOST_MISSING as u64,
+        }
+    }
+
+    /// The largest value of the command's `from`: a rank, or a row, which lies where a sector may.
+    fn most_from(&self) -> u64
+        ensures { result ≡ most_from_of self.now }
+    {
+        match self {
+            Verb::Relations => SECTORS_END - 1,
+            _ => u64::MAX,
+        }
+    }
+
+    /// What the command's `offsets` are: places to try, or one for each image.
+    fn offsets_kind(&self) -> ValueKind
+        ensures { result ≡ offsets_kind_of self.now }
+    {
+        match self {
+            Verb::Relations => ValueKind::Places,
+            _ => ValueKind::Sectors,
         }
     }
 
@@ -275,6 +308,7 @@ impl Name {
             Name::Images => "images",
             Name::Mode => "mode",
             Name::Logical => "logical",
+            Name::Step => "step",
         }
     }
 
@@ -288,14 +322,16 @@ impl Name {
             Name::Patterns => ValueKind::Patterns,
             Name::Syndromes => ValueKind::Syndromes,
             Name::Chunks => ValueKind::Chunks,
-            Name::Offsets | Name::Origins => ValueKind::Sectors,
+            Name::Offsets => verb.offsets_kind(),
+            Name::Origins => ValueKind::Sectors,
             Name::Missing => number(0, verb.most_missing()),
             Name::Foreign => number(0, MOST as u64),
             Name::Badrows | Name::Misfits | Name::Least | Name::End => number(0, SECTORS_END - 1),
-            Name::Window => number(1, SECTORS_END - 1),
+            Name::Window | Name::Step => number(1, SECTORS_END - 1),
             Name::Kinds => ValueKind::Landmarks,
             Name::Dropped => ValueKind::Drops,
-            Name::From | Name::Sector | Name::Number => number(0, u64::MAX),
+            Name::From => number(0, verb.most_from()),
+            Name::Sector | Name::Number => number(0, u64::MAX),
             Name::Size => number(1, LARGEST_PAGE),
             Name::Span => number(1, u64::MAX),
             Name::Pages => number(1, MOST_PAGES),

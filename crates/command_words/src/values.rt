@@ -4,7 +4,7 @@ ghost use Rattle.command_words.specs.Operands.{IsValueOf, form_text, logical_tex
 ghost use Rattle.command_words.specs.declared.command.Form.{Form as FormOf};
 ghost use Rattle.command_words.specs.declared.values.Value.{Value as ValueOf};
 
-use crate::command::Form;
+use crate::command::{Form, MOST_RELATED};
 use crate::table::ValueKind;
 use arrayvec::ArrayVec;
 use landmark_text::{read_drops, read_groups};
@@ -14,7 +14,9 @@ use raid_params::{
     Level, MOST_CHUNKS, MOST_LESS_ONE, MOST_LEVELS, MOST_OFFSETS, MOST_PATTERNS, MOST_SYNDROMES,
     Pattern, Syndrome, Wide,
 };
-use value_text::{read_chunks, read_members, read_number, read_sectors, read_set, rising};
+use value_text::{
+    read_chunks, read_members, read_number, read_places, read_sectors, read_set, rising,
+};
 
 /// The value of an operand.
 #[derive(Drop)]
@@ -33,6 +35,8 @@ pub enum Value {
     Chunks(ArrayVec<u64, MOST_CHUNKS>),
     /// Places on an image or on the volume, in sectors: as many as a plan may have offsets or origins.
     Sectors(ArrayVec<u64, MOST_OFFSETS>),
+    /// A place for each image, in sectors: as many as `relations` takes images.
+    Places(ArrayVec<u64, MOST_RELATED>),
     /// Kinds of landmarks.
     Landmarks(ArrayVec<GroupKind, GROUP_COUNT>),
     /// Sectors of images.
@@ -67,6 +71,7 @@ pub fn read_value(kind: ValueKind, text: &[u8]) -> Option<Value>
         ValueKind::Syndromes => Some(Value::Syndromes(rising(text)?)),
         ValueKind::Chunks => Some(Value::Chunks(read_chunks(text)?)),
         ValueKind::Sectors => Some(Value::Sectors(read_sectors(text)?)),
+        ValueKind::Places => Some(Value::Places(read_places(text)?)),
         ValueKind::Landmarks => Some(Value::Landmarks(read_groups(text)?)),
         ValueKind::Drops => Some(Value::Drops(read_drops(text)?)),
         ValueKind::Form => Some(Value::Form(read_form(text)?)),

@@ -1,5 +1,5 @@
 //! Command lines and the words at which they are refused, found by hand from the rules of the grammar.
-use command_words::{Command, Form, SurveyWords, Word, read_words};
+use command_words::{Command, Form, RelationWords, SurveyWords, Word, read_words};
 use near_mirror::NearSet;
 use raid_params::{Bounds, Geometry, Level, Pattern, Syndrome, Wide};
 use std::alloc::Global;
@@ -22,12 +22,11 @@ fn refused_word(alloc: Global, line: &str) -> Result<u64, Fail> {
 }
 
 /// Lines with their refused words, counted from 1.
-static REFUSED: [(&str, u64); 103] = [
+static REFUSED: [(&str, u64); 131] = [
     ("", 1),
     ("lists -- a", 1),
     ("LIST -- a", 1),
     ("-- a", 1),
-    ("--help", 1),
     ("size=1 list -- a", 1),
     ("list", 2),
     ("survey", 2),
@@ -132,10 +131,39 @@ static REFUSED: [(&str, u64); 103] = [
     ("salvage set=near2:1:0:0,1 -- a b", 2),
     ("salvage set=5:ls:none:1:0:0,1,2 slot=0 -- a b c", 3),
     ("list form=lost -- a", 2),
+    ("relation -- a b", 1),
+    ("relations", 2),
+    ("relations from=0", 3),
+    ("relations size=1 -- a b", 2),
+    ("relations set=5:ls:none:1:0:0,1,2 -- a b", 2),
+    ("relations step=0 -- a b", 2),
+    ("relations step=36028797018963968 -- a b", 2),
+    ("relations step=1 step=1 -- a b", 3),
+    ("relations from=36028797018963968 -- a b", 2),
+    ("relations end=36028797018963968 -- a b", 2),
+    ("relations offsets= -- a b", 2),
+    ("relations offsets=1,2 -- a b", 2),
+    ("relations offsets=1+ -- a b", 2),
+    ("relations offsets=1+02 -- a b", 2),
+    ("relations offsets=1+36028797018963968 -- a b", 2),
+    ("relations form=lost -- a b", 2),
+    ("survey step=1 -- a", 2),
+    ("survey offsets=1+2 -- a", 2),
+    ("mirrors offsets=1+2 -- a b", 2),
+    ("--help --", 1),
+    ("--help a", 1),
+    ("--help ", 1),
+    ("--version --version", 1),
+    ("--version from=1 -- a", 1),
+    ("--helping", 1),
+    ("-help", 1),
+    ("help", 1),
+    ("list --help", 2),
+    ("list from=1 --help -- a", 3),
 ];
 
 /// Lines that are command lines.
-static ACCEPTED: [&str; 47] = [
+static ACCEPTED: [&str; 54] = [
     "list --",
     "list -- a",
     "list -- -- a",
@@ -183,6 +211,13 @@ static ACCEPTED: [&str; 47] = [
     "salvage form=data set=5:ls:none:1:0:0,1,2 -- a b c",
     "salvage form=lost end=36028797018963967 set=5:ls:none:1:1+0+0:0,1,2 -- a b c",
     "salvage set=6:parity-first-6:by-slot:4294967295:36028797018963967:0,0,23 --",
+    "relations --",
+    "relations -- a b",
+    "relations -- --help",
+    "relations form=json offsets=1+0+1 step=36028797018963967 end=0 from=36028797018963967 -- a b c",
+    "relations offsets=36028797018963967 -- a",
+    "--help",
+    "--version",
 ];
 
 /// Compares the refused word of a line, or 0.
@@ -477,5 +512,67 @@ fn a_salvage_gives_the_volume_unless_told(rt: HostRuntime) -> Result<(), Fail> {
     assert!(rt; plain.is_some_and(|(_, lost, end, names)| !lost && end.is_none() && names == 3));
     let told = salvaged(alloc, "salvage form=data set=5:ls:none:1:0:0,1,2 -- a b c")?;
     assert!(rt; told.is_some_and(|(_, lost, end, names)| !lost && end.is_none() && names == 4));
+    Ok(())
+}
+
+/// What relations are asked for.
+fn related(alloc: Global, line: &str) -> Result<Option<RelationWords>, Fail> {
+    Ok(match read_text(alloc, line)? {
+        Ok(Command::Relations(asked)) => Some(asked),
+        _ => None,
+    })
+}
+
+#[test]
+fn relations_have_their_defaults(rt: HostRuntime) -> Result<(), Fail> {
+    let plain = related(rt.alloc(), "relations -- a b")?;
+    assert!(rt; plain.is_some());
+    if let Some(plain) = plain {
+        assert_eq!(rt; (plain.from, plain.end, plain.step), (0, None, None));
+        assert_eq!(rt; (plain.offsets.len(), plain.names), (0, 2));
+        assert!(rt; matches!(plain.form, Form::Text));
+    }
+    Ok(())
+}
+
+#[test]
+fn relations_have_their_operands(rt: HostRuntime) -> Result<(), Fail> {
+    let line = "relations offsets=7+0+7 form=json step=3 end=9 from=2 -- a b c";
+    let told = related(rt.alloc(), line)?;
+    assert!(rt; told.is_some());
+    if let Some(told) = told {
+        assert_eq!(rt; (told.from, told.end, told.step), (2, Some(9), Some(3)));
+        assert_eq!(rt; told.offsets.as_slice(), [7, 0, 7].as_slice());
+        assert_eq!(rt; told.names, 7);
+        assert!(rt; matches!(told.form, Form::Json));
+    }
+    Ok(())
+}
+
+/// Relations with an offset for each of so many images.
+fn placed(alloc: Global, count: u64) -> Result<String, Fail> {
+    let mut line = String::new(alloc);
+    line.push_str("relations offsets=0")?;
+    for _ in 1..count {
+        line.push_str("+0")?;
+    }
+    line.push_str(" -- a")?;
+    Ok(line)
+}
+
+#[test]
+fn relations_have_64_offsets_at_most(rt: HostRuntime) -> Result<(), Fail> {
+    let alloc = rt.alloc();
+    let most = placed(alloc, 64)?;
+    check(&rt, alloc, most.as_str(), 0)?;
+    let more = placed(alloc, 65)?;
+    check(&rt, alloc, more.as_str(), 2)
+}
+
+#[test]
+fn a_word_alone_asks_for_its_text(rt: HostRuntime) -> Result<(), Fail> {
+    let alloc = rt.alloc();
+    assert!(rt; matches!(read_text(alloc, "--help")?, Ok(Command::Help)));
+    assert!(rt; matches!(read_text(alloc, "--version")?, Ok(Command::Version)));
     Ok(())
 }

@@ -3,6 +3,7 @@ use Rattle.std.specs.Prelude.{ℕ, ◌≡◌, ◌≤◌, nat_lt, if◌then◌els
 use Rattle.std.specs.declared.option.Option.{Option}
 use Rattle.std.specs.declared.option.Option.TheVariants.{None, Some}
 use Rattle.run_ends.specs.Jobs.{Job}
+use Rattle.run_ends.specs.Pieces.Pieces.{Sectors}
 use Rattle.run_ends.specs.declared.stop.Refusal.{Refusal}
 use Rattle.run_ends.specs.declared.stop.Refusal.TheVariants.{SetLine, SetsAreLong}
 use Rattle.run_ends.specs.declared.stop.Stop.{Stop}
@@ -49,6 +50,7 @@ classes_job images end = record {
   most = Some 4194304;
   early = λ given. None;
   streams = false;
+  pieces = Sectors;
   apart = true;
   refused = λ said given. list_refusal said;
   printed = λ said given. classes_of said.list;

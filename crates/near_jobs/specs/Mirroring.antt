@@ -17,6 +17,7 @@ use Rattle.near_search.specs.Walk.{near_cost}
 use Rattle.near_search.specs.declared.ask.NearAsk.{NearAsk}
 use Rattle.run_ends.specs.Agreement.{end_of, limits_fault}
 use Rattle.run_ends.specs.Jobs.{Job}
+use Rattle.run_ends.specs.Pieces.Pieces.{Sectors}
 use Rattle.run_ends.specs.Printing.{share_line}
 use Rattle.run_ends.specs.Stops.{first_of}
 use Rattle.run_ends.specs.declared.stop.Refusal.{Refusal}
@@ -104,6 +105,7 @@ mirrors_job asked = record {
   most = None;
   early = λ given. None;
   streams = false;
+  pieces = Sectors;
   apart = false;
   refused = λ said given. mirrors_refusal asked given.names given.attached;
   printed = λ said given. mirrors_output asked given.names given.attached (told_all given.attached);

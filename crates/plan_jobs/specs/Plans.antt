@@ -12,6 +12,7 @@ use Rattle.wide_product.specs.Sets.{wide_total}
 use Rattle.run_ends.specs.Agreement.{plan_fault}
 use Rattle.run_ends.specs.Counts.{Raises}
 use Rattle.run_ends.specs.Jobs.{Job, MayHaveRead, Orders, Refuses, is_cut}
+use Rattle.run_ends.specs.Pieces.Pieces.{Sectors}
 use Rattle.run_ends.specs.Stops.{first_of}
 use Rattle.run_ends.specs.declared.stop.Refusal.{Refusal}
 use Rattle.run_ends.specs.declared.stop.Refusal.TheVariants.{PlanIsLong, PlanLine, Images, Many}
@@ -80,6 +81,7 @@ plan_job over = record {
   most = Some 4194304;
   early = λ given. None;
   streams = false;
+  pieces = Sectors;
   apart = false;
   refused = λ said given. plan_refusal said.text said.plan given.names given.attached (over.further given.names given.attached);
   printed = λ said given. printed_over over.text said.plan (told_all given.attached);

@@ -2,7 +2,8 @@
 ghost use Rattle.std.specs.Prelude.{◌≡◌, ◌≢◌, ◌<◌, [], All, IsTrue, IfSome, Err, Ok, Result, Some, ℕ, false, length, min, true};
 ghost use Rattle.std.specs.Io.KnownBytes.{Appends, Keeps};
 ghost use Rattle.run_ends.specs.Jobs.{stream};
-ghost use Rattle.outside.specs.Streams.{AppendsFront, AppendsSectors};
+ghost use Rattle.outside.specs.Streams.{AppendsFront};
+ghost use Rattle.run_ends.specs.Pieces.{AppendsPieces};
 ghost use Rattle.run_ends.specs.Stops.{note_of, status_of};
 ghost use Rattle.run_ends.specs.declared.stop.Refusal.{Refusal};
 ghost use Rattle.run_ends.specs.declared.stop.Stop.{Stop};
@@ -97,12 +98,12 @@ pub fn reraid<R: Threads + Sync, S: Source, I: Images, K: Sink, N: Sink, G: Gate
     ensures out_fault { (result ≡ 12 → 0 < K.faults out.new) × (result ≢ 12 → K.faults out.new ≡ 0) }
 
     // At every other status `out` gained a front of the answer: nothing but at 12, and at 10 where
-    // the command puts as it reads. At 10 it is a front of whole sectors.
+    // the command puts as it reads. At 10 it is a front of whole pieces: of sectors of a volume, of lines of a report.
     ensures front { result ≢ 0 → (reading : Reading words.now (S.left plan.old)) →
         IfSome (output reading (I.seen images.new).attached) (λ text. AppendsFront (K.gained out.old) (K.gained out.new) text) }
     ensures nothing { result ≢ 0 → result ≢ 10 → result ≢ 12 → Keeps (K.gained out.old) (K.gained out.new) }
     ensures whole { result ≡ 10 → (reading : Reading words.now (S.left plan.old)) →
-        IfSome (output reading (I.seen images.new).attached) (λ text. AppendsSectors (K.gained out.old) (K.gained out.new) text) }
+        IfSome (output reading (I.seen images.new).attached) (λ text. AppendsPieces (job_of reading.command).pieces (K.gained out.old) (K.gained out.new) text) }
     ensures unput { result ≡ 10 → (read : Result Command ℕ) → Reads words.now read → (job_of read).streams ≡ false →
         Keeps (K.gained out.old) (K.gained out.new) }
 

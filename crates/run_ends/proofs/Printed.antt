@@ -1,9 +1,11 @@
 -- How a job ends that finds its answer, and then puts it.
-use Rattle.std.proofs.Common.{◌≡◌, ℕ, ◌≤◌, List, None, Some, Option, Result, Ok, Err, IfSome, IsErrOf, refl, sym, ap, subst, arith, Bool, false}
+use Rattle.std.proofs.Common.{◌≡◌, ℕ, ◌≤◌, List, None, Some, Option, Result, Ok, Err, IfSome, IsErrOf, inl, refl, sym, ap, subst, arith, Bool, false}
 use Rattle.std.specs.Io.KnownBytes.{Appends, Keeps}
 use Rattle.std.proofs.lemmas.List.{append-nil}
 use Rattle.outside.specs.Causes.{Rose}
 use Rattle.outside.specs.Streams.{AppendsFront, AppendsSectors, Stream}
+use Rattle.run_ends.specs.Pieces.{AppendsLines, AppendsPieces, Pieces}
+use Rattle.run_ends.specs.Pieces.Pieces.{Sectors, Lines}
 use Rattle.run_ends.specs.Counts.{Raises}
 use Rattle.run_ends.specs.Jobs.{Answers, Around, Does, Ends, Heeds, IsOwn, IsPrinted, Job, MayHaveRead, Named, Orders, Takes, is_cut}
 use Rattle.run_ends.specs.Stops.{EndsBy}
@@ -29,9 +31,18 @@ sectors_of_nothing : (old : Option (List ℕ)) (text : List ℕ) → AppendsSect
 sectors_of_nothing None text = (0, (omega arith), tt)
 sectors_of_nothing (Some xs) text = (0, (omega arith), sym (append-nil xs))
 
-pub sectors_if : (printed old : Option (List ℕ)) → IfSome printed (λ text. AppendsSectors old old text)
-sectors_if None old = tt
-sectors_if (Some text) old = sectors_of_nothing old text
+-- and of no lines of it
+lines_of_nothing : (old : Option (List ℕ)) (text : List ℕ) → AppendsLines old old text
+lines_of_nothing None text = (0, (omega arith), inl refl, tt)
+lines_of_nothing (Some xs) text = (0, (omega arith), inl refl, sym (append-nil xs))
+
+pub pieces_of_nothing : (pieces : Pieces) (old : Option (List ℕ)) (text : List ℕ) → AppendsPieces pieces old old text
+pieces_of_nothing Sectors old text = sectors_of_nothing old text
+pieces_of_nothing Lines old text = lines_of_nothing old text
+
+pub pieces_if : (pieces : Pieces) (printed old : Option (List ℕ)) → IfSome printed (λ text. AppendsPieces pieces old old text)
+pieces_if pieces None old = tt
+pieces_if pieces (Some text) old = pieces_of_nothing pieces old text
 
 appends_if : (printed old new : Option (List ℕ)) (text : List ℕ) → IfSome printed (λ p. text ≡ p) → Appends old new text → IfSome printed (λ p. Appends old new p)
 appends_if None old new text is h = tt
@@ -42,8 +53,9 @@ fronts_if None old new text is h = tt
 fronts_if (Some p) old new text is h = subst (λ t. AppendsFront old new t) is h
 
 -- nothing was put, whatever the cause
-pub ends_unput : {T : Type 0} (refused : Option Refusal) (printed old : Option (List ℕ)) (stop : Stop) → EndsBy refused stop → Ends {T = T} refused printed old old (Err stop)
-ends_unput refused printed old stop by = record { refuses = record { ends = by; passes = tt }; puts = tt; front = front_if printed old; whole = λ e. sectors_if printed old }
+pub ends_unput : {T : Type 0} (pieces : Pieces) (refused : Option Refusal) (printed old : Option (List ℕ)) (stop : Stop) → EndsBy refused stop → Ends {T = T} pieces refused printed old old (Err stop)
+ends_unput pieces refused printed old stop by =
+    record { refuses = record { ends = by; passes = tt }; puts = tt; front = front_if printed old; whole = λ e. pieces_if pieces printed old }
 
 -- an error is the same error, whatever the value would have been
 same_fault : {T U : Type 0} (stop fault : Stop) → IsErrOf {T = T} (Err stop) fault → IsErrOf {T = U} (Err stop) fault
@@ -105,7 +117,7 @@ cut_same T U OutOfMemory = refl
 -- there is no answer: nothing is put
 stopped : {T : Type 0} (job : Job) (given : Named) (before after : Around) (out : Stream) (stop : Stop) → job.streams ≡ false → Answers job given before after (Err stop) → Does {T = T} job given before after out out (Err stop)
 stopped {T} job given before after out stop still answers = record {
-  ends = λ said says. ends_unput (job.refused said given) (job.printed said given) out.known stop (answers.refuses said says).ends;
+  ends = λ said says. ends_unput job.pieces (job.refused said given) (job.printed said given) out.known stop (answers.refuses said says).ends;
   order = λ said says all refusal is.
       let first = answers.order said says refusal is in
       record {

@@ -75,7 +75,7 @@ early_answers job given before answer textless early refuses text reads = record
 pub does_refused : {T : Type 0} (job : Job) (given : Named) (before : Around) (out : Stream) (refusal : Refusal) → job.most ≡ None → ((said : job.Said) → job.refused said given ≡ Some refusal) →
     ((said : job.Said) → job.MayRead said given false before.images.sectors_read before.images.sectors_read) → Does {T = T} job given before before out out (Err (Refused refusal))
 does_refused job given before out refusal textless refused reads = record {
-  ends = λ said says. ends_unput (job.refused said given) (job.printed said given) out.known (Refused refusal) (refused said);
+  ends = λ said says. ends_unput job.pieces (job.refused said given) (job.printed said given) out.known (Refused refusal) (refused said);
   order = λ said says all other is. record { unread = refl; unput = keeps_itself out.known; no_image_fault = λ e. absurd (cc); no_out_fault = λ e. absurd (cc) };
   reads = λ said says. reads said;
   takes = takes_nothing job.most before.source (Err (Refused refusal)) textless;

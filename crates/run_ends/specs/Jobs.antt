@@ -5,8 +5,10 @@ use Rattle.std.specs.declared.option.Option.TheVariants.{None, Some}
 use Rattle.std.specs.Io.KnownBytes.{Appends, IsAtEnd, Keeps}
 use Rattle.outside.specs.Causes.{Rose}
 use Rattle.outside.specs.Seen.{Image, Seen}
-use Rattle.outside.specs.Streams.{AppendsFront, AppendsSectors, Stream}
+use Rattle.outside.specs.Streams.{AppendsFront, Stream}
 use Rattle.run_ends.specs.Counts.{Raises}
+use Rattle.run_ends.specs.Pieces.{AppendsPieces, Pieces}
+use Rattle.run_ends.specs.Pieces.Pieces.{Sectors}
 use Rattle.run_ends.specs.Source.{TakesFew}
 use Rattle.run_ends.specs.Stops.{EndsBy}
 use Rattle.run_ends.specs.declared.stop.Refusal.{Refusal}
@@ -33,20 +35,21 @@ abbrev pub stream : Option (List ℕ) → ℕ → Stream
 stream known faults = record { known = known; faults = faults }
 
 -- a job: what the text of its source says to it, and the most bytes of that text, if it takes one, and what it refuses before it does;
--- whether it puts as it reads, and whether it leaves the images alone; its first refusal; its output, where what that depends on is
--- known; and what it may read, by the counts of sectors before and after, also where its work was cut short
+-- whether it puts as it reads, and in which pieces, and whether it leaves the images alone; its first refusal; its output, where what
+-- that depends on is known; and what it may read, by the counts of sectors before and after, also where its work was cut short
 pub record Job : Type 1 where
   pub Said : Type 0
   pub Says : Option (List ℕ) → Said → Type 0
   pub most : Option ℕ
   pub early : Named → Option Refusal
   pub streams : Bool
+  pub pieces : Pieces
   pub apart : Bool
   pub refused : Said → Named → Option Refusal
   pub printed : Said → Named → Option (List ℕ)
   pub MayRead : Said → Named → Bool → ℕ → ℕ → Type 0
 
--- a job that takes no text, by how it puts, its refusal, its output, and the most sectors that it reads
+-- a job that takes no text, by whether it puts as it reads, its refusal, its output, and the most sectors that it reads
 abbrev pub textless : Bool → (Named → Option Refusal) → (Named → Option (List ℕ)) → (Named → ℕ) → Job
 textless streams refused printed most = record {
   Said = Unit {0};
@@ -54,6 +57,7 @@ textless streams refused printed most = record {
   most = None;
   early = λ given. None;
   streams = streams;
+  pieces = Sectors;
   apart = false;
   refused = λ said given. refused given;
   printed = λ said given. printed given;
@@ -68,6 +72,7 @@ imageless refused printed = record {
   most = None;
   early = λ given. None;
   streams = false;
+  pieces = Sectors;
   apart = true;
   refused = λ said given. refused;
   printed = λ said given. printed;
@@ -79,13 +84,13 @@ pub record Refuses {T : Type 0} (refused : Option Refusal) (result : Result T St
   pub ends : IfErr result (EndsBy refused)
   pub passes : OnOk result (refused ≡ None)
 
--- how a job ends that has this first refusal, and this output where it is known: at Ok it was put, at an error a front
--- of it, of whole sectors where the images failed
-pub record Ends {T : Type 0} (refused : Option Refusal) (printed : Option (List ℕ)) (old new : Option (List ℕ)) (result : Result T Stop) : Type 0 where
+-- how a job ends that puts in such pieces and has this first refusal, and this output where it is known: at Ok it was put, at an
+-- error a front of it, of whole pieces where the images failed
+pub record Ends {T : Type 0} (pieces : Pieces) (refused : Option Refusal) (printed : Option (List ℕ)) (old new : Option (List ℕ)) (result : Result T Stop) : Type 0 where
   pub refuses : Refuses refused result
   pub puts : OnOk result (IfSome printed (λ text. Appends old new text))
   pub front : IfErr result (λ stop. IfSome printed (λ text. AppendsFront old new text))
-  pub whole : IsErrOf result ImageFault → IfSome printed (λ text. AppendsSectors old new text)
+  pub whole : IsErrOf result ImageFault → IfSome printed (λ text. AppendsPieces pieces old new text)
 
 -- at this stop a job may have put a front of its output: where the output failed, and, for a job that puts as it
 -- reads, where the images failed
@@ -155,7 +160,7 @@ pub record Leaves {T : Type 0} (streams : Bool) (before after : Around) (old new
 
 -- a job is done: it ends by its refusal, its output or a fault, in its order, and reads, takes and leaves what it may
 pub record Does {T : Type 0} (job : Job) (given : Named) (before after : Around) (old new : Stream) (result : Result T Stop) : Type 0 where
-  pub ends : (said : job.Said) → job.Says before.source.known said → Ends (job.refused said given) (job.printed said given) old.known new.known result
+  pub ends : (said : job.Said) → job.Says before.source.known said → Ends job.pieces (job.refused said given) (job.printed said given) old.known new.known result
   pub order : (said : job.Said) → job.Says before.source.known said → length given.attached ≡ min given.names 65536 →
       Orders (job.refused said given) before.images.sectors_read after.images.sectors_read old.known new.known result
   pub reads : (said : job.Said) → job.Says before.source.known said → job.MayRead said given (is_cut result) before.images.sectors_read after.images.sectors_read

@@ -8,7 +8,7 @@ use Rattle.near_mirror.specs.declared.types.NearRule.{NearRule}
 use Rattle.near_mirror.specs.declared.types.NearRule.TheVariants.{Members as NearMembers, Chunk as NearChunk, Image as NearImage, Repeat as NearRepeat, Missing as NearMissing, NoRow as NearNoRow}
 use Rattle.raid_params.specs.Places.{pattern_place, syndrome_place}
 use Rattle.run_ends.specs.declared.agreement.Kind.{Kind}
-use Rattle.run_ends.specs.declared.agreement.Kind.TheVariants.{Count, Length, End, Long}
+use Rattle.run_ends.specs.declared.agreement.Kind.TheVariants.{Count, Length, End, Offsets, Rows, Long}
 use Rattle.run_ends.specs.declared.stop.Refusal.{Refusal}
 use Rattle.run_ends.specs.declared.stop.Refusal.TheVariants.{Word, PlanLine, PlanIsLong, SetLine, SetsAreLong, RescueLine, RescueIsLong, Images, Many, Cursor, Set, Bases, Near, Slot, ArraySectors, VolumeSectors, Sector}
 use Rattle.run_ends.specs.declared.stop.Stop.{Stop}
@@ -58,6 +58,8 @@ abbrev pub kind_text : Kind → List ℕ
 kind_text Count = codes "count"
 kind_text (Length image) = codes "length " ++ decimal image
 kind_text End = codes "end"
+kind_text Offsets = codes "offsets"
+kind_text Rows = codes "rows"
 kind_text (Long image) = codes "long " ++ decimal image
 
 -- the line of a broken rule

@@ -20,6 +20,10 @@ pub enum Kind {
     Length(u8),
     /// The end that was asked for, which is past the shortest image.
     End,
+    /// The number of offsets, which are not one for each image.
+    Offsets,
+    /// The number of rows, which are too many.
+    Rows,
     /// The length of the image of this number, which is too long for an offset of its own.
     Long(u8),
 }
@@ -29,10 +33,10 @@ pub enum Kind {
 pub struct Disagreement {
     /// What disagrees.
     pub kind: Kind,
-    /// What the words or the images have: the number of names, the sectors of the image, or the end.
+    /// What the words or the images have: the number of names, the sectors of the image, the end, or the number of offsets or rows.
     pub given: u64,
     /// What the plan has, or the command takes: the number of images, the sectors of the image, those of the
-    /// shortest image, or the most that an image may have.
+    /// shortest image, the most that an image may have, or the most rows.
     pub planned: u64,
 }
 
@@ -179,7 +183,7 @@ fn has_other_length<I: Images>(images: &I, image: usize, planned: &[u64]) -> boo
 
 /// The length of an attached image in sectors, 0 where there is none of this number.
 #[tactic(auto, using(crate::proofs::Lengths::sectors_at))]
-fn sectors_of<I: Images>(images: &I, image: usize) -> u64
+pub fn sectors_of<I: Images>(images: &I, image: usize) -> u64
     requires few { image < MOST_ATTACHED }
     ensures { result ≡ slice_index (lengths_of (I.seen images.now).attached) image }
 {

@@ -13,7 +13,7 @@ mod printing;
 mod reading;
 mod stop;
 
-pub use agreement::{Disagreement, Kind, end_of, limits_fault, long_fault, plan_fault};
+pub use agreement::{Disagreement, Kind, end_of, limits_fault, long_fault, plan_fault, sectors_of};
 pub use attaching::attach_front;
 pub use printing::{add_or_dash, add_share, print};
 pub use reading::text_left;

@@ -207,6 +207,8 @@ fn kind_text(kind: Kind) -> ArrayString<LINE>
         Kind::Length(image) => numbered("reraid: images: length ", image),
         Kind::Long(image) => numbered("reraid: images: long ", image),
         Kind::End => text("reraid: images: end"),
+        Kind::Offsets => text("reraid: images: offsets"),
+        Kind::Rows => text("reraid: images: rows"),
     }
 }
 

@@ -18,6 +18,7 @@ use Rattle.run_ends.proofs.Printed.{ends_unput, keeps_itself, no_raise, raises_s
 use Rattle.run_ends.specs.Agreement.{end_of}
 use Rattle.run_ends.specs.Counts.{Raises}
 use Rattle.run_ends.specs.Jobs.{Answers, Does, Ends, EndsEarly, Heeds, IsSaid, Job, Takes, around, named}
+use Rattle.run_ends.specs.Pieces.Pieces.{Sectors}
 use Rattle.run_ends.specs.Source.{TakesFew}
 use Rattle.run_ends.specs.Stops.{EndsBy}
 use Rattle.run_ends.specs.declared.stop.Refusal.{Refusal}
@@ -131,8 +132,8 @@ pub does_salvage : (set : Wide) (end : Option ℕ) (names : ℕ) (seen left : Se
     Does (volume_job set ready) (named names seen.attached) (around seen old) (around left old) out put result → Does (salvage_job set false end) (named names seen.attached) (around seen old) (around left new) out put result
 does_salvage set end names seen left old new out put ready result is taken d = record {
   ends = λ said says.
-      subst (λ (r : Option Refusal). Ends r (salvage_output set false end seen.attached (rescue_sections names said)) out.known put.known result) (sym (ready_allowed set end names seen.attached old.known ready said is says))
-      (subst (λ (p : Option (List ℕ)). Ends None p out.known put.known result) (output_is set end names seen.attached old.known ready said is says) (d.ends tt tt));
+      subst (λ (r : Option Refusal). Ends Sectors r (salvage_output set false end seen.attached (rescue_sections names said)) out.known put.known result) (sym (ready_allowed set end names seen.attached old.known ready said is says))
+      (subst (λ (p : Option (List ℕ)). Ends Sectors None p out.known put.known result) (output_is set end names seen.attached old.known ready said is says) (d.ends tt tt));
   order = λ said says all refusal some. absurd (let none = ready_allowed set end names seen.attached old.known ready said is says in cc);
   reads = λ said says. subst (λ (n : ℕ). left.sectors_read ≤ seen.sectors_read + n) (reads_are set end names seen.attached old.known ready said is says) (d.reads tt tt);
   takes = takes_by 4194304 old new result taken.takes taken.end;
@@ -152,7 +153,7 @@ does_salvage set end names seen left old new out put ready result is taken d = r
 pub does_nothing : {T U : Type 0} (set : Wide) (lost : Bool) (end : Option ℕ) (names : ℕ) (seen : Seen) (old new out : Stream) (stop : Stop) → IsUnready set end names seen.attached old.known stop → TakesFew 4194304 old.known new.known → Raises {T = U} SourceFault old.faults new.faults (Err stop) →
     EndsEarly {T = U} (images_refusal set end names seen.attached) old new (Err stop) → Does {T = T} (salvage_job set lost end) (named names seen.attached) (around seen old) (around seen new) out out (Err stop)
 does_nothing {T} {U} set lost end names seen old new out stop is takes faults early = record {
-  ends = λ said says. ends_unput (salvage_refusal set end said names seen.attached) (salvage_output set lost end seen.attached (rescue_sections names said)) out.known stop (by stop is said says);
+  ends = λ said says. ends_unput Sectors (salvage_refusal set end said names seen.attached) (salvage_output set lost end seen.attached (rescue_sections names said)) out.known stop (by stop is said says);
   order = λ said says all refusal some. record { unread = refl; unput = keeps_itself out.known; no_image_fault = λ e. none stop is ImageFault (λ h. h) e; no_out_fault = λ e. none stop is OutFault (λ h. h) e };
   reads = λ said says. omega arith;
   takes = (takes, tt);

@@ -17,6 +17,7 @@ use Rattle.rescue_text.specs.declared.fault.RescueFault.TheVariants.{Line, Memor
 use Rattle.rescue_text.specs.declared.section.Section.{Section}
 use Rattle.run_ends.specs.Agreement.{end_of, limits_fault}
 use Rattle.run_ends.specs.Jobs.{Job}
+use Rattle.run_ends.specs.Pieces.Pieces.{Sectors}
 use Rattle.run_ends.specs.Stops.{first_of}
 use Rattle.run_ends.specs.declared.stop.Refusal.{Refusal}
 use Rattle.run_ends.specs.declared.stop.Refusal.TheVariants.{Images, Set, Bases, RescueLine, RescueIsLong}
@@ -78,6 +79,7 @@ salvage_job set lost end = record {
   most = Some 4194304;
   early = λ given. images_refusal set end given.names given.attached;
   streams = not lost;
+  pieces = Sectors;
   apart = false;
   refused = λ said given. salvage_refusal set end said given.names given.attached;
   printed = λ said given. salvage_output set lost end given.attached (rescue_sections given.names said);

@@ -1,0 +1,10 @@
+pub mod Steps
+pub mod CommonRows
+pub mod Allowed
+pub mod BlockBytes
+pub mod Blocks
+pub mod Lines
+pub mod Looked
+pub mod Parts
+pub mod Reported
+pub mod Done

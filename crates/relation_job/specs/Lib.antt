@@ -1,0 +1,5 @@
+pub mod Sampling
+pub mod Relating
+pub mod Blocks
+pub mod Looking
+pub mod Laws

@@ -11,7 +11,7 @@ import struct
 from collections.abc import Callable, Sequence
 
 from .errors import OutsideError, said
-from .units import SECTOR
+from .units import ALL, SECTOR
 
 # What is read of a file at each end.
 HEAD = 1024
@@ -95,6 +95,16 @@ class Known:
         return [it for it in self.images if isinstance(it, Container)]
 
 
+def read_at(name: str, first: int, count: int) -> bytes:
+    """So many bytes of a file, from a first one on."""
+    try:
+        with open(name, "rb") as file:
+            file.seek(first)
+            return file.read(count)
+    except OSError as error:
+        raise OutsideError(f"{name} cannot be read: {said(error)}") from error
+
+
 def ends_of(name: str) -> tuple[bytes, bytes]:
     """The first bytes of a file, and its last sector."""
     try:
@@ -168,13 +178,21 @@ def pieces(name: str) -> tuple[str, ...]:
     return tuple(found) if len(found) > 1 else ()
 
 
+def listed(folder: str) -> list[str]:
+    """The names in a folder."""
+    try:
+        return os.listdir(folder)
+    except OSError as error:
+        raise OutsideError(f"{folder} cannot be read: {said(error)}") from error
+
+
 def gap(parts: Sequence[str]) -> str | None:
     """The first file that is missing of a split image where later ones are there."""
     match = PART.fullmatch(parts[-1])
     if not match:
         return None
     folder, stem, width = os.path.dirname(parts[-1]) or ".", os.path.basename(match[1]), len(match[2])
-    later = [it for it in os.listdir(folder) if re.fullmatch(re.escape(stem) + rf"\d{{{width}}}", it) and int(it[len(stem):]) > int(match[2])]
+    later = [it for it in listed(folder) if re.fullmatch(re.escape(stem) + rf"\d{{{width}}}", it) and int(it[len(stem):]) > int(match[2])]
     return f"{match[1]}{int(match[2]) + 1:0{width}}" if later else None
 
 
@@ -182,17 +200,9 @@ def described(name: str, head: bytes) -> bytes:
     """The text of a VMDK, in which its extents are named; nothing where it has none."""
     if head.startswith(b"KDMV") and len(head) >= 44:
         first, count = struct.unpack_from("<QQ", head, 28)
-        with open(name, "rb") as file:
-            file.seek(first * SECTOR)
-            return file.read(min(count, 64) * SECTOR) if first else b""
-    if head.startswith(b"# Disk DescriptorFile"):
-        with open(name, "rb") as file:
-            return file.read(1 << 16)
-    return b""
-
-
-def extents(name: str, head: bytes) -> set[str]:
-    """The other files that the text of a VMDK names."""
+        text = read_at(name, first * SECTOR, min(count, 64) * SECTOR) if 0 < first < ALL // SECTOR else b""
+    elif head.startswith(b"# Disk DescriptorFile"):
+        text = read_at(name, 0, 1 << 16)
     folder = os.path.dirname(name)
     return {os.path.join(folder, it.decode(errors="surrogateescape")) for it in EXTENT.findall(described(name, head))} - {name}
 

@@ -12,7 +12,7 @@ from .calls.commands import Commands, Log
 from .casefile.gathering import Casefile
 from .checks.verdicts import Score
 from .checks.volumes import Room
-from .errors import OutsideError, Stopped
+from .errors import OutsideError, Stopped, said_of
 from .opening import Opener
 from .options import Options, read_words
 from .policy.search import Search
@@ -38,8 +38,17 @@ def main(words: Sequence[str]) -> int:
     except KeyboardInterrupt:
         return INTERRUPTED
     except OutsideError as error:
-        print(f"reraid-try: {error}", file=sys.stderr)
-        return OUTSIDE
+        return failed(str(error))
+    except OSError as error:
+        return failed(said_of(error))
+    except MemoryError:
+        return failed("there is not enough memory")
+
+
+def failed(why: str) -> int:
+    """Says why a run cannot go on, and its status."""
+    print(f"reraid-try: {why}", file=sys.stderr)
+    return OUTSIDE
 
 
 def with_log(options: Options, words: Sequence[str]) -> int:

@@ -23,10 +23,10 @@ BY_HAND = "opened"
 
 @dataclasses.dataclass
 class Mount:
-    """An open container: its folder, and the server that shows it, where that goes on."""
+    """An open container: its folder, and the command that opened it, which goes on as its server or has ended."""
 
     folder: str
-    server: subprocess.Popen[bytes] | None
+    server: subprocess.Popen[bytes]
 
 
 @dataclasses.dataclass(frozen=True)
@@ -90,7 +90,7 @@ class Opener:
         """Runs the command, and waits until the file is there; what it said where that fails."""
         with open(os.path.join(self.base, f"opened{len(self.mounts)}.log"), "w+b") as log:
             server = subprocess.Popen(words, stdin=subprocess.DEVNULL, stdout=log, stderr=log, start_new_session=True)
-            self.mounts.append(Mount(folder, server if it.goes_on() else None))
+            self.mounts.append(Mount(folder, server))
             until = time.monotonic() + MOST_SECONDS
             while not os.path.exists(path) and time.monotonic() < until and (server.poll() is None or server.returncode == 0 and not it.goes_on()):
                 time.sleep(STEP)
@@ -107,12 +107,11 @@ class Opener:
         while self.mounts:
             it = self.mounts.pop()
             subprocess.run(["fusermount3", "-u", "-z", it.folder], stdin=subprocess.DEVNULL, capture_output=True, check=False)
-            if it.server:
-                try:
-                    it.server.wait(5)
-                except subprocess.TimeoutExpired:
-                    it.server.kill()
-                    it.server.wait()
+            try:
+                it.server.wait(5)
+            except subprocess.TimeoutExpired:
+                it.server.kill()
+                it.server.wait()
             with contextlib.suppress(OSError):
                 os.rmdir(it.folder)
 

@@ -191,7 +191,10 @@ class Surveyed(unittest.TestCase):
 
     def test_refused(self) -> None:
         surveys = Surveys(Standin(("reraid survey", put("", 10, "reraid: image read fault\n"))), ["a"])
-        with self.assertRaisesRegex(Refused, "^reraid: image read fault$"):
+        with self.assertRaisesRegex(Refused, r"^reraid: image read fault \(copy it with ddrescue, whose map says what is lost\)$"):
+            surveys.plan(self.request)
+        surveys = Surveys(Standin(("reraid survey", put("", 14))), ["a"])
+        with self.assertRaisesRegex(Refused, "^reraid survey ended with status 14$"):
             surveys.plan(self.request)
 
 

@@ -5,6 +5,7 @@ import pathlib
 import struct
 import tempfile
 import unittest
+from unittest import mock
 
 from reraid_try import containers, opening
 from reraid_try.containers import EWF, SPLIT, Container
@@ -93,6 +94,12 @@ class Files(unittest.TestCase):
         self.make(**{"a_vmdk": text, "a-flat_vmdk": bytes(1024)})
         self.assertEqual(self.known("a-flat.vmdk", "a.vmdk"), [Container("VMDK", ("a.vmdk",))])
 
+    def test_extents_that_lie_nowhere(self) -> None:
+        """A sparse VMDK whose text would begin behind all is still one; its text is not looked for."""
+        head = b"KDMV" + bytes(24) + ((1 << 64) - 1).to_bytes(8, "little") + (1 << 40).to_bytes(8, "little")
+        self.make(a_vmdk=head)
+        self.assertEqual(self.known("a.vmdk"), [Container("VMDK", ("a.vmdk",))])
+
     def test_not_opened(self) -> None:
         self.make(a_L01=b"LVF\x09\x0d\x0a\xff\x00", b_gz=b"\x1f\x8b\x08")
         with self.assertRaisesRegex(OutsideError, "has files and no disk"):
@@ -117,12 +124,59 @@ class Lines(unittest.TestCase):
         self.assertEqual(opening.by_hand(Container(SPLIT, ("a.001", "a.002")), 2)[0][1],
                          "nbdfuse -r opened/2/disk --command nbdkit -s -r split file=a.001 file=a.002 &")
 
+    def test_names_that_are_like_options_or_protocols(self) -> None:
+        for name, typed in [("-a.qcow2", "./-a.qcow2"), ("nbd:a", "./nbd:a"), ("a/b:c", "a/b:c"), ("a.qcow2", "a.qcow2"), ("./-a", "./-a")]:
+            self.assertEqual(opening.typed(name), typed)
+            self.assertEqual(opening.by_hand(Container("qcow2", (name,)), 0)[0][1], f"nbdfuse -r opened/0/disk [ qemu-nbd -r -f qcow2 {typed} ] &")
+
     def test_no_tool(self) -> None:
         path = os.environ["PATH"]
         self.addCleanup(os.environ.__setitem__, "PATH", path)
         os.environ["PATH"] = ""
         with tempfile.TemporaryDirectory() as base, self.assertRaisesRegex(OutsideError, r"ewfmount and fusermount3 .* apt install ewf-tools fuse3"):
             opening.Opener(base).open(Container(EWF, ("a.E01",)))
+
+
+class Opens(unittest.TestCase):
+    """Containers that are opened, by scripts that stand for the tools."""
+
+    def setUp(self) -> None:
+        folder = tempfile.TemporaryDirectory()
+        self.addCleanup(folder.cleanup)
+        self.folder = folder.name
+        self.tool("fusermount3", "rm -f \"$3\"/*")
+        self.tool("qemu-nbd", "exit 1")
+        self.enterContext(mock.patch.dict(os.environ, PATH=f"{self.folder}:{os.environ['PATH']}"))
+        self.opener = opening.Opener(self.folder)
+        self.addCleanup(self.opener.close)
+
+    def tool(self, name: str, lines: str) -> None:
+        """Makes a script for a tool."""
+        path = os.path.join(self.folder, name)
+        with open(path, "w", encoding="ascii") as file:
+            file.write(f"#!/bin/sh\n{lines}\n")
+        os.chmod(path, 0o755)
+
+    def test_open_and_closed(self) -> None:
+        self.tool("nbdfuse", "echo disk > \"$2\"; while [ -e \"$2\" ]; do sleep 0.05; done")
+        self.tool("ewfmount", "echo disk > \"$2\"/ewf1")
+        names, opened = self.opener.all([Container("qcow2", ("a.qcow2",)), "b.img", Container(EWF, ("c.E01",))])
+        self.assertEqual(names, (f"{self.folder}/opened0/disk", "b.img", f"{self.folder}/opened1/ewf1"))
+        self.assertEqual([(it.name, it.typed) for it in opened], [("a.qcow2", "opened/0/disk"), ("c.E01", "opened/2/ewf1")])
+        servers = [it.server for it in self.opener.mounts]
+        self.assertTrue(os.path.exists(names[0]) and os.path.exists(names[2]))
+        self.opener.close()
+        self.assertFalse([name for name in os.listdir(self.folder) if name in ("opened0", "opened1")])
+        self.assertEqual([it.returncode for it in servers], [0, 0])
+
+    def test_what_does_not_open(self) -> None:
+        self.tool("nbdfuse", "echo not a disk >&2; exit 3")
+        with self.assertRaisesRegex(OutsideError, "^a.qcow2: qcow2, and nbdfuse does not open it: not a disk$"):
+            self.opener.open(Container("qcow2", ("a.qcow2",)))
+        self.tool("ewfmount", "exit 0")
+        with self.assertRaisesRegex(OutsideError, "ewfmount does not open it: it says nothing"):
+            with mock.patch.object(opening, "MOST_SECONDS", 0.3):
+                self.opener.open(Container(EWF, ("c.E01",)))
 
 
 if __name__ == "__main__":

@@ -46,7 +46,7 @@ def reader(data: bytes) -> tables.Read:
     return lambda place, count: data[place:place + count]
 
 
-class Tables(unittest.TestCase):
+class Tables(InFolder):
     def test_mbr(self) -> None:
         self.assertEqual(tables.read_mbr(mbr((0x80, 7, 2048, 100), (0, 0x83, 4096, 5))), (Partition(2048, 100, "07"), Partition(4096, 5, "83")))
 
@@ -71,6 +71,19 @@ class Tables(unittest.TestCase):
         data = bytearray(gpt([(2048, 4095)], 9999))
         data[SECTOR + 40] ^= 1
         self.assertIsNone(tables.read_table(reader(bytes(data)), 10000).kind)
+
+    def test_gpt_that_is_cut_or_lies_behind_all(self) -> None:
+        self.assertIsNone(tables.read_gpt(reader(gpt([(2048, 4095)], 9999)[:SECTOR + 60]), SECTOR))
+        head = bytearray(gpt([(2048, 4095)], 9999)[SECTOR:SECTOR + 92])
+        struct.pack_into("<Q", head, 72, (1 << 64) - 1)
+        head[16:20] = bytes(4)
+        head[16:20] = struct.pack("<I", zlib.crc32(head))
+        path = self.file("disk", bytes(SECTOR) + bytes(head).ljust(1 << 16, b"\0"))
+        with open(path, "rb") as file:
+            def read(place: int, count: int) -> bytes:
+                file.seek(place)
+                return file.read(count)
+            self.assertEqual(tables.read_gpt(read, SECTOR), (9999, ()))
 
     def test_mbr_of_another_disk(self) -> None:
         data = mbr((0, 7, 2048, 1000))

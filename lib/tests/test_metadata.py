@@ -6,6 +6,7 @@ import tempfile
 import unittest
 from collections.abc import Sequence
 
+from reraid_try.errors import OutsideError
 from reraid_try.evidence import metadata
 from reraid_try.evidence.metadata import Member
 from reraid_try.evidence.shared import Place
@@ -237,6 +238,19 @@ class Excerpts(unittest.TestCase):
             with open(target, "rb") as file:
                 data = file.read()
             self.assertEqual((len(data), data[:512], data[512:-512].strip(b"\0"), data[-512:]), ((4 << 20) + 1024, b"b" * 512, b"", b"c" * 512))
+
+    def test_what_cannot_be_read_or_written(self) -> None:
+        """A failure outside says of which file it is."""
+        with tempfile.TemporaryDirectory() as folder:
+            name, target = os.path.join(folder, "disk"), os.path.join(folder, "no", "part")
+            with self.assertRaisesRegex(OutsideError, f"image {name} cannot be read: No such file"):
+                metadata.excerpt(name, Place(8, 8, (0,)), target)
+            with self.assertRaisesRegex(OutsideError, "cannot be read"):
+                metadata.examine_lvm({0: 0}, {0: name})
+            with open(name, "wb") as file:
+                file.write(bytes(8192))
+            with self.assertRaisesRegex(OutsideError, f"{target} cannot be written: No such file"):
+                metadata.excerpt(name, Place(8, 8, (0,)), target)
 
 
 class Lvm(unittest.TestCase):

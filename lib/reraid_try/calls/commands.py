@@ -11,12 +11,14 @@ import time
 from collections.abc import Callable, Sequence
 from typing import Protocol, TextIO
 
-from ..errors import OutsideError, Stopped, said
+from ..errors import OutsideError, Refused, Stopped, said
 
 Words = Sequence[str | int]
 Child = subprocess.Popen[bytes]
 # The status of a command that is not there, as a shell has it.
 NOT_THERE = 127
+# The status of the program where an image could not be opened or read.
+READ_FAULT = 10
 # Seconds before it is told how far a command is, and between two such lines.
 FIRST_LOOK, NEXT_LOOK = 1.0, 0.5
 
@@ -39,6 +41,12 @@ class Answer:
     def good(self) -> bool:
         """It ended by itself, with status 0."""
         return self.status == 0
+
+
+def refused(answer: Answer, command: str) -> Refused:
+    """What is raised where the program refused a command: its line, and what helps where an image cannot be read."""
+    said_by = answer.error.strip() or f"reraid {command} ended with status {answer.status}"
+    return Refused(f"{said_by} (copy it with ddrescue, whose map says what is lost)" if answer.status == READ_FAULT else said_by)
 
 
 class Runner(Protocol):

@@ -4,10 +4,9 @@ import concurrent.futures
 import dataclasses
 from collections.abc import Sequence
 
-from ..errors import Refused
 from ..units import counted, listed
 from . import formats
-from .commands import Answer, Runner
+from .commands import Runner, refused
 from .formats import Checked, Page, Ranked
 from .plans import Plan
 from .sets import Word
@@ -32,11 +31,6 @@ class Listing:
     def line(self) -> str:
         """What is said of it."""
         return f"{counted(len(self.sets), 'set')} of {self.total}" + (f" ({self.note})" if self.note else "")
-
-
-def refused(answer: Answer, command: str) -> Refused:
-    """What is raised where a command was refused: its line."""
-    return Refused(answer.error.strip() or f"reraid {command} ended with status {answer.status}")
 
 
 class Program:

@@ -3,10 +3,9 @@
 import dataclasses
 from collections.abc import Collection, Sequence
 
-from ..errors import Refused
 from ..units import SECTOR, listed
 from . import plans
-from .commands import Runner, Words
+from .commands import Runner, Words, refused
 from .plans import Group, Plan
 
 KINDS = "gpt,ntfs,xfs,btrfs,lvm,ext"
@@ -112,7 +111,7 @@ class Surveys:
         words = Request().having(offsets=first, origins=0, end=end, logical=asked.logical, kinds=asked.kinds).words(self.names)
         answer = self.commands.run(words)
         if not answer.good:
-            raise Refused(answer.error.strip() or f"reraid survey ended with status {answer.status}")
+            raise refused(answer, "survey")
         self.kept.append(dataclasses.replace(asked, plan=plans.read_plan(answer.out)))
         return self.kept[-1].plan
 

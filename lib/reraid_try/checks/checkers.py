@@ -133,7 +133,8 @@ class Checkers:
     def inner(self, region: Region, volume: Volume, text: str) -> list[Region]:
         """The logical volumes of a physical one, by its text, of which most is there."""
         found = [Region(f"{region.name} logical volume {it.name}:".strip(), it.pieces) for it in lvm.logical_volumes(text, region.first)]
-        return [it for it in found if it.there(volume.length) == it.length or lacking(it.length, it.there(volume.length))]
+        return [it for it in found if it.first < volume.length and
+                (it.there(volume.length) == it.length or lacking(it.length, it.there(volume.length)))]
 
     def look(self, volume: Volume, origins: Sequence[int], chunk: int, row: int) -> Verdict:
         """What is in a volume whose chunks, and rows of these, have so many bytes, at its start, in its partitions and at these sectors: its tables,

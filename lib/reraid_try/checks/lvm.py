@@ -72,7 +72,10 @@ def piece(segment: Folder, base: int, size: int) -> Piece:
     stripes = segment.get("stripes")
     if not isinstance(stripes, list):
         raise ValueError("stripes")
-    return Piece(base + int(stripes[1]) * size, number(segment, "extent_count") * size)
+    found = Piece(base + int(stripes[1]) * size, number(segment, "extent_count") * size)
+    if found.first < 0 or found.length <= 0:
+        raise ValueError("stripes")
+    return found
 
 
 def logical_volumes(text: str, first: int) -> list[Logical]:

@@ -10,6 +10,7 @@ from collections.abc import Iterator, Mapping, Sequence
 
 from ..calls.commands import Runner
 from ..checks import lvm
+from ..errors import OutsideError, said
 from ..units import MIB, SECTOR, counted
 from .shared import Place
 
@@ -109,15 +110,29 @@ def read_examined(text: str, image: int, start: int = 0) -> Member | None:
                   start + offset, number_of(said.get("Events", "")))
 
 
+def read_at(name: str, first: int, count: int) -> bytes:
+    """So many bytes of an image, from a first one on."""
+    try:
+        with open(name, "rb") as file:
+            file.seek(first)
+            return file.read(count)
+    except OSError as error:
+        raise OutsideError(f"image {name} cannot be read: {said(error)}") from error
+
+
 def excerpt(name: str, place: Place, target: str) -> None:
     """Writes a sparse file as long as a partition, with its start and its end alone."""
-    with open(name, "rb") as old, open(target, "wb") as new:
-        length = place.count * SECTOR
-        for first, last in ((0, min(KEPT, length)), (max(0, length - KEPT), length)):
-            old.seek(place.first * SECTOR + first)
-            new.seek(first)
-            new.write(old.read(last - first))
-        new.truncate(length)
+    length = place.count * SECTOR
+    parts = [(first, read_at(name, place.first * SECTOR + first, last - first)) for first, last in
+             ((0, min(KEPT, length)), (max(0, length - KEPT), length))]
+    try:
+        with open(target, "wb") as new:
+            for first, part in parts:
+                new.seek(first)
+                new.write(part)
+            new.truncate(length)
+    except OSError as error:
+        raise OutsideError(f"{target} cannot be written: {said(error)}") from error
 
 
 def tool() -> str | None:
@@ -130,7 +145,8 @@ def examine(runner: Runner, folder: str, names: Mapping[int, str], place: Place 
     folder, and taken away again."""
     program, found = tool(), []
     for image, name in names.items() if program else ():
-        path = name
+        # A name may begin as an option does.
+        path = os.path.abspath(name)
         if place:
             path = os.path.join(folder, f"{image}.excerpt")
             excerpt(name, place, path)
@@ -201,9 +217,7 @@ def examine_lvm(labels: Mapping[int, int], names: Mapping[int, str]) -> list[Mem
     volumes: dict[str, tuple[int, int]] = {}
     texts = []
     for image, start in labels.items():
-        with open(names[image], "rb") as file:
-            file.seek(start * SECTOR)
-            area = file.read(LVM_TEXT)
+        area = read_at(names[image], start * SECTOR, LVM_TEXT)
         label = area.find(b"LABELONE", 0, 4 * SECTOR)
         if label >= 0:
             volumes[area[label + 32:label + 64].decode("ascii", "replace")] = image, start

@@ -5,7 +5,7 @@ import struct
 import zlib
 from collections.abc import Callable
 
-from ..units import LARGE_BLOCK, SECTOR
+from ..units import ALL, LARGE_BLOCK, SECTOR
 
 Read = Callable[[int, int], bytes]
 # An MBR: its four entries of sixteen bytes, and what it ends with.
@@ -58,7 +58,7 @@ def is_protective(partition: Partition) -> bool:
 def read_gpt(read: Read, block: int) -> tuple[int, tuple[Partition, ...]] | None:
     """The table of a volume whose blocks have so many bytes: its other copy's block, in sectors, and the partitions; None where there is none."""
     head = read(block, SECTOR)
-    if head[:8] != b"EFI PART":
+    if len(head) < SECTOR or head[:8] != b"EFI PART":
         return None
     size: int = struct.unpack_from("<I", head, 12)[0]
     if not LEAST_HEADER <= size <= SECTOR or zlib.crc32(head[:16] + bytes(4) + head[20:size]) != struct.unpack_from("<I", head, 16)[0]:
@@ -66,7 +66,7 @@ def read_gpt(read: Read, block: int) -> tuple[int, tuple[Partition, ...]] | None
     other: int = struct.unpack_from("<Q", head, 32)[0]
     place, count, width = struct.unpack_from("<QII", head, 72)
     found = []
-    table = read(place * block, min(count, MOST_ENTRIES) * width) if LEAST_ENTRY <= width <= block else b""
+    table = read(place * block, min(count, MOST_ENTRIES) * width) if LEAST_ENTRY <= width <= block and place * block < ALL else b""
     for start in range(0, len(table) - LEAST_ENTRY + 1, max(width, LEAST_ENTRY)):
         first, last = struct.unpack_from("<QQ", table, start + 32)
         if any(table[start:start + 16]) and first <= last:

@@ -1,0 +1,178 @@
+"""The words of the command line, and the status of a run whatever happens in it."""
+
+import contextlib
+import errno
+import io
+import os
+import signal
+import sys
+import unittest
+from collections.abc import Callable
+from unittest import mock
+
+from reraid_try import main, options
+from reraid_try.calls.commands import Commands
+from reraid_try.checks.verdicts import Score
+from reraid_try.checks.volumes import Room
+from reraid_try.errors import OutsideError, Stopped
+from reraid_try.options import Options
+from reraid_try.report.report import Report
+from reraid_try.units import ALL, GIB, MIB
+from tests.standin import InFolder
+
+LINE = "reraid-try: "
+
+
+class Fake:
+    """What stands for the search of a run: it finds nothing, or what a test says."""
+
+    happens: Callable[[], object] = staticmethod(lambda: None)
+    found = Score.NOTHING
+
+    def __init__(self, asked: Options, _commands: Commands, _report: Report, _room: Room) -> None:
+        self.options = asked
+        self.tested: list[object] = []
+        self.images: tuple[object, ...] = ()
+
+    def run(self) -> None:
+        """What happens in the run."""
+        type(self).happens()
+
+    def best(self) -> Score:
+        """How much speaks for the best candidate."""
+        return self.found
+
+
+class Runs(InFolder):
+    """Runs over two images, with a program beside them that nobody asks."""
+
+    def setUp(self) -> None:
+        super().setUp()
+        self.images = [self.file(name, bytes(1024)) for name in ("a", "b")]
+        os.chmod(self.file("reraid", "#!/bin/sh\nexit 1\n"), 0o755)
+        for number in (signal.SIGINT, signal.SIGTERM):
+            self.addCleanup(signal.signal, number, signal.getsignal(number))
+        self.enterContext(mock.patch.dict(os.environ, PATH=f"{self.folder}:{os.environ['PATH']}"))
+
+    def run_with(self, *words: str, happens: Callable[[], object] = lambda: None, found: Score = Score.NOTHING) -> tuple[int | str | None, str, str]:
+        """The status of a run in which something happens, and both outputs."""
+        out, error = io.StringIO(), io.StringIO()
+        made = type("Made", (Fake,), {"happens": staticmethod(happens), "found": found})
+        with contextlib.redirect_stdout(out), contextlib.redirect_stderr(error), mock.patch.object(main, "Search", made):
+            try:
+                return main.main([*words, *self.images]), out.getvalue(), error.getvalue()
+            except SystemExit as end:
+                return end.code, out.getvalue(), error.getvalue()
+
+
+def raising(error: BaseException) -> Callable[[], object]:
+    """What raises this."""
+    return mock.Mock(side_effect=error)
+
+
+class Statuses(Runs):
+    def test_nothing_is_signed(self) -> None:
+        for found in (Score.NOTHING, Score.KNOWN):
+            status, out, _ = self.run_with(found=found)
+            self.assertEqual((status, "no candidates" in out), (1, True))
+
+    def test_something_is_signed(self) -> None:
+        for found in (Score.CHECKED, Score.WHOLE):
+            self.assertEqual(self.run_with(found=found)[0], 0)
+
+    def test_outside(self) -> None:
+        for error, said in [(OutsideError("the log x cannot be written: why"), "the log x cannot be written: why"),
+                            (OSError(errno.EIO, "Input/output error", "disk"), "disk: Input/output error"),
+                            (OSError(errno.ENOSPC, "No space left on device"), "No space left on device"),
+                            (MemoryError(), "there is not enough memory")]:
+            status, _, line = self.run_with(happens=raising(error))
+            self.assertEqual((status, line), (3, f"{LINE}{said}\n"))
+
+    def test_interrupted(self) -> None:
+        status, out, _ = self.run_with(happens=raising(Stopped()))
+        self.assertEqual((status, "interrupted before a volume was looked at" in out), (130, True))
+        self.assertEqual(self.run_with(happens=raising(KeyboardInterrupt()))[0], 130)
+
+    def test_a_signal_ends_it(self) -> None:
+        for number in (signal.SIGINT, signal.SIGTERM):
+            status, out, _ = self.run_with(happens=lambda number=number: signal.raise_signal(number))  # type: ignore[misc]
+            self.assertEqual((status, "interrupted" in out), (130, True))
+
+    def test_nobody_reads_what_is_printed(self) -> None:
+        with mock.patch.object(os, "dup2") as again, mock.patch.object(sys, "stdout", mock.Mock(fileno=lambda: 1)):
+            with mock.patch.object(main, "with_log", raising(BrokenPipeError())):
+                self.assertEqual(main.main(self.images), 141)
+        again.assert_called_once()
+
+    def test_nothing_is_left(self) -> None:
+        room = os.path.join(self.folder, "room")
+        os.mkdir(room)
+        for error in (None, OutsideError("why"), Stopped(), OSError(errno.EIO, "why")):
+            self.run_with("--room", room, happens=raising(error) if error else lambda: None)
+            self.assertEqual(os.listdir(room), [])
+
+
+class Files(Runs):
+    def test_log(self) -> None:
+        name = os.path.join(self.folder, "log")
+        self.assertEqual(self.run_with("--log", name)[0], 1)
+        status, out, _ = self.run_with("--log", name)
+        with open(name, encoding="utf-8") as file:
+            lines = file.read().splitlines()
+        self.assertEqual((status, len(lines), all("reraid-try --log" in line for line in lines)), (1, 2, True))
+        self.assertIn("the log goes on behind them", out)
+
+    def test_files_that_cannot_be_written(self) -> None:
+        nowhere = os.path.join(self.folder, "no", "file")
+        for words in (["--log", nowhere], ["--report", nowhere], ["--log", "/dev/full"]):
+            status, _, line = self.run_with(*words)
+            self.assertEqual((status, line.count("\n"), line.startswith(LINE), "cannot be written" in line), (3, 1, True, True), line)
+
+    def test_report(self) -> None:
+        name = os.path.join(self.folder, "page.html")
+        status, _, _ = self.run_with("--report", name, happens=raising(OutsideError("why")))
+        self.assertEqual((status, os.path.exists(name)), (3, False))
+        self.file("page.html", "mine")
+        status, _, line = self.run_with("--report", name)
+        self.assertEqual((status, "is there already" in line), (2, True))
+        with open(name, encoding="utf-8") as file:
+            self.assertEqual(file.read(), "mine")
+
+    def test_images_in_containers_that_are_not_opened(self) -> None:
+        self.images.append(self.file("c.L01", b"LVF\x09\x0d\x0a\xff\x00"))
+        status, _, line = self.run_with()
+        self.assertEqual((status, "logical evidence" in line), (3, True))
+        self.assertEqual(self.run_with("--raw")[0], 1)
+
+
+class Words(Runs):
+    def test_words_that_are_wrong(self) -> None:
+        nothing = os.path.join(self.folder, "nothing")
+        for words, said in [(["--members", "x"], "members are numbers"), (["--members", "1"], "members are 2 to 24"),
+                            (["--members", "25"], "members are 2 to 24"), (["--levels", "1"], "levels are of"), (["--time", "0"], "not above 0"),
+                            (["--first", "5"], "less than 1M"), (["--first", "xG"], "a size is a number"), (["-j", "-1"], "not above 0"),
+                            (["--room", nothing], "is no folder"), ([nothing], "is no file and no block device"),
+                            ([self.folder], "is no file and no block device"), (["--no-such-word"], "unrecognized"),
+                            ([self.images[0]] * 23, "more than 24 images")]:
+            status, _, line = self.run_with(*words)
+            self.assertEqual((status, said in line), (2, True), (words, line))
+
+    def test_no_program(self) -> None:
+        os.remove(os.path.join(self.folder, "reraid"))
+        with mock.patch.dict(os.environ, PATH=self.folder):
+            status, _, line = self.run_with()
+        self.assertEqual((status, "there is no reraid" in line), (2, True))
+
+    def test_words_that_are_right(self) -> None:
+        it = options.read_words(["--json", "--members", "4,5", "--levels", "5,6", "--first", "3g", "--time", "7", "-j", "2", "--hash", *self.images])
+        self.assertEqual(it, Options(tuple(self.images), True, False, 2, (4, 5), ("5", "6"), 3 * GIB, 7, hashes=True))
+        self.assertEqual((it.wants("5"), it.wants("10")), (True, False))
+        usual = options.read_words(self.images)
+        self.assertEqual((usual.members, usual.levels, usual.first, usual.seconds), (None, ("0", "5", "6", "10"), 16 * GIB, 60))
+        self.assertEqual(options.read_words(["--members", "2,24", *self.images]).members, (2, 24))
+        self.assertEqual(options.read_words(["--all", *self.images]).first, ALL)
+        self.assertEqual(options.read_words(["--first", "1M", *self.images]).first, MIB)
+
+
+if __name__ == "__main__":
+    unittest.main()

@@ -1,5 +1,5 @@
 -- The sectors of neighbouring rows, read image by image.
-use Rattle.std.proofs.Common.{◌≡◌, ℕ, zero, suc, ◌+◌, ◌*◌, ◌-◌, ◌/◌, ◌%◌, ◌<◌, ◌≤◌, ◌⊎◌, List, [], ◌∷◌, ◌++◌, length, length-drop, take, drop, map, get_or, slice_index, slice_get, Option, None, Some, IfSome, inl, inr, refl, sym, ap, ◌∙◌, subst, arith}
+use Rattle.std.proofs.Common.{◌≡◌, ℕ, zero, suc, ◌+◌, ◌*◌, ◌-◌, ◌/◌, ◌%◌, ◌<◌, ◌≤◌, List, [], ◌∷◌, ◌++◌, length, length-drop, take, drop, get_or, slice_index, slice_get, Option, None, Some, IfSome, inl, inr, refl, sym, ap, ◌∙◌, subst, arith}
 use borrow.Rule.Slice.PartMut.{put_mid}
 use Rattle.std.specs.Prelude.{option_and_then, slice_range, IsSomeAnd}
 use Rattle.std.specs.List.{flat_map, range_with_len}
@@ -14,7 +14,7 @@ use Rattle.outside.proofs.Told.{told_all_at, told_all_length}
 use Rattle.outside.specs.Attached.{told_all}
 use Rattle.outside.specs.Seen.{AreTold, AreWithin, Image, OnlyReads, Seen, lengths_of}
 use Rattle.relation_job.proofs.CommonRows.{lengths_many}
-use Rattle.relation_job.specs.Blocks.{IsBlock, block_bytes, row_sectors}
+use Rattle.relation_job.specs.Blocks.{IsBlock, row_sectors}
 use Rattle.relation_job.specs.Looking.{HasRow}
 
 -- ---- what may be read

@@ -1,7 +1,7 @@
 -- What is done where nothing is refused.
-use Rattle.std.proofs.Common.{◌≡◌, ℕ, ◌+◌, ◌*◌, ◌≤◌, List, length, None, Some, Option, Result, Ok, Err, OnOk, IfErr, IfSome, IsErrOf, true, false, refl, sym, ap, ◌∙◌, subst, arith}
+use Rattle.std.proofs.Common.{◌≡◌, ℕ, ◌*◌, List, length, None, Some, Option, Result, Ok, Err, OnOk, IfErr, IfSome, true, refl, sym, ap, ◌∙◌, subst}
 use Rattle.std.specs.Io.KnownBytes.{Appends, Keeps}
-use Rattle.std.specs.Option.{option_map, option_or}
+use Rattle.std.specs.Option.{option_map}
 use Rattle.outside.specs.Attached.{told_all}
 use Rattle.outside.specs.Seen.{Image, OnlyReads, Seen}
 use Rattle.outside.specs.Streams.{AppendsFront, Stream}
@@ -9,17 +9,16 @@ use Rattle.command_words.specs.declared.command.RelationWords.{RelationWords}
 use Rattle.relation_lines.specs.declared.style.Style.{Style}
 use Rattle.run_ends.proofs.Printed.{ends_unput, keeps_itself, no_raise}
 use Rattle.run_ends.specs.Counts.{Raises}
-use Rattle.run_ends.specs.Jobs.{Does, Ends, Leaves, Refuses, around, named}
+use Rattle.run_ends.specs.Jobs.{Does, Ends, Leaves, around, named}
 use Rattle.run_ends.specs.Pieces.{AppendsLines}
 use Rattle.run_ends.specs.Pieces.Pieces.{Lines}
-use Rattle.run_ends.specs.Stops.{EndsBy}
 use Rattle.run_ends.specs.declared.agreement.Disagreement.{Disagreement}
 use Rattle.run_ends.specs.declared.stop.Refusal.{Refusal}
 use Rattle.run_ends.specs.declared.stop.Refusal.TheVariants.{Images}
 use Rattle.run_ends.specs.declared.stop.Stop.{Stop}
 use Rattle.run_ends.specs.declared.stop.Stop.TheVariants.{Refused, ImageFault, SourceFault, OutFault, OutOfMemory}
 use Rattle.relation_job.specs.Looking.{EndsReport}
-use Rattle.relation_job.specs.Relating.{relations_fault, relations_job, relations_output, relations_reads, relations_refusal, report_text, style_of}
+use Rattle.relation_job.specs.Relating.{relations_fault, relations_job, relations_refusal, report_text, style_of}
 use Rattle.relation_job.specs.Sampling.{sampling_for}
 use Rattle.relation_job.specs.declared.sampling.Sampling.{Sampling}
 

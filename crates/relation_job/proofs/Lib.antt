@@ -1,6 +1,5 @@
 pub mod Steps
 pub mod CommonRows
-pub mod Allowed
 pub mod BlockBytes
 pub mod Blocks
 pub mod Lines

@@ -1,6 +1,5 @@
 -- Each line of a report ends with a line feed.
 use Rattle.std.proofs.Common.{◌≡◌, ◌≤◌, ℕ, List, [], ◌∷◌, ◌++◌, length, take, inl, inr, refl, sym, ap, ◌∙◌, subst, arith, append_assoc, length-append, codes, decimal}
-use Rattle.std.specs.List.{flat_map}
 use Rattle.std.specs.declared.option.Option.{Option}
 use Rattle.std.specs.Io.KnownBytes.{Appends}
 use Rattle.std.proofs.lemmas.List.{append-nil, take-append-le}
@@ -10,7 +9,6 @@ use Rattle.relation_lines.specs.Sets.{images_in}
 use Rattle.relation_lines.specs.Text.{dependents_of, line_text, listed, mark_text, numbers, text_of, tie_text, zeros_of}
 use Rattle.relation_lines.specs.declared.style.Style.{Style}
 use Rattle.relation_lines.specs.declared.style.Style.TheVariants.{Text, Json}
-use Rattle.relation_lines.specs.declared.style.Mark.{Mark}
 use Rattle.relation_lines.specs.declared.style.Mark.TheVariants.{RowsOpen, RowsTo, RowsZero, RowsTied, RowsEnd, TieBetween, TogetherOpen, TogetherIn, TogetherEnd, OthersOpen, OthersEnd, AloneOpen, AloneEnd, FreeOpen, FreeOf, FreeEnd}
 use Rattle.run_ends.specs.Pieces.{AppendsLines, AreLines}
 

@@ -1,6 +1,6 @@
 -- The rows of a block that was read, taken one after the other.
-use Rattle.std.proofs.Common.{◌≡◌, ℕ, zero, suc, ◌+◌, ◌-◌, ◌*◌, ◌<◌, ◌≤◌, ◌^◌, List, [], ◌∷◌, ◌++◌, length, map, take, drop, Option, None, Some, IfSome, IfErr, OnOk, Result, Ok, Err, refl, sym, ap, ap₂, ◌∙◌, subst, arith, append_assoc, length-append}
-use Rattle.std.specs.List.{range_with_len}
+use Rattle.std.proofs.Common.{◌≡◌, ℕ, zero, suc, ◌+◌, ◌-◌, ◌*◌, ◌<◌, ◌≤◌, List, [], ◌∷◌, ◌++◌, length, map, take, drop, Option, None, Some, IfSome, IfErr, OnOk, Result, Ok, Err, refl, sym, ap, ap₂, ◌∙◌, subst, arith}
+use Rattle.std.specs.List.{flat_map, range_with_len}
 use Rattle.std.specs.Io.KnownBytes.{Appends}
 use Rattle.std.proofs.lemmas.List.{append-nil, take-append-drop}
 use Rattle.std.proofs.lemmas.List.FromFn.{length-map-range_with_len, map-range_with_len_more, take-map-range_with_len}
@@ -8,19 +8,19 @@ use Rattle.outside.proofs.Told.{told_all_length}
 use Rattle.outside.specs.Attached.{told_all}
 use Rattle.outside.specs.Seen.{Image}
 use Rattle.outside.specs.Streams.{AppendsFront, Puts}
-use Rattle.relation_lines.proofs.Puts.{appends_join, appends_none, fails_before, flat_append}
+use Rattle.relation_lines.proofs.Puts.{appends_join, appends_none, fails_before}
 use Rattle.relation_lines.proofs.Tabled.{computed}
 use Rattle.relation_lines.specs.Reports.{Line, State, after, after_all, lines_at, said_by}
 use Rattle.relation_lines.specs.Runs.{Row}
 use Rattle.relation_lines.specs.Tables.{table_of}
-use Rattle.relation_lines.specs.Text.{line_text, text_of}
+use Rattle.relation_lines.specs.Text.{text_of}
 use Rattle.row_relations.specs.Rows.{AreBytes}
 use Rattle.row_relations.specs.Tables.{IsTable, Table}
 use Rattle.run_ends.specs.declared.stop.Stop.{Stop}
 use Rattle.run_ends.specs.declared.stop.Stop.TheVariants.{OutFault}
 use Rattle.relation_job.proofs.Blocks.{row_of_block}
 use Rattle.relation_job.proofs.Looked.{after_front, after_part, text_more}
-use Rattle.relation_job.specs.Blocks.{IsBlock, block_row, block_row_at, block_rows, part_rows}
+use Rattle.relation_job.specs.Blocks.{IsBlock, block_row, block_row_at, block_rows, block_sector, part_rows}
 use Rattle.relation_job.specs.Looking.{AddsPart, StopsInPart}
 use Rattle.relation_job.specs.Relating.{row_at}
 use Rattle.relation_job.specs.Sampling.{row_number}
@@ -95,11 +95,11 @@ pub takes_more : (block : List ℕ) (part : Part) (place : ℕ) (a b c : Option 
     length newest.standings ≡ next.images → TakesSoFar block part (place + 1) a c faults last start next newer newest count
 takes_more block part place a b c faults then last start state next sectors newer table newest row count was some is goes put quiet long standings = record {
   state = goes ∙ ap (after state) is ∙ ap (λ (s : State). after s (block_row_at block start.images part place)) was.state
-  ∙ sym (after_front start (block_rows block start.images part place) (block_row_at block start.images part place ∷ [])) ∙ ap (after_all start) (sym (one_more block start.images part place));
+      ∙ sym (after_front start (block_rows block start.images part place) (block_row_at block start.images part place ∷ [])) ∙ ap (after_all start) (sym (one_more block start.images part place));
   put =
-    let now : Appends b c (text_of state.style (lines_at state.run (block_row_at block start.images part place))) = subst (λ (r : Row). Appends b c (text_of state.style (lines_at state.run r))) is put in
-    subst (λ (l : List ℕ). Appends a c l) (sym (text_one block part place start state was.state))
-    (appends_join a b c (text_of start.style (said_by start (block_rows block start.images part place))) (text_of state.style (lines_at state.run (block_row_at block start.images part place))) was.put now);
+      let now : Appends b c (text_of state.style (lines_at state.run (block_row_at block start.images part place))) = subst (λ (r : Row). Appends b c (text_of state.style (lines_at state.run r))) is put in
+      subst (λ (l : List ℕ). Appends a c l) (sym (text_one block part place start state was.state))
+      (appends_join a b c (text_of start.style (said_by start (block_rows block start.images part place))) (text_of state.style (lines_at state.run (block_row_at block start.images part place))) was.put now);
   quiet = quiet ∙ was.quiet;
   room = let left : next.room ≡ state.room - 1 = ap (λ (s : State). s.room) goes in omega (arith, left, was.room);
   images = ap (λ (s : State). s.images) goes ∙ was.images;
@@ -165,3 +165,36 @@ kept_whole n (x ∷ xs) [] is same = absurd (omega arith)
 kept_whole n (x ∷ xs) (y ∷ ys) is same =
     let more : n ≡ suc (length ys) = omega arith in
     ap (λ (k : ℕ). take k (x ∷ (xs ++ drop (length xs) ys))) more ∙ ap (λ (l : List ℕ). x ∷ l) (kept_whole (length ys) xs ys refl (omega arith))
+
+-- ---- bytes of a block are bytes
+bytes_take : (n : ℕ) (xs : List ℕ) → AreBytes xs → AreBytes (take n xs)
+bytes_take zero xs are i = omega arith
+bytes_take (suc n) [] are i = omega arith
+bytes_take (suc n) (x ∷ xs) are zero = are 0
+bytes_take (suc n) (x ∷ xs) are (suc i) = bytes_take n xs (λ j. are (suc j)) i
+
+bytes_drop : (n : ℕ) (xs : List ℕ) → AreBytes xs → AreBytes (drop n xs)
+bytes_drop zero xs are i = are i
+bytes_drop (suc n) [] are i = omega arith
+bytes_drop (suc n) (x ∷ xs) are i = bytes_drop n xs (λ j. are (suc j)) i
+
+bytes_append : (xs ys : List ℕ) → AreBytes xs → AreBytes ys → AreBytes (xs ++ ys)
+bytes_append [] ys p q i = q i
+bytes_append (x ∷ xs) ys p q zero = p 0
+bytes_append (x ∷ xs) ys p q (suc i) = bytes_append xs ys (λ j. p (suc j)) q i
+
+bytes_flat : (f : ℕ → List ℕ) (ns : List ℕ) → ((n : ℕ) → AreBytes (f n)) → AreBytes (flat_map f ns)
+bytes_flat f [] each i = omega arith
+bytes_flat f (n ∷ ns) each i = bytes_append (f n) (flat_map f ns) (each n) (bytes_flat f ns each) i
+
+row_bytes_are : (block : List ℕ) (images rows place : ℕ) → AreBytes block → AreBytes (block_row block images rows place)
+row_bytes_are block images rows place are =
+    bytes_flat (block_sector block rows place) (range_with_len 0 images)
+    (λ image. bytes_take (512 * (rows * image + place) + 512 - 512 * (rows * image + place)) (drop (512 * (rows * image + place)) block) (bytes_drop (512 * (rows * image + place)) block are))
+
+-- the row that was picked of a block, with its table
+pub picked_is : (block : List ℕ) (images : ℕ) (part : Part) (place len : ℕ) (items picked sectors : List ℕ) (was table : Table) → images ≤ 64 → AreBytes block → picked ≡ block_row block images part.rows place → len ≡ length items → length picked ≡ length items →
+    sectors ≡ take len (picked ++ drop (length picked) items) → length was.standings ≡ images → IsTable (length was.standings) sectors table → record { sector = row_number part.sampling (part.first + place); table = table } ≡ block_row_at block images part place
+picked_is block images part place len items picked sectors was table few bytes is long same over standings made =
+    let all : sectors ≡ block_row block images part.rows place = over ∙ kept_whole len picked items long same ∙ is in
+    row_is block images part place (row_number part.sampling (part.first + place)) sectors table few refl all (subst AreBytes (sym all) (row_bytes_are block images part.rows place bytes)) (subst (λ (n : ℕ). IsTable n sectors table) standings made)

@@ -166,13 +166,7 @@ impl Looking {
     {
         let count = self.table.images();
         for place in 0..part.rows {
-            pick_row(
-                block,
-                count,
-                part.rows,
-                place,
-                self.sectors.as_mut_slice(),
-            );
+            pick_row(block, count, part.rows, place, self.sectors.as_mut_slice());
             self.table.fill(&self.sectors);
             let row = part.sampling.from + part.sampling.step * (part.first + place) as u64;
             match self.report.add(out, row, &mut self.table) {

@@ -66,11 +66,7 @@ fn names_fault(offsets: usize, names: usize) -> Option<Disagreement>
         return Some(disagreement(Kind::Count, names as u64, 2));
     }
     if MOST_RELATED < names {
-        return Some(disagreement(
-            Kind::Count,
-            names as u64,
-            MOST_RELATED as u64,
-        ));
+        return Some(disagreement(Kind::Count, names as u64, MOST_RELATED as u64));
     }
     if offsets != 0 && offsets != names {
         return Some(disagreement(Kind::Offsets, offsets as u64, names as u64));

@@ -1,7 +1,6 @@
-use Rattle.std.proofs.Common.{ℕ, ◌<◌, ◌≡◌, ◌*◌, length, slice_index, arith, subst, sym, ap}
-use Rattle.outside.specs.Seen.{lengths_of}
+use Rattle.std.proofs.Common.{ℕ, ◌<◌, ◌≡◌, ◌*◌, length, arith, subst}
 use Rattle.relation_job.proofs.CommonRows.{small_at}
-use Rattle.relation_job.proofs.BlockBytes.{has_sectors, may_read, reads_all, reads_next, reads_start}
+use Rattle.relation_job.proofs.BlockBytes.{has_sectors, may_read, reads_all, reads_next}
 use Rattle.relation_job.proofs.reading.read_rows.Goals as goal
 
 pub overflow_add-row : goal.overflow_add-row

@@ -1,4 +1,3 @@
-use Rattle.std.proofs.Common.{◌≡◌, length, refl}
 use Rattle.run_ends.specs.Jobs.{stream}
 use Rattle.relation_job.proofs.Reported.{cut_last, ends_from, reported}
 use Rattle.relation_job.proofs.relating.put_report.Goals as goal

@@ -1,4 +1,4 @@
-use Rattle.std.proofs.Common.{◌≡◌, ℕ, arith, refl}
+use Rattle.std.proofs.Common.{arith, refl}
 use Rattle.run_ends.proofs.Refusals.{does_refused}
 use Rattle.run_ends.specs.Jobs.{around, named, stream}
 use Rattle.run_ends.specs.declared.stop.Refusal.TheVariants.{Images}

@@ -1,4 +1,4 @@
-use Rattle.std.proofs.Common.{◌≡◌, ◌<◌, ◌^◌, ◌∙◌, min, ap, sym, length, map, take, arith, ℕ, List, slice_index}
+use Rattle.std.proofs.Common.{◌≡◌, ◌∙◌, min, ap, length, map, take, arith, ℕ}
 use Rattle.std.specs.List.{range_with_len}
 use Rattle.std.proofs.lemmas.List.FromFn.{take-map-range_with_len}
 use Rattle.run_ends.specs.Agreement.{shortest}

@@ -1,4 +1,4 @@
-use Rattle.std.proofs.Common.{◌≡◌, ◌≤◌, ◌<◌, ◌^◌, IfSome, List, Option, ℕ, arith, ap, subst}
+use Rattle.std.proofs.Common.{◌≤◌, ◌<◌, ◌^◌, IfSome, List, Option, ℕ, arith, ap, subst}
 use Rattle.relation_job.specs.Sampling.{common_rows}
 use Rattle.relation_job.proofs.CommonRows.{has_rows}
 use Rattle.relation_job.proofs.sampling.sampling_within.Goals as goal

@@ -1,8 +1,7 @@
-use Rattle.std.proofs.Common.{◌≡◌, ◌+◌, ◌-◌, ◌*◌, ◌<◌, ◌≤◌, ℕ, length, arith, refl, subst}
+use Rattle.std.proofs.Common.{◌+◌, ◌-◌, arith, refl, subst}
 use Rattle.outside.specs.Attached.{told_all}
 use Rattle.outside.specs.Seen.{lengths_of}
 use Rattle.relation_job.specs.Looking.{HasRow}
-use Rattle.relation_job.specs.Sampling.{row_number}
 use Rattle.relation_job.proofs.CommonRows.{row_near}
 use Rattle.relation_job.proofs.Parts.{next_to, part_err, part_ok, rows_told}
 use Rattle.relation_job.proofs.looking.Looking.add_part.Goals as goal

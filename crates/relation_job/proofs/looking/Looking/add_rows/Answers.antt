@@ -1,4 +1,4 @@
-use Rattle.std.proofs.Common.{◌≡◌, ◌+◌, ◌≤◌, List, Option, ℕ, length, arith, ap, subst, ◌∙◌}
+use Rattle.std.proofs.Common.{◌+◌, ◌≤◌, List, arith, subst, ◌∙◌}
 use Rattle.outside.specs.Attached.{told_all}
 use Rattle.outside.specs.Seen.{Image}
 use Rattle.relation_job.specs.Looking.{AddsPart, StopsInPart}
@@ -32,7 +32,7 @@ loop-first-preserved g c =
     record {
       few = within;
       adds = adds_more (told_all old.attached) c.args.offsets.now part c.args.self.now.report c.loop-first.self.report c.add_part.new.self.report (g.K.Sink.gained c.args.out.now) before after within was.adds
-        (subst (λ (a : List Image). AddsPart (told_all a) c.args.offsets.now part c.loop-first.self.report c.add_part.new.self.report before after) was.reads.attached c.in-Ok.ensures.ok);
+          (subst (λ (a : List Image). AddsPart (told_all a) c.args.offsets.now part c.loop-first.self.report c.add_part.new.self.report before after) was.reads.attached c.in-Ok.ensures.ok);
       reads = reads_more old (g.I.Images.seen c.loop-first.images) (g.I.Images.seen c.add_part.new.images) c.loop-first.first c.min-rows.result (c.loop-first.first + c.min-rows.result) was.reads c.in-Ok.ensures.reads (omega arith);
       images_quiet = c.in-Ok.ensures.images.stays (λ e. absurd (cc)) ∙ was.images_quiet;
       out_quiet = c.in-Ok.ensures.out.stays (λ e. absurd (cc)) ∙ was.out_quiet;

@@ -43,13 +43,8 @@ version=$(cat "$top/VERSION")
 inside apt-get update >/dev/null 2>&1
 as "apt install" apt install -y "./tmp/$(basename "$package")"
 for name in reraid reraid-nbd reraid-mount reraid-ranges reraid-try; do
-    # Of the program itself each word that is no command is refused.
-    if [ $name = reraid ]; then
-        as "reraid without words" sh -c "! reraid 2>&1 | grep -vq 'word 1 is not understood'"
-    else
-        as "$name --version" sh -c "[ \"\$($name --version)\" = '$name $version' ]"
-        as "$name --help" sh -c "$name --help | grep -q 'usage:'"
-    fi
+    as "$name --version" sh -c "[ \"\$($name --version)\" = '$name $version' ]"
+    as "$name --help" sh -c "$name --help | grep -q 'usage:'"
     as "manual page of $name" test -s "/usr/share/man/man1/$name.1.gz"
     as "completion of $name" bash -c "source /usr/share/bash-completion/completions/$name && complete -p $name"
 done
@@ -60,6 +55,7 @@ for name in e2fsck xfs_repair btrfs ntfsfix pvck nbdfuse fusermount3 parallel; d
     as "$name came with it" sh -c "command -v $name"
 done
 as "no package is broken" apt-get check
+as "reraid without words" sh -c "! reraid 2>&1 | grep -vq 'word 1 is not understood'"
 # A page as it is printed, by the programs that are installed; its folder of the programs is not there.
 as "the first listing of README" sh -c 'cd /tmp && sed "/^    \$ export PATH=/s,=.*,=/usr/share/doc/reraid/examples:\$PATH," README.md |
     sed "/^## The commands/,\$d" > page.md && mkdir -p bench/pages && mv as_printed.py bench/pages && python3 bench/pages/as_printed.py page.md'

@@ -31,6 +31,11 @@ COMPLETIONS = [
     ("reraid survey kinds=gpt,x", ["gpt,xfs"]),
     ("reraid list form=", ["text", "json"]),
     ("reraid salvage form=", ["data", "lost"]),
+    ("reraid relations form=", ["text", "json"]),
+    ("reraid relations s", ["step="]),
+    ("reraid relations offsets=2048,", ["expected:"]),
+    ("reraid relations offsets=2048+", []),
+    ("reraid --v", ["--version"]),
     ("reraid write end=5 ", ["set=", "--"]),
     ("reraid write set=", ["0:", "5:", "6:"]),
     ("reraid write set=5:parity-", ["parity-first:", "parity-last:"]),
@@ -121,10 +126,10 @@ def check_files(checks, tree, sums):
 
 
 def check_versions(checks, tree, fields):
-    """Each script says the number of VERSION, which the version of the package begins with; and the help of each begins as it should."""
+    """Each program says the number of VERSION, which the version of the package begins with; and the help of each begins as it should."""
     version = (TOP / "VERSION").read_text().strip()
     checks.that(fields["Version"].split("+")[0] == version, "the version of the package is that of VERSION")
-    for path in sorted((tree / "usr/bin").glob("reraid-*")):
+    for path in sorted((tree / "usr/bin").glob("reraid*")):
         checks.that(output(path, "--version").strip() == f"{path.name} {version}", f"{path.name} --version")
         checks.that("usage:" in output(path, "--help"), f"{path.name} --help")
     for page in (tree / "usr/share/man/man1").iterdir():

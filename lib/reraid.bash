@@ -118,7 +118,7 @@ _reraid_expects() {
         chunks) echo "powers of two from 1 to 32768, rising, in sectors of 512 bytes: 128 for 64 KiB" ;;
         offsets | origins) echo "numbers, rising, in sectors of 512 bytes: 2048 for 1 MiB" ;;
         kinds) echo "kinds in this order: gpt,ntfs,xfs,btrfs,lvm,ext" ;;
-        window | end | sector) echo "a number, in sectors of 512 bytes: 2097152 for 1 GiB" ;;
+        window | end | sector | step) echo "a number, in sectors of 512 bytes: 2097152 for 1 GiB" ;;
         drop) echo "IMAGE:SECTOR,IMAGE:SECTOR.., rising" ;;
         missing | foreign | badrows | misfits | least | from | size | span | pages | slot | number | rows | images) echo "a number" ;;
     esac
@@ -145,7 +145,12 @@ _reraid_value() {
             parity-first-6 ;;
         syndromes) _reraid_list "$before" "$3" none after-q by-data by-slot ;;
         chunks) _reraid_list "$before" "$3" 8 16 32 64 128 256 512 1024 2048 ;;
-        offsets) _reraid_list "$before" "$3" 0 2048 262144 264192 ;;
+        offsets) if [[ $1 == relations ]]; then
+            expects="one for each image, in their order, with + between, in sectors of 512 bytes: 2048+0+2048"
+            [[ ! $3 =~ ^[0-9]+(\+[0-9]*)*$ ]] || return
+        else
+            _reraid_list "$before" "$3" 0 2048 262144 264192
+        fi ;;
         kinds) _reraid_list "$before" "$3" gpt ntfs xfs btrfs lvm ext ;;
     esac
     [[ $3 =~ ^[0-9]+$ ]] || _reraid_say "$before" "$3" "$expects"
@@ -175,7 +180,7 @@ _reraid() {
     _reraid_words
     COMPREPLY=()
     if ((${#words[@]} == 2)); then
-        _reraid_offer survey list check map write rebuild sample classes mirrors mirrorwrite salvage
+        _reraid_offer survey list check map write rebuild sample classes mirrors mirrorwrite salvage relations --help --version
         return
     fi
     case ${words[1]} in
@@ -190,6 +195,7 @@ _reraid() {
         classes) _reraid_operands classes images end ;;
         mirrors) _reraid_operands mirrors members chunks offsets missing foreign badrows window end from size span ;;
         salvage) _reraid_operands salvage set form end ;;
+        relations) _reraid_operands relations from end step offsets form ;;
     esac
 }
 

@@ -12,7 +12,7 @@ import sys
 
 TOP = pathlib.Path(__file__).resolve().parents[2]
 PAGE = TOP / "docs/WRONG-BODIES.md"
-FUNCTION = re.compile(r"(?:fn|static|const)\s+(\w+)")
+FUNCTION = re.compile(r"(?:fn|(?<!')static|const)\s+(\w+)")
 CITED = re.compile(r"`(\w+)/(\w+)`")
 BEGIN, END = "<!-- {} -->\n", "<!-- end -->\n"
 

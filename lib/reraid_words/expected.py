@@ -84,6 +84,12 @@ def set_word(value: str, mirrors: bool) -> list[str]:
     return said[:1]
 
 
+def places(value: str) -> list[str]:
+    """What is wrong with the offsets of relations, one for each image."""
+    said = [line for item in value.split("+") for line in number("each of offsets", item)]
+    return [f"{said[0]}; offsets are one for each image, in their order, with + between: 2048+0+2048"] if said else []
+
+
 def operand(command: str, name: str, value: str) -> list[str]:
     """What is wrong with an operand of a command, as far as that can be said."""
     names = OPERANDS[command]
@@ -93,6 +99,8 @@ def operand(command: str, name: str, value: str) -> list[str]:
         return [f"{name}{f' (is {ours} meant?)' if ours else ''}: the operands are {' '.join(f'{it}=' for it in names)} and, behind them, --"]
     if name == "set":
         return set_word(value, command in ("nbd", "mirrorwrite"))
+    if (command, name) == ("relations", "offsets"):
+        return places(value)
     if name in NAMES or name in NUMBERS:
         return listed(name, value)
     return [] if name == "drop" else number(name, value)
@@ -102,6 +110,8 @@ def expected(command: str, words: Sequence[str], place: int) -> list[str]:
     """What is said of the refused word, which is at this place of the words, from 0; past the last one something is missing."""
     if command not in OPERANDS:
         return [f"{command}{meant(command, list(OPERANDS))}: the commands are {' '.join(name for name in OPERANDS if name != 'nbd')}"]
+    if place == 0 and len(words) > 1 and words[0] in ("--help", "--version"):
+        return [f"{words[0]} stands alone"]
     if place >= len(words):
         named = {word.partition("=")[0] for word in words}
         return ["something is missing at the end" + ("" if "--" in words else ": -- and the images") +

@@ -2,14 +2,16 @@
 
 import re
 
-COMMANDS = ("survey", "list", "check", "map", "write", "rebuild", "sample", "classes", "mirrors", "mirrorwrite", "salvage")
+COMMANDS = ("survey", "list", "check", "map", "write", "rebuild", "sample", "classes", "mirrors", "mirrorwrite", "salvage",
+            "relations")
 SURVEY = ("levels", "members", "patterns", "syndromes", "chunks", "offsets", "origins", "missing", "foreign", "badrows", "misfits", "least", "window",
           "end", "kinds", "mode", "logical", "drop")
 OPERANDS = {
     "survey": SURVEY, "list": ("from", "size", "span", "pages", "form"), "check": ("set",), "map": ("set", "sector", "end"),
     "write": ("set", "end"), "rebuild": ("set", "slot", "end"), "sample": ("number", "set", "rows", "marks"), "classes": ("images", "end"),
     "mirrors": ("members", "chunks", "offsets", "missing", "foreign", "badrows", "window", "end", "from", "size", "span"),
-    "mirrorwrite": ("set", "end"), "salvage": ("set", "form", "end"), "nbd": ("set", "end")}
+    "mirrorwrite": ("set", "end"), "salvage": ("set", "form", "end"), "relations": ("from", "end", "step", "offsets", "form"),
+    "nbd": ("set", "end")}
 PATTERNS = ("plain", "la", "ra", "ls", "rs", "parity-first", "parity-last", "n-restart", "n-continue", "la-6", "ra-6", "ls-6", "rs-6",
             "parity-first-6")
 SYNDROMES = ("none", "after-q", "by-data", "by-slot")

@@ -47,10 +47,17 @@ class Expected(unittest.TestCase):
         self.assertIn("numbers of images", said("nbd", "set=5:ls:none:128:2048:a,b,c"))
         self.assertEqual(said("nbd", "set=5:ls:none:128:2048:0,1,-"), "")
 
+    def test_relations(self) -> None:
+        self.assertIn("with + between: 2048+0+2048", said("relations", "offsets=1,2"))
+        self.assertEqual(said("relations", "offsets=2048+0"), "")
+        self.assertIn("so 2048 for 1M", said("relations", "step=1M"))
+        self.assertIn("the operands are from= end= step= offsets= form= and", said("relations", "size=1"))
+
     def test_shape(self) -> None:
         self.assertIn("before the images stands --", said("nbd", "set=5:ls:none:128:2048:0,1,2", "a.img", place=1))
         self.assertIn("-- and the images", said("nbd", "set=5:ls:none:128:2048:0,1,2", place=1))
         self.assertIn("is survey meant?", said("survy"))
+        self.assertEqual(said("nbd", "--help", "more"), "--help stands alone")
 
 
 if __name__ == "__main__":

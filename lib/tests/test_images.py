@@ -185,6 +185,8 @@ class InImages(InFolder):
 
 class Maps(InFolder):
     def test_read(self) -> None:
+        for status in ("0 ?", "0x0 + 1", "512 F 2", "0x200     G               3"):
+            self.assertEqual(maps.read_map(self.file("a.map", f"{status}\n0 5 +\n")).blocks, ((0, 5, "+"),))
         name = self.file("a.map", "# comment\n0x200 ?\n0x0 0x400 +\n1024 0x201 -\n0x601 512 *\n")
         found = maps.read_map(name)
         self.assertEqual(found.blocks, ((0, 1024, "+"), (1024, 513, "-"), (1537, 512, "*")))
@@ -192,7 +194,8 @@ class Maps(InFolder):
         self.assertEqual([found.unread(end) for end in (2, 3, 100)], [0, 2, 5])
 
     def test_no_map(self) -> None:
-        for text, line in (("", "it has no lines"), ("0 +\nfile one\n", "line 2"), ("0 +\n0 5 x\n", "line 2"), ("0 +\n0 5 +\n6 5 +\n", "line 3"),
+        for text, line in (("", "it has no lines"), ("no map\n", "line 1"), ("# x\n\n0x0 +\n", "no blocks"), ("0 +\n", "no blocks"),
+                           ("0 x\n0 5 +\n", "line 1"), ("0 5 +\n0 5 +\n", "line 1"), ("0 + x\n0 5 +\n", "line 1"), ("0\n0 5 +\n", "line 1"), ("0 +\nfile one\n", "line 2"), ("0 +\n0 5 x\n", "line 2"), ("0 +\n0 5 +\n6 5 +\n", "line 3"),
                            ("0 +\n# x\n0 0 +\n", "line 3"), ("0 +\n0 5\n", "line 2"), ("0 +\n0 5 +-\n", "line 2"), ("0 +\n0 5 + +\n", "line 2")):
             with self.assertRaisesRegex(OutsideError, line):
                 maps.read_map(self.file("a.map", text))

@@ -55,6 +55,10 @@ def evidence(count: int = 3, data: tuple[tuple[int, int], ...] = (), level: int 
     return Evidence(seen, pairs, BASE, plan, found, told, levels, bad, (), 100000, 100000, Filled(filled or {0: 90000, 2048: 90000}), (0, 2048))
 
 
+def nobody(_what: str, _seconds: int) -> None:
+    """Who is told that something was late, and forgets it."""
+
+
 class OfShapes(unittest.TestCase):
     def shapes(self, known: Evidence, **values: object) -> Shapes:
         """The shapes of an evidence."""
@@ -114,6 +118,13 @@ class OfCures(unittest.TestCase):
         plan = plan_of(XFS, EXT)
         self.assertEqual([cure.number for cure in cures.group_cures(plan, False)], [1])
         self.assertEqual([cure.number for cure in cures.group_cures(plan, True)], [1, 0])
+
+    def test_groups_of_two_file_systems_of_one_kind(self) -> None:
+        """Either may be of an older one, though one has more marks; not a stray mark beside many, nor one of another kind."""
+        def ext(count: int) -> Marked:
+            return "ext", [("ext", k, 7426 * count + k, "at:262144") for k in range(count)]
+        for groups, numbers in [((ext(4), ext(2)), [1, 0]), ((ext(5), ext(2)), [1]), ((ext(4), XFS), [1])]:
+            self.assertEqual([cure.number for cure in cures.group_cures(plan_of(*groups), False)], numbers)
 
     def test_what_one_image_shows(self) -> None:
         found = list(cures.image_cures(self.plan))
@@ -240,7 +251,10 @@ class Asked(unittest.TestCase):
         standin = Standin(("reraid list", answer), ("reraid survey", put(known.plan.text())))
         late: list[str] = []
         program = Program(standin, known.names, 5, 1)
-        return Questions(program, Surveys(standin, known.names), Asking(known, OPTIONS), late.append), standin, late
+
+        def tell(what: str, seconds: int) -> None:
+            late.append(f"{what} in {seconds} s")
+        return Questions(program, Surveys(standin, known.names), Asking(known, OPTIONS), tell), standin, late
 
     def plan(self, **values: str | int) -> Plan:
         """A plan with groups."""
@@ -259,7 +273,7 @@ class Asked(unittest.TestCase):
     def test_late_counts_as_allowed(self) -> None:
         questions, _, late = self.questions(lambda *_: Answer(None))
         self.assertTrue(questions.may_list(self.plan(), Shape("6", 3)))
-        self.assertEqual(late, ["landmarks alone allow", "parity alone allows"])
+        self.assertEqual(late, ["landmarks alone allow in 5 s", "parity alone allows in 5 s"])
 
     def test_passed_over_where_landmarks_or_parity_allow_none(self) -> None:
         def answer(none: str) -> Reply:
@@ -268,6 +282,10 @@ class Asked(unittest.TestCase):
         for none in ("landmarks", "parity"):
             questions, _, _ = self.questions(answer(none))
             self.assertFalse(questions.may_list(self.plan(), Shape("6", 3)))
+        questions, standin, _ = self.questions(answer("parity"))
+        questions.tied = True
+        self.assertTrue(questions.may_list(self.plan(), Shape("6", 3)))
+        self.assertEqual(standin.count("reraid list"), 1)
         questions, _, _ = self.questions(answer("parity"))
         self.assertTrue(questions.may_list(self.plan(), Shape("0", 3)))
         self.assertTrue(questions.may_list(self.plan(badrows=9), Shape("5", 3)))
@@ -321,7 +339,7 @@ class Hunts(InFolder):
         text = plan_of(*groups, lengths=(8000,) * 3).text()
         standin = Standin(("reraid survey", put(text)), ("reraid list", answer))
         seen = [Image(name, k, 8000) for k, name in enumerate(names)]
-        return Hunt(Options(tuple(names)), standin, seen, lambda _: None, pairs), standin
+        return Hunt(Options(tuple(names)), standin, seen, nobody, pairs), standin
 
     def test_listed_once(self) -> None:
         hunt, _ = self.hunt(lambda *_: put("next 9 of 9\n"))

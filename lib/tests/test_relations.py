@@ -134,7 +134,18 @@ class Families(unittest.TestCase):
         before, after = rows.striped(self.rnd, 5, 5, 160), rows.striped(self.rnd, 4, 5, NUMBER - 160)
         found, = told(before + rows.beside(after, [[bytes(rows.COLUMNS)]] * len(after)))
         assert found.reshape
-        self.assertEqual((found.reshape.sector, sorted(found.reshape.before), sorted(found.reshape.after)), (2208, [0, 1, 2, 3, 4], [0, 1, 2, 3]))
+        self.assertEqual((found.reshape.last, found.reshape.sector, sorted(found.reshape.before), sorted(found.reshape.after)),
+                         (2207, 2208, [0, 1, 2, 3, 4], [0, 1, 2, 3]))
+        self.assertEqual(found.reshape.line(), "a reshape stopped between sector 2207 and sector 2208: up to the first 5 images are tied, "
+                         "from the second on 4")
+
+    def test_reshape_in_what_is_empty(self) -> None:
+        """Where the rows around it are zeros, it lies somewhere between those that are not."""
+        before, after = rows.striped(self.rnd, 5, 5, 160), rows.striped(self.rnd, 4, 5, NUMBER - 160)
+        made = before[:150] + [[bytes(rows.COLUMNS)] * 5] * 40 + rows.beside(after, [[bytes(rows.COLUMNS)]] * len(after))[30:]
+        found, = told(made)
+        assert found.reshape
+        self.assertEqual((found.reshape.last, found.reshape.sector), (2048 + 149, 2048 + 190))
 
     def test_no_reshape(self) -> None:
         """Neither an array of which an end is empty nor one with an old disk is a reshape."""

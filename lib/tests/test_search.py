@@ -261,7 +261,7 @@ class Statuses(InFolder):
         self.ends(2, says="there is no reraid on the PATH", PATH="/nowhere")
 
     def test_map_that_is_none(self) -> None:
-        self.file("b.img.map", "what is this\nno map\n")
+        self.file("b.img.map", "0x0 +\nno map\n")
         self.ends(3, says="reraid-try: " + self.images[1] + ".map is no map of ddrescue: line 2")
 
     def test_survey_that_is_refused(self) -> None:

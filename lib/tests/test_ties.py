@@ -5,6 +5,7 @@ import random
 import tempfile
 import unittest
 from collections.abc import Mapping, Sequence
+from unittest import mock
 
 from reraid_try.calls.commands import Answer, Words
 from reraid_try.evidence import ties, unlike
@@ -126,6 +127,16 @@ class Told(unittest.TestCase):
         runner, images = disks(made)
         said = ties.lines(Ties(runner, images, 9).told(range(4), 0, 400))
         self.assertIn("in 10 rows of those that were looked at, the first at sector 50, nothing is tied", said[1])
+
+    def test_reshape(self) -> None:
+        """Where rows are looked at that lie far apart, those between them say where a reshape stopped."""
+        rnd = random.Random(12)
+        before, after = rows.striped(rnd, 5, 5, 3001), rows.striped(rnd, 4, 5, 6000)
+        runner, images = disks(before + rows.beside(after, [[ZERO]] * len(after)))
+        with mock.patch.object(ties, "MOST_ROWS", 100):
+            known, = Ties(runner, images, 9).told(range(5), 0, 9001).known
+        assert known.family.reshape
+        self.assertEqual((known.family.reshape.last, known.family.reshape.sector), (3000, 3001))
 
     def test_copies(self) -> None:
         """Copies are said, and that a copy is lost."""

@@ -41,15 +41,25 @@ class Old:
 
 @dataclasses.dataclass(frozen=True)
 class Reshape:
-    """Where ties change for good: the first row of the rest, and which images are tied before it and from it on."""
+    """Where ties change for good: the last row with a tie of all images and the first with one of the rest alone, and which images are tied up to the
+    one and from the other on. Of the rows between them nothing is known, as where they are zeros."""
 
+    last: int
     sector: int
     before: frozenset[int]
     after: frozenset[int]
 
     def line(self) -> str:
         """What is said of it."""
-        return f"a reshape stopped at sector {self.sector}: before it {len(self.before)} images are tied, and from it on {len(self.after)}"
+        return (f"a reshape stopped between sector {self.last} and sector {self.sector}: up to the first {len(self.before)} images are tied, from the "
+                f"second on {len(self.after)}")
+
+    def closer(self, relations: Relations) -> "Reshape":
+        """The same by rows between the two, which lie closer to each other."""
+        tied = [(rows.first, rows.last, tied_images(ties_among(rows, self.before))) for rows in relations.tied_rows()]
+        last = max((last for _, last, found in tied if found == self.before), default=self.last)
+        sector = min((first for first, _, found in tied if found == self.after and first > last), default=self.sector)
+        return dataclasses.replace(self, last=last, sector=sector)
 
 
 @dataclasses.dataclass(frozen=True)
@@ -249,6 +259,7 @@ def reshape_of(relations: Relations, images: frozenset[int], parity: int) -> Res
         last = max((first for first, _, found, _ in tied if image in found), default=None)
         if last is None:
             continue
+        until = max(rows.last for rows in relations.tied_rows() if rows.first <= last)
         rest = images - {image}
         before = sum(count for first, count, found, _ in tied if first <= last and found == images)
         others = sum(count for first, count, found, _ in tied if first <= last and found == rest)
@@ -256,7 +267,7 @@ def reshape_of(relations: Relations, images: frozenset[int], parity: int) -> Res
                  if first > last and found == rest]
         behind, alike = sum(count for _, count, _ in after), sum(count for _, count, same in after if same)
         if min(before, behind) >= LEAST_RESHAPED and FEW_OTHER * others <= before and alike >= PART_PLAIN * behind:
-            return Reshape(min(first for first, _, _ in after), images, rest)
+            return Reshape(until, min(first for first, _, _ in after), images, rest)
     return None
 
 

@@ -6,7 +6,8 @@ from collections.abc import Sequence
 from ..errors import OutsideError, said
 from ..units import SECTOR
 
-READ, STATUSES = "+", "?*/-+"
+# The statuses of blocks, of which one is that of what was read, and those of what was done last.
+READ, STATUSES, STEPS = "+", "?*/-+", "?*/-FG+"
 
 
 @dataclasses.dataclass(frozen=True)
@@ -23,6 +24,14 @@ class Map:
         return sum(-(-length // SECTOR) + 1 for _, length in bounds)
 
 
+def is_status_line(words: Sequence[str]) -> bool:
+    """It is what a map begins with: a place, what was done last there, and in newer ones the number of the pass."""
+    try:
+        return len(words) in (2, 3) and words[1] in STEPS and len(words[1]) == 1 and all(int(word, 0) >= 0 for word in (words[0], *words[2:]))
+    except ValueError:
+        return False
+
+
 def read_map(name: str) -> Map:
     """The map of a file."""
     try:
@@ -32,8 +41,9 @@ def read_map(name: str) -> Map:
         why = said(error) if isinstance(error, OSError) else "it is no text"
         raise OutsideError(f"the map {name} cannot be read: {why}") from error
     lines = [(number, line.split()) for number, line in enumerate(text.splitlines(), 1) if line.strip() and not line.startswith("#")]
-    if not lines:
-        raise OutsideError(f"{name} is no map of ddrescue: it has no lines")
+    if not lines or not is_status_line(lines[0][1]):
+        where = f"line {lines[0][0]}" if lines else "it has no lines"
+        raise OutsideError(f"{name} is no map of ddrescue: {where} (move it away to search without it)")
     blocks: list[tuple[int, int, str]] = []
     after = 0
     for number, words in lines[1:]:
@@ -46,6 +56,8 @@ def read_map(name: str) -> Map:
             raise OutsideError(f"{name} is no map of ddrescue: line {number} (move it away to search without it)")
         blocks.append((first, length, words[2]))
         after = first + length
+    if not blocks:
+        raise OutsideError(f"{name} is no map of ddrescue: it has no blocks (move it away to search without it)")
     return Map(name, text, tuple(blocks))
 
 

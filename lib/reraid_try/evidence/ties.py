@@ -82,6 +82,10 @@ class Ties:
         before, offsets = max(first, family.first - step), [moved[image] for image in images] if moved else []
         near = self.relations(images, before, min(end, family.first + 1), max(1, (family.first - before) // MOST_ROWS), offsets)
         begin = next((rows.first for rows in near.tied_rows()), None) if near else None
+        if reshape := family.reshape:
+            behind = min(end, reshape.sector + 1)
+            near = self.relations(images, reshape.last, behind, max(1, (behind - reshape.last) // MOST_ROWS), offsets)
+            family = dataclasses.replace(family, reshape=reshape.closer(near) if near else reshape)
         if family.level != LEVEL_6 or not family.parity:
             return Known(family, None, begin)
         fine = self.relations(images, family.first // FINE_STEP * FINE_STEP, min(end, family.first + MOST_ROWS * FINE_STEP), FINE_STEP, offsets)

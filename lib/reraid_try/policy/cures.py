@@ -76,11 +76,17 @@ def without(places: Collection[int]) -> Callable[[Request], Request]:
     return lambda request: dataclasses.replace(request, out=tuple(sorted({*request.out, *places})))
 
 
+def is_rivalled(plan: Plan, group: Group) -> bool:
+    """Another group of its kind has half as many marks at least: either may be of an older file system."""
+    return any(2 * len(it.marks) >= len(group.marks) for it in plan.groups if it is not group and it.kind == group.kind)
+
+
 def group_cures(plan: Plan, every: bool) -> list[Cure]:
-    """Each group left out, small ones first; then each large one alone. One with most of all marks is left out where every one is asked for."""
+    """Each group left out, small ones first; then each large one alone. One with most of all marks is left out where another one of its kind is
+    nearly as large, and where every one is asked for."""
     order, most = sorted(plan.groups, key=lambda group: (len(group.marks), group.place)), len(plan.marks()) / 2
     found = [Cure(f"without {group.name()}", Family.GROUP, without({group.place}), group.place, out=frozenset({group.place})) for group in order
-             if every or len(group.marks) <= most]
+             if every or len(group.marks) <= most or is_rivalled(plan, group)]
     if len(order) > FEW_GROUPS:
         found += [alone(plan, group) for group in reversed(order[-2:]) if 2 * len(group.marks) >= len(order[-1].marks)]
     return found

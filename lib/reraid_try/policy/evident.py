@@ -160,7 +160,7 @@ class Evident:
         before, search.why = len(search.tested), aim.why
         images = self.within(aim.images, aim.span)
         search.report.bar.show("surveys the images")
-        hunt = Hunt(self.options, search.commands, images, search.say_late, start=aim.span.first, asked=dict(aim.asked))
+        hunt = Hunt(self.options, search.commands, images, search.say_late, start=aim.span.first, asked=dict(aim.asked), tied=aim.tied)
         search.say_evidence(hunt)
         if not (aim.copied and any(search.mirrors(hunt, missing) for missing in (0, 1))):
             self.attempt(hunt, aim, before)

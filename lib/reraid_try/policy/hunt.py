@@ -1,7 +1,7 @@
 """A hunt: a search over some of the images, by their evidence; what is listed of each trial, and what is passed over."""
 
 import dataclasses
-from collections.abc import Callable, Iterator, Mapping, Sequence
+from collections.abc import Iterator, Mapping, Sequence
 
 from ..calls.commands import Runner, quoted
 from ..calls.plans import Plan
@@ -16,17 +16,17 @@ from ..options import Options
 from ..units import listed
 from .cures import Cure, choices, loosened
 from .plans import Asking
-from .questions import Questions
+from .questions import Late, Questions
 from .shapes import Shape, Shapes
 from .trials import Trial
 
 
 class Hunt:
     """A search over these images, behind a start on each. With `pairs` its sets are those of a RAID 0 of one image of each pair; `asked` is asked for
-    in each trial. `late` is told of each question that ran out of its time."""
+    in each trial; `tied` says that parity ties the images. `late` is told of each question that ran out of its time."""
 
-    def __init__(self, options: Options, commands: Runner, images: Sequence[Image], late: Callable[[str], None], pairs: Pairs | None = None,
-                 start: int = 0, asked: Mapping[str, str | int] | None = None) -> None:
+    def __init__(self, options: Options, commands: Runner, images: Sequence[Image], late: Late, pairs: Pairs | None = None,
+                 start: int = 0, asked: Mapping[str, str | int] | None = None, tied: bool = False) -> None:
         self.commands = commands
         names = [image.name for image in images]
         self.program = Program(commands, names, options.seconds, options.jobs)
@@ -34,7 +34,7 @@ class Hunt:
         evidence = gathered.gather(self.surveys, images, options.first, pairs, start)
         self.evidence = dataclasses.replace(evidence, base=evidence.base.having(**(asked or {})))
         self.asking = Asking(self.evidence, options)
-        self.questions = Questions(self.program, self.surveys, self.asking, late)
+        self.questions = Questions(self.program, self.surveys, self.asking, late, tied)
         self.tried: set[str] = set()
         self.passed_over = 0
         self.places: Places | None = None

@@ -20,6 +20,10 @@ from .shapes import Shape
 MOST_ASKED, STEPS = 300_000_000, 4
 
 
+# Who is told what ran out of its time, and of how many seconds.
+Late = Callable[[str, int], None]
+
+
 @dataclasses.dataclass(frozen=True)
 class First:
     """The first set that something allows: none, or its word, or that its time was up before that was known."""
@@ -34,10 +38,11 @@ class First:
 
 
 class Questions:
-    """Questions about the shapes of some images. `late` is told of each that ran out of its time."""
+    """Questions about the shapes of some images. `late` is told of each that ran out of its time, and how many seconds that was; `tied` says that
+    parity ties the images, so that it surely allows a set where nothing is loosened, and this is not asked."""
 
-    def __init__(self, program: Program, surveys: Surveys, asking: Asking, late: Callable[[str], None]) -> None:
-        self.program, self.surveys, self.asking, self.late = program, surveys, asking, late
+    def __init__(self, program: Program, surveys: Surveys, asking: Asking, late: Late, tied: bool = False) -> None:
+        self.program, self.surveys, self.asking, self.late, self.tied = program, surveys, asking, late, tied
         self.allows: dict[str, First] = {}
         self.pages: dict[str, Page] = {}
 
@@ -46,7 +51,7 @@ class Questions:
         if text not in self.allows:
             page = self.program.first(text)
             if page.late:
-                self.late(what)
+                self.late(what, self.program.seconds)
             self.allows[text] = First(page.sets[0].text if page.sets and not page.late else "", page.late)
         return self.allows[text]
 
@@ -74,7 +79,7 @@ class Questions:
         """Landmarks alone allow a set, and so does parity alone."""
         if plan.groups and not self.landmarks_allow(plan).there:
             return False
-        return not shape.parity or self.has_bad_rows(plan, shape) or self.parity_allows(plan, shape).there
+        return not shape.parity or self.tied or self.has_bad_rows(plan, shape) or self.parity_allows(plan, shape).there
 
     def climb(self, plan: Plan) -> Listing:
         """The sets of a plan that pass with some bad rows: few of these at first, and then four times as many, up to the plan's, until some set

@@ -246,11 +246,10 @@ class Search:
             self.report.say("goes on", f"  goes on: a checker alone is content, and no file longer than a row of chunks ({row // KIB} KiB) was found "
                             "whole, which would say more. Ctrl-C ends the search, and prints what it found with what to type", row=row)
 
-    def say_late(self, what: str) -> None:
-        """Says that a question ran out of its time."""
+    def say_late(self, what: str, seconds: int) -> None:
+        """Says that a question ran out of its time, which was so many seconds."""
         self.was_late = True
-        seconds = self.options.seconds
-        self.report.say("late", f"  {seconds} s were up before it was known whether {what} a set: goes on as if so, and passes over no trial for it "
+        self.report.say("late", f"  {counted(seconds, 'second')} were up before it was known whether {what} a set: goes on as if so, and passes over no trial for it "
                         "(--time gives more)", what=what, seconds=seconds)
 
     def say_trial(self, hunt: Hunt, trial: Trial, listing: Listing) -> Trial:

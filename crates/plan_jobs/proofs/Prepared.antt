@@ -16,6 +16,7 @@ use Rattle.run_ends.proofs.Printed.{ends_unput, keeps_itself, no_raise, raises_s
 use Rattle.run_ends.specs.Agreement.{count_fault, length_fault, other_length, plan_fault}
 use Rattle.run_ends.specs.Counts.{Raises}
 use Rattle.run_ends.specs.Jobs.{Answers, Does, IsOwn, IsSaid, Orders, Refuses, around, is_cut, named}
+use Rattle.run_ends.specs.Pieces.Pieces.{Sectors}
 use Rattle.run_ends.specs.Source.{TakesFew}
 use Rattle.run_ends.specs.Stops.{EndsBy, first_of}
 use Rattle.run_ends.specs.declared.stop.Refusal.{Refusal}
@@ -114,7 +115,7 @@ pub unprepared : {T : Type 0} (over : OverPlan) (names : ℕ) (seen : Seen) (old
     Raises {T = Plan} SourceFault old.faults new.faults (Err stop) → ((plan : Plan) → over.MayRead seen.attached plan (is_cut {T = T} (Err stop)) seen.sectors_read seen.sectors_read) →
     Does {T = T} (plan_job over) (named names seen.attached) (around seen old) (around seen new) out out (Err stop)
 unprepared {T} over names seen old new out stop ends takes faults none = record {
-  ends = λ said says. ends_unput (plan_refusal said.text said.plan names seen.attached (over.further names seen.attached)) (printed_over over.text said.plan (told_all seen.attached)) out.known stop
+  ends = λ said says. ends_unput Sectors (plan_refusal said.text said.plan names seen.attached (over.further names seen.attached)) (printed_over over.text said.plan (told_all seen.attached)) out.known stop
       (ends_by old.known names seen.attached stop said (over.further names seen.attached) ends says.0 says.1);
   order = λ said says all refusal is. record {
     unread = refl;

@@ -8,7 +8,7 @@ use Rattle.outside.specs.declared.TheConstants.{MOST_ATTACHED}
 use Rattle.std.proofs.lemmas.List.Elements.{All-cons, All-nil}
 use Rattle.command_words.specs.declared.command.Command.{Command}
 use Rattle.command_words.specs.Commands.{EndsInNames, Reads, names_after}
-use Rattle.command_words.specs.declared.command.Command.TheVariants.{Survey, Sample, List as ListCommand, Check, Map, Write, Rebuild, Classes, Mirrors, MirrorWrite, Salvage}
+use Rattle.command_words.specs.declared.command.Command.TheVariants.{Survey, Sample, List as ListCommand, Check, Map, Write, Rebuild, Classes, Mirrors, MirrorWrite, Salvage, Relations, Help, Version}
 use Rattle.command_words.proofs.OneReading.{one_reading as readings_agree}
 use Rattle.plan_jobs.proofs.PagesRead.{none_read}
 use Rattle.plan_jobs.proofs.Prepared.{if_plan}
@@ -63,6 +63,9 @@ none_read_by (Ok (Classes images end)) given cut n said = omega arith
 none_read_by (Ok (Mirrors members chunks offsets missing foreign badrows window end from size span names)) given cut n said = omega arith
 none_read_by (Ok (MirrorWrite set end names)) given cut n said = omega arith
 none_read_by (Ok (Salvage set lost end names)) given cut n said = omega arith
+none_read_by (Ok (Relations asked)) given cut n said = omega arith
+none_read_by (Ok Help) given cut n said = omega arith
+none_read_by (Ok Version) given cut n said = omega arith
 
 -- no refusal is the first, and one is
 pub some_none : (refused : Refusal) → Some refused ≡ None → ⊥
@@ -81,6 +84,9 @@ apart_names words (Rebuild set slot end names) ends apart = absurd (cc)
 apart_names words (Mirrors members chunks offsets missing foreign badrows window end from size span names) ends apart = absurd (cc)
 apart_names words (MirrorWrite set end names) ends apart = absurd (cc)
 apart_names words (Salvage set lost end names) ends apart = absurd (cc)
+apart_names words (Relations asked) ends apart = absurd (cc)
+apart_names words Help ends apart = ends
+apart_names words Version ends apart = ends
 
 takes_none : (most : Option ℕ) (source : Stream) (stop : Stop) → Takes {T = Unit {0}} most source source (Err stop)
 takes_none None source stop = refl
@@ -97,7 +103,7 @@ not_all read given n fewer all = omega arith
 pub unattached : (read : Result Command ℕ) (given : Named) (old new : Seen) (source out : Stream) → length given.attached < min given.names MOST_ATTACHED → (given.names ≡ 0 → ⊥) → ((job_of read).apart ≡ true → given.names ≡ 0) →
     Rose old.faults new.faults → old.faults ≤ new.faults → new.sectors_read ≡ old.sectors_read → new.world ≡ old.world → Does {T = Unit {0}} (job_of read) given (around old source) (around new source) out out (Err ImageFault)
 unattached read given old new source out fewer some none rose later unread world = record {
-  ends = λ said says. ends_unput ((job_of read).refused said given) ((job_of read).printed said given) out.known ImageFault tt;
+  ends = λ said says. ends_unput (job_of read).pieces ((job_of read).refused said given) ((job_of read).printed said given) out.known ImageFault tt;
   order = λ said says all refusal is. absurd (not_all read given MOST_ATTACHED fewer all);
   reads = λ said says. subst (λ (n : ℕ). (job_of read).MayRead said given true old.sectors_read n) (sym unread) (none_read_by read given true old.sectors_read said);
   takes = takes_none (job_of read).most source ImageFault;
@@ -160,6 +166,9 @@ said_none (Ok (Classes images end)) left none = absurd (cc)
 said_none (Ok (Mirrors members chunks offsets missing foreign badrows window end from size span names)) left none = nothing_said left
 said_none (Ok (MirrorWrite set end names)) left none = nothing_said left
 said_none (Ok (Salvage set lost end names)) left none = absurd (cc)
+said_none (Ok (Relations asked)) left none = nothing_said left
+said_none (Ok Help) left none = nothing_said left
+said_none (Ok Version) left none = nothing_said left
 
 -- words and a text have a reading, unless the outside or memory is the cause of the answer
 pub has_reading : (words : List (List ℕ)) (read : Result Command ℕ) (given : Named) (old new : Stream) (result : Result (Unit {0}) Stop) → Reads words read → Heeds (job_of read) (job_of read).most given old new result → IsOwn result →
@@ -188,6 +197,9 @@ early_text (Ok (Classes images end)) given refused early none = absurd (cc)
 early_text (Ok (Mirrors members chunks offsets missing foreign badrows window end from size span names)) given refused early none = absurd (cc)
 early_text (Ok (MirrorWrite set end names)) given refused early none = absurd (cc)
 early_text (Ok (Salvage set lost end names)) given refused early none = absurd (cc)
+early_text (Ok (Relations asked)) given refused early none = absurd (cc)
+early_text (Ok Help) given refused early none = absurd (cc)
+early_text (Ok Version) given refused early none = absurd (cc)
 
 -- it is refused before the source is touched
 pub early_first : (words : List (List ℕ)) (read other : Result Command ℕ) (given : Named) (old new : Stream) (result : Result (Unit {0}) Stop) (refused : Refusal) → Reads words read → Reads words other → Heeds (job_of read) (job_of read).most given old new result →

@@ -2,12 +2,14 @@
 use Rattle.std.specs.Prelude.{ℕ, Result, Ok, Err}
 use Rattle.std.specs.declared.option.Option.TheVariants.{None, Some}
 use Rattle.command_words.specs.declared.command.Command.{Command}
-use Rattle.command_words.specs.declared.command.Command.TheVariants.{Survey, List, Check, Map, Write, Rebuild, Sample, Classes, Mirrors, MirrorWrite, Salvage}
+use Rattle.command_words.specs.declared.command.Command.TheVariants.{Survey, List, Check, Map, Write, Rebuild, Sample, Classes, Mirrors, MirrorWrite, Salvage, Relations, Help, Version}
 use Rattle.class_job.specs.Classing.{classes_job}
 use Rattle.near_jobs.specs.MirrorWriting.{mirrorwrite_job}
 use Rattle.near_jobs.specs.Mirroring.{mirrors_job}
 use Rattle.plan_jobs.specs.Checking.{check_job}
 use Rattle.plan_jobs.specs.Listing.{list_job}
+use Rattle.program_texts.specs.Telling.{help_job, version_job}
+use Rattle.relation_job.specs.Relating.{relations_job}
 use Rattle.run_ends.specs.Jobs.{Job, imageless}
 use Rattle.run_ends.specs.declared.stop.Refusal.TheVariants.{Word}
 use Rattle.salvage_job.specs.Salvaging.{salvage_job}
@@ -42,3 +44,6 @@ job_of (Ok (Mirrors members chunks offsets missing foreign badrows window end fr
 })
 job_of (Ok (MirrorWrite set end names)) = mirrorwrite_job set end
 job_of (Ok (Salvage set lost end names)) = salvage_job set lost end
+job_of (Ok (Relations asked)) = relations_job asked
+job_of (Ok Help) = help_job
+job_of (Ok Version) = version_job

@@ -14,6 +14,8 @@ use gates::Gate;
 use near_jobs::{MirrorWords, mirrors, mirrorwrite};
 use outside::{Images, MOST_ATTACHED, Sink, Source};
 use plan_jobs::{Listing, check, list};
+use program_texts::{help, version};
+use relation_job::relations;
 use run_ends::{Refusal, Stop, attach_front};
 use salvage_job::salvage;
 use sample_job::sample;
@@ -59,13 +61,14 @@ pub fn run<R: Threads + Sync, S: Source, I: Images, K: Sink, G: Gate + Sync>(
     }
 }
 
-/// The names of the command's images: the last words. `sample` and `classes` have none.
+/// The names of the command's images: the last words. `sample`, `classes`, `--help` and `--version` have none.
 fn names_of<'a>(command: &Command, words: &'a [Word]) -> &'a [Word]
     requires { EndsInNames words.now command.now }
     ensures { result.now ≡ names_after words.now }
 {
     match command {
         Command::Survey(asked) => &words[asked.names..],
+        Command::Relations(asked) => &words[asked.names..],
         Command::List { names, .. }
         | Command::Check { names, .. }
         | Command::Map { names, .. }
@@ -74,7 +77,7 @@ fn names_of<'a>(command: &Command, words: &'a [Word]) -> &'a [Word]
         | Command::Mirrors { names, .. }
         | Command::MirrorWrite { names, .. }
         | Command::Salvage { names, .. } => &words[*names..],
-        Command::Sample { .. } | Command::Classes { .. } => &[],
+        Command::Sample { .. } | Command::Classes { .. } | Command::Help | Command::Version => &[],
     }
 }
 
@@ -168,5 +171,8 @@ fn serve<R: Threads + Sync, S: Source, I: Images, K: Sink, G: Gate + Sync>(
         Command::Salvage { set, lost, end, .. } => {
             salvage(rt, alloc, plan, images, names, &set, lost, end, out, gate)
         }
+        Command::Relations(asked) => relations(alloc, images, names, asked, out),
+        Command::Help => help(out),
+        Command::Version => version(out),
     }
 }

@@ -72,7 +72,7 @@ pub fn reraid<R: Threads + Sync, S: Source, I: Images, K: Sink, N: Sink, G: Gate
         IsOrdered (I.seen images.old).sectors_read (I.seen images.new).sectors_read (K.gained out.old) (K.gained out.new) result }
 
     // Words that are no command line are refused. They touch no image, and neither do `sample`, which works
-    // on images of its own, and `classes`, which works on sets alone.
+    // on images of its own, `classes`, which works on sets alone, `--help` and `--version`.
     ensures words { (number : ℕ) → Reads words.now (Err number) → result ≡ 1 }
     ensures apart { (read : Result Command ℕ) → Reads words.now read → (job_of read).apart ≡ true → I.seen images.new ≡ I.seen images.old }
 

@@ -1,7 +1,7 @@
 //! Tests that run the whole program over objects in memory.
 //!
 //! A run has its words as one line, images and a plan, and a status, an output and a note that were worked out by hand.
-//! `listings`, `checks`, `classes`, `landmarks`, `samples`, `surveys`, `volumes`, `bases` and `many_images` have answers,
+//! `listings`, `checks`, `classes`, `landmarks`, `samples`, `surveys`, `volumes`, `bases`, `related`, `texts` and `many_images` have answers,
 //! `refusals`, `refused_words` and `long_images` what is refused, and `defaults` operands that are not given. `failing` has each
 //! call of each object made to fail in turn, `cut` plans whose end is missing, and `plan_limits`, `sector_limits` and
 //! `image_limits` what stands at both sides of each limit. `served` has runs of `reraid-nbd`, and what its client is answered. In `side_by_side` pieces of a scan wait for each other. That objects
@@ -47,6 +47,8 @@ mod refusals;
 #[cfg(test)]
 mod refused_words;
 #[cfg(test)]
+mod related;
+#[cfg(test)]
 mod rows;
 #[cfg(test)]
 mod salvages;
@@ -60,5 +62,7 @@ mod served;
 mod side_by_side;
 #[cfg(test)]
 mod surveys;
+#[cfg(test)]
+mod texts;
 #[cfg(test)]
 mod volumes;

@@ -121,7 +121,23 @@ fn check<R: Threads + Sync + Abort>(rt: &R, alloc: Global, row: &Row) -> Result<
 const SECOND: &str = "reraid: images: long 1 given 18014398509481984 planned 18014398509481983\n";
 
 /// The runs over such images.
-const RUNS: [Row; 7] = [
+const RUNS: [Row; 9] = [
+    Row {
+        line: "relations step=1 -- a b",
+        images: &[],
+        plan: "",
+        status: 4,
+        out: "",
+        notes: "reraid: images: rows given 18014398509481983 planned 1048576\n",
+    },
+    Row {
+        line: "relations step=2 from=1 end=2097154 -- a b",
+        images: &[],
+        plan: "",
+        status: 4,
+        out: "",
+        notes: "reraid: images: rows given 1048577 planned 1048576\n",
+    },
     Row {
         line: "map set=5:ls:none:1:0+0+0:0,1,2 sector=0 -- a b c",
         images: &[],

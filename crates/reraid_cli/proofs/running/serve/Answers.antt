@@ -1,4 +1,4 @@
-use Rattle.run_ends.specs.Jobs.{named, stream}
+use Rattle.run_ends.specs.Jobs.{around, named, stream}
 use Rattle.reraid_cli.proofs.running.serve.Goals as goal
 
 pub returns-in-Survey-clause-does : goal.returns-in-Survey-clause-does
@@ -43,3 +43,17 @@ returns-in-MirrorWrite-clause-does g c =
 
 pub returns-in-Salvage-clause-does : goal.returns-in-Salvage-clause-does
 returns-in-Salvage-clause-does g c = rw c.in-Salvage.is c.salvage.ensures.does
+
+pub returns-in-Relations-clause-does : goal.returns-in-Relations-clause-does
+returns-in-Relations-clause-does g c =
+    rw c.in-Relations.is (c.relations.ensures.does (stream (g.S.Source.left c.args.plan.now) (g.S.Source.faults c.args.plan.now)))
+
+pub returns-in-Help-clause-does : goal.returns-in-Help-clause-does
+returns-in-Help-clause-does g c =
+    let seen = g.I.Images.seen c.args.images.now in
+    rw c.in-Help.is (c.help.ensures (named c.args.names seen.attached) (around seen (stream (g.S.Source.left c.args.plan.now) (g.S.Source.faults c.args.plan.now))))
+
+pub returns-in-Version-clause-does : goal.returns-in-Version-clause-does
+returns-in-Version-clause-does g c =
+    let seen = g.I.Images.seen c.args.images.now in
+    rw c.in-Version.is (c.version.ensures (named c.args.names seen.attached) (around seen (stream (g.S.Source.left c.args.plan.now) (g.S.Source.faults c.args.plan.now))))

@@ -413,7 +413,7 @@ class Looks(InFolder):
 
     def test_encrypted(self) -> None:
         verdict = self.checkers().look(self.volume((0, b"LUKS\xba\xbe")), [], 4096, 8192)
-        self.assertEqual((verdict.text(), verdict.score), ("crypto_LUKS: encrypted; no such files", Score.KNOWN))
+        self.assertEqual((verdict.text(), verdict.score), ("crypto_LUKS: encrypted", Score.KNOWN))
 
     def test_blkid_is_asked_where_it_is_there(self) -> None:
         found = self.checkers(("blkid", put("DEVNAME=x\nTYPE=xfs\n")), ("xfs_repair", put("")), there=("blkid", "xfs_repair"))

@@ -7,6 +7,7 @@ from collections.abc import Sequence
 from typing import Any, cast
 
 from reraid_try.calls.commands import Answer, Words
+from reraid_try.checks.verdicts import Score
 from reraid_try.evidence.images import Image
 from reraid_try.evidence.tables import Partition, Table
 from reraid_try.options import Options
@@ -85,20 +86,22 @@ class Zeros(Evident):
 class Attempts(unittest.TestCase):
     """In which order the shapes of an aim are tried."""
 
-    def order(self, shape: Shape, groups: bool) -> list[str]:
-        """What is asked of a shape, with marks or without."""
+    def order(self, shape: Shape, groups: bool, *found: Any) -> list[str]:
+        """What is asked of a shape, with marks or without, where each listing gives these candidates."""
         asked: list[str] = []
+        tested: list[Any] = []
 
         def step(it: Step, _hunt: Any) -> bool:
             """A listing with so much loosened."""
             asked.append(f"list {it.count}")
+            tested.extend(found)
             return False
 
         def bare(_hunt: Any, _shape: Shape) -> bool:
             """A listing without landmarks."""
             asked.append("bare")
             return False
-        it = Zeros(cast(Any, types.SimpleNamespace(options=Options(("a",)), take_step=step, attempt_bare=bare, tested=[])))
+        it = Zeros(cast(Any, types.SimpleNamespace(options=Options(("a",)), take_step=step, attempt_bare=bare, tested=tested)))
         it.order = asked
         hunt = types.SimpleNamespace(plan=types.SimpleNamespace(groups=["a group"] if groups else []))
         it.attempt(cast(Any, hunt), Aim((0, 1, 2), Span(0, 9), "why", (shape,), tied=True), 0)
@@ -107,6 +110,15 @@ class Attempts(unittest.TestCase):
     def test_marks_and_parity(self) -> None:
         """Where parity tells something and there are marks a plain listing comes before what zeros allow."""
         self.assertEqual(self.order(Shape("6", 6, 1), True), ["list 0", "zeros", "list 1", "list 2"])
+
+    def test_encrypted(self) -> None:
+        """A volume that is encrypted ends it where parity speaks for it, since nothing more is to be seen."""
+        def candidate(parity: bool, encrypted: list[str]) -> Any:
+            found = types.SimpleNamespace(encrypted=encrypted)
+            return types.SimpleNamespace(found=found, trial=types.SimpleNamespace(shape=types.SimpleNamespace(parity=parity)), score=Score.KNOWN)
+        self.assertEqual(self.order(Shape("6", 6), False, candidate(True, ["LUKS"])), ["zeros", "list 0"])
+        for other in (candidate(False, ["LUKS"]), candidate(True, [])):
+            self.assertEqual(self.order(Shape("6", 6), False, other), ["zeros", "list 0", "list 1", "list 2"])
 
     def test_no_parity_or_no_marks(self) -> None:
         """Where no parity is left, or without marks, zeros come first; without both all sets are listed too."""

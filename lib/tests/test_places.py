@@ -2,6 +2,7 @@
 
 import random
 import unittest
+from fractions import Fraction
 from collections.abc import Sequence
 
 from reraid_try.calls.sets import Word, made
@@ -54,7 +55,7 @@ class Best(unittest.TestCase):
         """Where no sector is zeros nothing is told."""
         it = told(rows.without(rows.striped(self.rnd, 4, 5, 400), 2), "5", 4)
         self.assertEqual((it.told, it.best([64])), (False, []))
-        self.assertTrue(it.allows(made_word((2, 0, 1, None))))
+        self.assertTrue(it.allowed([made_word((2, 0, 1, None))])[0])
 
 
 def made_word(slots: tuple[int | None, ...], pattern: str = "ls", chunk: int = 16) -> Word:
@@ -69,14 +70,33 @@ class Allowed(unittest.TestCase):
         """The true set and its like, and none with another order, chunk or turn; of what is not known here nothing is said."""
         whole = rows.striped(random.Random(5), 4, 5, 1600, chunk=16, sparse=0.5)
         it = told(rows.without(whole, 2), "5", 4)
-        self.assertTrue(it.allows(made_word((0, 1, None, 2))))
-        self.assertTrue(it.allows(made_word((0, 1, None, 2), "la")))
-        self.assertFalse(it.allows(made_word((1, 0, None, 2))))
-        self.assertFalse(it.allows(made_word((0, 1, 2, None))))
-        self.assertFalse(it.allows(made_word((0, 1, None, 2), "rs")))
-        self.assertFalse(it.allows(made_word((0, 1, None, 2), chunk=32)))
-        self.assertTrue(it.allows(made_word((0, 1, None, 2), "unheard-of")))
-        self.assertTrue(it.allows(made_word((0, 1, None, 9))))
+        self.assertTrue(it.allowed([made_word((0, 1, None, 2))])[0])
+        self.assertTrue(it.allowed([made_word((0, 1, None, 2), "la")])[0])
+        self.assertFalse(it.allowed([made_word((1, 0, None, 2))])[0])
+        self.assertFalse(it.allowed([made_word((0, 1, 2, None))])[0])
+        self.assertFalse(it.allowed([made_word((0, 1, None, 2), "rs")])[0])
+        self.assertFalse(it.allowed([made_word((0, 1, None, 2), chunk=32)])[0])
+        self.assertTrue(it.allowed([made_word((0, 1, None, 2), "unheard-of")])[0])
+        self.assertTrue(it.allowed([made_word((0, 1, None, 9))])[0])
+
+        self.assertEqual(it.allowed([made_word((0, 1, None, 2)), made_word((1, 0, None, 2)), made_word((0, 1, None, 9))]), [True, False, True])
+
+    def test_other_shapes(self) -> None:
+        """Of sets of another level, or of other numbers of members, nothing is said."""
+        it = told(rows.without(rows.striped(random.Random(5), 4, 5, 1600, chunk=16, sparse=0.5), 2), "5", 4)
+        for slots in ((0, 1, None, None, 2), (0, 1, 2)):
+            self.assertIsNone(it.against(made_word(slots)))
+        self.assertIsNone(it.against(made("6", "ls", "after-q", 16, (64,), (1, 0, None, 2))))
+        self.assertIsNotNone(it.against(made_word((1, 0, None, 2))))
+
+    def test_hardly_more_than_the_best(self) -> None:
+        """A set against which a tenth of the rows speaks is left out beside one against which none does, and stays by itself."""
+        made_rows = [[rows.sector(random.Random(k)), bytes(rows.COLUMNS), *([rows.sector(random.Random(k))] * 2)] if k % 10 else
+                     [bytes(rows.COLUMNS), *([rows.sector(random.Random(k))] * 3)] for k in range(1, 401)]
+        it = told(made_rows, "5", 4)
+        words = [made_word(slots, "parity-last") for slots in ((0, 1, 2, 3), (2, 1, 3, 0))]
+        self.assertEqual([it.against(word) for word in words], [0, Fraction(1, 10)])
+        self.assertEqual((it.allowed(words), it.allowed(words[1:])), ([True, False], [True]))
 
     def test_other_shapes(self) -> None:
         """Of sets with more members or fewer, and of those of another level, nothing is said."""
@@ -94,9 +114,9 @@ class Allowed(unittest.TestCase):
             data = [rows.sector(rnd) if (number // 8 + place) % 3 else bytes(rows.COLUMNS) for place in range(3)]
             made_rows.append([*data[:2], rows.plus(rows.plus(data[0], data[1]), data[2])])
         it = told(made_rows, "5", 4)
-        self.assertTrue(it.allows(made_word((0, 1, None, 2), "parity-last")))
-        self.assertTrue(it.allows(made_word((1, None, 0, 2), "parity-last")))
-        self.assertFalse(it.allows(made_word((0, 2, None, 1), "parity-last")))
+        self.assertTrue(it.allowed([made_word((0, 1, None, 2), "parity-last")])[0])
+        self.assertTrue(it.allowed([made_word((1, None, 0, 2), "parity-last")])[0])
+        self.assertFalse(it.allowed([made_word((0, 2, None, 1), "parity-last")])[0])
 
 
 class Turns(unittest.TestCase):
@@ -105,7 +125,8 @@ class Turns(unittest.TestCase):
     PICTURES = {("ls", "after-q"): "Q..P ..PQ .PQ. PQ..", ("rs", "after-q"): "PQ.. .PQ. ..PQ Q..P",
                 ("n-restart", "by-slot"): "..PQ .PQ. PQ.. Q..P",
                 ("n-continue", "by-slot"): "..QP .QP. QP.. P..Q", ("ls-6", "after-q"): "..PQ .P.Q P..Q ..PQ",
-                ("rs-6", "after-q"): "P..Q .P.Q ..PQ P..Q", ("parity-last", "after-q"): "..PQ ..PQ ..PQ ..PQ"}
+                ("rs-6", "after-q"): "P..Q .P.Q ..PQ P..Q", ("parity-last", "after-q"): "..PQ ..PQ ..PQ ..PQ",
+                ("parity-first", "after-q"): "PQ.. PQ.. PQ.. PQ..", ("parity-first-6", "after-q"): "P..Q P..Q P..Q P..Q"}
 
     def test_level_6(self) -> None:
         """Each turn of level 6."""
@@ -117,7 +138,7 @@ class Turns(unittest.TestCase):
     def test_level_5(self) -> None:
         """Each turn of level 5."""
         self.assertEqual([[turn.parity(row, 4) for row in range(5)] for turn in places.TURNS_5],
-                         [[(3,), (2,), (1,), (0,), (3,)], [(0,), (1,), (2,), (3,), (0,)], [(3,)] * 5])
+                         [[(3,), (2,), (1,), (0,), (3,)], [(0,), (1,), (2,), (3,), (0,)], [(3,)] * 5, [(0,)] * 5])
 
 
 if __name__ == "__main__":

@@ -23,6 +23,7 @@ from reraid_try.checks.verdicts import Score
 from reraid_try.checks.volumes import Room
 from reraid_try.errors import OutsideError, Stopped
 from reraid_try.options import Options
+from reraid_try.policy.evident import Evident
 from reraid_try.policy.search import Search
 from reraid_try.report.report import Report
 from reraid_try.units import MIB, SECTOR
@@ -93,6 +94,14 @@ class Runs(InFolder):
         self.assertIs(search.best(), Score.CHECKED)
         self.assertIn("goes on: a checker alone is content", self.report.text)
         self.assertEqual(len(search.tested), 1)
+        self.assertNotIn("diagnosis", self.report.text)
+
+    def test_evidence_that_says_enough_ends_it(self) -> None:
+        """An encrypted volume has no sign, and may have no score: nothing is searched over all images then, nor diagnosed."""
+        with mock.patch.object(Evident, "run", lambda _: True):
+            search = self.run_search(self.search())
+        self.assertEqual((search.best(), search.solved, self.standin.count("reraid list"), self.standin.count("reraid survey")),
+                         (Score.NOTHING, True, 0, 0))
         self.assertNotIn("diagnosis", self.report.text)
 
     def test_a_small_file_system_has_no_sign(self) -> None:

@@ -150,7 +150,7 @@ class Checkers:
             self.look_into(it)
         if it.verdict.findings and not it.verdict.inner:
             it.verdict.empty, it.verdict.findings[-1].said = True, "nothing known in it"
-        if it.verdict.findings and not it.verdict.wholly_summed:
+        if it.verdict.findings and not it.verdict.wholly_summed and not it.verdict.closed:
             self.count_files(it)
         return it.verdict
 

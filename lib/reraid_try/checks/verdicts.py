@@ -127,6 +127,11 @@ class Verdict:
         return [finding for finding in self.findings if finding.system.opened]
 
     @property
+    def closed(self) -> bool:
+        """All that was found is encrypted: no file is to be seen."""
+        return bool(self.inner) and all(finding.system.opened for finding in self.inner)
+
+    @property
     def covers(self) -> int:
         """How many bytes of the volume lie in what was found, as far as that says how long it is."""
         return covered([piece for finding in self.inner if finding.clean is not False for piece in finding.pieces], self.length)
@@ -168,5 +173,5 @@ class Verdict:
     def text(self) -> str:
         """What is said of the volume."""
         said = [finding.text() for finding in self.findings] or ["nothing known"]
-        files = [] if self.wholly_summed else [self.files.text(self.chunk, self.row)]
+        files = [] if self.wholly_summed or self.closed else [self.files.text(self.chunk, self.row)]
         return "; ".join(said + files + self.notes)

@@ -41,8 +41,8 @@ class Old:
 
 @dataclasses.dataclass(frozen=True)
 class Reshape:
-    """Where ties change for good: the last row with a tie of all images and the first with one of the rest alone, and which images are tied up to the
-    one and from the other on. Of the rows between them nothing is known, as where they are zeros."""
+    """Where ties change for good: the last row with a tie of all images and the first with one of the rest alone, and which images are tied up to
+    the one and from the other on. Of the rows between them nothing is known, as where they are zeros."""
 
     last: int
     sector: int

@@ -5,6 +5,7 @@ however many disks are lost; the rows together mostly tell the order of the disk
 import dataclasses
 import functools
 from collections.abc import Callable, Iterable, Iterator, Mapping, Sequence
+from fractions import Fraction
 
 from ..calls.sets import Word, made
 from .families import LEVEL_5, ties_among
@@ -45,6 +46,7 @@ TURNS_5 = (
     Turn((("ls", NONE), ("la", NONE)), lambda row, members: (left(row, members),)),
     Turn((("rs", NONE), ("ra", NONE)), lambda row, members: (row % members,)),
     Turn((("parity-last", NONE),), lambda row, members: (members - 1,), True),
+    Turn((("parity-first", NONE),), lambda row, members: (0,), True),
 )
 TURNS_6 = (
     # With ls and rs the order by-data is after-q.
@@ -55,6 +57,8 @@ TURNS_6 = (
     Turn((("ls-6", "after-q"), ("la-6", "after-q")), lambda row, members: (left(row, members - 1), members - 1)),
     Turn((("rs-6", "after-q"), ("ra-6", "after-q")), lambda row, members: (row % (members - 1), members - 1)),
     Turn((("parity-last", "after-q"),), lambda row, members: (members - 2, members - 1), True),
+    Turn((("parity-first", "after-q"),), lambda row, members: (0, 1), True),
+    Turn((("parity-first-6", "after-q"),), lambda row, members: (0, members - 1), True),
 )
 
 
@@ -150,14 +154,22 @@ class Places:
         """How parity of a pattern moves; None where that is not known here."""
         return next((turn for turn in self.turns if any(pattern == name for name, _ in turn.patterns)), None)
 
-    def allows(self, word: Word) -> bool:
-        """Few rows speak against a set, or too little is known: of another level or another number of members it is not known where parity lies."""
-        turn = self.turn_of(word.pattern) if (word.level, len(word.slots)) == (self.level, self.members) else None
-        if turn is None or word.is_each or not self.told or not set(word.images) <= set(self.images):
-            return True
+    def against(self, word: Word) -> Fraction | None:
+        """Which part of the rows speaks against a set; None where too little is known of it."""
+        turn = self.turn_of(word.pattern)
+        alike = (word.level, len(word.slots)) == (self.level, self.members)
+        if turn is None or word.is_each or not self.told or not alike or not set(word.images) <= set(self.images):
+            return None
         costs = self.costs(turn, word.chunk, word.offset)
-        against = costs.of([None if image is None else self.images.index(image) for image in word.slots])
-        return costs.rows < LEAST_ROWS or FEW_AGAINST * against <= costs.rows
+        if costs.rows < LEAST_ROWS:
+            return None
+        return Fraction(costs.of([None if image is None else self.images.index(image) for image in word.slots]), costs.rows)
+
+    def allowed(self, words: Sequence[Word]) -> list[bool]:
+        """Of each of these sets, whether few rows speak against it, and hardly more than against the best of them, or too little is known."""
+        parts = [self.against(word) for word in words]
+        least = min((part for part in parts if part is not None), default=Fraction(0))
+        return [part is None or FEW_AGAINST * part <= 1 and FEW_MORE * (part - least) <= 1 for part in parts]
 
     def best(self, offsets: Iterable[int], chunks: Sequence[int] = CHUNKS) -> list[Placement]:
         """The placements against which fewest rows speak, few of all, of patterns whose parity moves; none where too few rows say something."""

@@ -1,6 +1,7 @@
 """The first part of a search: what the images themselves say of their array is printed, and tried before all else."""
 
 import dataclasses
+import functools
 from collections.abc import Iterable, Iterator
 from typing import TYPE_CHECKING
 
@@ -39,9 +40,14 @@ class Part:
     span: Span
 
 
+def is_closed(it: Candidate) -> bool:
+    """Parity speaks for a candidate and it is encrypted, so that nothing more is to be seen in it."""
+    return it.trial.shape.parity and bool(it.found.encrypted)
+
+
 def enough(it: Candidate) -> bool:
-    """A candidate is content or whole, or parity speaks for it and it is encrypted, so that nothing more is to be seen in it."""
-    return it.score >= Score.CHECKED or it.trial.shape.parity and bool(it.found.encrypted)
+    """A candidate is content or whole, or nothing more is to be seen in it."""
+    return it.score >= Score.CHECKED or is_closed(it)
 
 
 class Evident:
@@ -161,22 +167,29 @@ class Evident:
         images = self.within(aim.images, aim.span)
         search.report.bar.show("surveys the images")
         hunt = Hunt(self.options, search.commands, images, search.say_late, start=aim.span.first, asked=dict(aim.asked), tied=aim.tied)
+        hunt.ask_places = functools.partial(self.places_of, aim)
         search.say_evidence(hunt)
         if not (aim.copied and any(search.mirrors(hunt, missing) for missing in (0, 1))):
             self.attempt(hunt, aim, before)
         search.why = ""
-        return any(enough(it) for it in search.tested[before:])
+        return any(map(enough, self.since(before)))
+
+    def places_of(self, aim: Aim) -> Places | None:
+        """Where parity may lie on the images of an aim, by rows of which a part is zeros; None where that cannot be told."""
+        shape = aim.shapes[0] if aim.shapes else None
+        if shape is None or aim.is_each or shape.levels not in (LEVEL_5, LEVEL_6) or not aim.tied:
+            return None
+        self.search.report.bar.show("asks in which rows zeros are")
+        step = max(1, (aim.span.end - aim.span.first) // places.MOST_ROWS)
+        found = self.asked().relations(aim.images, aim.span.first, aim.span.end, step)
+        return Places(found, aim.images, shape.levels, shape.members) if found else None
 
     def by_places(self, hunt: Hunt, aim: Aim) -> bool:
         """The sets that rows of which a part is zeros allow, by where parity lies in them; it says whether a candidate is whole."""
-        shape = aim.shapes[0] if aim.shapes else None
-        if shape is None or aim.is_each or shape.levels not in (LEVEL_5, LEVEL_6) or not aim.tied:
+        hunt.places, hunt.ask_places = hunt.places or self.places_of(aim), None
+        if hunt.places is None:
             return False
-        step = max(1, (aim.span.end - aim.span.first) // places.MOST_ROWS)
-        found = self.asked().relations(aim.images, aim.span.first, aim.span.end, step)
-        if found is None:
-            return False
-        hunt.places = Places(found, aim.images, shape.levels, shape.members)
+        shape = aim.shapes[0]
         more = (aim.span.first + offset for offset in hints.MORE_OFFSETS)
         offsets = {it for it in (*hunt.evidence.tried, *more) if it < hunt.evidence.end and (aim.begin is None or it <= aim.begin)}
         best = hunt.places.best(sorted(offsets))
@@ -190,14 +203,14 @@ class Evident:
         return self.search.take(hunt, trial, listing.sets, lambda it: (read_word(it.text), hunt.word(it.text)))
 
     def attempt(self, hunt: Hunt, aim: Aim, before: int) -> None:
-        """The trials of the shapes of an aim, with ever more loosened, until a candidate is whole, or content where something is loosened. What is
-        listed comes before what zeros allow where parity tells something and there are marks, since few sets pass then. `before` is how many
-        candidates were tested before them."""
+        """The trials of the shapes of an aim, with ever more loosened, until a candidate is whole or encrypted, or content where something is
+        loosened. What is listed comes before what zeros allow where parity tells something and there are marks, since few sets pass then. `before`
+        is how many candidates were tested before them."""
         listed = bool(hunt.plan.groups) and any(shape.parity for shape in aim.shapes)
         if not listed and self.by_places(hunt, aim):
             return
         for count in range(MOST_LOOSENED + 1):
-            if self.search.take_step(Step(aim.shapes, count), hunt) or count and self.is_content(before):
+            if self.search.take_step(Step(aim.shapes, count), hunt) or count and self.is_content(before) or any(map(is_closed, self.since(before))):
                 return
             if count == 0 and listed and not self.is_content(before) and self.by_places(hunt, aim):
                 return
@@ -206,4 +219,8 @@ class Evident:
 
     def is_content(self, before: int) -> bool:
         """A candidate that was tested since has a sign."""
-        return any(it.score >= Score.CHECKED for it in self.search.tested[before:])
+        return any(it.score >= Score.CHECKED for it in self.since(before))
+
+    def since(self, before: int) -> list[Candidate]:
+        """The candidates that were tested behind so many."""
+        return self.search.tested[before:]

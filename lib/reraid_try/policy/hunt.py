@@ -1,7 +1,8 @@
 """A hunt: a search over some of the images, by their evidence; what is listed of each trial, and what is passed over."""
 
 import dataclasses
-from collections.abc import Iterator, Mapping, Sequence
+import itertools
+from collections.abc import Callable, Iterator, Mapping, Sequence
 
 from ..calls.commands import Runner, quoted
 from ..calls.plans import Plan
@@ -21,6 +22,10 @@ from .shapes import Shape, Shapes
 from .trials import Trial
 
 
+# Of more sets than these those are left out against which zeros speak, where that can be known.
+FEW_SETS = 8
+
+
 class Hunt:
     """A search over these images, behind a start on each. With `pairs` its sets are those of a RAID 0 of one image of each pair; `asked` is asked for
     in each trial; `tied` says that parity ties the images. `late` is told of each question that ran out of its time."""
@@ -38,6 +43,7 @@ class Hunt:
         self.tried: set[str] = set()
         self.passed_over = 0
         self.places: Places | None = None
+        self.ask_places: Callable[[], Places | None] | None = None
 
     @property
     def shapes(self) -> Shapes:
@@ -81,12 +87,14 @@ class Hunt:
         return may
 
     def listing(self, shape: Shape, request: Request, plan: Plan) -> Listing:
-        """What a trial lists, without the sets that rows speak against whose zeros tell where parity lies."""
+        """What a trial lists, without the sets that rows speak against whose zeros tell where parity lies. These are asked for where it lists many."""
         self.tell(request)
         found = self.questions.climb(plan) if self.questions.has_bad_rows(plan, shape) else self.program.listing(plan)
+        if self.places is None and self.ask_places and len(found.sets) > FEW_SETS:
+            self.places, self.ask_places = self.ask_places(), None
         if self.places is None or not found.sets:
             return found
-        kept = tuple(it for it in found.sets if self.places.allows(self.word(it.text)))
+        kept = tuple(itertools.compress(found.sets, self.places.allowed([self.word(it.text) for it in found.sets])))
         told = f"{len(found.sets) - len(kept)} more have parity where zeros are" if len(kept) < len(found.sets) else ""
         return dataclasses.replace(found, sets=kept, note="; ".join(filter(None, [found.note, told])))
 

@@ -42,7 +42,8 @@ MOST_THRICE = 2
 
 class Search:
     """One run: what is seen, what is tried, and the candidates. `hunt` is that over all images, `hunts` are all that were begun, `shapes_tried` of
-    which shapes there were trials, `why` for what reason the next ones are."""
+    which shapes there were trials, `why` for what reason the next ones are; `solved` says that a candidate says enough of what evidence gave a
+    reason for, so that there is no hunt over all images."""
 
     tests: Tests
     hunt: Hunt
@@ -52,7 +53,7 @@ class Search:
         self.images: tuple[Image, ...] = ()
         self.tested: list[Candidate] = []
         self.known: set[str] = set()
-        self.number, self.said_on, self.was_late = 0, False, False
+        self.number, self.said_on, self.was_late, self.solved = 0, False, False, False
         self.hunts: list[Hunt] = []
         self.shapes_tried: set[str] = set()
         self.why = ""
@@ -60,14 +61,14 @@ class Search:
     def run(self) -> None:
         """Does all of it."""
         self.pass_through()
-        if self.best() < Score.KNOWN and self.may_read_all():
+        if not self.solved and self.best() < Score.KNOWN and self.may_read_all():
             self.report.say("all", "nothing was found in the first part, and all images are small: goes on to the whole of them")
             self.options = dataclasses.replace(self.options, first=ALL)
             self.known.clear()
             self.pass_through()
-        if self.best() < Score.KNOWN:
+        if not self.solved and self.best() < Score.KNOWN:
             self.without_landmarks()
-        if self.best() < Score.CHECKED:
+        if not self.solved and self.best() < Score.CHECKED:
             self.diagnose(lambda it: it.show(self.was_late))
         self.say_rows()
 
@@ -100,7 +101,8 @@ class Search:
         self.look()
         self.tests = Tests(self.options, self.commands, self.report, self.room, self.images)
         evident = Evident(self)
-        if evident.run():
+        self.solved = evident.run()
+        if self.solved:
             return
         self.report.bar.show("surveys the images")
         self.hunt = evident.hunt()

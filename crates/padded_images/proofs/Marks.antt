@@ -1,4 +1,4 @@
--- The marks of a plan, as they are moved.
+-- The marks of a plan, as the padding raises them.
 use Rattle.std.proofs.Common.{ℕ, zero, suc, ◌<◌, List, [], ◌∷◌, slice_get, All, IsSomeAnd, arith}
 use Rattle.std.proofs.lemmas.List.Elements.{All-head, All-tail, All-weaker}
 use Rattle.landmark_rules.specs.Groups.{IsMark}

@@ -157,13 +157,13 @@ same_marks (m ∷ ms) (n ∷ ns) rises climbs there back =
     (λ k has. left_in n m k ns ms (sym same) climbs.0 has (back k (later_in n ns k has))) in
     rw (same, rest) refl
 
--- ---- marks that rise are each at a place of its own, also once they are moved with their images
+-- ---- marks that rise are each at a place of its own, also once the images are padded
 
 same_place : (bases : List ℕ) (m n : Mark) → m.image < MOST → n.image < MOST → mark_place (padded_mark bases m) ≡ mark_place (padded_mark bases n) → mark_place m ≡ mark_place n
 same_place bases m n small few e =
     let image : m.image ≡ n.image = omega (arith, small, few, e) in
-    let moved : padding bases m.image ≡ padding bases n.image = ap (padding bases) image in
-    omega (arith, image, moved, e)
+    let raised : padding bases m.image ≡ padding bases n.image = ap (padding bases) image in
+    omega (arith, image, raised, e)
 
 none_at : (bases : List ℕ) (m : Mark) (ms : List Mark) → m.image < MOST → All (λ n. n.image < MOST) ms → All (λ n. mark_place m < mark_place n) ms → sum_by (is_at (mark_place (padded_mark bases m))) (map (padded_mark bases) ms) ≤ 0
 none_at bases m [] small few above = omega arith
@@ -222,22 +222,22 @@ rising_from (m ∷ []) rises k h = absurd (omega arith)
 rising_from (m ∷ n ∷ ms) rises zero h = All-head (λ k. mark_place m < mark_place k) n ms rises.0
 rising_from (m ∷ n ∷ ms) rises (suc k) h = let at : suc k + 1 ≡ suc (k + 1) = omega arith in rw at (rising_from (n ∷ ms) rises.1 k (omega arith))
 
--- moved marks in their order rise
+-- padded marks in their order rise
 pub order_rises : (bases : List ℕ) (ms : List Mark) → IsStrictlyIncreasing (map mark_place ms) → All (λ n. n.image < MOST) ms → Rises (in_order (map (padded_mark bases) ms))
 order_rises bases ms up few =
-    let moved = map (padded_mark bases) ms in
-    rises_of (in_order moved) (order_climbs moved)
-    (λ place. let same = sum_by-IsPermutation (is_at place) moved (in_order moved) (order_permutes moved) in let most = once bases ms (rises_from ms up) few place in omega (arith, same, most))
+    let unsorted = map (padded_mark bases) ms in
+    rises_of (in_order unsorted) (order_climbs unsorted)
+    (λ place. let same = sum_by-IsPermutation (is_at place) unsorted (in_order unsorted) (order_permutes unsorted) in let most = once bases ms (rises_from ms up) few place in omega (arith, same, most))
 
--- and moved marks that were sorted are those in their order
+-- and padded marks that were sorted are those in their order
 pub are_in_order : (bases : List ℕ) (ms sorted : List Mark) → IsStrictlyIncreasing (map mark_place ms) → All (λ n. n.image < MOST) ms → IsPermutation (map (padded_mark bases) ms) sorted → IsNonDecreasingBy mark_place sorted → sorted ≡ in_order (map (padded_mark bases) ms)
 are_in_order bases ms sorted up few permutes climbs =
-    let moved = map (padded_mark bases) ms in
-    let ordered = in_order moved in
-    let back = IsPermutation-trans sorted moved ordered (IsPermutation-sym moved sorted permutes) (order_permutes moved) in
+    let unsorted = map (padded_mark bases) ms in
+    let ordered = in_order unsorted in
+    let back = IsPermutation-trans sorted unsorted ordered (IsPermutation-sym unsorted sorted permutes) (order_permutes unsorted) in
     same_marks sorted ordered
     (rises_of sorted (climbs_from sorted climbs)
-    (λ place. let same = sum_by-IsPermutation (is_at place) moved sorted permutes in let most = once bases ms (rises_from ms up) few place in omega (arith, same, most)))
+    (λ place. let same = sum_by-IsPermutation (is_at place) unsorted sorted permutes in let most = once bases ms (rises_from ms up) few place in omega (arith, same, most)))
     (order_rises bases ms up few)
     (λ k. Contains-permutation sorted ordered k back)
     (λ k. Contains-permutation ordered sorted k (IsPermutation-sym sorted ordered back))

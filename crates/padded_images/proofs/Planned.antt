@@ -32,10 +32,10 @@ sum_map f g same (x ∷ xs) =
 sum_marks : (f : Mark → ℕ) (bases : List ℕ) → ((m : Mark) → f (padded_mark bases m) ≡ f m) → (groups : List Group) → sum_by f (marks_in (map (padded_group bases) groups)) ≡ sum_by f (marks_in groups)
 sum_marks f bases same [] = refl
 sum_marks f bases same (g ∷ groups) =
-    let moved = map (padded_mark bases) g.marks in
-    let one = sum_by-append f (in_order moved) (marks_in (map (padded_group bases) groups)) in
+    let unsorted = map (padded_mark bases) g.marks in
+    let one = sum_by-append f (in_order unsorted) (marks_in (map (padded_group bases) groups)) in
     let other = sum_by-append f g.marks (marks_in groups) in
-    let ordered = sum_by-IsPermutation f moved (in_order moved) (order_permutes moved) in
+    let ordered = sum_by-IsPermutation f unsorted (in_order unsorted) (order_permutes unsorted) in
     let here = sum_map f (padded_mark bases) same g.marks in
     let rest = sum_marks f bases same groups in
     omega (arith, one, other, ordered, here, rest)
@@ -51,8 +51,8 @@ raised more sector (Some n) is = omega (arith, is)
 group_marks : (bases lengths : List ℕ) (g : Group) → All (IsMark lengths g.kind) g.marks → All (IsMark (lengths_to (greatest_base bases) bases lengths) g.kind) (padded_marks bases g.marks)
 group_marks bases lengths g all =
     let grown_lengths = lengths_to (greatest_base bases) bases lengths in
-    let moved = map (padded_mark bases) g.marks in
-    All-permutation (IsMark grown_lengths g.kind) moved (in_order moved) (order_permutes moved)
+    let unsorted = map (padded_mark bases) g.marks in
+    All-permutation (IsMark grown_lengths g.kind) unsorted (in_order unsorted) (order_permutes unsorted)
     (All-map (IsMark grown_lengths g.kind) (padded_mark bases) g.marks
     (All-weaker (IsMark lengths g.kind) (λ m. IsMark grown_lengths g.kind (padded_mark bases m)) (λ m is. record {
       kind_of = is.kind_of;

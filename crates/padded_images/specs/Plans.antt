@@ -12,7 +12,7 @@ lengths_to greatest [] lengths = lengths
 lengths_to greatest (base ∷ bases) [] = []
 lengths_to greatest (base ∷ bases) (n ∷ lengths) = (greatest - base + n) ∷ lengths_to greatest bases lengths
 
--- the mark, as far into its image as the padding moves it
+-- the mark, as far into its image as the padding puts it
 abbrev pub padded_mark : List ℕ → Mark → Mark
 padded_mark bases mark = record mark { sector = padding bases mark.image + mark.sector }
 
@@ -26,7 +26,7 @@ unfoldable pub in_order : List Mark → List Mark
 in_order [] = []
 in_order (mark ∷ marks) = with_mark mark (in_order marks)
 
--- the marks of a group, each moved with its image, in their order
+-- the marks of a group, each padded with its image, in their order
 abbrev pub padded_marks : List ℕ → List Mark → List Mark
 padded_marks bases marks = in_order (map (padded_mark bases) marks)
 
@@ -34,7 +34,7 @@ padded_marks bases marks = in_order (map (padded_mark bases) marks)
 abbrev pub padded_group : List ℕ → Group → Group
 padded_group bases group = record group { marks = padded_marks bases group.marks }
 
--- the plan: each length grows by the padding of its image, each mark moves with its image, and all images share an offset
+-- the plan: each length grows by the padding of its image, each mark is padded with its image, and all images have a common offset
 -- then. All else is as it was
 abbrev pub padded_plan : List ℕ → Plan → Plan
 padded_plan bases plan = record plan {

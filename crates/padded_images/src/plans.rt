@@ -16,7 +16,7 @@ use search_plan::Plan;
 use std::alloc::Global;
 
 /// The plan of the images once they are padded by their bases, in sectors, one for each image of the plan: each
-/// length grows by the padding of its image, each mark moves with its image, and the marks of a group come in
+/// length grows by the padding of its image, each mark is padded with its image, and the marks of a group come in
 /// their order again. All else is as in the plan.
 pub fn pad_plan(alloc: Global, plan: &Plan, bases: &[u64]) -> Result<Plan, Memory>
     requires plan { IsPlan plan.now }
@@ -59,7 +59,7 @@ fn padded_lengths(
     padded
 }
 
-/// The groups, their marks moved with their images.
+/// The groups, each mark padded with its image.
 fn padded_groups(
     alloc: Global,
     groups: &Groups,
@@ -83,7 +83,7 @@ fn padded_groups(
     Ok(padded)
 }
 
-/// The marks of a group, moved with their images, in their order.
+/// The marks of a group, each padded with its image, in their order.
 fn padded_marks(alloc: Global, marks: &Marks, bases: &[u64], greatest: u64) -> Result<Marks, Memory>
     requires greatest { greatest ≡ greatest_base bases.now }
     requires near { greatest < BASES_END }
@@ -92,15 +92,15 @@ fn padded_marks(alloc: Global, marks: &Marks, bases: &[u64], greatest: u64) -> R
     requires rising { IsStrictlyIncreasing (map mark_place marks.now) }
     ensures { IfOk result (λ padded. padded ≡ padded_marks_of bases.now marks.now) }
 {
-    let mut moved = moved_marks(alloc, marks, bases, greatest)?;
-    moved.sort_unstable_by_key(place_of);
+    let mut unsorted = unsorted_marks(alloc, marks, bases, greatest)?;
+    unsorted.sort_unstable_by_key(place_of);
     let mut padded = Marks::new(alloc);
-    padded.extend_from_slice(&moved)?;
+    padded.extend_from_slice(&unsorted)?;
     Ok(padded)
 }
 
-/// The marks of a group, moved with their images, in the order in which they were.
-fn moved_marks(
+/// The marks of a group, each padded with its image, in the order in which they were.
+fn unsorted_marks(
     alloc: Global,
     marks: &Marks,
     bases: &[u64],
@@ -109,9 +109,9 @@ fn moved_marks(
     requires greatest { greatest ≡ greatest_base bases.now }
     requires near { greatest < BASES_END }
     requires short { All (λ mark. mark.sector < BASES_END) marks.now }
-    ensures { IfOk result (λ moved. moved.items ≡ map (padded_mark bases.now) marks.now) }
+    ensures { IfOk result (λ unsorted. unsorted.items ≡ map (padded_mark bases.now) marks.now) }
 {
-    let mut moved = Vec::new(alloc);
+    let mut unsorted = Vec::new(alloc);
     for mark in marks.as_slice() {
         let padding = padding(bases, greatest, mark.image as usize);
         let padded = Mark {
@@ -120,11 +120,11 @@ fn moved_marks(
             sector: padding + mark.sector,
             rule: mark.rule,
         };
-        if moved.push(padded).is_err() {
+        if unsorted.push(padded).is_err() {
             return Err(Memory);
         }
     }
-    Ok(moved)
+    Ok(unsorted)
 }
 
 /// The place of a mark in its group: by its sector, and on one sector by its image.

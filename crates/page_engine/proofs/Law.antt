@@ -26,7 +26,7 @@ use Rattle.slot_math.proofs.Listed.{each_flat, each_get, each_kept, each_list, e
 use Rattle.slot_math.specs.Ways.{AllImages}
 use Rattle.page_engine.specs.Laws.{is_hopeful_with, PassingSetsAreHopeful, WholeListsTakeTheLandmarkTest}
 use Rattle.wide_product.proofs.PartAt.{wide_are}
-use Rattle.wide_product.proofs.Products.{shared_are}
+use Rattle.wide_product.proofs.Products.{common_are}
 use Rattle.wide_product.specs.Groups.{based_of, bases_of}
 use Rattle.wide_product.specs.Sets.{padded_bytes, passes_with, sets_over, starts, wide_sets, Based}
 use Rattle.xor_tables.proofs.Broken.{rows_at}
@@ -75,8 +75,8 @@ each_based plan =
     (λ head known. each_flat (IsAllowed plan) (λ bases. Unit {0}) (sets_over (length plan.lengths.items) plan.bounds head) (bases_of plan) (λ bases t. allowed_over plan head bases known.1) (each_any (λ bases. Unit {0}) (λ bases. tt) (bases_of plan)))
     (each_kept (λ head. Unit {0}) is_valid_head (combined plan.bounds) (each_any {A = Head} (λ head. Unit {0}) (λ head. tt) (combined plan.bounds)))
 
-each_shared : (plan : Plan) → AllByRecursion (IsAllowed plan) (map (λ geo. (geo, [])) (sets_of plan))
-each_shared plan =
+each_common : (plan : Plan) → AllByRecursion (IsAllowed plan) (map (λ geo. (geo, [])) (sets_of plan))
+each_common plan =
     each_map (IsAllowed plan) (λ geo. (geo, [])) (sets_of plan)
     (each_of (λ geo. IsSetOf (padded_plan [] plan) geo) (sets_of plan) (λ k geo at. allowed_with plan geo [] (set_at plan k geo at)))
 
@@ -85,7 +85,7 @@ allowed_at plan rank set at = by_kind plan.each refl
   where
     by_kind : (b : Bool) → plan.each ≡ b → IsAllowed plan set
     by_kind true each = each_get (IsAllowed plan) (based_of plan) rank set (each_based plan) (sym (ap (λ (l : List Based). slice_get l rank) (wide_are plan each)) ∙ at)
-    by_kind false each = each_get (IsAllowed plan) (map (λ geo. (geo, [])) (sets_of plan)) rank set (each_shared plan) (sym (ap (λ (l : List Based). slice_get l rank) (shared_are plan each)) ∙ at)
+    by_kind false each = each_get (IsAllowed plan) (map (λ geo. (geo, [])) (sets_of plan)) rank set (each_common plan) (sym (ap (λ (l : List Based). slice_get l rank) (common_are plan each)) ∙ at)
 
 slots_of : (plan : Plan) (geo : Geometry) → IsSetOf plan geo → AreSlots plan geo
 slots_of plan geo set = record {

@@ -3,8 +3,8 @@ pub mod Shifted
 pub mod PartPage
 pub mod PartReads
 pub mod Walked
-pub mod Shared
-pub mod SharedPages
+pub mod CommonLines
+pub mod CommonPages
 pub mod PageByPage
 pub mod Hopeful
 pub mod Law

@@ -17,7 +17,7 @@ use Rattle.common_pages.specs.declared.page_parts.PageFault.TheVariants.{Many, C
 use Rattle.wide_product.specs.Sets.{wide_passes_at, wide_total}
 use Rattle.page_engine.specs.Reads.{ArePageEnds, IsPageEnd, ReadsWide, based_reads, based_to, wide_reads, wide_reads_to}
 use Rattle.page_engine.proofs.RangeReads.{wide_based}
-use Rattle.page_engine.proofs.SharedPages.{same_fault}
+use Rattle.page_engine.proofs.CommonPages.{same_fault}
 use Rattle.page_engine.specs.Pages.{ArePagesFrom, EndsBased, GivesPage, GivesPages, IsPageFrom, IsPageOf}
 use Rattle.page_engine.specs.Parts.{EndsPart}
 use Rattle.page_engine.specs.declared.page_parts.ListPage.{ListPage}

@@ -14,10 +14,10 @@ use Rattle.search_terms.specs.Page.{stop_of}
 use Rattle.plan_sets.specs.Sets.{total_of}
 use Rattle.search_plan.specs.declared.plan.Plan.{Plan}
 use Rattle.wide_product.proofs.Aligned.{aligned}
-use Rattle.wide_product.specs.Moved.{moved_plan, IsMoved}
+use Rattle.wide_product.specs.PaddedParts.{part_plan, IsPaddedPart}
 use Rattle.wide_product.specs.Parts.{IsPartOf}
 use Rattle.wide_product.specs.Sets.{padded_bytes, Based}
-use Rattle.wide_product.specs.declared.moved.MovedPart.{MovedPart}
+use Rattle.wide_product.specs.declared.padded_part.PaddedPart.{PaddedPart}
 use Rattle.wide_product.specs.declared.parts.Part.{Part}
 use Rattle.page_engine.proofs.PartPage.{told_padded}
 use Rattle.page_engine.proofs.Cut.{cut_inside}
@@ -34,7 +34,7 @@ grown greatest [] images = refl
 grown greatest (base ∷ bases) [] = refl
 grown greatest (base ∷ bases) (image ∷ images) = ap (λ (l : List ℕ). (greatest - base + image.sectors) ∷ l) (grown greatest bases images)
 
-pub agrees : (plan : Plan) (part : Part) (made : Plan) (bases : List ℕ) (attached : List Image) → made ≡ moved_plan plan part → bases ≡ part.bases.items → AgreeWith plan attached → AgreeWith made (padded_images bases attached)
+pub agrees : (plan : Plan) (part : Part) (made : Plan) (bases : List ℕ) (attached : List Image) → made ≡ part_plan plan part → bases ≡ part.bases.items → AgreeWith plan attached → AgreeWith made (padded_images bases attached)
 agrees plan part made bases attached is same agree =
     ap (λ (bs : List ℕ). lengths_of (padded_images bs attached)) same
     ∙ grown (greatest_base part.bases.items) part.bases.items attached
@@ -57,33 +57,33 @@ unfolding part_reads
 no_sets told plan = refl
 
 -- what may be read for ranks of a part
-reads_inside : (told : Option (List (List ℕ))) (plan : Plan) (part : Part) (made : MovedPart) (from to : ℕ) → IsPlan plan → plan.each ≡ true → IsPartOf plan part → IsMoved plan part made → part.first ≤ from → from < to → to ≤ part.first + part.count →
-    page_reads (option_map (padded_bytes part.bases.items) told) (moved_plan plan part) (made.first + (from - part.first)) (made.first + (to - part.first)) ≡ based_reads told plan from to
+reads_inside : (told : Option (List (List ℕ))) (plan : Plan) (part : Part) (made : PaddedPart) (from to : ℕ) → IsPlan plan → plan.each ≡ true → IsPartOf plan part → IsPaddedPart plan part made → part.first ≤ from → from < to → to ≤ part.first + part.count →
+    page_reads (option_map (padded_bytes part.bases.items) told) (part_plan plan part) (made.first + (from - part.first)) (made.first + (to - part.first)) ≡ based_reads told plan from to
 unfolding based_reads
-reads_inside told plan part made from to is_plan each is is_moved low range high =
+reads_inside told plan part made from to is_plan each is is_padded low range high =
     let own = aligned plan part is_plan each is (omega arith) in
     let first = own.first in
     let count = own.count in
-    reads_there told plan part made own (from - part.first) (to - part.first) is is_moved (omega arith) (omega arith)
+    reads_there told plan part made own (from - part.first) (to - part.first) is is_padded (omega arith) (omega arith)
     ∙ ap (λ (n : ℕ). part_reads told plan (slice_range own.own (from - n) (to - n))) first
     ∙ sym (cut_inside (part_reads told plan) from to own.before own.own own.after (no_sets told plan) (omega arith) (omega arith))
     ∙ ap (λ (lists : List (List Based)). sum_by (part_reads told plan) (cut from to lists)) (sym own.split)
 
 -- what a page over padded images read
-pub reads_on : (attached : List Image) (plan : Plan) (part : Part) (made : MovedPart) (bases : List ℕ) (from to tested : ℕ) (old new : Seen) → IsPlan plan → plan.each ≡ true → IsPartOf plan part → IsMoved plan part made → bases ≡ part.bases.items →
+pub reads_on : (attached : List Image) (plan : Plan) (part : Part) (made : PaddedPart) (bases : List ℕ) (from to tested : ℕ) (old new : Seen) → IsPlan plan → plan.each ≡ true → IsPartOf plan part → IsPaddedPart plan part made → bases ≡ part.bases.items →
     OnlyReads old new (page_reads (told_all (padded_images bases attached)) made.plan (made.first + (from - part.first)) tested) →
     tested ≡ made.first + (to - part.first) → part.first ≤ from → from < to → to ≤ part.first + part.count → OnlyReads old new (based_reads (told_all attached) plan from to)
-reads_on attached plan part made bases from to tested old new is_plan each is is_moved same reads at low range high =
+reads_on attached plan part made bases from to tested old new is_plan each is is_padded same reads at low range high =
     let P : List ℕ → Type 0 = λ bs. OnlyReads old new (page_reads (told_all (padded_images bs attached)) made.plan (made.first + (from - part.first)) tested) in
     let Q : Option (List (List ℕ)) → Type 0 = λ o. OnlyReads old new (page_reads o made.plan (made.first + (from - part.first)) tested) in
     let R : Plan → Type 0 = λ p. OnlyReads old new (page_reads (option_map (padded_bytes part.bases.items) (told_all attached)) p (made.first + (from - part.first)) tested) in
-    let S : ℕ → Type 0 = λ n. OnlyReads old new (page_reads (option_map (padded_bytes part.bases.items) (told_all attached)) (moved_plan plan part) (made.first + (from - part.first)) n) in
+    let S : ℕ → Type 0 = λ n. OnlyReads old new (page_reads (option_map (padded_bytes part.bases.items) (told_all attached)) (part_plan plan part) (made.first + (from - part.first)) n) in
     let T : ℕ → Type 0 = λ n. OnlyReads old new n in
-    subst T (reads_inside (told_all attached) plan part made from to is_plan each is is_moved low range high)
-    (subst S at (subst R is_moved.is (subst Q (told_padded part.bases.items attached) (subst P same reads))))
+    subst T (reads_inside (told_all attached) plan part made from to is_plan each is is_padded low range high)
+    (subst S at (subst R is_padded.is (subst Q (told_padded part.bases.items attached) (subst P same reads))))
 
 -- where the page of a part ends
-pub next_inside : (plan : Plan) (part : Part) (made : MovedPart) (found : ListPage) (missing from stop : ℕ) → IsMoved plan part made → part.first ≤ from → from < stop → stop ≤ part.first + part.count →
+pub next_inside : (plan : Plan) (part : Part) (made : PaddedPart) (found : ListPage) (missing from stop : ℕ) → IsPaddedPart plan part made → part.first ≤ from → from < stop → stop ≤ part.first + part.count →
     EndsOrFull missing (made.first + (from - part.first)) (stop_of (total_of made.plan) (made.first + (from - part.first)) (stop - from)) (length found.lines) found.next →
     found.next ≤ stop_of (total_of made.plan) (made.first + (from - part.first)) (stop - from) →
     (found.next ≡ made.first + (part.first + (found.next - made.first) - part.first)) × (part.first + (found.next - made.first) ≤ stop) × (from < part.first + (found.next - made.first))

@@ -29,11 +29,11 @@ use Rattle.page_engine.specs.Laws.{is_hopeful_with}
 use Rattle.page_engine.specs.Lines.{ranks_of}
 use Rattle.page_engine.specs.Parts.{GathersPart, NonePass}
 use Rattle.page_engine.specs.declared.lines.Line.{Line}
-use Rattle.wide_product.proofs.MovedPlan.{part_made}
-use Rattle.wide_product.specs.Moved.{moved_to, IsMoved}
+use Rattle.wide_product.proofs.PartPlan.{part_made}
+use Rattle.wide_product.specs.PaddedParts.{padded_for, IsPaddedPart}
 use Rattle.wide_product.specs.Parts.{IsPartOf}
 use Rattle.wide_product.specs.Sets.{padded_bytes, wide_passes, wide_passes_at, wide_sets, Based}
-use Rattle.wide_product.specs.declared.moved.MovedPart.{MovedPart}
+use Rattle.wide_product.specs.declared.padded_part.PaddedPart.{PaddedPart}
 use Rattle.wide_product.specs.declared.parts.Part.{Part}
 use Rattle.xor_tables.specs.Rows.{rows_may_hold}
 
@@ -49,13 +49,13 @@ room plan level count =
     ]
 
 -- the slot lists of a part are those of its head and of its plan
-pub is_asked : (plan : Plan) (part : Part) (made : MovedPart) → IsPartOf plan part → IsMoved plan part made → IsAsked made.plan part.head part.space
-is_asked plan part made is is_moved =
+pub is_asked : (plan : Plan) (part : Part) (made : PaddedPart) → IsPartOf plan part → IsPaddedPart plan part made → IsAsked made.plan part.head part.space
+is_asked plan part made is is_padded =
     let known = part_made plan part is in
     let are = room plan part.head.level part.head.members in
     let P : Plan → Type 0 = λ p. IsAsked p part.head part.space in
-    subst P (sym is_moved.is) (record {
-      is_plan = subst IsPlan is_moved.is is_moved.is_plan;
+    subst P (sym is_padded.is) (record {
+      is_plan = subst IsPlan is_padded.is is_padded.is_plan;
       valid = known.1;
       images = ap (λ (s : Space). s.images) is.space ∙ are.0 ∙ sym (as_many (greatest_base part.bases.items) part.bases.items plan.lengths.items);
       members = ap (λ (s : Space). s.members) is.space ∙ are.1;
@@ -71,7 +71,7 @@ unfolding all_admitted
 each_prefix admits slots h = each_number (λ k. admits (take k slots)) h 0 (length slots + 1)
 
 -- where a set with bases passes, the groups may hold of each prefix
-marks_of : (images : List (List ℕ)) (plan : Plan) (head : Head) (bases : List ℕ) (prefix : List (Option ℕ)) → 1 ≤ length bases → is_hopeful_with images plan head bases prefix ≡ true → groups_may_hold (moved_to plan head bases) head prefix ≡ true
+marks_of : (images : List (List ℕ)) (plan : Plan) (head : Head) (bases : List ℕ) (prefix : List (Option ℕ)) → 1 ≤ length bases → is_hopeful_with images plan head bases prefix ≡ true → groups_may_hold (padded_for plan head bases) head prefix ≡ true
 marks_of images plan head [] prefix some holds = absurd (omega arith)
 marks_of images plan head (b ∷ bases) prefix some holds =
     let padded = padded_plan (b ∷ bases) plan in
@@ -80,10 +80,10 @@ marks_of images plan head (b ∷ bases) prefix some holds =
     groups_same plan head (b ∷ bases) prefix ∙ marks.0
 
 -- where no slot list is left, no set passes
-pub none_pass : (plan : Plan) (part : Part) (made : MovedPart) (from stop : ℕ) → IsPlan plan → IsPartOf plan part → IsMoved plan part made → part.first ≤ from → from ≤ stop → stop ≤ part.first + part.count →
+pub none_pass : (plan : Plan) (part : Part) (made : PaddedPart) (from stop : ℕ) → IsPlan plan → IsPartOf plan part → IsPaddedPart plan part made → part.first ≤ from → from ≤ stop → stop ≤ part.first + part.count →
     admitted_leaves (question part.space (groups_may_hold made.plan part.head) (from - part.first) (stop - part.first)) (from - part.first) (stop - part.first) ≡ [] → NonePass plan from stop
 unfolding wide_passes_at
-none_pass plan part made from stop is_plan is is_moved low range high none = λ images rank after before.
+none_pass plan part made from stop is_plan is is_padded low range high none = λ images rank after before.
     let count = is.count in
     let refused = no_leaf (question part.space (groups_may_hold made.plan part.head) (from - part.first) (stop - part.first)) (from - part.first) (stop - part.first) (stop - from) (rank - part.first) (omega arith) (omega arith) none (omega arith) (omega arith) in
     let set : Based = (record { head = part.head; slots = record { items = refused.slots } }, part.bases.items) in
@@ -95,7 +95,7 @@ none_pass plan part made from stop is_plan is is_moved low range high none = λ 
       | inl passes ↦
           (let all : all_admitted (groups_may_hold made.plan part.head) refused.slots ≡ true =
           each_prefix (groups_may_hold made.plan part.head) refused.slots (λ k.
-          ap (λ (p : Plan). groups_may_hold p part.head (take k refused.slots)) is_moved.is
+          ap (λ (p : Plan). groups_may_hold p part.head (take k refused.slots)) is_padded.is
           ∙ marks_of images plan part.head part.bases.items (take k refused.slots) (omega arith) (hopeful images plan rank set k at passes)) in
           absurd (let no : true ≡ false = sym all ∙ refused.refusal in cc))
       | inr fails ↦ fails

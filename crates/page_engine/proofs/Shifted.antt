@@ -6,17 +6,17 @@ use Rattle.std.proofs.lemmas.List.Elements.{All-append, All-cons, All-head, All-
 use Rattle.std.proofs.lemmas.Option.{slice_get-get_or}
 use Rattle.std.specs.List.{range_with_len}
 use Rattle.head_walk.specs.Walk.{HoldsSet}
-use Rattle.head_walk.specs.declared.parts.Line.{Line as SharedLine}
+use Rattle.head_walk.specs.declared.parts.Line.{Line as CommonLine}
 use Rattle.raid_params.specs.declared.types.Geometry.{Geometry}
 use Rattle.plan_sets.specs.Sets.{sets_of}
 use Rattle.search_plan.specs.declared.plan.Plan.{Plan}
 use Rattle.slot_math.specs.Space.{lists_of}
-use Rattle.wide_product.specs.Moved.{IsMoved}
+use Rattle.wide_product.specs.PaddedParts.{IsPaddedPart}
 use Rattle.wide_product.specs.Parts.{IsPartOf}
 use Rattle.wide_product.specs.Sets.{wide_sets, Based}
-use Rattle.wide_product.specs.declared.moved.MovedPart.{MovedPart}
+use Rattle.wide_product.specs.declared.padded_part.PaddedPart.{PaddedPart}
 use Rattle.wide_product.specs.declared.parts.Part.{Part}
-use Rattle.page_engine.specs.Lines.{AddsMoved, HoldsBased, is_inside, IsMovedLine, moved_ranks, ranks_of}
+use Rattle.page_engine.specs.Lines.{AddsPadded, HoldsBased, is_inside, IsPaddedLine, padded_ranks, ranks_of}
 use Rattle.page_engine.specs.declared.lines.Line.{Line}
 
 -- a rank of the part
@@ -26,8 +26,8 @@ inside part first rank low high = ap₂ (λ (a b : Bool). a && b) (le-leb first 
 -- the ranks of a range that pass, where a rank of the part's plan passes as the one of the product does
 pub ranks_move : (part : Part) (first : ℕ) (p q : ℕ → Bool) (a b n : ℕ) → first ≤ a → a + n ≤ first + part.count → b ≡ part.first + (a - first) →
     ((k : ℕ) → k < part.count → p (first + k) ≡ q (part.first + k)) →
-    (moved_ranks part first (filter p (range_with_len a n)) ≡ filter q (range_with_len b n)) × (length (filter q (range_with_len b n)) ≡ length (filter p (range_with_len a n)))
-unfolding moved_ranks
+    (padded_ranks part first (filter p (range_with_len a n)) ≡ filter q (range_with_len b n)) × (length (filter q (range_with_len b n)) ≡ length (filter p (range_with_len a n)))
+unfolding padded_ranks
 ranks_move part first p q a b zero low high is same = (refl, refl)
 ranks_move part first p q a b (suc n) low high is same =
     let rest = ranks_move part first p q (a + 1) (b + 1) n (omega arith) (omega arith) (omega arith) same in
@@ -36,27 +36,27 @@ ranks_move part first p q a b (suc n) low high is same =
     let ys = filter q (range_with_len (b + 1) n) in
     by (p a) (q b) here xs ys rest.0 rest.1
   where
-    by : (s t : Bool) → s ≡ t → (xs ys : List ℕ) → moved_ranks part first xs ≡ ys → length ys ≡ length xs →
-        (moved_ranks part first (cond s (a ∷ xs) xs) ≡ cond t (b ∷ ys) ys) × (length (cond t (b ∷ ys) ys) ≡ length (cond s (a ∷ xs) xs))
+    by : (s t : Bool) → s ≡ t → (xs ys : List ℕ) → padded_ranks part first xs ≡ ys → length ys ≡ length xs →
+        (padded_ranks part first (cond s (a ∷ xs) xs) ≡ cond t (b ∷ ys) ys) × (length (cond t (b ∷ ys) ys) ≡ length (cond s (a ∷ xs) xs))
     by true true e xs ys are long =
-        (ap (λ (t : Bool). cond t ((part.first + (a - first)) ∷ moved_ranks part first xs) (moved_ranks part first xs)) (inside part first a low (omega arith)) ∙ ap₂ (λ (n : ℕ) (l : List ℕ). n ∷ l) (sym is) are, ap suc long)
+        (ap (λ (t : Bool). cond t ((part.first + (a - first)) ∷ padded_ranks part first xs) (padded_ranks part first xs)) (inside part first a low (omega arith)) ∙ ap₂ (λ (n : ℕ) (l : List ℕ). n ∷ l) (sym is) are, ap suc long)
     by false false e xs ys are long = (are, long)
     by true false e xs ys are long = absurd (search rules)
     by false true e xs ys are long = absurd (search rules)
 
 -- no line yet
-pub adds_none : (part : Part) (first : ℕ) (lines : List Line) → AddsMoved part first [] lines lines
-unfolding moved_ranks
-adds_none part first lines = record { ranks = sym (append-nil (ranks_of lines)); sets = λ plan moved is is_moved at found old. old; most = omega arith }
+pub adds_none : (part : Part) (first : ℕ) (lines : List Line) → AddsPadded part first [] lines lines
+unfolding padded_ranks
+adds_none part first lines = record { ranks = sym (append-nil (ranks_of lines)); sets = λ plan padded is is_padded at found old. old; most = omega arith }
 
-moved_append : (part : Part) (first : ℕ) (xs ys : List ℕ) → moved_ranks part first (xs ++ ys) ≡ moved_ranks part first xs ++ moved_ranks part first ys
-unfolding moved_ranks
-moved_append part first [] ys = refl
-moved_append part first (x ∷ xs) ys =
-    let rest = moved_append part first xs ys in
-    by (is_inside part first x) (moved_ranks part first (xs ++ ys)) (moved_ranks part first xs) rest
+padded_ranks_append : (part : Part) (first : ℕ) (xs ys : List ℕ) → padded_ranks part first (xs ++ ys) ≡ padded_ranks part first xs ++ padded_ranks part first ys
+unfolding padded_ranks
+padded_ranks_append part first [] ys = refl
+padded_ranks_append part first (x ∷ xs) ys =
+    let rest = padded_ranks_append part first xs ys in
+    by (is_inside part first x) (padded_ranks part first (xs ++ ys)) (padded_ranks part first xs) rest
   where
-    by : (b : Bool) (all front : List ℕ) → all ≡ front ++ moved_ranks part first ys → cond b ((part.first + (x - first)) ∷ all) all ≡ cond b ((part.first + (x - first)) ∷ front) front ++ moved_ranks part first ys
+    by : (b : Bool) (all front : List ℕ) → all ≡ front ++ padded_ranks part first ys → cond b ((part.first + (x - first)) ∷ all) all ≡ cond b ((part.first + (x - first)) ∷ front) front ++ padded_ranks part first ys
     by true all front e = ap (λ (l : List ℕ). (part.first + (x - first)) ∷ l) e
     by false all front e = e
 
@@ -70,8 +70,8 @@ some_same : {A : Type 0} (x y : A) → (let l : Option A = Some x in let r : Opt
 some_same {A} x y e = search rules
 
 -- a line of the part's plan gives one of the product
-holds_moved : (plan : Plan) (part : Part) (made : MovedPart) (line : SharedLine) (moved : Line) → IsPartOf plan part → IsMoved plan part made → IsMovedLine part made.first line moved → HoldsSet made.plan line → HoldsBased plan moved
-holds_moved plan part made line moved is is_moved own holds =
+holds_padded : (plan : Plan) (part : Part) (made : PaddedPart) (line : CommonLine) (padded : Line) → IsPartOf plan part → IsPaddedPart plan part made → IsPaddedLine part made.first line padded → HoldsSet made.plan line → HoldsBased plan padded
+holds_padded plan part made line padded is is_padded own holds =
     let low = own.low in
     let high = own.high in
     let k = line.rank - made.first in
@@ -80,42 +80,42 @@ holds_moved plan part made line moved is is_moved own holds =
     let at = slice_get-get_or (lists_of part.space) (line.rank - made.first) [] (let e : line.rank - made.first < length (lists_of part.space) = omega arith in e) in
     let here : Geometry = record { head = part.head; slots = record { items = slots } } in
     let same : line.geo ≡ record { head = part.head; slots = record { items = slots } } =
-    some_same line.geo here (sym holds ∙ ap (slice_get (sets_of made.plan)) (let e : line.rank ≡ made.first + (line.rank - made.first) = omega arith in e) ∙ is_moved.stand k slots at) in
+    some_same line.geo here (sym holds ∙ ap (slice_get (sets_of made.plan)) (let e : line.rank ≡ made.first + (line.rank - made.first) = omega arith in e) ∙ is_padded.stand k slots at) in
     ap (slice_get (wide_sets plan)) own.rank
     ∙ is.stand k slots at
     ∙ sym (ap (λ (b : Based). Some b) (own.set ∙ ap (λ (g : Geometry). let b : Based = (record { head = part.head; slots = g.slots }, part.bases.items) in b) same))
 
 -- one line more
-pub adds_one : (part : Part) (first : ℕ) (xs : List SharedLine) (line : SharedLine) (old mid new : List Line) (moved : Line) → AddsMoved part first xs old mid → IsMovedLine part first line moved → new ≡ mid ++ moved ∷ [] → AddsMoved part first (xs ++ line ∷ []) old new
-unfolding moved_ranks
-adds_one part first xs line old mid new moved adds own is =
-    let rank : SharedLine → ℕ = λ held. held.rank in
+pub adds_one : (part : Part) (first : ℕ) (xs : List CommonLine) (line : CommonLine) (old mid new : List Line) (padded : Line) → AddsPadded part first xs old mid → IsPaddedLine part first line padded → new ≡ mid ++ padded ∷ [] → AddsPadded part first (xs ++ line ∷ []) old new
+unfolding padded_ranks
+adds_one part first xs line old mid new padded adds own is =
+    let rank : CommonLine → ℕ = λ held. held.rank in
     let most = adds.most in
-    let long = length-append mid (moved ∷ []) in
+    let long = length-append mid (padded ∷ []) in
     let all = length-append xs (line ∷ []) in
     let made = ap length is in
     record {
       ranks =
           ap ranks_of is
-          ∙ map-append (λ (held : Line). held.rank) mid (moved ∷ [])
+          ∙ map-append (λ (held : Line). held.rank) mid (padded ∷ [])
           ∙ ap₂ (λ (a : List ℕ) (n : ℕ). a ++ n ∷ []) adds.ranks own.rank
-          ∙ append_assoc (ranks_of old) (moved_ranks part first (map (λ (held : SharedLine). held.rank) xs)) ((part.first + (line.rank - first)) ∷ [])
+          ∙ append_assoc (ranks_of old) (padded_ranks part first (map (λ (held : CommonLine). held.rank) xs)) ((part.first + (line.rank - first)) ∷ [])
           ∙ ap (λ (l : List ℕ). ranks_of old ++ l)
-          (ap (λ (b : Bool). moved_ranks part first (map (λ (held : SharedLine). held.rank) xs) ++ cond b ((part.first + (line.rank - first)) ∷ []) []) (sym (inside part first line.rank own.low own.high))
-          ∙ sym (moved_append part first (map (λ (held : SharedLine). held.rank) xs) (line.rank ∷ []))
-          ∙ ap (moved_ranks part first) (sym (map-append (λ (held : SharedLine). held.rank) xs (line ∷ []))));
-      sets = λ plan made is_part is_moved at found before.
+          (ap (λ (b : Bool). padded_ranks part first (map (λ (held : CommonLine). held.rank) xs) ++ cond b ((part.first + (line.rank - first)) ∷ []) []) (sym (inside part first line.rank own.low own.high))
+          ∙ sym (padded_ranks_append part first (map (λ (held : CommonLine). held.rank) xs) (line.rank ∷ []))
+          ∙ ap (padded_ranks part first) (sym (map-append (λ (held : CommonLine). held.rank) xs (line ∷ []))));
+      sets = λ plan made is_part is_padded at found before.
           (let both = all_front (HoldsSet made.plan) xs line found in
-          let P : ℕ → Type 0 = λ n. IsMovedLine part n line moved in
+          let P : ℕ → Type 0 = λ n. IsPaddedLine part n line padded in
           subst (All (HoldsBased plan)) (sym is)
-          (All-append (HoldsBased plan) mid (moved ∷ []) (adds.sets plan made is_part is_moved at both.0 before)
-          (All-cons (HoldsBased plan) moved [] (holds_moved plan part made line moved is_part is_moved (subst P (sym at) own) both.1) (All-nil (HoldsBased plan)))));
+          (All-append (HoldsBased plan) mid (padded ∷ []) (adds.sets plan made is_part is_padded at both.0 before)
+          (All-cons (HoldsBased plan) padded [] (holds_padded plan part made line padded is_part is_padded (subst P (sym at) own) both.1) (All-nil (HoldsBased plan)))));
       most = omega arith;
     }
 
 -- and one that is none of the part
-pub adds_skip : (part : Part) (first : ℕ) (xs : List SharedLine) (line : SharedLine) (old new : List Line) → AddsMoved part first xs old new → is_inside part first line.rank ≡ false → AddsMoved part first (xs ++ line ∷ []) old new
-unfolding moved_ranks
+pub adds_skip : (part : Part) (first : ℕ) (xs : List CommonLine) (line : CommonLine) (old new : List Line) → AddsPadded part first xs old new → is_inside part first line.rank ≡ false → AddsPadded part first (xs ++ line ∷ []) old new
+unfolding padded_ranks
 adds_skip part first xs line old new adds out =
     let most = adds.most in
     let all = length-append xs (line ∷ []) in
@@ -123,10 +123,10 @@ adds_skip part first xs line old new adds out =
       ranks =
           adds.ranks
           ∙ ap (λ (l : List ℕ). ranks_of old ++ l)
-          (sym (append-nil (moved_ranks part first (map (λ (held : SharedLine). held.rank) xs)))
-          ∙ ap (λ (b : Bool). moved_ranks part first (map (λ (held : SharedLine). held.rank) xs) ++ cond b ((part.first + (line.rank - first)) ∷ []) []) (sym out)
-          ∙ sym (moved_append part first (map (λ (held : SharedLine). held.rank) xs) (line.rank ∷ []))
-          ∙ ap (moved_ranks part first) (sym (map-append (λ (held : SharedLine). held.rank) xs (line ∷ []))));
-      sets = λ plan made is_part is_moved at found before. adds.sets plan made is_part is_moved at (all_front (HoldsSet made.plan) xs line found).0 before;
+          (sym (append-nil (padded_ranks part first (map (λ (held : CommonLine). held.rank) xs)))
+          ∙ ap (λ (b : Bool). padded_ranks part first (map (λ (held : CommonLine). held.rank) xs) ++ cond b ((part.first + (line.rank - first)) ∷ []) []) (sym out)
+          ∙ sym (padded_ranks_append part first (map (λ (held : CommonLine). held.rank) xs) (line.rank ∷ []))
+          ∙ ap (padded_ranks part first) (sym (map-append (λ (held : CommonLine). held.rank) xs (line ∷ []))));
+      sets = λ plan made is_part is_padded at found before. adds.sets plan made is_part is_padded at (all_front (HoldsSet made.plan) xs line found).0 before;
       most = omega arith;
     }

@@ -6,13 +6,13 @@ use Rattle.outside.specs.Attached.{told_all}
 use Rattle.outside.specs.Causes.{Rose}
 use Rattle.outside.specs.Seen.{Image, OnlyReads, Seen}
 use Rattle.search_terms.specs.Page.{stop_of, IsPage}
-use Rattle.common_pages.specs.declared.page_parts.ListPage.{ListPage as SharedPage}
+use Rattle.common_pages.specs.declared.page_parts.ListPage.{ListPage as CommonPage}
 use Rattle.common_pages.specs.declared.page_parts.PageFault.{PageFault}
 use Rattle.common_pages.specs.declared.page_parts.PageFault.TheVariants.{Many, Cursor, ReadFault, Memory}
 use Rattle.search_plan.specs.Plans.{AgreeWith, IsPlan}
 use Rattle.search_plan.specs.declared.plan.Plan.{Plan}
 use Rattle.wide_product.specs.Sets.{wide_passes_at, wide_total}
-use Rattle.page_engine.specs.Lines.{AddsShared, HoldsBased, ranks_of}
+use Rattle.page_engine.specs.Lines.{AddsCommon, HoldsBased, ranks_of}
 use Rattle.page_engine.specs.Reads.{ReadsWide, wide_reads}
 use Rattle.page_engine.specs.declared.page_parts.ListPage.{ListPage}
 
@@ -36,17 +36,17 @@ ArePagesFrom told plan size span (suc count) from (page ∷ pages) =
     IsPageFrom told plan from size span page
     × (((page.next ≡ wide_total plan) × (pages ≡ [])) ⊎ ((page.next < wide_total plan) × ArePagesFrom told plan size span count page.next pages))
 
--- a page has the lines of one whose sets share an offset
-pub record IsShared (found : SharedPage) (page : ListPage) : Type 0 where
-  pub lines : AddsShared found.lines [] page.lines
+-- a page has the lines of one whose sets have a common offset
+pub record IsCommon (found : CommonPage) (page : ListPage) : Type 0 where
+  pub lines : AddsCommon found.lines [] page.lines
   pub next : page.next ≡ found.next
   pub total : page.total ≡ found.total
 
 -- and so has each of some pages
-unfoldable pub AreShared : List SharedPage → List ListPage → Type 0
-AreShared [] pages = pages ≡ []
-AreShared (found ∷ more) [] = ⊥
-AreShared (found ∷ more) (page ∷ pages) = IsShared found page × AreShared more pages
+unfoldable pub AreCommon : List CommonPage → List ListPage → Type 0
+AreCommon [] pages = pages ≡ []
+AreCommon (found ∷ more) [] = ⊥
+AreCommon (found ∷ more) (page ∷ pages) = IsCommon found page × AreCommon more pages
 
 -- the rank up to which sets are tested: where the next page begins, or, where there is no page, the end of the range
 abbrev pub tested_to : ℕ → Result ListPage PageFault → ℕ

@@ -10,7 +10,7 @@ use Rattle.common_pages.specs.Pages.{page_reads, scans_to, table_reads}
 use Rattle.prune_filters.specs.Hopeful.{is_hopeful}
 use Rattle.search_plan.specs.declared.plan.Plan.{Plan}
 use Rattle.search_terms.specs.Page.{page_next, stop_of}
-use Rattle.wide_product.specs.Moved.{moved_to}
+use Rattle.wide_product.specs.PaddedParts.{padded_for}
 use Rattle.wide_product.specs.Parts.{parts_of}
 use Rattle.wide_product.specs.Sets.{padded_bytes, wide_passes_at, wide_total, Based}
 
@@ -34,7 +34,7 @@ scans_of told plan sets = min (count_by (is_open_set told plan) sets) ((count_by
 unfoldable pub part_reads : Option (List (List ℕ)) → Plan → List Based → ℕ
 part_reads told plan [] = 0
 part_reads told plan (set ∷ sets) =
-    table_reads (moved_to plan set.0.head set.1) + scans_of told plan (set ∷ sets) * most_scanned (moved_to plan set.0.head set.1)
+    table_reads (padded_for plan set.0.head set.1) + scans_of told plan (set ∷ sets) * most_scanned (padded_for plan set.0.head set.1)
 
 -- what some lists have at the places from one on up to another, list by list, where places go on from a list to the next
 unfoldable pub cut : {A : Type 0} → ℕ → ℕ → List (List A) → List (List A)
@@ -68,7 +68,7 @@ unfoldable pub based_to : Option (List (List ℕ)) → Plan → ℕ → List ℕ
 based_to told plan from [] = 0
 based_to told plan from (end ∷ later) = based_reads told plan from end + based_to told plan end later
 
--- and where the images share an offset: the tables once for all pages, and the scans of each
+-- and where the images have a common offset: the tables once for all pages, and the scans of each
 unfoldable pub wide_reads_to : Option (List (List ℕ)) → Plan → ℕ → List ℕ → ℕ
 wide_reads_to told plan from ends =
     if plan.each then based_to told plan from ends else table_reads plan + scans_to told plan from ends * most_scanned plan

@@ -7,7 +7,7 @@ pub fn passing_sets_are_hopeful()
     ensures { PassingSetsAreHopeful }
 {}
 
-/// Of a whole slot list as much is asked of the moved marks as by the landmark test.
+/// Of a whole slot list as much is asked of the padded marks as by the landmark test.
 pub fn whole_lists_take_the_landmark_test()
     ensures { WholeListsTakeTheLandmarkTest }
 {}

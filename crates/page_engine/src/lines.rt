@@ -1,11 +1,11 @@
 //! Lines of pages.
 ghost use Rattle.std.specs.Prelude.{◌≡◌, ◌+◌, ◌<◌, ◌^◌, false, [], IfOk, MatchOption};
 ghost use Rattle.raid_params.specs.Bases.{greatest_base};
-ghost use Rattle.page_engine.specs.Lines.{AddsMoved, AddsShared, is_inside, IsMovedLine};
+ghost use Rattle.page_engine.specs.Lines.{AddsPadded, AddsCommon, is_inside, IsPaddedLine};
 ghost use Rattle.wide_product.specs.Sets.{based};
 
 use arrayvec::ArrayVec;
-use head_walk::Line as SharedLine;
+use head_walk::Line as CommonLine;
 use outside::{ListOf, Memory};
 use raid_params::{Geometry, MOST, Slots, Wide};
 use wide_product::Part;
@@ -42,10 +42,10 @@ fn slots_of(slots: &Slots) -> Slots
 
 /// The line of a part for a line of its plan over padded images, where the part's first set has the rank `first`. There is none
 /// for a rank outside the part.
-fn moved_line(part: &Part, first: u64, line: &SharedLine) -> Option<Line>
+fn padded_line(part: &Part, first: u64, line: &CommonLine) -> Option<Line>
     requires fits { part.now.first + part.now.count < 2 ^ 64 }
     requires offset { part.now.head.offset ≡ greatest_base part.now.bases.items }
-    ensures { MatchOption result ((is_inside part.now first line.now.rank) ≡ false) (IsMovedLine part.now first line.now) }
+    ensures { MatchOption result ((is_inside part.now first line.now.rank) ≡ false) (IsPaddedLine part.now first line.now) }
 {
     let place = line.rank.checked_sub(first)?;
     if part.count <= place {
@@ -67,23 +67,23 @@ fn moved_line(part: &Part, first: u64, line: &SharedLine) -> Option<Line>
 pub(crate) fn add_lines(
     part: &Part,
     first: u64,
-    found: &[SharedLine],
+    found: &[CommonLine],
     lines: &mut Lines,
 ) -> Result<(), Memory>
     requires fits { part.now.first + part.now.count < 2 ^ 64 }
     requires offset { part.now.head.offset ≡ greatest_base part.now.bases.items }
-    ensures { IfOk result (λ _. AddsMoved part.now first found.now lines.old lines.new) }
+    ensures { IfOk result (λ _. AddsPadded part.now first found.now lines.old lines.new) }
 {
     for line in found {
-        if let Some(line) = moved_line(part, first, line) {
+        if let Some(line) = padded_line(part, first, line) {
             lines.push(line)?;
         }
     }
     Ok(())
 }
 
-/// The line of a set whose images share an offset.
-fn shared_line(line: &SharedLine) -> Line
+/// The line of a set whose images have a common offset.
+fn common_line(line: &CommonLine) -> Line
     ensures rank { result.rank ≡ line.now.rank }
     ensures set { based result.geo ≡ (line.now.geo, []) }
 {
@@ -99,12 +99,12 @@ fn shared_line(line: &SharedLine) -> Line
     }
 }
 
-/// Appends the lines of sets whose images share an offset.
-pub(crate) fn add_shared(found: &[SharedLine], lines: &mut Lines) -> Result<(), Memory>
-    ensures { IfOk result (λ _. AddsShared found.now lines.old lines.new) }
+/// Appends the lines of sets whose images have a common offset.
+pub(crate) fn add_common(found: &[CommonLine], lines: &mut Lines) -> Result<(), Memory>
+    ensures { IfOk result (λ _. AddsCommon found.now lines.old lines.new) }
 {
     for line in found {
-        lines.push(shared_line(line))?;
+        lines.push(common_line(line))?;
     }
     Ok(())
 }

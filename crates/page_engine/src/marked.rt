@@ -4,7 +4,7 @@ ghost use Rattle.common_pages.specs.declared.page_parts.PageFault.TheVariants.{M
 ghost use Rattle.head_walk.specs.Walk.{IsAsked};
 ghost use Rattle.mark_tables.specs.Marks.{groups_may_hold as all_may_hold};
 ghost use Rattle.search_plan.specs.Plans.{IsPlan};
-ghost use Rattle.wide_product.specs.Moved.{IsMoved};
+ghost use Rattle.wide_product.specs.PaddedParts.{IsPaddedPart};
 ghost use Rattle.wide_product.specs.Parts.{IsPartOf};
 ghost use Rattle.page_engine.specs.Parts.{NonePass};
 
@@ -17,7 +17,7 @@ use search_plan::Plan;
 use slot_math::Space;
 use std::alloc::Global;
 use std::marker::Model;
-use wide_product::{MovedPart, Part};
+use wide_product::{PaddedPart, Part};
 
 /// The slot lists of a part. A prefix is admitted where each group of marks may still hold.
 #[derive(Drop)]
@@ -41,7 +41,7 @@ impl<'a> Model for Marked<'a> {
 }
 
 impl<'a> Marked<'a> {
-    /// Those of a part, with its plan over moved images. Memory is taken for the table of the plan's marks.
+    /// Those of a part, with its plan over padded images. Memory is taken for the table of the plan's marks.
     fn new(alloc: Global, plan: &'a Plan, part: &Part) -> Result<Marked<'a>, Memory>
         requires { IsAsked plan.now part.now.head part.now.space }
         ensures { IfOk result (λ asked. asked ≡ record { plan = plan.now; head = part.now.head; space = part.now.space; xors = None }) }
@@ -83,14 +83,14 @@ pub(crate) fn is_ruled_out(
     alloc: Global,
     plan: &Plan,
     part: &Part,
-    moved: &MovedPart,
+    padded: &PaddedPart,
     from: u64,
     stop: u64,
 ) -> Result<bool, PageFault>
     requires plan { IsPlan plan.now }
     requires own { plan.now.each ≡ true }
     requires part { IsPartOf plan.now part.now }
-    requires moved { IsMoved plan.now part.now moved.now }
+    requires padded { IsPaddedPart plan.now part.now padded.now }
     requires from { part.now.first ≤ from }
     requires range { from ≤ stop }
     requires stop { stop ≤ part.now.first + part.now.count }
@@ -100,7 +100,7 @@ pub(crate) fn is_ruled_out(
     if plan.groups.as_slice().is_empty() {
         return Ok(false);
     }
-    match Marked::new(alloc, &moved.plan, part) {
+    match Marked::new(alloc, &padded.plan, part) {
         Ok(marked) => {
             let mut walk = Survivors::start(&marked, from - part.first, stop - part.first);
             Ok(walk.next().is_none())

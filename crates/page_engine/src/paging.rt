@@ -3,8 +3,8 @@ ghost use Rattle.std.specs.Prelude.{◌≡◌, ◌≤◌, true};
 ghost use Rattle.page_engine.specs.Pages.{CanPageWide, GivesPage, GivesPages};
 
 use crate::based_page::based_page;
+use crate::common_page::{common_page, common_page_list};
 use crate::page_parts::{ListPage, PageList};
-use crate::shared_page::{shared_page, shared_pages};
 use common_pages::PageFault;
 use head_walk::Paging;
 use outside::Images;
@@ -14,7 +14,7 @@ use std::alloc::Global;
 use std::thread::Threads;
 
 /// The page of a plan from a rank on: the first `size` of the sets that pass and whose ranks are below `from + span`, and the
-/// rank from which the next page goes on. Where the images share an offset, no more is read than for a page of `common_pages`;
+/// rank from which the next page goes on. Where the images have a common offset, no more is read than for a page of `common_pages`;
 /// otherwise, for each head with each list of bases of which a rank is looked at, no more than for such a page of its ranks alone.
 /// In a scan pieces of the sets may run side by side: each passes the gate.
 pub fn page<R: Threads + Sync, I: Images, G: Gate + Sync>(
@@ -40,13 +40,13 @@ pub fn page<R: Threads + Sync, I: Images, G: Gate + Sync>(
     if plan.each {
         based_page(&paging, images, from, span)
     } else {
-        shared_page(&paging, images, from, span)
+        common_page(&paging, images, from, span)
     }
 }
 
 /// The pages of a plan from a rank on: the page there, then the page where it goes on, until `count` are made or one goes on at
 /// the total. Each has at most `size` lines and goes through at most `span` ranks; `size` and `count` are 1 at least. Where the
-/// images share an offset, no more is read than for the pages of `common_pages`; otherwise as much may be read as for each page alone.
+/// images have a common offset, no more is read than for the pages of `common_pages`; otherwise as much may be read as for each page alone.
 pub fn pages<R: Threads + Sync, I: Images, G: Gate + Sync>(
     rt: &R,
     alloc: Global,
@@ -72,7 +72,7 @@ pub fn pages<R: Threads + Sync, I: Images, G: Gate + Sync>(
     if plan.each {
         based_pages(&paging, images, from, span, count)
     } else {
-        shared_pages(&paging, images, from, span, count)
+        common_page_list(&paging, images, from, span, count)
     }
 }
 

@@ -1,5 +1,5 @@
 //! Pages of one part.
-ghost use Rattle.std.specs.Prelude.{◌≡◌, ◌+◌, ◌-◌, ◌<◌, ◌≤◌, ◌^◌, true, All, IfErr, IfOk, IfSome, List, length, map};
+ghost use Rattle.std.specs.Prelude.{◌≡◌, ◌+◌, ◌-◌, ◌<◌, ◌≤◌, ◌^◌, false, true, All, IfErr, IfOk, IfSome, List, length, map};
 ghost use Rattle.outside.specs.Attached.{told_all};
 ghost use Rattle.outside.specs.Seen.{Image, OnlyReads};
 ghost use Rattle.image_padding.specs.Padded.{padded_images};
@@ -12,8 +12,8 @@ ghost use Rattle.wide_product.specs.Parts.{IsPartOf};
 ghost use Rattle.wide_product.specs.Sets.{wide_total};
 ghost use Rattle.raid_params.specs.Bases.{greatest_base};
 ghost use Rattle.common_pages.specs.declared.page_parts.PageFault.TheVariants.{Memory as OutOfMemory};
-ghost use Rattle.wide_product.specs.Moved.{IsMoved};
-ghost use Rattle.page_engine.specs.Lines.{AddsMoved};
+ghost use Rattle.wide_product.specs.PaddedParts.{IsPaddedPart};
+ghost use Rattle.page_engine.specs.Lines.{AddsPadded};
 ghost use Rattle.page_engine.specs.Parts.{EndsPart, GathersPart, reached};
 ghost use Rattle.page_engine.specs.Reads.{based_reads};
 
@@ -28,7 +28,7 @@ use row_scan::Gate;
 use search_plan::Plan;
 use std::alloc::Global;
 use std::thread::Threads;
-use wide_product::{MovedPart, Part};
+use wide_product::{PaddedPart, Part};
 
 /// A page of a plan over padded images.
 pub(crate) fn padded_page<R: Threads + Sync, I: Images, G: Gate + Sync>(
@@ -43,6 +43,7 @@ pub(crate) fn padded_page<R: Threads + Sync, I: Images, G: Gate + Sync>(
     gate: &G,
 ) -> Result<ListPage, PageFault>
     requires plan { IsPlan plan.now }
+    requires common { plan.now.each ≡ false }
     requires lengths { AgreeWith plan.now (padded_images bases.now (I.seen images.old).attached) }
     requires few { total_of plan.now < 2 ^ 64 }
     requires from { from ≤ total_of plan.now }
@@ -90,8 +91,8 @@ pub(crate) fn gather_part<R: Threads + Sync, I: Images, G: Gate + Sync>(
     ensures reads { OnlyReads (I.seen images.old) (I.seen images.new)
         (based_reads (told_all (I.seen images.old).attached) paging.now.plan.now from (reached stop result)) }
 {
-    let moved = moved_of(paging.alloc, paging.plan, part)?;
-    if is_ruled_out(paging.alloc, paging.plan, part, &moved, from, stop)? {
+    let padded = padded_of(paging.alloc, paging.plan, part)?;
+    if is_ruled_out(paging.alloc, paging.plan, part, &padded, from, stop)? {
         return Ok(stop);
     }
     let missing = paging.size - lines.as_slice().len() as u64;
@@ -99,29 +100,29 @@ pub(crate) fn gather_part<R: Threads + Sync, I: Images, G: Gate + Sync>(
         paging.rt,
         paging.alloc,
         images,
-        &moved.plan,
+        &padded.plan,
         &part.bases,
-        moved.first + (from - part.first),
+        padded.first + (from - part.first),
         missing,
         stop - from,
         paging.gate,
     )?;
-    add_found(part, moved.first, &found, lines)?;
-    Ok(part.first + (found.next - moved.first))
+    add_found(part, padded.first, &found, lines)?;
+    Ok(part.first + (found.next - padded.first))
 }
 
 /// The sets of a part, over the images once they are padded by its bases.
-fn moved_of(alloc: Global, plan: &Plan, part: &Part) -> Result<MovedPart, PageFault>
+fn padded_of(alloc: Global, plan: &Plan, part: &Part) -> Result<PaddedPart, PageFault>
     requires plan { IsPlan plan.now }
     requires each { plan.now.each ≡ true }
     requires few { wide_total plan.now < 2 ^ 64 }
     requires part { IsPartOf plan.now part.now }
     requires some { 0 < part.now.count }
-    ensures moved { IfOk result (IsMoved plan.now part.now) }
+    ensures padded { IfOk result (IsPaddedPart plan.now part.now) }
     ensures memory { IfErr result (λ fault. fault ≡ OutOfMemory) }
 {
-    match MovedPart::of(alloc, plan, part) {
-        Ok(moved) => Ok(moved),
+    match PaddedPart::of(alloc, plan, part) {
+        Ok(padded) => Ok(padded),
         Err(_) => Err(PageFault::Memory),
     }
 }
@@ -130,7 +131,7 @@ fn moved_of(alloc: Global, plan: &Plan, part: &Part) -> Result<MovedPart, PageFa
 fn add_found(part: &Part, first: u64, found: &ListPage, lines: &mut Lines) -> Result<(), PageFault>
     requires fits { part.now.first + part.now.count < 2 ^ 64 }
     requires offset { part.now.head.offset ≡ greatest_base part.now.bases.items }
-    ensures adds { IfOk result (λ _. AddsMoved part.now first found.now.lines lines.old lines.new) }
+    ensures adds { IfOk result (λ _. AddsPadded part.now first found.now.lines lines.old lines.new) }
     ensures memory { IfErr result (λ fault. fault ≡ OutOfMemory) }
 {
     match add_lines(part, first, found.lines.as_slice(), lines) {

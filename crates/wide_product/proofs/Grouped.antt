@@ -16,7 +16,7 @@ use Rattle.set_product.proofs.Pairs.{or_later, place_within, position_append, po
 use Rattle.set_product.specs.Heads.{end_of, numbered, space_of}
 use Rattle.set_product.specs.Pairs.{joined, pairs}
 use Rattle.set_product.specs.declared.heads.HeadSets.{HeadSets}
-use Rattle.wide_product.proofs.Spread.{based_count, based_in, based_set, lists, shared_count, shared_in, shared_set, spread}
+use Rattle.wide_product.proofs.Spread.{based_count, based_in, based_set, lists, common_count, common_in, common_set, spread}
 use Rattle.wide_product.proofs.Walks.{first_held, later_held}
 use Rattle.wide_product.specs.Bases.{same_bases}
 use Rattle.wide_product.specs.Groups.{bases_of, with_first}
@@ -111,11 +111,11 @@ regroup a b c o s false h = none ((a && (b && (c && o))) && s) ∙ sym (ap (λ (
     none true = refl
     none false = refl
 
-regroup_shared : (a b c o s : Bool) → ((a && (b && (c && o))) && s) ≡ (((a && (b && c)) && o) && s)
-regroup_shared false b c o s = refl
-regroup_shared true false c o s = refl
-regroup_shared true true false o s = refl
-regroup_shared true true true o s = refl
+regroup_common : (a b c o s : Bool) → ((a && (b && (c && o))) && s) ≡ (((a && (b && c)) && o) && s)
+regroup_common false b c o s = refl
+regroup_common true false c o s = refl
+regroup_common true true false o s = refl
+regroup_common true true true o s = refl
 
 -- the place of what begins with a choice that holds or not
 chosen : {A : Type 0} (b : Bool) (p : A → Bool) (xs : List A) → position (λ x. b && p x) xs ≡ cond b (position p xs) None
@@ -136,13 +136,13 @@ based_place plan head set greatest =
     ∙ ap (λ (o : Option ℕ). joined (length (lists plan head)) o (position (same_slots set.0.slots.items) (lists plan head))) (chosen (same_start set.0 head) (same_bases set.1) (bases_of plan))
 
 -- the place of a set with the first offset among those of a head with each offset
-shared_place : (plan : Plan) (head : Head) (geo : Geometry) → 1 ≤ length plan.bounds.offsets.items →
-    position (is_same_set (with_first plan geo)) (shared_in plan head) ≡ joined (length (lists plan head)) (cond (same_start geo head) (Some 0) None) (position (same_slots geo.slots.items) (lists plan head))
-shared_place plan head geo some =
+common_place : (plan : Plan) (head : Head) (geo : Geometry) → 1 ≤ length plan.bounds.offsets.items →
+    position (is_same_set (with_first plan geo)) (common_in plan head) ≡ joined (length (lists plan head)) (cond (same_start geo head) (Some 0) None) (position (same_slots geo.slots.items) (lists plan head))
+common_place plan head geo some =
     let first = with_first plan geo in
-    position_map (is_same_set first) (shared_set head) (pairs plan.bounds.offsets.items (lists plan head))
-    ∙ position_same (λ (p : ℕ × List (Option ℕ)). is_same_set first (shared_set head p)) (λ (p : ℕ × List (Option ℕ)). (same_start geo head && first.head.offset == p.0) && same_slots geo.slots.items p.1) (pairs plan.bounds.offsets.items (lists plan head))
-    (λ p. regroup_shared (level_place geo.head.level == level_place head.level && geo.head.members == head.members)
+    position_map (is_same_set first) (common_set head) (pairs plan.bounds.offsets.items (lists plan head))
+    ∙ position_same (λ (p : ℕ × List (Option ℕ)). is_same_set first (common_set head p)) (λ (p : ℕ × List (Option ℕ)). (same_start geo head && first.head.offset == p.0) && same_slots geo.slots.items p.1) (pairs plan.bounds.offsets.items (lists plan head))
+    (λ p. regroup_common (level_place geo.head.level == level_place head.level && geo.head.members == head.members)
     (pattern_place geo.head.pattern == pattern_place head.pattern && syndrome_place geo.head.syndrome == syndrome_place head.syndrome) (geo.head.chunk == head.chunk)
     (first.head.offset == p.0) (same_slots geo.slots.items p.1))
     ∙ position_pairs (λ (offset : ℕ). same_start geo head && first.head.offset == offset) (same_slots geo.slots.items) plan.bounds.offsets.items (lists plan head)
@@ -169,7 +169,7 @@ none_based plan set (head ∷ hs) greatest none =
     no_choice true = refl
     no_choice false = refl
 
--- the place among the sets with bases, by that among the sets that share the first offset
+-- the place among the sets with bases, by that among the sets that have the first offset in common
 abbrev Place : ℕ → Bool → Option ℕ → Option ℕ → Option ℕ × Option ℕ
 Place count start bases slots = (joined count (cond start (Some 0) None) slots, joined count (cond start bases None) slots)
 
@@ -184,31 +184,31 @@ both_or_none count true (Some b) None below = inr (refl, refl)
 both_or_none count false bases slots below = inr (refl, refl)
 
 places : (plan : Plan) (head : Head) (set : Based) → 1 ≤ length plan.bounds.offsets.items → set.0.head.offset ≡ greatest_base set.1 →
-    ((k : ℕ) × (k < length (lists plan head)) × (position (is_same_set (with_first plan set.0)) (shared_in plan head) ≡ Some k)
+    ((k : ℕ) × (k < length (lists plan head)) × (position (is_same_set (with_first plan set.0)) (common_in plan head) ≡ Some k)
     × (position (is_same_based set) (based_in plan head) ≡ option_map (λ e. e * length (lists plan head) + k) (position (same_bases set.1) (bases_of plan))))
-    ⊎ ((position (is_same_set (with_first plan set.0)) (shared_in plan head) ≡ None) × (position (is_same_based set) (based_in plan head) ≡ None))
+    ⊎ ((position (is_same_set (with_first plan set.0)) (common_in plan head) ≡ None) × (position (is_same_based set) (based_in plan head) ≡ None))
 places plan head set some greatest =
-    let shared = shared_place plan head set.0 some in
+    let common = common_place plan head set.0 some in
     let based = based_place plan head set greatest in
     elim (both_or_none (length (lists plan head)) (same_start set.0 head) (position (same_bases set.1) (bases_of plan)) (position (same_slots set.0.slots.items) (lists plan head)) (λ k e. place_within (same_slots set.0.slots.items) (lists plan head) k e)) [
-      | inl both ↦ inl (both.0, both.1, shared ∙ both.2, based ∙ both.3)
-      | inr none ↦ inr (shared ∙ none.0, based ∙ none.1)
+      | inl both ↦ inl (both.0, both.1, common ∙ both.2, based ∙ both.3)
+      | inr none ↦ inr (common ∙ none.0, based ∙ none.1)
     ]
 
--- a set that is not among the sets that share an offset, but for its bases, is not among those with bases
-pub none_shared : (plan : Plan) (set : Based) (hs : List Head) → 1 ≤ length plan.bounds.offsets.items → set.0.head.offset ≡ greatest_base set.1 →
-    position (is_same_set (with_first plan set.0)) (flat_map (shared_in plan) hs) ≡ None → position (is_same_based set) (flat_map (based_in plan) hs) ≡ None
-none_shared plan set [] some greatest none = refl
-none_shared plan set (head ∷ hs) some greatest none =
-    let split : or_later (position (is_same_set (with_first plan set.0)) (shared_in plan head)) (length (shared_in plan head)) (position (is_same_set (with_first plan set.0)) (flat_map (shared_in plan) hs)) ≡ None =
-    sym (position_append (is_same_set (with_first plan set.0)) (shared_in plan head) (flat_map (shared_in plan) hs)) ∙ none in
+-- a set that is not among the sets that have a common offset, but for its bases, is not among those with bases
+pub none_common : (plan : Plan) (set : Based) (hs : List Head) → 1 ≤ length plan.bounds.offsets.items → set.0.head.offset ≡ greatest_base set.1 →
+    position (is_same_set (with_first plan set.0)) (flat_map (common_in plan) hs) ≡ None → position (is_same_based set) (flat_map (based_in plan) hs) ≡ None
+none_common plan set [] some greatest none = refl
+none_common plan set (head ∷ hs) some greatest none =
+    let split : or_later (position (is_same_set (with_first plan set.0)) (common_in plan head)) (length (common_in plan head)) (position (is_same_set (with_first plan set.0)) (flat_map (common_in plan) hs)) ≡ None =
+    sym (position_append (is_same_set (with_first plan set.0)) (common_in plan head) (flat_map (common_in plan) hs)) ∙ none in
     elim (places plan head set some greatest) [
-      | inl both ↦ absurd (let there : Some both.0 ≡ None = sym (ap (λ (o : Option ℕ). or_later o (length (shared_in plan head)) (position (is_same_set (with_first plan set.0)) (flat_map (shared_in plan) hs))) both.2) ∙ split in search rules)
+      | inl both ↦ absurd (let there : Some both.0 ≡ None = sym (ap (λ (o : Option ℕ). or_later o (length (common_in plan head)) (position (is_same_set (with_first plan set.0)) (flat_map (common_in plan) hs))) both.2) ∙ split in search rules)
       | inr neither ↦
           position_append (is_same_based set) (based_in plan head) (flat_map (based_in plan) hs)
           ∙ ap₂ (λ (a b : Option ℕ). or_later a (length (based_in plan head)) b) neither.1
-          (none_shared plan set hs some greatest (both_none (length (shared_in plan head)) (position (is_same_set (with_first plan set.0)) (flat_map (shared_in plan) hs))
-          (sym (ap (λ (o : Option ℕ). or_later o (length (shared_in plan head)) (position (is_same_set (with_first plan set.0)) (flat_map (shared_in plan) hs))) neither.0) ∙ split)))
+          (none_common plan set hs some greatest (both_none (length (common_in plan head)) (position (is_same_set (with_first plan set.0)) (flat_map (common_in plan) hs))
+          (sym (ap (λ (o : Option ℕ). or_later o (length (common_in plan head)) (position (is_same_set (with_first plan set.0)) (flat_map (common_in plan) hs))) neither.0) ∙ split)))
     ]
   where
     both_none : (n : ℕ) (o : Option ℕ) → or_later None n o ≡ None → o ≡ None
@@ -225,7 +225,7 @@ pub record Found (plan : Plan) (hs : List Head) (first rank : ℕ) (sets : HeadS
   pub high : rank < first + length plan.bounds.offsets.items * before + length plan.bounds.offsets.items * length (lists plan head)
   pub stand : (i : ℕ) (set : Based) → slice_get (based_in plan head) i ≡ Some set → slice_get (flat_map (based_in plan) hs) (length (bases_of plan) * before + i) ≡ Some set
   pub within : length (bases_of plan) * before + length (bases_of plan) * length (lists plan head) ≤ length (flat_map (based_in plan) hs)
-  pub ranked : (set : Based) → set.0.head.offset ≡ greatest_base set.1 → position (is_same_set (with_first plan set.0)) (flat_map (shared_in plan) hs) ≡ Some (rank - first) →
+  pub ranked : (set : Based) → set.0.head.offset ≡ greatest_base set.1 → position (is_same_set (with_first plan set.0)) (flat_map (common_in plan) hs) ≡ Some (rank - first) →
       position (is_same_based set) (flat_map (based_in plan) hs) ≡ option_map (λ e. length (bases_of plan) * before + (e * length (lists plan head) + (rank - (first + length plan.bounds.offsets.items * before)))) (position (same_bases set.1) (bases_of plan))
 
 -- in the first group
@@ -252,20 +252,20 @@ found_here plan head hs first rank sets some low high is =
           ∙ e;
       within = omega arith;
       ranked = λ set greatest at.
-          (let split : or_later (position (is_same_set (with_first plan set.0)) (shared_in plan head)) (length (shared_in plan head)) (position (is_same_set (with_first plan set.0)) (flat_map (shared_in plan) hs)) ≡ Some (rank - first) =
-          sym (position_append (is_same_set (with_first plan set.0)) (shared_in plan head) (flat_map (shared_in plan) hs)) ∙ at in
+          (let split : or_later (position (is_same_set (with_first plan set.0)) (common_in plan head)) (length (common_in plan head)) (position (is_same_set (with_first plan set.0)) (flat_map (common_in plan) hs)) ≡ Some (rank - first) =
+          sym (position_append (is_same_set (with_first plan set.0)) (common_in plan head) (flat_map (common_in plan) hs)) ∙ at in
           let bases = position (same_bases set.1) (bases_of plan) in
           elim (places plan head set some greatest) [
             | inl both ↦
-                let place : both.0 ≡ rank - first = some_number both.0 (rank - first) (sym (ap (λ (o : Option ℕ). or_later o (length (shared_in plan head)) (position (is_same_set (with_first plan set.0)) (flat_map (shared_in plan) hs))) both.2) ∙ split) in
+                let place : both.0 ≡ rank - first = some_number both.0 (rank - first) (sym (ap (λ (o : Option ℕ). or_later o (length (common_in plan head)) (position (is_same_set (with_first plan set.0)) (flat_map (common_in plan) hs))) both.2) ∙ split) in
                 position_append (is_same_based set) (based_in plan head) (flat_map (based_in plan) hs)
                 ∙ ap (λ (o : Option ℕ). or_later o (length (based_in plan head)) (position (is_same_based set) (flat_map (based_in plan) hs))) both.3
                 ∙ of_bases set both.0 (position (same_bases set.1) (bases_of plan)) refl place greatest
             | inr neither ↦
-                let later : or_later None (length (shared_in plan head)) (position (is_same_set (with_first plan set.0)) (flat_map (shared_in plan) hs)) ≡ Some (rank - first) =
-                sym (ap (λ (o : Option ℕ). or_later o (length (shared_in plan head)) (position (is_same_set (with_first plan set.0)) (flat_map (shared_in plan) hs))) neither.0) ∙ split in
-                let past = later_place (length (shared_in plan head)) (position (is_same_set (with_first plan set.0)) (flat_map (shared_in plan) hs)) (rank - first) later in
-                let long = shared_count plan head in
+                let later : or_later None (length (common_in plan head)) (position (is_same_set (with_first plan set.0)) (flat_map (common_in plan) hs)) ≡ Some (rank - first) =
+                sym (ap (λ (o : Option ℕ). or_later o (length (common_in plan head)) (position (is_same_set (with_first plan set.0)) (flat_map (common_in plan) hs))) neither.0) ∙ split in
+                let past = later_place (length (common_in plan head)) (position (is_same_set (with_first plan set.0)) (flat_map (common_in plan) hs)) (rank - first) later in
+                let long = common_count plan head in
                 let at_least = past.1 in
                 absurd (omega arith)
           ]);
@@ -285,7 +285,7 @@ found_here plan head hs first rank sets some low high is =
     later_place n (Some k) r e = let same : n + k ≡ r = some_number (n + k) r e in (ap (λ (m : ℕ). Some m) (let f : k ≡ r - n = omega arith in f), omega arith)
 
 -- the group of a rank, of any heads
-pub find : (plan : Plan) (hs : List Head) (first rank : ℕ) (sets : HeadSets) → 1 ≤ length plan.bounds.offsets.items → first ≤ rank → rank < first + length (flat_map (shared_in plan) hs) →
+pub find : (plan : Plan) (hs : List Head) (first rank : ℕ) (sets : HeadSets) → 1 ≤ length plan.bounds.offsets.items → first ≤ rank → rank < first + length (flat_map (common_in plan) hs) →
     slice_get (ending_after rank (numbered plan first (flat_map (spread plan.bounds.offsets.items) hs))) 0 ≡ Some sets → Found plan hs first rank sets
 find plan [] first rank sets some low high is = absurd (omega arith)
 find plan (head ∷ hs) first rank sets some low high is = elim (cases_lt rank (first + length plan.bounds.offsets.items * length (lists plan head))) [
@@ -293,15 +293,15 @@ find plan (head ∷ hs) first rank sets some low high is = elim (cases_lt rank (
   | inr past ↦
       let offsets = plan.bounds.offsets.items in
       let next = first + length plan.bounds.offsets.items * length (lists plan head) in
-      let long = shared_count plan head in
+      let long = common_count plan head in
       let count = based_count plan head in
-      let shared_all = length-append (shared_in plan head) (flat_map (shared_in plan) hs) in
+      let common_all = length-append (common_in plan head) (flat_map (common_in plan) hs) in
       let all = length-append (based_in plan head) (flat_map (based_in plan) hs) in
       let left : slice_get (ending_after rank (numbered plan (first + length plan.bounds.offsets.items * length (lists plan head)) (flat_map (spread plan.bounds.offsets.items) hs))) 0 ≡ Some sets =
       sym (ap (λ (l : List HeadSets). slice_get l 0) (past_group plan head offsets first rank (flat_map (spread offsets) hs) past)) ∙ is in
       let found = find plan hs (first + length plan.bounds.offsets.items * length (lists plan head)) rank sets some past (omega arith) left in
       let before = found.before in
-      let shared_more : length plan.bounds.offsets.items * (length (lists plan head) + found.before) ≡ length plan.bounds.offsets.items * length (lists plan head) + length plan.bounds.offsets.items * found.before = mul-add (length plan.bounds.offsets.items) (length (lists plan head)) before in
+      let common_more : length plan.bounds.offsets.items * (length (lists plan head) + found.before) ≡ length plan.bounds.offsets.items * length (lists plan head) + length plan.bounds.offsets.items * found.before = mul-add (length plan.bounds.offsets.items) (length (lists plan head)) before in
       let based_more : length (bases_of plan) * (length (lists plan head) + found.before) ≡ length (bases_of plan) * length (lists plan head) + length (bases_of plan) * found.before = mul-add (length (bases_of plan)) (length (lists plan head)) before in
       let here : first + length plan.bounds.offsets.items * length (lists plan head) + length plan.bounds.offsets.items * found.before ≡ first + length plan.bounds.offsets.items * (length (lists plan head) + found.before) = omega arith in
       let P : ℕ → Type 0 = λ n. InGroup plan found.head plan.bounds.offsets.items n rank sets in
@@ -321,23 +321,23 @@ find plan (head ∷ hs) first rank sets some low high is = elim (cases_lt rank (
             ∙ found.stand i set e;
         within = omega arith;
         ranked = λ set greatest at.
-            (let split : or_later (position (is_same_set (with_first plan set.0)) (shared_in plan head)) (length (shared_in plan head)) (position (is_same_set (with_first plan set.0)) (flat_map (shared_in plan) hs)) ≡ Some (rank - first) =
-            sym (position_append (is_same_set (with_first plan set.0)) (shared_in plan head) (flat_map (shared_in plan) hs)) ∙ at in
+            (let split : or_later (position (is_same_set (with_first plan set.0)) (common_in plan head)) (length (common_in plan head)) (position (is_same_set (with_first plan set.0)) (flat_map (common_in plan) hs)) ≡ Some (rank - first) =
+            sym (position_append (is_same_set (with_first plan set.0)) (common_in plan head) (flat_map (common_in plan) hs)) ∙ at in
             elim (places plan head set some greatest) [
               | inl both ↦
-                  let place : both.0 ≡ rank - first = some_number both.0 (rank - first) (sym (ap (λ (o : Option ℕ). or_later o (length (shared_in plan head)) (position (is_same_set (with_first plan set.0)) (flat_map (shared_in plan) hs))) both.2) ∙ split) in
+                  let place : both.0 ≡ rank - first = some_number both.0 (rank - first) (sym (ap (λ (o : Option ℕ). or_later o (length (common_in plan head)) (position (is_same_set (with_first plan set.0)) (flat_map (common_in plan) hs))) both.2) ∙ split) in
                   let below : both.0 < length (lists plan head) = both.1 in
                   let fewer : 1 * length (lists plan head) ≤ length plan.bounds.offsets.items * length (lists plan head) = mul-le-mul_right (length (lists plan head)) some in
                   absurd (omega arith)
               | inr neither ↦
-                  let later : or_later None (length (shared_in plan head)) (position (is_same_set (with_first plan set.0)) (flat_map (shared_in plan) hs)) ≡ Some (rank - first) =
-                  sym (ap (λ (o : Option ℕ). or_later o (length (shared_in plan head)) (position (is_same_set (with_first plan set.0)) (flat_map (shared_in plan) hs))) neither.0) ∙ split in
-                  let tail : position (is_same_set (with_first plan set.0)) (flat_map (shared_in plan) hs) ≡ Some (rank - (first + length plan.bounds.offsets.items * length (lists plan head))) =
-                  later_place (length (shared_in plan head)) (position (is_same_set (with_first plan set.0)) (flat_map (shared_in plan) hs)) (rank - first) later
-                  ∙ ap (λ (n : ℕ). Some n) (let f : rank - first - length (shared_in plan head) ≡ rank - (first + length plan.bounds.offsets.items * length (lists plan head)) = omega arith in f) in
+                  let later : or_later None (length (common_in plan head)) (position (is_same_set (with_first plan set.0)) (flat_map (common_in plan) hs)) ≡ Some (rank - first) =
+                  sym (ap (λ (o : Option ℕ). or_later o (length (common_in plan head)) (position (is_same_set (with_first plan set.0)) (flat_map (common_in plan) hs))) neither.0) ∙ split in
+                  let tail : position (is_same_set (with_first plan set.0)) (flat_map (common_in plan) hs) ≡ Some (rank - (first + length plan.bounds.offsets.items * length (lists plan head))) =
+                  later_place (length (common_in plan head)) (position (is_same_set (with_first plan set.0)) (flat_map (common_in plan) hs)) (rank - first) later
+                  ∙ ap (λ (n : ℕ). Some n) (let f : rank - first - length (common_in plan head) ≡ rank - (first + length plan.bounds.offsets.items * length (lists plan head)) = omega arith in f) in
                   position_append (is_same_based set) (based_in plan head) (flat_map (based_in plan) hs)
                   ∙ ap₂ (λ (a b : Option ℕ). or_later a (length (based_in plan head)) b) neither.1 (found.ranked set greatest tail)
-                  ∙ moved (length (based_in plan head)) (λ e. length (bases_of plan) * found.before + (e * length (lists plan found.head) + (rank - (first + length plan.bounds.offsets.items * length (lists plan head) + length plan.bounds.offsets.items * found.before))))
+                  ∙ padded (length (based_in plan head)) (λ e. length (bases_of plan) * found.before + (e * length (lists plan found.head) + (rank - (first + length plan.bounds.offsets.items * length (lists plan head) + length plan.bounds.offsets.items * found.before))))
                   (λ e. length (bases_of plan) * (length (lists plan head) + found.before) + (e * length (lists plan found.head) + (rank - (first + length plan.bounds.offsets.items * (length (lists plan head) + found.before)))))
                   (λ e. omega arith) (position (same_bases set.1) (bases_of plan))
             ]);
@@ -351,6 +351,6 @@ find plan (head ∷ hs) first rank sets some low high is = elim (cases_lt rank (
     later_place n None r e = absurd (search rules)
     later_place n (Some k) r e = let same : n + k ≡ r = some_number (n + k) r e in ap (λ (m : ℕ). Some m) (let f : k ≡ r - n = omega arith in f)
 
-    moved : (n : ℕ) (f g : ℕ → ℕ) → ((e : ℕ) → n + f e ≡ g e) → (o : Option ℕ) → or_later None n (option_map f o) ≡ option_map g o
-    moved n f g same None = refl
-    moved n f g same (Some e) = ap (λ (m : ℕ). Some m) (same e)
+    padded : (n : ℕ) (f g : ℕ → ℕ) → ((e : ℕ) → n + f e ≡ g e) → (o : Option ℕ) → or_later None n (option_map f o) ≡ option_map g o
+    padded n f g same None = refl
+    padded n f g same (Some e) = ap (λ (m : ℕ). Some m) (same e)

@@ -6,6 +6,6 @@ pub mod Grouped
 pub mod GroupAt
 pub mod PartAt
 pub mod Products
-pub mod MovedPlan
+pub mod PartPlan
 pub mod Undo
 pub mod Aligned

@@ -16,7 +16,7 @@ use Rattle.set_product.specs.Heads.{space_of}
 use Rattle.set_product.proofs.Pairs.{row_within, second_some}
 use Rattle.wide_product.proofs.GroupAt.{bases_count, some_offsets}
 use Rattle.wide_product.proofs.Lists.{count_some}
-use Rattle.wide_product.proofs.Spread.{based_count, based_in, lists, product_is, sets_are, shared_count, shared_in}
+use Rattle.wide_product.proofs.Spread.{based_count, based_in, lists, product_is, sets_are, common_count, common_in}
 use Rattle.wide_product.specs.Bases.{base_lists}
 use Rattle.wide_product.specs.Groups.{based_of, bases_of, later_bases, IsGroup}
 use Rattle.wide_product.specs.Parts.{IsPartOf}
@@ -28,25 +28,25 @@ pub wide_are : (plan : Plan) → plan.each ≡ true → wide_sets plan ≡ based
 unfolding wide_sets
 wide_are plan each = ap (λ (b : Bool). cond b (based_product (length plan.lengths.items) plan.bounds) (map (λ geo. (geo, [])) (sets_of plan))) each
 
--- there are so many sets with bases for each that shares an offset
-all_based : (plan : Plan) (hs : List Head) → IsPlan plan → length (flat_map (based_in plan) hs) ≡ length (flat_map (shared_in plan) hs) * length (later_bases plan)
+-- there are so many sets with bases for each that has a common offset
+all_based : (plan : Plan) (hs : List Head) → IsPlan plan → length (flat_map (based_in plan) hs) ≡ length (flat_map (common_in plan) hs) * length (later_bases plan)
 all_based plan [] is_plan = sym (zero-mul (length (later_bases plan)))
 all_based plan (head ∷ hs) is_plan =
     let rest = all_based plan hs is_plan in
     let count = based_count plan head in
-    let shared = shared_count plan head in
+    let common = common_count plan head in
     let bases = bases_count plan is_plan in
     let all = length-append (based_in plan head) (flat_map (based_in plan) hs) in
-    let all_shared = length-append (shared_in plan head) (flat_map (shared_in plan) hs) in
-    let split : (length (shared_in plan head) + length (flat_map (shared_in plan) hs)) * length (later_bases plan) ≡ length (shared_in plan head) * length (later_bases plan) + length (flat_map (shared_in plan) hs) * length (later_bases plan) = add-mul (length (shared_in plan head)) (length (flat_map (shared_in plan) hs)) (length (later_bases plan)) in
-    let own : length (based_in plan head) ≡ length (shared_in plan head) * length (later_bases plan) =
+    let all_common = length-append (common_in plan head) (flat_map (common_in plan) hs) in
+    let split : (length (common_in plan head) + length (flat_map (common_in plan) hs)) * length (later_bases plan) ≡ length (common_in plan head) * length (later_bases plan) + length (flat_map (common_in plan) hs) * length (later_bases plan) = add-mul (length (common_in plan head)) (length (flat_map (common_in plan) hs)) (length (later_bases plan)) in
+    let own : length (based_in plan head) ≡ length (common_in plan head) * length (later_bases plan) =
     count
     ∙ ap (λ (n : ℕ). n * length (lists plan head)) bases
     ∙ mul_assoc (length plan.bounds.offsets.items) (length (later_bases plan)) (length (lists plan head))
     ∙ ap (λ (n : ℕ). length plan.bounds.offsets.items * n) (mul_comm (length (later_bases plan)) (length (lists plan head)))
     ∙ sym (mul_assoc (length plan.bounds.offsets.items) (length (lists plan head)) (length (later_bases plan)))
-    ∙ ap (λ (n : ℕ). n * length (later_bases plan)) (sym shared) in
-    all ∙ ap₂ (λ (a b : ℕ). a + b) own rest ∙ sym split ∙ ap (λ (n : ℕ). n * length (later_bases plan)) (sym all_shared)
+    ∙ ap (λ (n : ℕ). n * length (later_bases plan)) (sym common) in
+    all ∙ ap₂ (λ (a b : ℕ). a + b) own rest ∙ sym split ∙ ap (λ (n : ℕ). n * length (later_bases plan)) (sym all_common)
 
 pub total_is : (plan : Plan) → IsPlan plan → plan.each ≡ true → wide_total plan ≡ total_of plan * length (later_bases plan)
 unfolding wide_total total_of
@@ -58,7 +58,7 @@ total_is plan is_plan each =
 pub some_later : (plan : Plan) → IsPlan plan → 1 ≤ length (later_bases plan)
 some_later plan is_plan = count_some plan.bounds.offsets.items (length plan.lengths.items - 1) (some_offsets plan is_plan)
 
--- the sets that share an offset are no more
+-- the sets that have a common offset are no more
 pub fewer : (plan : Plan) → IsPlan plan → plan.each ≡ true → total_of plan ≤ wide_total plan
 fewer plan is_plan each =
     let total = total_is plan is_plan each in
@@ -93,7 +93,7 @@ pub splits : (plan : Plan) (rank later : ℕ) → IsPlan plan → plan.each ≡ 
 splits plan rank later is_plan each few below is =
     let total = total_is plan is_plan each in
     let some = some_later plan is_plan in
-    let shared = fewer plan is_plan each in
+    let common = fewer plan is_plan each in
     let less : rank < total_of plan * length (later_bases plan) = omega arith in
     let any : 1 ≤ total_of plan = at_least (total_of plan) (length (later_bases plan)) less in
     let most : 1 * length (later_bases plan) ≤ total_of plan * length (later_bases plan) = mul-le-mul_right (length (later_bases plan)) any in

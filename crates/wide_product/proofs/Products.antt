@@ -22,7 +22,7 @@ use Rattle.slot_math.proofs.Nested.{get-map, length-map}
 use Rattle.slot_math.specs.declared.space.Space.{Space}
 use Rattle.set_product.proofs.Pairs.{place_within, position_map, position_never, position_same, position_step}
 use Rattle.set_product.specs.Heads.{space_of}
-use Rattle.wide_product.proofs.Grouped.{none_based, none_shared}
+use Rattle.wide_product.proofs.Grouped.{none_based, none_common}
 use Rattle.wide_product.proofs.GroupAt.{some_offsets}
 use Rattle.wide_product.proofs.PartAt.{each_list, fewer, total_is, wide_are}
 use Rattle.wide_product.proofs.Spread.{product_is, sets_are}
@@ -33,43 +33,43 @@ use Rattle.wide_product.specs.Sets.{based_product, is_same_based, sets_over, sta
 use Rattle.wide_product.specs.declared.groups.Group.{Group}
 use Rattle.wide_product.specs.declared.parts.Part.{Part}
 
-abbrev common : Geometry → Based
-common geo = (geo, [])
+abbrev without_bases : Geometry → Based
+without_bases geo = (geo, [])
 
-pub shared_are : (plan : Plan) → plan.each ≡ false → wide_sets plan ≡ map (λ geo. (geo, [])) (sets_of plan)
+pub common_are : (plan : Plan) → plan.each ≡ false → wide_sets plan ≡ map (λ geo. (geo, [])) (sets_of plan)
 unfolding wide_sets
-shared_are plan each = ap (λ (b : Bool). cond b (based_product (length plan.lengths.items) plan.bounds) (map (λ geo. (geo, [])) (sets_of plan))) each
+common_are plan each = ap (λ (b : Bool). cond b (based_product (length plan.lengths.items) plan.bounds) (map (λ geo. (geo, [])) (sets_of plan))) each
 
-pub shared_total : (plan : Plan) → plan.each ≡ false → wide_total plan ≡ total_of plan
+pub common_total : (plan : Plan) → plan.each ≡ false → wide_total plan ≡ total_of plan
 unfolding wide_total total_of
-shared_total plan each = ap length (shared_are plan each) ∙ length-map common (sets_of plan)
+common_total plan each = ap length (common_are plan each) ∙ length-map without_bases (sets_of plan)
 
-pub shared_set : (plan : Plan) (rank : ℕ) (geo : Geometry) (bases : List ℕ) → plan.each ≡ false → slice_get (sets_of plan) rank ≡ Some geo → bases ≡ [] → slice_get (wide_sets plan) rank ≡ Some (geo, bases)
-shared_set plan rank geo bases each at none =
-    ap (λ (l : List Based). slice_get l rank) (shared_are plan each)
-    ∙ get-map common (sets_of plan) rank
-    ∙ ap (option_map common) at
+pub common_set : (plan : Plan) (rank : ℕ) (geo : Geometry) (bases : List ℕ) → plan.each ≡ false → slice_get (sets_of plan) rank ≡ Some geo → bases ≡ [] → slice_get (wide_sets plan) rank ≡ Some (geo, bases)
+common_set plan rank geo bases each at none =
+    ap (λ (l : List Based). slice_get l rank) (common_are plan each)
+    ∙ get-map without_bases (sets_of plan) rank
+    ∙ ap (option_map without_bases) at
     ∙ ap (λ (l : List ℕ). let b : Based = (geo, l) in Some b) (sym none)
 
 -- a set without bases, and one with some
-pub shared_rank : (plan : Plan) (set : Based) → plan.each ≡ false → set.1 ≡ [] → rank_of plan set.0 ≡ wide_rank plan set
+pub common_rank : (plan : Plan) (set : Based) → plan.each ≡ false → set.1 ≡ [] → rank_of plan set.0 ≡ wide_rank plan set
 unfolding same_bases
-shared_rank plan set each none =
-    sym (ap (position (is_same_based set)) (shared_are plan each)
-    ∙ position_map (is_same_based set) common (sets_of plan)
-    ∙ position_same (λ (geo : Geometry). is_same_based set (common geo)) (is_same_set set.0) (sets_of plan)
+common_rank plan set each none =
+    sym (ap (position (is_same_based set)) (common_are plan each)
+    ∙ position_map (is_same_based set) without_bases (sets_of plan)
+    ∙ position_same (λ (geo : Geometry). is_same_based set (without_bases geo)) (is_same_set set.0) (sets_of plan)
     (λ geo. ap (λ (l : List ℕ). is_same_set set.0 geo && same_bases l []) none ∙ and_true (is_same_set set.0 geo)))
   where
     and_true : (b : Bool) → (b && true) ≡ b
     and_true true = refl
     and_true false = refl
 
-pub not_shared : (plan : Plan) (set : Based) → plan.each ≡ false → (set.1 ≡ [] → ⊥) → wide_rank plan set ≡ None
+pub not_common : (plan : Plan) (set : Based) → plan.each ≡ false → (set.1 ≡ [] → ⊥) → wide_rank plan set ≡ None
 unfolding same_bases
-not_shared plan set each some =
-    ap (position (is_same_based set)) (shared_are plan each)
-    ∙ position_map (is_same_based set) common (sets_of plan)
-    ∙ position_never (λ (geo : Geometry). is_same_based set (common geo)) (sets_of plan) (λ geo. ap (λ (b : Bool). is_same_set set.0 geo && b) (other set.1 some) ∙ and_false (is_same_set set.0 geo))
+not_common plan set each some =
+    ap (position (is_same_based set)) (common_are plan each)
+    ∙ position_map (is_same_based set) without_bases (sets_of plan)
+    ∙ position_never (λ (geo : Geometry). is_same_based set (without_bases geo)) (sets_of plan) (λ geo. ap (λ (b : Bool). is_same_set set.0 geo && b) (other set.1 some) ∙ and_false (is_same_set set.0 geo))
   where
     and_false : (b : Bool) → (b && false) ≡ false
     and_false true = refl
@@ -85,7 +85,7 @@ no_more plan is_plan = by_kind plan.each refl
   where
     by_kind : (b : Bool) → plan.each ≡ b → total_of plan ≤ wide_total plan
     by_kind true each = fewer plan is_plan each
-    by_kind false each = let e = shared_total plan each in omega arith
+    by_kind false each = let e = common_total plan each in omega arith
 
 -- the spaces of slot lists are those of at most MOST images and members
 each_members : (plan : Plan) → IsPlan plan → AllByRecursion (λ head. (head.members ≤ MOST) × (is_valid_head head ≡ true)) (starts plan.bounds)
@@ -178,7 +178,7 @@ not_each plan set each differ =
 pub not_there : (plan : Plan) (set : Based) → IsPlan plan → plan.each ≡ true → set.0.head.offset ≡ greatest_base set.1 → rank_of plan (with_first plan set.0) ≡ None → wide_rank plan set ≡ None
 not_there plan set is_plan each greatest none =
     ap (position (is_same_based set)) (wide_are plan each ∙ product_is plan)
-    ∙ none_shared plan set (starts plan.bounds) (some_offsets plan is_plan) greatest (sym (ap (position (is_same_set (with_first plan set.0))) (sets_are plan)) ∙ none)
+    ∙ none_common plan set (starts plan.bounds) (some_offsets plan is_plan) greatest (sym (ap (position (is_same_set (with_first plan set.0))) (sets_are plan)) ∙ none)
 
 pub not_based : (plan : Plan) (set : Based) → plan.each ≡ true → set.0.head.offset ≡ greatest_base set.1 → position (same_bases set.1) (bases_of plan) ≡ None → wide_rank plan set ≡ None
 not_based plan set each greatest none =
@@ -186,18 +186,18 @@ not_based plan set each greatest none =
     ∙ none_based plan set (starts plan.bounds) greatest none
 
 -- a set of a group: its rank, and how far the numbers go that it is made of
-pub record Ranks (plan : Plan) (set : Based) (shared later list : ℕ) (group : Group) : Type 0 where
-  pub rank : wide_rank plan set ≡ Some (group.first * later + (list * group.count + (shared - group.first)))
-  pub below : group.first * later + (list * group.count + (shared - group.first)) < wide_total plan
+pub record Ranks (plan : Plan) (set : Based) (common later list : ℕ) (group : Group) : Type 0 where
+  pub rank : wide_rank plan set ≡ Some (group.first * later + (list * group.count + (common - group.first)))
+  pub below : group.first * later + (list * group.count + (common - group.first)) < wide_total plan
 
-pub few_bases : (plan : Plan) (shared : ℕ) (group : Group) → plan.each ≡ true → IsGroup plan shared group → length (bases_of plan) ≤ wide_total plan
+pub few_bases : (plan : Plan) (common : ℕ) (group : Group) → plan.each ≡ true → IsGroup plan common group → length (bases_of plan) ≤ wide_total plan
 unfolding wide_total
-few_bases plan shared group each is =
+few_bases plan common group each is =
     let low = is.low in
     let high = is.high in
     let within = is.within in
     let whole = ap length (wide_are plan each) in
-    let some : 1 ≤ group.count = at_least group.count (length plan.bounds.offsets.items) (let e : shared - group.first < length plan.bounds.offsets.items * group.count = omega arith in e) in
+    let some : 1 ≤ group.count = at_least group.count (length plan.bounds.offsets.items) (let e : common - group.first < length plan.bounds.offsets.items * group.count = omega arith in e) in
     let more : length (bases_of plan) * 1 ≤ length (bases_of plan) * group.count = mul-le (length (bases_of plan)) 1 (length (bases_of plan)) group.count (omega arith) some in
     omega arith
   where
@@ -205,27 +205,27 @@ few_bases plan shared group each is =
     at_least zero a below = let none : a * zero ≡ 0 = mul-zero a in absurd (omega arith)
     at_least (suc b) a below = omega arith
 
-pub shared_below : (plan : Plan) (shared : ℕ) (geo : Geometry) → rank_of plan geo ≡ Some shared → shared < total_of plan
+pub common_below : (plan : Plan) (common : ℕ) (geo : Geometry) → rank_of plan geo ≡ Some common → common < total_of plan
 unfolding total_of
-shared_below plan shared geo at = place_within (is_same_set geo) (sets_of plan) shared at
+common_below plan common geo at = place_within (is_same_set geo) (sets_of plan) common at
 
-pub few_later : (plan : Plan) (shared : ℕ) → IsPlan plan → plan.each ≡ true → shared < total_of plan → length (later_bases plan) ≤ wide_total plan
-few_later plan shared is_plan each below =
+pub few_later : (plan : Plan) (common : ℕ) → IsPlan plan → plan.each ≡ true → common < total_of plan → length (later_bases plan) ≤ wide_total plan
+few_later plan common is_plan each below =
     let total = total_is plan is_plan each in
     let more : 1 * length (later_bases plan) ≤ total_of plan * length (later_bases plan) = mul-le-mul_right (length (later_bases plan)) (let e : 1 ≤ total_of plan = omega arith in e) in
     omega arith
 
-pub ranks : (plan : Plan) (set : Based) (shared later list : ℕ) (group : Group) → plan.each ≡ true → set.0.head.offset ≡ greatest_base set.1 → rank_of plan (with_first plan set.0) ≡ Some shared →
-    later ≡ length (later_bases plan) → IsGroup plan shared group → position (same_bases set.1) (bases_of plan) ≡ Some list → Ranks plan set shared later list group
+pub ranks : (plan : Plan) (set : Based) (common later list : ℕ) (group : Group) → plan.each ≡ true → set.0.head.offset ≡ greatest_base set.1 → rank_of plan (with_first plan set.0) ≡ Some common →
+    later ≡ length (later_bases plan) → IsGroup plan common group → position (same_bases set.1) (bases_of plan) ≡ Some list → Ranks plan set common later list group
 unfolding wide_total
-ranks plan set shared later list group each greatest at later_is is at_list =
+ranks plan set common later list group each greatest at later_is is at_list =
     let start : group.first * later ≡ group.first * length (later_bases plan) = ap (λ (n : ℕ). group.first * n) later_is in
-    let rank : wide_rank plan set ≡ Some (group.first * later + (list * group.count + (shared - group.first))) =
+    let rank : wide_rank plan set ≡ Some (group.first * later + (list * group.count + (common - group.first))) =
     ap (position (is_same_based set)) (wide_are plan each)
     ∙ is.ranked set greatest at
-    ∙ ap (option_map (λ e. group.first * length (later_bases plan) + (e * group.count + (shared - group.first)))) at_list
-    ∙ ap (λ (n : ℕ). Some (n + (list * group.count + (shared - group.first)))) (sym start) in
-    record { rank = rank; below = place_within (is_same_based set) (wide_sets plan) (group.first * later + (list * group.count + (shared - group.first))) rank }
+    ∙ ap (option_map (λ e. group.first * length (later_bases plan) + (e * group.count + (common - group.first)))) at_list
+    ∙ ap (λ (n : ℕ). Some (n + (list * group.count + (common - group.first)))) (sym start) in
+    record { rank = rank; below = place_within (is_same_based set) (wide_sets plan) (group.first * later + (list * group.count + (common - group.first))) rank }
 
 -- where there are as many bases as images, the offset is the greatest
 pub greatest_is : (plan : Plan) (bases : List ℕ) (offset : ℕ) → IsPlan plan → length bases ≡ length plan.lengths.items → IsTrue (is_offset_of bases offset) → offset ≡ greatest_base bases

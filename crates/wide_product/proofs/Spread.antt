@@ -29,21 +29,21 @@ spread offsets head = map (λ offset. record head { offset = offset }) offsets
 abbrev pub lists : Plan → Head → List (List (Option ℕ))
 lists plan head = lists_of (space_of plan head.level head.members)
 
-abbrev pub shared_set : Head → ℕ × List (Option ℕ) → Geometry
-shared_set head p = record { head = record head { offset = p.0 }; slots = record { items = p.1 } }
+abbrev pub common_set : Head → ℕ × List (Option ℕ) → Geometry
+common_set head p = record { head = record head { offset = p.0 }; slots = record { items = p.1 } }
 
 abbrev pub based_set : Head → List ℕ × List (Option ℕ) → Based
 based_set head p = (record { head = record head { offset = greatest_base p.0 }; slots = record { items = p.1 } }, p.0)
 
 -- the sets of a head with each offset, and with each list of bases
-abbrev pub shared_in : Plan → Head → List Geometry
-shared_in plan head = map (shared_set head) (pairs plan.bounds.offsets.items (lists plan head))
+abbrev pub common_in : Plan → Head → List Geometry
+common_in plan head = map (common_set head) (pairs plan.bounds.offsets.items (lists plan head))
 
 abbrev pub based_in : Plan → Head → List Based
 based_in plan head = map (based_set head) (pairs (bases_of plan) (lists plan head))
 
-pub shared_count : (plan : Plan) (head : Head) → length (shared_in plan head) ≡ length plan.bounds.offsets.items * length (lists plan head)
-shared_count plan head = length-map (shared_set head) (pairs plan.bounds.offsets.items (lists plan head)) ∙ length_pairs plan.bounds.offsets.items (lists plan head)
+pub common_count : (plan : Plan) (head : Head) → length (common_in plan head) ≡ length plan.bounds.offsets.items * length (lists plan head)
+common_count plan head = length-map (common_set head) (pairs plan.bounds.offsets.items (lists plan head)) ∙ length_pairs plan.bounds.offsets.items (lists plan head)
 
 pub based_count : (plan : Plan) (head : Head) → length (based_in plan head) ≡ length (bases_of plan) * length (lists plan head)
 based_count plan head = length-map (based_set head) (pairs (bases_of plan) (lists plan head)) ∙ length_pairs (bases_of plan) (lists plan head)
@@ -78,29 +78,29 @@ heads_spread bounds =
     kept_spread (record { level = level; members = members; pattern = pattern; syndrome = syndrome; chunk = chunk; offset = 0 }) bounds.offsets.items)))))
 
 -- the sets of the heads that differ in their offset alone
-shared_are : (plan : Plan) (head : Head) → flat_map (sets_of_head (length plan.lengths.items) plan.bounds) (spread plan.bounds.offsets.items head) ≡ shared_in plan head
-shared_are plan head =
+common_are : (plan : Plan) (head : Head) → flat_map (sets_of_head (length plan.lengths.items) plan.bounds) (spread plan.bounds.offsets.items head) ≡ common_in plan head
+common_are plan head =
     let n = length plan.lengths.items in
     flat_of_map (sets_of_head n plan.bounds) (λ (offset : ℕ). record head { offset = offset }) plan.bounds.offsets.items
-    ∙ flat_same (λ (offset : ℕ). sets_of_head n plan.bounds (record head { offset = offset })) (λ (offset : ℕ). map (λ (slots : List (Option ℕ)). shared_set head (offset, slots)) (lists plan head)) plan.bounds.offsets.items
-    (λ offset. ap (map (λ (slots : List (Option ℕ)). shared_set head (offset, slots))) (sym (lists_fit plan head)))
-    ∙ sym (map_pairs (shared_set head) plan.bounds.offsets.items (lists plan head))
+    ∙ flat_same (λ (offset : ℕ). sets_of_head n plan.bounds (record head { offset = offset })) (λ (offset : ℕ). map (λ (slots : List (Option ℕ)). common_set head (offset, slots)) (lists plan head)) plan.bounds.offsets.items
+    (λ offset. ap (map (λ (slots : List (Option ℕ)). common_set head (offset, slots))) (sym (lists_fit plan head)))
+    ∙ sym (map_pairs (common_set head) plan.bounds.offsets.items (lists plan head))
 
 based_are : (plan : Plan) (head : Head) → flat_map (sets_over (length plan.lengths.items) plan.bounds head) (bases_of plan) ≡ based_in plan head
 based_are plan head =
     let n = length plan.lengths.items in
     flat_same (sets_over n plan.bounds head) (λ (bases : List ℕ). map (λ (slots : List (Option ℕ)). based_set head (bases, slots)) (lists plan head)) (bases_of plan)
-    (λ bases. map_map (λ (geo : Geometry). let b : Based = (geo, bases) in b) (λ (slots : List (Option ℕ)). shared_set head (greatest_base bases, slots)) (filter (fits n plan.bounds head) (all_lists n head.members))
+    (λ bases. map_map (λ (geo : Geometry). let b : Based = (geo, bases) in b) (λ (slots : List (Option ℕ)). common_set head (greatest_base bases, slots)) (filter (fits n plan.bounds head) (all_lists n head.members))
     ∙ ap (map (λ (slots : List (Option ℕ)). based_set head (bases, slots))) (sym (lists_fit plan head)))
     ∙ sym (map_pairs (based_set head) (bases_of plan) (lists plan head))
 
-pub sets_are : (plan : Plan) → sets_of plan ≡ flat_map (shared_in plan) (starts plan.bounds)
+pub sets_are : (plan : Plan) → sets_of plan ≡ flat_map (common_in plan) (starts plan.bounds)
 unfolding sets_of
 sets_are plan =
     let n = length plan.lengths.items in
     ap (flat_map (sets_of_head n plan.bounds)) (heads_spread plan.bounds)
     ∙ flat_flat (sets_of_head n plan.bounds) (spread plan.bounds.offsets.items) (starts plan.bounds)
-    ∙ flat_same (λ (head : Head). flat_map (sets_of_head n plan.bounds) (spread plan.bounds.offsets.items head)) (shared_in plan) (starts plan.bounds) (shared_are plan)
+    ∙ flat_same (λ (head : Head). flat_map (sets_of_head n plan.bounds) (spread plan.bounds.offsets.items head)) (common_in plan) (starts plan.bounds) (common_are plan)
 
 pub product_is : (plan : Plan) → based_of plan ≡ flat_map (based_in plan) (starts plan.bounds)
 product_is plan =

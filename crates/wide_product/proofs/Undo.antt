@@ -29,7 +29,7 @@ use Rattle.set_product.specs.Pairs.{joined, pairs}
 use Rattle.wide_product.proofs.Grouped.{based_place, same_are_equal, same_start}
 use Rattle.wide_product.proofs.Lists.{more}
 use Rattle.wide_product.proofs.PartAt.{wide_are}
-use Rattle.wide_product.proofs.Products.{shared_are}
+use Rattle.wide_product.proofs.Products.{common_are}
 use Rattle.wide_product.proofs.Spread.{based_in, based_set, lists, product_is}
 use Rattle.wide_product.proofs.Walks.{flat_same}
 use Rattle.wide_product.specs.Bases.{base_lists, same_bases}
@@ -195,12 +195,12 @@ ranked_based plan is_plan =
     (λ head other differs. none_of_other plan head other differs) (starts plan.bounds)))
 
 -- without bases
-ranked_shared : (plan : Plan) → IsPlan plan → Ranked is_same_based (map (λ geo. (geo, [])) (sets_of plan))
+ranked_common : (plan : Plan) → IsPlan plan → Ranked is_same_based (map (λ geo. (geo, [])) (sets_of plan))
 unfolding same_bases
-ranked_shared plan is_plan =
-    let common : Geometry → Based = λ geo. (geo, []) in
+ranked_common plan is_plan =
+    let without_bases : Geometry → Based = λ geo. (geo, []) in
     ranked_map is_same_based (λ geo. (geo, [])) (sets_of plan) (λ i geo e.
-    position_same (λ (d : Geometry). is_same_based (common geo) (common d)) (is_same_set geo) (sets_of plan) (λ d. and_true (is_same_set geo d))
+    position_same (λ (d : Geometry). is_same_based (without_bases geo) (without_bases d)) (is_same_set geo) (sets_of plan) (λ d. and_true (is_same_set geo d))
     ∙ ranked_sets plan is_plan i geo e)
   where
     and_true : (b : Bool) → (b && true) ≡ b
@@ -213,7 +213,7 @@ ranked_wide plan is_plan = by_kind plan.each refl
   where
     by_kind : (b : Bool) → plan.each ≡ b → Ranked is_same_based (wide_sets plan)
     by_kind true each = let Q : List Based → Type 0 = λ sets. Ranked is_same_based sets in subst Q (sym (wide_are plan each)) (ranked_based plan is_plan)
-    by_kind false each = let Q : List Based → Type 0 = λ sets. Ranked is_same_based sets in subst Q (sym (shared_are plan each)) (ranked_shared plan is_plan)
+    by_kind false each = let Q : List Based → Type 0 = λ sets. Ranked is_same_based sets in subst Q (sym (common_are plan each)) (ranked_common plan is_plan)
 
 -- and the set of a rank stands there
 pub set_of_rank : (plan : Plan) (rank : ℕ) (set : Based) → wide_rank plan set ≡ Some rank → slice_get (wide_sets plan) rank ≡ Some set

@@ -28,7 +28,7 @@ based_of plan = based_product (length plan.lengths.items) plan.bounds
 abbrev pub with_first : Plan → Geometry → Geometry
 with_first plan geo = record geo { head = record geo.head { offset = slice_index plan.bounds.offsets.items 0 } }
 
--- the group in whose sets a rank lies, where images share an offset. Where they do not, its sets stand in the same order, with
+-- the group in whose sets a rank lies, where images have a common offset. Where they do not, its sets stand in the same order, with
 -- a list of bases in the place of an offset
 pub record IsGroup (plan : Plan) (rank : ℕ) (group : Group) : Type 0 where
   pub head : Contains (starts plan.bounds) (record group.head { offset = 0 })

@@ -2,5 +2,5 @@ pub mod Bases
 pub mod Sets
 pub mod Groups
 pub mod Parts
-pub mod Moved
+pub mod PaddedParts
 pub mod Laws

@@ -14,7 +14,7 @@ use Rattle.plan_sets.specs.Sets.{is_same_set, passes, sets_of}
 use Rattle.search_plan.specs.declared.plan.Plan.{Plan}
 use Rattle.wide_product.specs.Bases.{base_lists, same_bases}
 
--- parameters with the bases of the images, of which there are none where the images share an offset
+-- parameters with the bases of the images, of which there are none where the images have a common offset
 abbrev pub Based : Type 0
 Based = Geometry × List ℕ
 

@@ -17,13 +17,13 @@ pub(crate) struct Group {
     pub head: Head,
     /// The slot lists of each.
     pub space: Space,
-    /// The rank of the first set of the first of them, where images share an offset.
+    /// The rank of the first set of the first of them, where images have a common offset.
     pub first: u64,
     /// How many sets each of them has.
     pub count: u64,
 }
 
-/// The group in whose sets a rank lies, where images share an offset.
+/// The group in whose sets a rank lies, where images have a common offset.
 pub(crate) fn group_at(plan: &Plan, rank: u64) -> Group
     requires plan { IsPlan plan.now }
     requires few { total_of plan.now < 2 ^ 64 }
@@ -40,7 +40,7 @@ pub(crate) fn group_at(plan: &Plan, rank: u64) -> Group
     }
 }
 
-/// The head in whose sets a rank lies, where images share an offset.
+/// The head in whose sets a rank lies, where images have a common offset.
 fn sets_at(plan: &Plan, rank: u64) -> HeadSets
     requires plan { IsPlan plan.now }
     requires few { total_of plan.now < 2 ^ 64 }

@@ -28,20 +28,20 @@ fn count_sets(plan: &Plan) -> u128
 {
     match set_product::product_total(plan) {
         None => COUNT_END,
-        Some(shared) => count_with_bases(plan, shared),
+        Some(common) => count_with_bases(plan, common),
     }
 }
 
-/// How many parameter sets the plan has, of which so many share an offset. The count stops at `COUNT_END`.
-fn count_with_bases(plan: &Plan, shared: u64) -> u128
+/// How many parameter sets the plan has, of which so many have a common offset. The count stops at `COUNT_END`.
+fn count_with_bases(plan: &Plan, common: u64) -> u128
     requires plan { IsPlan plan.now }
-    requires shared { shared ≡ total_of plan.now }
+    requires common { common ≡ total_of plan.now }
     ensures { result ≡ min (wide_total plan.now) (2 ^ 64) }
 {
     if plan.each {
-        return count_pairs(u128::from(shared), count_later(plan));
+        return count_pairs(u128::from(common), count_later(plan));
     }
-    u128::from(shared)
+    u128::from(common)
 }
 
 /// The parameter set of this rank, counted from 0: the levels of the plan in their order, then the numbers of members, the
@@ -95,11 +95,11 @@ fn based_rank(plan: &Plan, set: &Wide) -> Option<u64>
     if set.bases.len() != plan.lengths.len() {
         return None;
     }
-    let shared = set_product::product_rank(plan, &with_first(plan, &set.geo))?;
-    let group = group_at(plan, shared);
+    let common = set_product::product_rank(plan, &with_first(plan, &set.geo))?;
+    let group = group_at(plan, common);
     let list = list_rank(plan, set)?;
     let later = count_later(plan) as u64;
-    Some(group.first * later + (list * group.count + (shared - group.first)))
+    Some(group.first * later + (list * group.count + (common - group.first)))
 }
 
 /// The rank of the bases of a set among all lists of bases.

@@ -12,8 +12,8 @@ returns c =
     let bases = c.args.bases.now in
     let marks = c.args.marks.now in
     let sorted = c.sort_unstable_by_key.new.self.items in
-    let moved : c.in_ok-moved.moved.items ≡ map (padded_mark bases) marks = c.in_ok-moved.ensures in
-    let permutes : IsPermutation (map (padded_mark bases) marks) sorted = subst (λ (ms : List Mark). IsPermutation ms sorted) moved c.sort_unstable_by_key.ensures.permutation in
+    let unsorted : c.in_ok-unsorted.unsorted.items ≡ map (padded_mark bases) marks = c.in_ok-unsorted.ensures in
+    let permutes : IsPermutation (map (padded_mark bases) marks) sorted = subst (λ (ms : List Mark). IsPermutation ms sorted) unsorted c.sort_unstable_by_key.ensures.permutation in
     let climbs = IsNonDecreasingBy-from_sort_by_key mark_place _ c.sort_unstable_by_key.ensures.sorted (λ a r q k. search rules) in
     let put : c.extend_from_slice.new.self ≡ sorted = search rules in
     put ∙ are_in_order bases marks sorted c.requires.rising c.requires.few permutes climbs

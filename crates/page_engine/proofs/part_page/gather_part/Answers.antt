@@ -6,16 +6,16 @@ use Rattle.plan_sets.specs.Sets.{total_of}
 use Rattle.search_terms.specs.Page.{stop_of}
 use Rattle.image_padding.specs.Padded.{padded_images}
 use Rattle.common_pages.specs.Pages.{IsPageOf, tested_to}
-use Rattle.wide_product.proofs.MovedPlan.{near_bases}
-use Rattle.wide_product.specs.Moved.{IsMoved}
+use Rattle.wide_product.proofs.PartPlan.{near_bases}
+use Rattle.wide_product.specs.PaddedParts.{IsPaddedPart}
 use Rattle.common_pages.proofs.HeadByHead.{tested_err}
-use Rattle.page_engine.specs.Lines.{AddsMoved}
+use Rattle.page_engine.specs.Lines.{AddsPadded}
 use Rattle.page_engine.specs.declared.lines.Line.{Line}
 use Rattle.page_engine.proofs.PartPage.{gathers, told_padded}
 use Rattle.page_engine.proofs.PartReads.{agrees, next_inside, reads_on, short_images, unread}
 use Rattle.page_engine.proofs.RuledOut.{gathers_none}
 use Rattle.page_engine.proofs.RangeReads.{reached_err}
-use Rattle.page_engine.proofs.SharedPages.{page_reads_up}
+use Rattle.page_engine.proofs.CommonPages.{page_reads_up}
 use Rattle.page_engine.specs.Parts.{reached}
 use Rattle.page_engine.specs.Reads.{based_reads}
 use Rattle.page_engine.proofs.part_page.gather_part.Goals as goal
@@ -23,23 +23,23 @@ use Rattle.page_engine.proofs.part_page.gather_part.Goals as goal
 pub returns-clause-gathers : goal.returns-clause-gathers
 returns-clause-gathers g c =
     let attached = (g.I.Images.seen c.args.images.now).attached in
-    let is_moved : IsMoved c.args.paging.now.plan.now c.args.part.now c.in_ok-moved.moved = c.in_ok-moved.ensures.moved in
-    let adds : AddsMoved c.args.part.now c.in_ok-moved.moved.first c.in_ok-found.found.lines c.args.lines.now c.add_found.new.lines = c.in_ok-add_found.ensures.adds in
+    let is_padded : IsPaddedPart c.args.paging.now.plan.now c.args.part.now c.in_ok-padded.padded = c.in_ok-padded.ensures.padded in
+    let adds : AddsPadded c.args.part.now c.in_ok-padded.padded.first c.in_ok-found.found.lines c.args.lines.now c.add_found.new.lines = c.in_ok-add_found.ensures.adds in
     let missing = c.args.paging.now.size - length c.as_slice.result.now in
-    let from = c.in_ok-moved.moved.first + (c.args.from - c.args.part.now.first) in
-    let P : List ℕ → Type 0 = λ bs. IfSome (told_all (padded_images bs (g.I.Images.seen c.args.images.now).attached)) (λ bytes. IsPageOf bytes c.in_ok-moved.moved.plan (c.in_ok-moved.moved.first + (c.args.from - c.args.part.now.first)) (c.args.paging.now.size - length c.as_slice.result.now) (c.args.stop - c.args.from) c.in_ok-found.found) in
-    let Q : Option (List (List ℕ)) → Type 0 = λ o. IfSome o (λ bytes. IsPageOf bytes c.in_ok-moved.moved.plan (c.in_ok-moved.moved.first + (c.args.from - c.args.part.now.first)) (c.args.paging.now.size - length c.as_slice.result.now) (c.args.stop - c.args.from) c.in_ok-found.found) in
-    gathers (told_all attached) c.args.paging.now.plan.now c.args.part.now c.in_ok-moved.moved c.in_ok-found.found c.args.paging.now.size missing c.args.from c.args.stop (c.args.part.now.first + (c.in_ok-found.found.next - c.in_ok-moved.moved.first)) c.args.lines.now c.add_found.new.lines
-    c.requires.part is_moved c.requires.from c.requires.range c.requires.stop c.requires.room (ap (λ (l : List Line). c.args.paging.now.size - length l) c.as_slice.ensures)
+    let from = c.in_ok-padded.padded.first + (c.args.from - c.args.part.now.first) in
+    let P : List ℕ → Type 0 = λ bs. IfSome (told_all (padded_images bs (g.I.Images.seen c.args.images.now).attached)) (λ bytes. IsPageOf bytes c.in_ok-padded.padded.plan (c.in_ok-padded.padded.first + (c.args.from - c.args.part.now.first)) (c.args.paging.now.size - length c.as_slice.result.now) (c.args.stop - c.args.from) c.in_ok-found.found) in
+    let Q : Option (List (List ℕ)) → Type 0 = λ o. IfSome o (λ bytes. IsPageOf bytes c.in_ok-padded.padded.plan (c.in_ok-padded.padded.first + (c.args.from - c.args.part.now.first)) (c.args.paging.now.size - length c.as_slice.result.now) (c.args.stop - c.args.from) c.in_ok-found.found) in
+    gathers (told_all attached) c.args.paging.now.plan.now c.args.part.now c.in_ok-padded.padded c.in_ok-found.found c.args.paging.now.size missing c.args.from c.args.stop (c.args.part.now.first + (c.in_ok-found.found.next - c.in_ok-padded.padded.first)) c.args.lines.now c.add_found.new.lines
+    c.requires.part is_padded c.requires.from c.requires.range c.requires.stop c.requires.room (ap (λ (l : List Line). c.args.paging.now.size - length l) c.as_slice.ensures)
     (subst Q (told_padded c.args.part.now.bases.items attached) (subst P c.deref.ensures.0 c.in_ok-found.ensures.page)) c.in_ok-found.ensures.sets c.in_ok-found.ensures.ended c.in_ok-found.ensures.within adds refl
 
-pub returns-in_err-moved-clause-reads : goal.returns-in_err-moved-clause-reads
-returns-in_err-moved-clause-reads g c = unread (told_all (g.I.Images.seen c.args.images.now).attached) c.args.paging.now.plan.now c.args.from (reached c.args.stop c.from_residual.result) (g.I.Images.seen c.args.images.now)
+pub returns-in_err-padded-clause-reads : goal.returns-in_err-padded-clause-reads
+returns-in_err-padded-clause-reads g c = unread (told_all (g.I.Images.seen c.args.images.now).attached) c.args.paging.now.plan.now c.args.from (reached c.args.stop c.from_residual.result) (g.I.Images.seen c.args.images.now)
 
 pub padded_page-requires-clause-lengths : goal.padded_page-requires-clause-lengths
 padded_page-requires-clause-lengths g c κs within =
-    let is_moved : IsMoved c.args.paging.now.plan.now c.args.part.now c.in_ok-moved.moved = c.in_ok-moved.ensures.moved in
-    agrees c.args.paging.now.plan.now c.args.part.now c.in_ok-moved.moved.plan c.deref.result.now (g.I.Images.seen c.args.images.now).attached is_moved.is c.deref.ensures.0 c.requires.lengths
+    let is_padded : IsPaddedPart c.args.paging.now.plan.now c.args.part.now c.in_ok-padded.padded = c.in_ok-padded.ensures.padded in
+    agrees c.args.paging.now.plan.now c.args.part.now c.in_ok-padded.padded.plan c.deref.result.now (g.I.Images.seen c.args.images.now).attached is_padded.is c.deref.ensures.0 c.requires.lengths
 
 pub padded_page-requires-clause-near : goal.padded_page-requires-clause-near
 padded_page-requires-clause-near g c κs within =
@@ -51,46 +51,46 @@ padded_page-requires-clause-short g c κs within = short_images c.args.paging.no
 
 pub returns-in_err-found-clause-reads : goal.returns-in_err-found-clause-reads
 returns-in_err-found-clause-reads g c =
-    let is_moved : IsMoved c.args.paging.now.plan.now c.args.part.now c.in_ok-moved.moved = c.in_ok-moved.ensures.moved in
-    let within = is_moved.within in
+    let is_padded : IsPaddedPart c.args.paging.now.plan.now c.args.part.now c.in_ok-padded.padded = c.in_ok-padded.ensures.padded in
+    let within = is_padded.within in
     let low = c.requires.from in
     let range = c.requires.range in
     let high = c.requires.stop in
-    let all = stop_of (total_of c.in_ok-moved.moved.plan) (c.in_ok-moved.moved.first + (c.args.from - c.args.part.now.first)) (c.args.stop - c.args.from) in
+    let all = stop_of (total_of c.in_ok-padded.padded.plan) (c.in_ok-padded.padded.first + (c.args.from - c.args.part.now.first)) (c.args.stop - c.args.from) in
     let err : IsErr c.padded_page.result = search rules in
     let failed : IsErr c.from_residual-in_err-found.result = search rules in
-    let stops : stop_of (total_of c.in_ok-moved.moved.plan) (c.in_ok-moved.moved.first + (c.args.from - c.args.part.now.first)) (c.args.stop - c.args.from) ≡ c.in_ok-moved.moved.first + (c.args.stop - c.args.part.now.first) = omega arith in
+    let stops : stop_of (total_of c.in_ok-padded.padded.plan) (c.in_ok-padded.padded.first + (c.args.from - c.args.part.now.first)) (c.args.stop - c.args.from) ≡ c.in_ok-padded.padded.first + (c.args.stop - c.args.part.now.first) = omega arith in
     let P : ℕ → Type 0 = λ n. OnlyReads (g.I.Images.seen c.args.images.now) (g.I.Images.seen c.padded_page.new.images) (based_reads (told_all (g.I.Images.seen c.args.images.now).attached) c.args.paging.now.plan.now c.args.from n) in
     subst P (sym (reached_err c.args.stop c.from_residual-in_err-found.result failed))
-    (reads_on (g.I.Images.seen c.args.images.now).attached c.args.paging.now.plan.now c.args.part.now c.in_ok-moved.moved c.deref.result.now c.args.from c.args.stop (tested_to all c.padded_page.result) (g.I.Images.seen c.args.images.now) (g.I.Images.seen c.padded_page.new.images) c.requires.plan c.requires.own c.requires.part is_moved c.deref.ensures.0 c.padded_page.ensures.reads (tested_err all c.padded_page.result err ∙ stops) low range high)
+    (reads_on (g.I.Images.seen c.args.images.now).attached c.args.paging.now.plan.now c.args.part.now c.in_ok-padded.padded c.deref.result.now c.args.from c.args.stop (tested_to all c.padded_page.result) (g.I.Images.seen c.args.images.now) (g.I.Images.seen c.padded_page.new.images) c.requires.plan c.requires.own c.requires.part is_padded c.deref.ensures.0 c.padded_page.ensures.reads (tested_err all c.padded_page.result err ∙ stops) low range high)
 
 pub returns-in_err-add_found-clause-reads : goal.returns-in_err-add_found-clause-reads
 returns-in_err-add_found-clause-reads g c =
-    let is_moved : IsMoved c.args.paging.now.plan.now c.args.part.now c.in_ok-moved.moved = c.in_ok-moved.ensures.moved in
-    let within = is_moved.within in
+    let is_padded : IsPaddedPart c.args.paging.now.plan.now c.args.part.now c.in_ok-padded.padded = c.in_ok-padded.ensures.padded in
+    let within = is_padded.within in
     let low = c.requires.from in
     let range = c.requires.range in
     let high = c.requires.stop in
     let next = c.in_ok-found.found.next in
-    let ended = next_inside c.args.paging.now.plan.now c.args.part.now c.in_ok-moved.moved c.in_ok-found.found (c.args.paging.now.size - length c.as_slice.result.now) c.args.from c.args.stop is_moved c.requires.from c.requires.range c.requires.stop c.in_ok-found.ensures.ended c.in_ok-found.ensures.within in
+    let ended = next_inside c.args.paging.now.plan.now c.args.part.now c.in_ok-padded.padded c.in_ok-found.found (c.args.paging.now.size - length c.as_slice.result.now) c.args.from c.args.stop is_padded c.requires.from c.requires.range c.requires.stop c.in_ok-found.ensures.ended c.in_ok-found.ensures.within in
     let same = ended.0 in
     let most = ended.1 in
     let on = ended.2 in
     let failed : IsErr c.from_residual-in_err-add_found.result = search rules in
-    let more = page_reads_up (told_all (padded_images c.deref.result.now (g.I.Images.seen c.args.images.now).attached)) c.in_ok-moved.moved.plan (c.in_ok-moved.moved.first + (c.args.from - c.args.part.now.first)) c.in_ok-found.found.next (c.in_ok-moved.moved.first + (c.args.stop - c.args.part.now.first)) (omega arith) (omega arith) in
+    let more = page_reads_up (told_all (padded_images c.deref.result.now (g.I.Images.seen c.args.images.now).attached)) c.in_ok-padded.padded.plan (c.in_ok-padded.padded.first + (c.args.from - c.args.part.now.first)) c.in_ok-found.found.next (c.in_ok-padded.padded.first + (c.args.stop - c.args.part.now.first)) (omega arith) (omega arith) in
     let P : ℕ → Type 0 = λ n. OnlyReads (g.I.Images.seen c.args.images.now) (g.I.Images.seen c.padded_page.new.images) (based_reads (told_all (g.I.Images.seen c.args.images.now).attached) c.args.paging.now.plan.now c.args.from n) in
     subst P (sym (reached_err c.args.stop c.from_residual-in_err-add_found.result failed))
-    (reads_on (g.I.Images.seen c.args.images.now).attached c.args.paging.now.plan.now c.args.part.now c.in_ok-moved.moved c.deref.result.now c.args.from c.args.stop (c.in_ok-moved.moved.first + (c.args.stop - c.args.part.now.first)) (g.I.Images.seen c.args.images.now) (g.I.Images.seen c.padded_page.new.images) c.requires.plan c.requires.own c.requires.part is_moved c.deref.ensures.0
+    (reads_on (g.I.Images.seen c.args.images.now).attached c.args.paging.now.plan.now c.args.part.now c.in_ok-padded.padded c.deref.result.now c.args.from c.args.stop (c.in_ok-padded.padded.first + (c.args.stop - c.args.part.now.first)) (g.I.Images.seen c.args.images.now) (g.I.Images.seen c.padded_page.new.images) c.requires.plan c.requires.own c.requires.part is_padded c.deref.ensures.0
     (reads_up (g.I.Images.seen c.args.images.now) (g.I.Images.seen c.padded_page.new.images) c.in_ok-found.ensures.reads more) refl low range high)
 
 pub returns-clause-reads : goal.returns-clause-reads
 returns-clause-reads g c =
-    let is_moved : IsMoved c.args.paging.now.plan.now c.args.part.now c.in_ok-moved.moved = c.in_ok-moved.ensures.moved in
+    let is_padded : IsPaddedPart c.args.paging.now.plan.now c.args.part.now c.in_ok-padded.padded = c.in_ok-padded.ensures.padded in
     let next = c.in_ok-found.found.next in
     let high = c.requires.stop in
-    let ended = next_inside c.args.paging.now.plan.now c.args.part.now c.in_ok-moved.moved c.in_ok-found.found (c.args.paging.now.size - length c.as_slice.result.now) c.args.from c.args.stop is_moved c.requires.from c.requires.range c.requires.stop c.in_ok-found.ensures.ended c.in_ok-found.ensures.within in
+    let ended = next_inside c.args.paging.now.plan.now c.args.part.now c.in_ok-padded.padded c.in_ok-found.found (c.args.paging.now.size - length c.as_slice.result.now) c.args.from c.args.stop is_padded c.requires.from c.requires.range c.requires.stop c.in_ok-found.ensures.ended c.in_ok-found.ensures.within in
     let most = ended.1 in
-    reads_on (g.I.Images.seen c.args.images.now).attached c.args.paging.now.plan.now c.args.part.now c.in_ok-moved.moved c.deref.result.now c.args.from (c.args.part.now.first + (next - c.in_ok-moved.moved.first)) next (g.I.Images.seen c.args.images.now) (g.I.Images.seen c.padded_page.new.images) c.requires.plan c.requires.own c.requires.part is_moved c.deref.ensures.0 c.in_ok-found.ensures.reads ended.0 c.requires.from ended.2 (omega arith)
+    reads_on (g.I.Images.seen c.args.images.now).attached c.args.paging.now.plan.now c.args.part.now c.in_ok-padded.padded c.deref.result.now c.args.from (c.args.part.now.first + (next - c.in_ok-padded.padded.first)) next (g.I.Images.seen c.args.images.now) (g.I.Images.seen c.padded_page.new.images) c.requires.plan c.requires.own c.requires.part is_padded c.deref.ensures.0 c.in_ok-found.ensures.reads ended.0 c.requires.from ended.2 (omega arith)
 
 pub returns-then-branch-clause-gathers : goal.returns-then-branch-clause-gathers
 returns-then-branch-clause-gathers g c =

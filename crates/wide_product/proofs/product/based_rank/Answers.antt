@@ -1,7 +1,7 @@
 use Rattle.std.proofs.Common.{◌∙◌, sym, ap, arith}
 use Rattle.plan_sets.specs.Sets.{rank_of}
 use Rattle.wide_product.specs.Sets.{based}
-use Rattle.wide_product.proofs.Products.{few_bases, few_later, greatest_is, no_more, not_based, not_each, not_there, ranks, shared_below}
+use Rattle.wide_product.proofs.Products.{few_bases, few_later, greatest_is, no_more, not_based, not_each, not_there, ranks, common_below}
 use Rattle.wide_product.proofs.product.based_rank.Goals as goal
 
 pub returns-then-len : goal.returns-then-len
@@ -10,21 +10,21 @@ returns-then-len c = sym (not_each c.args.plan.now (based c.args.set.now) c.requ
 pub product_rank-requires-clause-few : goal.product_rank-requires-clause-few
 product_rank-requires-clause-few c = let more = no_more c.args.plan.now c.requires.plan in let few = c.requires.few in omega arith
 
-pub returns-in_err-shared : goal.returns-in_err-shared
-returns-in_err-shared c =
+pub returns-in_err-common : goal.returns-in_err-common
+returns-in_err-common c =
     c.from_residual.ensures
     ∙ sym (not_there c.args.plan.now (based c.args.set.now) c.requires.plan c.requires.each
     (greatest_is c.args.plan.now c.args.set.now.bases.items c.args.set.now.geo.head.offset c.requires.plan (sym c.len.ensures.value ∙ c.if-len.false ∙ c.len-2.ensures.value) c.args.set.now.is_greatest)
-    (sym (ap (rank_of c.args.plan.now) c.with_first.ensures) ∙ sym c.in_err-shared.ensures))
+    (sym (ap (rank_of c.args.plan.now) c.with_first.ensures) ∙ sym c.in_err-common.ensures))
 
 pub group_at-group-requires-clause-few : goal.group_at-group-requires-clause-few
 group_at-group-requires-clause-few c = let more = no_more c.args.plan.now c.requires.plan in let few = c.requires.few in omega arith
 
 pub group_at-group-requires-clause-rank : goal.group_at-group-requires-clause-rank
-group_at-group-requires-clause-rank c = shared_below c.args.plan.now c.in_ok-shared.shared c.with_first.result (sym c.in_ok-shared.ensures)
+group_at-group-requires-clause-rank c = common_below c.args.plan.now c.in_ok-common.common c.with_first.result (sym c.in_ok-common.ensures)
 
 pub list_rank-requires-clause-few : goal.list_rank-requires-clause-few
-list_rank-requires-clause-few c = let more = few_bases c.args.plan.now c.in_ok-shared.shared c.group_at-group.result c.requires.each c.group_at-group.ensures.group in let few = c.requires.few in omega arith
+list_rank-requires-clause-few c = let more = few_bases c.args.plan.now c.in_ok-common.common c.group_at-group.result c.requires.each c.group_at-group.ensures.group in let few = c.requires.few in omega arith
 
 pub returns-in_err-list : goal.returns-in_err-list
 returns-in_err-list c =
@@ -35,16 +35,16 @@ returns-in_err-list c =
 
 pub overflow_cast-later : goal.overflow_cast-later
 overflow_cast-later c =
-    let more = few_later c.args.plan.now c.in_ok-shared.shared c.requires.plan c.requires.each (shared_below c.args.plan.now c.in_ok-shared.shared c.with_first.result (sym c.in_ok-shared.ensures)) in
+    let more = few_later c.args.plan.now c.in_ok-common.common c.requires.plan c.requires.each (common_below c.args.plan.now c.in_ok-common.common c.with_first.result (sym c.in_ok-common.ensures)) in
     let is = c.count_later-later.ensures in
     let few = c.requires.few in
     omega arith
 
 pub returns : goal.returns
-returns c = sym (ranks c.args.plan.now (based c.args.set.now) c.in_ok-shared.shared c.count_later-later.result c.in_ok-list.list c.group_at-group.result c.requires.each
+returns c = sym (ranks c.args.plan.now (based c.args.set.now) c.in_ok-common.common c.count_later-later.result c.in_ok-list.list c.group_at-group.result c.requires.each
     (greatest_is c.args.plan.now c.args.set.now.bases.items c.args.set.now.geo.head.offset c.requires.plan (sym c.len.ensures.value ∙ c.if-len.false ∙ c.len-2.ensures.value) c.args.set.now.is_greatest)
-    (sym (ap (rank_of c.args.plan.now) c.with_first.ensures) ∙ sym c.in_ok-shared.ensures)
-    (let more = few_later c.args.plan.now c.in_ok-shared.shared c.requires.plan c.requires.each (shared_below c.args.plan.now c.in_ok-shared.shared c.with_first.result (sym c.in_ok-shared.ensures)) in
+    (sym (ap (rank_of c.args.plan.now) c.with_first.ensures) ∙ sym c.in_ok-common.ensures)
+    (let more = few_later c.args.plan.now c.in_ok-common.common c.requires.plan c.requires.each (common_below c.args.plan.now c.in_ok-common.common c.with_first.result (sym c.in_ok-common.ensures)) in
     let is = c.count_later-later.ensures in
     let few = c.requires.few in
     omega arith)
@@ -52,10 +52,10 @@ returns c = sym (ranks c.args.plan.now (based c.args.set.now) c.in_ok-shared.sha
 
 pub overflow_mul-result : goal.overflow_mul-result
 overflow_mul-result c =
-    let known = ranks c.args.plan.now (based c.args.set.now) c.in_ok-shared.shared c.count_later-later.result c.in_ok-list.list c.group_at-group.result c.requires.each
+    let known = ranks c.args.plan.now (based c.args.set.now) c.in_ok-common.common c.count_later-later.result c.in_ok-list.list c.group_at-group.result c.requires.each
     (greatest_is c.args.plan.now c.args.set.now.bases.items c.args.set.now.geo.head.offset c.requires.plan (sym c.len.ensures.value ∙ c.if-len.false ∙ c.len-2.ensures.value) c.args.set.now.is_greatest)
-    (sym (ap (rank_of c.args.plan.now) c.with_first.ensures) ∙ sym c.in_ok-shared.ensures)
-    (let more = few_later c.args.plan.now c.in_ok-shared.shared c.requires.plan c.requires.each (shared_below c.args.plan.now c.in_ok-shared.shared c.with_first.result (sym c.in_ok-shared.ensures)) in
+    (sym (ap (rank_of c.args.plan.now) c.with_first.ensures) ∙ sym c.in_ok-common.ensures)
+    (let more = few_later c.args.plan.now c.in_ok-common.common c.requires.plan c.requires.each (common_below c.args.plan.now c.in_ok-common.common c.with_first.result (sym c.in_ok-common.ensures)) in
     let is = c.count_later-later.ensures in
     let few = c.requires.few in
     omega arith)
@@ -66,10 +66,10 @@ overflow_mul-result c =
 
 pub overflow_mul-result-2 : goal.overflow_mul-result-2
 overflow_mul-result-2 c =
-    let known = ranks c.args.plan.now (based c.args.set.now) c.in_ok-shared.shared c.count_later-later.result c.in_ok-list.list c.group_at-group.result c.requires.each
+    let known = ranks c.args.plan.now (based c.args.set.now) c.in_ok-common.common c.count_later-later.result c.in_ok-list.list c.group_at-group.result c.requires.each
     (greatest_is c.args.plan.now c.args.set.now.bases.items c.args.set.now.geo.head.offset c.requires.plan (sym c.len.ensures.value ∙ c.if-len.false ∙ c.len-2.ensures.value) c.args.set.now.is_greatest)
-    (sym (ap (rank_of c.args.plan.now) c.with_first.ensures) ∙ sym c.in_ok-shared.ensures)
-    (let more = few_later c.args.plan.now c.in_ok-shared.shared c.requires.plan c.requires.each (shared_below c.args.plan.now c.in_ok-shared.shared c.with_first.result (sym c.in_ok-shared.ensures)) in
+    (sym (ap (rank_of c.args.plan.now) c.with_first.ensures) ∙ sym c.in_ok-common.ensures)
+    (let more = few_later c.args.plan.now c.in_ok-common.common c.requires.plan c.requires.each (common_below c.args.plan.now c.in_ok-common.common c.with_first.result (sym c.in_ok-common.ensures)) in
     let is = c.count_later-later.ensures in
     let few = c.requires.few in
     omega arith)
@@ -80,10 +80,10 @@ overflow_mul-result-2 c =
 
 pub overflow_add-result : goal.overflow_add-result
 overflow_add-result c =
-    let known = ranks c.args.plan.now (based c.args.set.now) c.in_ok-shared.shared c.count_later-later.result c.in_ok-list.list c.group_at-group.result c.requires.each
+    let known = ranks c.args.plan.now (based c.args.set.now) c.in_ok-common.common c.count_later-later.result c.in_ok-list.list c.group_at-group.result c.requires.each
     (greatest_is c.args.plan.now c.args.set.now.bases.items c.args.set.now.geo.head.offset c.requires.plan (sym c.len.ensures.value ∙ c.if-len.false ∙ c.len-2.ensures.value) c.args.set.now.is_greatest)
-    (sym (ap (rank_of c.args.plan.now) c.with_first.ensures) ∙ sym c.in_ok-shared.ensures)
-    (let more = few_later c.args.plan.now c.in_ok-shared.shared c.requires.plan c.requires.each (shared_below c.args.plan.now c.in_ok-shared.shared c.with_first.result (sym c.in_ok-shared.ensures)) in
+    (sym (ap (rank_of c.args.plan.now) c.with_first.ensures) ∙ sym c.in_ok-common.ensures)
+    (let more = few_later c.args.plan.now c.in_ok-common.common c.requires.plan c.requires.each (common_below c.args.plan.now c.in_ok-common.common c.with_first.result (sym c.in_ok-common.ensures)) in
     let is = c.count_later-later.ensures in
     let few = c.requires.few in
     omega arith)
@@ -94,10 +94,10 @@ overflow_add-result c =
 
 pub overflow_add-result-2 : goal.overflow_add-result-2
 overflow_add-result-2 c =
-    let known = ranks c.args.plan.now (based c.args.set.now) c.in_ok-shared.shared c.count_later-later.result c.in_ok-list.list c.group_at-group.result c.requires.each
+    let known = ranks c.args.plan.now (based c.args.set.now) c.in_ok-common.common c.count_later-later.result c.in_ok-list.list c.group_at-group.result c.requires.each
     (greatest_is c.args.plan.now c.args.set.now.bases.items c.args.set.now.geo.head.offset c.requires.plan (sym c.len.ensures.value ∙ c.if-len.false ∙ c.len-2.ensures.value) c.args.set.now.is_greatest)
-    (sym (ap (rank_of c.args.plan.now) c.with_first.ensures) ∙ sym c.in_ok-shared.ensures)
-    (let more = few_later c.args.plan.now c.in_ok-shared.shared c.requires.plan c.requires.each (shared_below c.args.plan.now c.in_ok-shared.shared c.with_first.result (sym c.in_ok-shared.ensures)) in
+    (sym (ap (rank_of c.args.plan.now) c.with_first.ensures) ∙ sym c.in_ok-common.ensures)
+    (let more = few_later c.args.plan.now c.in_ok-common.common c.requires.plan c.requires.each (common_below c.args.plan.now c.in_ok-common.common c.with_first.result (sym c.in_ok-common.ensures)) in
     let is = c.count_later-later.ensures in
     let few = c.requires.few in
     omega arith)

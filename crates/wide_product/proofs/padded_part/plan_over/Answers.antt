@@ -1,6 +1,6 @@
 use Rattle.std.proofs.Common.{◌<◌, ◌^◌, ℕ, List, All, sym, subst}
-use Rattle.wide_product.proofs.MovedPlan.{near_bases}
-use Rattle.wide_product.proofs.moved.plan_over.Goals as goal
+use Rattle.wide_product.proofs.PartPlan.{near_bases}
+use Rattle.wide_product.proofs.padded_part.plan_over.Goals as goal
 
 pub pad_plan-requires-clause-near : goal.pad_plan-requires-clause-near
 pad_plan-requires-clause-near c =

@@ -1,19 +1,19 @@
-//! Pages of plans whose images share an offset.
+//! Pages of plans whose images have a common offset.
 ghost use Rattle.std.specs.Prelude.{◌≡◌, ◌≤◌, false, IfErr, IfOk};
 ghost use Rattle.common_pages.specs.declared.page_parts.PageFault.TheVariants.{Memory as OutOfMemory};
-ghost use Rattle.page_engine.specs.Pages.{AreShared, CanPageWide, GivesPage, GivesPages, IsShared};
+ghost use Rattle.page_engine.specs.Pages.{AreCommon, CanPageWide, GivesPage, GivesPages, IsCommon};
 
-use crate::lines::{Lines, add_shared};
+use crate::lines::{Lines, add_common};
 use crate::page_parts::{ListPage, PageList};
-use common_pages::{ListPage as SharedPage, PageFault};
+use common_pages::{ListPage as CommonPage, PageFault};
 use head_walk::Paging;
 use outside::Images;
 use row_scan::Gate;
 use std::alloc::Global;
 use std::thread::Threads;
 
-/// The page of a plan from a rank on, where the images share an offset.
-pub(crate) fn shared_page<R: Threads + Sync, I: Images, G: Gate + Sync>(
+/// The page of a plan from a rank on, where the images have a common offset.
+pub(crate) fn common_page<R: Threads + Sync, I: Images, G: Gate + Sync>(
     paging: &Paging<R, G>,
     images: &mut I,
     from: u64,
@@ -38,13 +38,13 @@ pub(crate) fn shared_page<R: Threads + Sync, I: Images, G: Gate + Sync>(
     }
 }
 
-/// The page with the lines of one whose sets share an offset.
-fn with_lines(alloc: Global, found: &SharedPage) -> Result<ListPage, PageFault>
-    ensures page { IfOk result (IsShared found.now) }
+/// The page with the lines of one whose sets have a common offset.
+fn with_lines(alloc: Global, found: &CommonPage) -> Result<ListPage, PageFault>
+    ensures page { IfOk result (IsCommon found.now) }
     ensures memory { IfErr result (λ fault. fault ≡ OutOfMemory) }
 {
     let mut lines = Lines::new(alloc);
-    match add_shared(found.lines.as_slice(), &mut lines) {
+    match add_common(found.lines.as_slice(), &mut lines) {
         Ok(()) => Ok(ListPage {
             lines,
             next: found.next,
@@ -54,8 +54,8 @@ fn with_lines(alloc: Global, found: &SharedPage) -> Result<ListPage, PageFault>
     }
 }
 
-/// The pages of a plan from a rank on, where the images share an offset.
-pub(crate) fn shared_pages<R: Threads + Sync, I: Images, G: Gate + Sync>(
+/// The pages of a plan from a rank on, where the images have a common offset.
+pub(crate) fn common_page_list<R: Threads + Sync, I: Images, G: Gate + Sync>(
     paging: &Paging<R, G>,
     images: &mut I,
     from: u64,
@@ -83,9 +83,9 @@ pub(crate) fn shared_pages<R: Threads + Sync, I: Images, G: Gate + Sync>(
     }
 }
 
-/// The pages with the lines of those whose sets share an offset.
-fn each_with_lines(alloc: Global, found: &[SharedPage]) -> Result<PageList, PageFault>
-    ensures pages { IfOk result (AreShared found.now) }
+/// The pages with the lines of those whose sets have a common offset.
+fn each_with_lines(alloc: Global, found: &[CommonPage]) -> Result<PageList, PageFault>
+    ensures pages { IfOk result (AreCommon found.now) }
     ensures memory { IfErr result (λ fault. fault ≡ OutOfMemory) }
 {
     let mut made = PageList::new(alloc);

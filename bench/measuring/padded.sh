@@ -1,9 +1,9 @@
 #!/bin/sh
-# Times `write` of a set whose images have offsets of their own beside `write` of one that share an offset, best of five runs each in
+# Times `write` of a set whose images have offsets of their own beside `write` of one that has a common offset, best of five runs each in
 # turns: four members of level 5, over images as they are and over images that begin at different sectors. Then `check` of the same
 # sets, over plans that test all their rows, best of nine. Then `list` over six images of a volume with landmarks, of which each may
 # begin at one of four sectors: all orders and patterns of level 5 with the default chunks; and a part of it over a plan without landmarks.
-# Usage: bench/measuring/moved.sh [MEGABYTES] [FOLDER]
+# Usage: bench/measuring/padded.sh [MEGABYTES] [FOLDER]
 set -eu
 bench=$(cd "$(dirname "$0")" && pwd)
 . "$bench/folder.sh"

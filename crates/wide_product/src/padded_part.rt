@@ -1,7 +1,7 @@
-//! Plans in which the images of a part share an offset.
+//! Plans in which the images of a part have a common offset.
 ghost use Rattle.std.specs.Prelude.{◌≡◌, ◌<◌, ◌^◌, true, [], ◌∷◌, IfOk, length};
 ghost use Rattle.search_plan.specs.Plans.{IsPlan};
-ghost use Rattle.wide_product.specs.Moved.{moved_plan, IsMoved};
+ghost use Rattle.wide_product.specs.PaddedParts.{part_plan, IsPaddedPart};
 ghost use Rattle.wide_product.specs.Parts.{IsPartOf};
 ghost use Rattle.wide_product.specs.Sets.{wide_total};
 
@@ -14,24 +14,24 @@ use search_plan::Plan;
 use set_product::product_rank;
 use std::alloc::Global;
 
-/// A part of a product, as a range of the ranks of a plan over padded images that share an offset.
+/// A part of a product, as a range of the ranks of a plan over padded images that have a common offset.
 #[derive(Drop)]
-pub struct MovedPart {
+pub struct PaddedPart {
     /// The plan. Of chunks and offsets it has those of the part alone.
     pub plan: Plan,
     /// The rank there of the part's first set.
     pub first: u64,
 }
 
-impl MovedPart {
+impl PaddedPart {
     /// The sets of a part, over the images once they are padded by its bases.
-    pub fn of(alloc: Global, plan: &Plan, part: &Part) -> Result<MovedPart, Memory>
+    pub fn of(alloc: Global, plan: &Plan, part: &Part) -> Result<PaddedPart, Memory>
         requires plan { IsPlan plan.now }
         requires each { plan.now.each ≡ true }
         requires few { wide_total plan.now < 2 ^ 64 }
         requires part { IsPartOf plan.now part.now }
         requires some { 0 < part.now.count }
-        ensures moved { IfOk result (IsMoved plan.now part.now) }
+        ensures padded { IfOk result (IsPaddedPart plan.now part.now) }
     {
         let plan = plan_over(alloc, plan, part)?;
         let first = Geometry {
@@ -39,7 +39,7 @@ impl MovedPart {
             slots: part.space.unrank(0),
         };
         let first = product_rank(&plan, &first).unwrap();
-        Ok(MovedPart { plan, first })
+        Ok(PaddedPart { plan, first })
     }
 }
 
@@ -48,7 +48,7 @@ fn plan_over(alloc: Global, plan: &Plan, part: &Part) -> Result<Plan, Memory>
     requires plan { IsPlan plan.now }
     requires each { plan.now.each ≡ true }
     requires part { IsPartOf plan.now part.now }
-    ensures plan { IfOk result (λ made. made ≡ moved_plan plan.now part.now) }
+    ensures plan { IfOk result (λ made. made ≡ part_plan plan.now part.now) }
 {
     let mut padded = pad_plan(alloc, plan, &part.bases)?;
     padded.bounds.chunks = just(part.head.chunk);

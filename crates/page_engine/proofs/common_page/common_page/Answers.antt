@@ -1,6 +1,6 @@
 use Rattle.outside.specs.Attached.{told_all}
-use Rattle.page_engine.proofs.SharedPages.{cursor_too, ends_too, few_too, if_page, inside_too, many_too, quiet_too, reads_page, reads_range, shared_ends}
-use Rattle.page_engine.proofs.shared_page.shared_page.Goals as goal
+use Rattle.page_engine.proofs.CommonPages.{cursor_too, ends_too, few_too, if_page, inside_too, many_too, quiet_too, reads_page, reads_range, common_ends}
+use Rattle.page_engine.proofs.common_page.common_page.Goals as goal
 
 pub returns-in-Err : goal.returns-in-Err
 returns-in-Err g c = record {
@@ -8,7 +8,7 @@ returns-in-Err g c = record {
   many = many_too c.args.paging.now.plan.now c.in-Err.fault c.requires.common c.in-Err.ensures.many;
   cursor = cursor_too c.args.paging.now.plan.now c.args.from c.in-Err.fault c.requires.common c.in-Err.ensures.cursor;
   quiet = tt;
-  ends = shared_ends c.args.paging.now.plan.now c.args.from (g.I.Images.seen c.args.images.now) (g.I.Images.seen c.page.new.images) c.in-Err.fault c.requires.common c.in-Err.ensures.ends;
+  ends = common_ends c.args.paging.now.plan.now c.args.from (g.I.Images.seen c.args.images.now) (g.I.Images.seen c.page.new.images) c.in-Err.fault c.requires.common c.in-Err.ensures.ends;
   reads = reads_range (told_all (g.I.Images.seen c.args.images.now).attached) c.args.paging.now.plan.now c.args.from c.args.span (g.I.Images.seen c.args.images.now) (g.I.Images.seen c.page.new.images) c.requires.common c.in-Err.ensures.reads;
 }
 

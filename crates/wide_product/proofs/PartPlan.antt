@@ -32,12 +32,12 @@ use Rattle.set_product.specs.Heads.{numbered, space_of}
 use Rattle.set_product.specs.declared.heads.HeadSets.{HeadSets}
 use Rattle.wide_product.proofs.GroupAt.{some_offsets}
 use Rattle.wide_product.proofs.PartAt.{fewer}
-use Rattle.wide_product.proofs.Spread.{lists, sets_are, shared_count, shared_in}
+use Rattle.wide_product.proofs.Spread.{lists, sets_are, common_count, common_in}
 use Rattle.wide_product.proofs.Walks.{first_held, flat_append, later_held}
-use Rattle.wide_product.specs.Moved.{moved_plan, IsMoved}
+use Rattle.wide_product.specs.PaddedParts.{part_plan, IsPaddedPart}
 use Rattle.wide_product.specs.Parts.{IsPartOf}
 use Rattle.wide_product.specs.Sets.{padded_bytes, passes_with, starts, wide_passes, wide_passes_at, wide_total, Based}
-use Rattle.wide_product.specs.declared.moved.MovedPart.{MovedPart}
+use Rattle.wide_product.specs.declared.padded_part.PaddedPart.{PaddedPart}
 use Rattle.wide_product.specs.declared.parts.Part.{Part}
 
 index_of : {A : Type 0} (xs : List A) (x : A) → Contains xs x → (i : ℕ) × (slice_get xs i ≡ Some x)
@@ -98,7 +98,7 @@ part_made plan part is =
     each_get (λ h. IsMade plan.bounds h × (is_valid_head h ≡ true)) (starts plan.bounds) at.0 (record part.head { offset = 0 }) (each_made plan.bounds) at.1
 
 -- the head of the part is one of its plan's
-pub head_held : (plan : Plan) (part : Part) → IsPartOf plan part → Contains (heads (moved_plan plan part).bounds) part.head
+pub head_held : (plan : Plan) (part : Part) → IsPartOf plan part → Contains (heads (part_plan plan part).bounds) part.head
 head_held plan part is =
     let known = part_made plan part is in
     let bounds = plan.bounds in
@@ -126,8 +126,8 @@ near_bases plan part is_plan each is =
 just_rising : (n : ℕ) → AreRising (n ∷ [])
 just_rising n = record { some = omega arith; rising = λ k below. absurd (omega arith) }
 
-pub moved_is : (plan : Plan) (part : Part) → IsPlan plan → plan.each ≡ true → IsPartOf plan part → IsPlan (moved_plan plan part)
-moved_is plan part is_plan each is =
+pub part_plan_is : (plan : Plan) (part : Part) → IsPlan plan → plan.each ≡ true → IsPartOf plan part → IsPlan (part_plan plan part)
+part_plan_is plan part is_plan each is =
     let movable : AreMovable plan.lengths.items plan.bounds = is_plan.each each in
     let near = near_bases plan part is_plan each is in
     let padded = padded_is part.bases.items plan (padded_plan part.bases.items plan) refl is_plan near movable.short in
@@ -160,7 +160,7 @@ moved_is plan part is_plan each is =
     }
 
 -- the slot lists are those of the plan
-pub space_same : (plan : Plan) (part : Part) (level : Level) (count : ℕ) → space_of (moved_plan plan part) level count ≡ space_of plan level count
+pub space_same : (plan : Plan) (part : Part) (level : Level) (count : ℕ) → space_of (part_plan plan part) level count ≡ space_of plan level count
 unfolding space_of
 space_same plan part level count =
     ap (λ (n : ℕ). if nat_lt (plan.bounds.foreign + count) n
@@ -169,20 +169,20 @@ space_same plan part level count =
     (as_many (greatest_base part.bases.items) part.bases.items plan.lengths.items)
 
 -- its sets are no more than the plan's
-count_moved : (plan : Plan) (part : Part) (hs : List Head) → length (flat_map (shared_in (moved_plan plan part)) hs) ≡ length (flat_map (lists plan) hs)
-count_moved plan part [] = refl
-count_moved plan part (head ∷ hs) =
-    length-append (shared_in (moved_plan plan part) head) (flat_map (shared_in (moved_plan plan part)) hs)
-    ∙ ap₂ (λ (a b : ℕ). a + b) (shared_count (moved_plan plan part) head ∙ one-mul (length (lists (moved_plan plan part) head)) ∙ ap (λ (s : Space). length (lists_of s)) (space_same plan part head.level head.members)) (count_moved plan part hs)
+count_padded : (plan : Plan) (part : Part) (hs : List Head) → length (flat_map (common_in (part_plan plan part)) hs) ≡ length (flat_map (lists plan) hs)
+count_padded plan part [] = refl
+count_padded plan part (head ∷ hs) =
+    length-append (common_in (part_plan plan part) head) (flat_map (common_in (part_plan plan part)) hs)
+    ∙ ap₂ (λ (a b : ℕ). a + b) (common_count (part_plan plan part) head ∙ one-mul (length (lists (part_plan plan part) head)) ∙ ap (λ (s : Space). length (lists_of s)) (space_same plan part head.level head.members)) (count_padded plan part hs)
     ∙ sym (length-append (lists plan head) (flat_map (lists plan) hs))
 
-count_more : (plan : Plan) (hs : List Head) → 1 ≤ length plan.bounds.offsets.items → length (flat_map (lists plan) hs) ≤ length (flat_map (shared_in plan) hs)
+count_more : (plan : Plan) (hs : List Head) → 1 ≤ length plan.bounds.offsets.items → length (flat_map (lists plan) hs) ≤ length (flat_map (common_in plan) hs)
 count_more plan [] some = omega arith
 count_more plan (head ∷ hs) some =
     let rest = count_more plan hs some in
     let a = length-append (lists plan head) (flat_map (lists plan) hs) in
-    let b = length-append (shared_in plan head) (flat_map (shared_in plan) hs) in
-    let count = shared_count plan head in
+    let b = length-append (common_in plan head) (flat_map (common_in plan) hs) in
+    let count = common_count plan head in
     let more : 1 * length (lists plan head) ≤ length plan.bounds.offsets.items * length (lists plan head) = mul-le-mul_right (length (lists plan head)) some in
     omega arith
 
@@ -215,7 +215,7 @@ less_one {A} {B} {C} w p make (y ∷ xs) x (suc i) e =
     ap (λ (l : List B). length (flat_map w l)) (filter-append p (make y ∷ []) (flat_map (λ z. make z ∷ []) xs)) ∙ ap length (flat_append w (filter p (make y ∷ [])) (filter p (flat_map (λ z. make z ∷ []) xs))) ∙ length-append (flat_map w (filter p (make y ∷ []))) (flat_map w (filter p (flat_map (λ z. make z ∷ []) xs))) in
     omega arith
 
-less_starts : (plan : Plan) (part : Part) → IsPartOf plan part → length (flat_map (lists plan) (starts (moved_plan plan part).bounds)) ≤ length (flat_map (lists plan) (starts plan.bounds))
+less_starts : (plan : Plan) (part : Part) → IsPartOf plan part → length (flat_map (lists plan) (starts (part_plan plan part).bounds)) ≤ length (flat_map (lists plan) (starts plan.bounds))
 less_starts plan part is =
     let known = part_made plan part is in
     let chunk = index_of plan.bounds.chunks.items part.head.chunk known.0.chunk in
@@ -229,11 +229,11 @@ less_starts plan part is =
     less_flat (lists plan) is_valid_head (λ s. few l m p s) (λ s. all l m p s) bounds.syndromes.items (λ s.
     less_one (lists plan) is_valid_head (make l m p s) bounds.chunks.items part.head.chunk chunk.0 chunk.1))))
 
-pub moved_few : (plan : Plan) (part : Part) → IsPlan plan → plan.each ≡ true → IsPartOf plan part → total_of (moved_plan plan part) ≤ wide_total plan
+pub padded_few : (plan : Plan) (part : Part) → IsPlan plan → plan.each ≡ true → IsPartOf plan part → total_of (part_plan plan part) ≤ wide_total plan
 unfolding total_of
-moved_few plan part is_plan each is =
-    let own = ap length (sets_are (moved_plan plan part)) in
-    let counted = count_moved plan part (starts (moved_plan plan part).bounds) in
+padded_few plan part is_plan each is =
+    let own = ap length (sets_are (part_plan plan part)) in
+    let counted = count_padded plan part (starts (part_plan plan part).bounds) in
     let less = less_starts plan part is in
     let more = count_more plan (starts plan.bounds) (some_offsets plan is_plan) in
     let all = ap length (sets_are plan) in
@@ -254,35 +254,35 @@ numbered_at plan first (h ∷ hs) (suc i) head e = numbered_at plan (first + len
 pub record Stands (plan : Plan) (part : Part) : Type 0 where
   pub first : ℕ
   pub stand : (k : ℕ) (slots : List (Option ℕ)) → slice_get (lists_of part.space) k ≡ Some slots →
-      slice_get (sets_of (moved_plan plan part)) (first + k) ≡ Some (record { head = part.head; slots = record { items = slots } })
+      slice_get (sets_of (part_plan plan part)) (first + k) ≡ Some (record { head = part.head; slots = record { items = slots } })
 
 pub stands : (plan : Plan) (part : Part) → IsPartOf plan part → Stands plan part
 stands plan part is =
-    let moved = moved_plan plan part in
-    let at = index_of (heads moved.bounds) part.head (head_held plan part is) in
-    let own = numbered_at moved 0 (heads moved.bounds) at.0 part.head at.1 in
-    let space : part.space ≡ space_of (moved_plan plan part) part.head.level part.head.members = is.space ∙ sym (space_same plan part part.head.level part.head.members) in
+    let padded = part_plan plan part in
+    let at = index_of (heads padded.bounds) part.head (head_held plan part is) in
+    let own = numbered_at padded 0 (heads padded.bounds) at.0 part.head at.1 in
+    let space : part.space ≡ space_of (part_plan plan part) part.head.level part.head.members = is.space ∙ sym (space_same plan part part.head.level part.head.members) in
     record {
       first = own.0;
       stand = λ k slots e.
-          heads_hold moved at.0 k (record { head = part.head; space = space_of moved part.head.level part.head.members; first = own.0; count = length (lists moved part.head) }) (record { head = part.head; slots = record { items = slots } })
+          heads_hold padded at.0 k (record { head = part.head; space = space_of padded part.head.level part.head.members; first = own.0; count = length (lists padded part.head) }) (record { head = part.head; slots = record { items = slots } })
           own.1
-          (get-map (λ (l : List (Option ℕ)). let g : Geometry = record { head = part.head; slots = record { items = l } } in g) (lists moved part.head) k
+          (get-map (λ (l : List (Option ℕ)). let g : Geometry = record { head = part.head; slots = record { items = l } } in g) (lists padded part.head) k
           ∙ ap (option_map (λ (l : List (Option ℕ)). let g : Geometry = record { head = part.head; slots = record { items = l } } in g)) (sym (ap (λ (s : Space). slice_get (lists_of s) k) space) ∙ e));
     }
 
 -- a set passes there just where it does with its bases
 pub passes_same : (plan : Plan) (part : Part) (first : ℕ) (images : List (List ℕ)) (k : ℕ) → IsPlan plan → IsPartOf plan part → k < part.count →
-    ((slots : List (Option ℕ)) → slice_get (lists_of part.space) k ≡ Some slots → slice_get (sets_of (moved_plan plan part)) (first + k) ≡ Some (record { head = part.head; slots = record { items = slots } })) →
-    passes_at (padded_bytes part.bases.items images) (moved_plan plan part) (first + k) ≡ wide_passes_at images plan (part.first + k)
+    ((slots : List (Option ℕ)) → slice_get (lists_of part.space) k ≡ Some slots → slice_get (sets_of (part_plan plan part)) (first + k) ≡ Some (record { head = part.head; slots = record { items = slots } })) →
+    passes_at (padded_bytes part.bases.items images) (part_plan plan part) (first + k) ≡ wide_passes_at images plan (part.first + k)
 unfolding passes_at wide_passes_at
 passes_same plan part first images k is_plan is below stand =
     let count = is.count in
     let slots = get_or (lists_of part.space) k [] in
     let at = slice_get-get_or (lists_of part.space) k [] (let e : k < length (lists_of part.space) = omega arith in e) in
     let geo : Geometry = record { head = part.head; slots = record { items = slots } } in
-    let moved = moved_plan plan part in
-    ap (λ (o : Option Geometry). option_map_or (passes (padded_bytes part.bases.items images) moved) o false) (stand slots at)
+    let padded = part_plan plan part in
+    ap (λ (o : Option Geometry). option_map_or (passes (padded_bytes part.bases.items images) padded) o false) (stand slots at)
     ∙ by_bases part.bases.items (let long = is.each in let some = is_plan.lengths.some in let e : 1 ≤ length part.bases.items = omega arith in e) geo
     ∙ sym (ap (λ (o : Option Based). option_map_or (wide_passes images plan) o false) (is.stand k slots at))
   where
@@ -296,34 +296,34 @@ rank_at plan rank geo is_plan at = ranked_sets plan is_plan rank geo at
 
 -- the first set of the part stands at the first of its ranks
 pub found_first : (plan : Plan) (part : Part) (slots : List (Option ℕ)) → IsPlan plan → plan.each ≡ true → (is : IsPartOf plan part) → slice_get (lists_of part.space) 0 ≡ Some slots →
-    rank_of (moved_plan plan part) (record { head = part.head; slots = record { items = slots } }) ≡ Some (stands plan part is).first
+    rank_of (part_plan plan part) (record { head = part.head; slots = record { items = slots } }) ≡ Some (stands plan part is).first
 found_first plan part slots is_plan each is at =
-    let moved = moved_plan plan part in
+    let padded = part_plan plan part in
     let own = stands plan part is in
     let geo : Geometry = record { head = part.head; slots = record { items = slots } } in
-    rank_at moved own.first geo (moved_is plan part is_plan each is)
-    (ap (slice_get (sets_of moved)) (let e : own.first ≡ own.first + 0 = omega arith in e) ∙ own.stand 0 slots at)
+    rank_at padded own.first geo (part_plan_is plan part is_plan each is)
+    (ap (slice_get (sets_of padded)) (let e : own.first ≡ own.first + 0 = omega arith in e) ∙ own.stand 0 slots at)
 
--- what is known of a part that was moved
-pub moved_part : (plan : Plan) (part : Part) (made : MovedPart) (slots : List (Option ℕ)) → IsPlan plan → plan.each ≡ true → wide_total plan < 2 ^ 64 → IsPartOf plan part → 0 < part.count →
-    made.plan ≡ moved_plan plan part → slice_get (lists_of part.space) 0 ≡ Some slots → rank_of made.plan (record { head = part.head; slots = record { items = slots } }) ≡ Some made.first → IsMoved plan part made
+-- what is known of a part that was padded
+pub padded_part : (plan : Plan) (part : Part) (made : PaddedPart) (slots : List (Option ℕ)) → IsPlan plan → plan.each ≡ true → wide_total plan < 2 ^ 64 → IsPartOf plan part → 0 < part.count →
+    made.plan ≡ part_plan plan part → slice_get (lists_of part.space) 0 ≡ Some slots → rank_of made.plan (record { head = part.head; slots = record { items = slots } }) ≡ Some made.first → IsPaddedPart plan part made
 unfolding total_of
-moved_part plan part made slots is_plan each few is some same at ranked =
-    let moved = moved_plan plan part in
+padded_part plan part made slots is_plan each few is some same at ranked =
+    let padded = part_plan plan part in
     let own = stands plan part is in
     let geo : Geometry = record { head = part.head; slots = record { items = slots } } in
     let first : own.first ≡ made.first = some_number own.first made.first (sym (found_first plan part slots is_plan each is at) ∙ ap (λ (p : Plan). rank_of p geo) (sym same) ∙ ranked) in
-    let less = moved_few plan part is_plan each is in
+    let less = padded_few plan part is_plan each is in
     let count = is.count in
     let last = get_or (lists_of part.space) (part.count - 1) [] in
     let end = slice_get-get_or (lists_of part.space) (part.count - 1) [] (let e : part.count - 1 < length (lists_of part.space) = omega arith in e) in
-    let inside = slice_get_within (sets_of moved) (own.first + (part.count - 1)) (record { head = part.head; slots = record { items = last } }) (own.stand (part.count - 1) last end) in
+    let inside = slice_get_within (sets_of padded) (own.first + (part.count - 1)) (record { head = part.head; slots = record { items = last } }) (own.stand (part.count - 1) last end) in
     let total = ap (λ (p : Plan). length (sets_of p)) same in
-    let stand : (k : ℕ) (l : List (Option ℕ)) → slice_get (lists_of part.space) k ≡ Some l → slice_get (sets_of (moved_plan plan part)) (made.first + k) ≡ Some (record { head = part.head; slots = record { items = l } }) =
-    (λ k l e. ap (λ (n : ℕ). slice_get (sets_of moved) (n + k)) (sym first) ∙ own.stand k l e) in
+    let stand : (k : ℕ) (l : List (Option ℕ)) → slice_get (lists_of part.space) k ≡ Some l → slice_get (sets_of (part_plan plan part)) (made.first + k) ≡ Some (record { head = part.head; slots = record { items = l } }) =
+    (λ k l e. ap (λ (n : ℕ). slice_get (sets_of padded) (n + k)) (sym first) ∙ own.stand k l e) in
     record {
       is = same;
-      is_plan = subst IsPlan (sym same) (moved_is plan part is_plan each is);
+      is_plan = subst IsPlan (sym same) (part_plan_is plan part is_plan each is);
       few = omega arith;
       within = omega arith;
       stand = λ k l e. ap (λ (p : Plan). slice_get (sets_of p) (made.first + k)) same ∙ stand k l e;

@@ -178,6 +178,16 @@ class Opens(unittest.TestCase):
             with mock.patch.object(opening, "MOST_SECONDS", 0.3):
                 self.opener.open(Container(EWF, ("c.E01",)))
 
+    def test_what_is_not_whole(self) -> None:
+        """It is not opened, and what shows less than a sector is no disk."""
+        self.tool("ewfmount", "head -c 511 /dev/zero > \"$2\"/ewf1")
+        with mock.patch.object(opening, "fault", lambda it: "it is cut"):
+            with self.assertRaisesRegex(OutsideError, "^c.E01: E01, and it is not whole: it is cut"):
+                self.opener.open(Container(EWF, ("c.E01",)))
+        self.assertEqual(self.opener.mounts, [])
+        with self.assertRaisesRegex(OutsideError, "it shows a disk without a sector"):
+            self.opener.open(Container(EWF, ("c.E01",)))
+
 
 if __name__ == "__main__":
     unittest.main()

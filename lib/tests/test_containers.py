@@ -158,8 +158,8 @@ class Opens(unittest.TestCase):
         os.chmod(path, 0o755)
 
     def test_open_and_closed(self) -> None:
-        self.tool("nbdfuse", "echo disk > \"$2\"; while [ -e \"$2\" ]; do sleep 0.05; done")
-        self.tool("ewfmount", "echo disk > \"$2\"/ewf1")
+        self.tool("nbdfuse", "head -c 512 /dev/zero > \"$2.new\"; mv \"$2.new\" \"$2\"; while [ -e \"$2\" ]; do sleep 0.05; done")
+        self.tool("ewfmount", "head -c 512 /dev/zero > \"$2\"/new; mv \"$2\"/new \"$2\"/ewf1")
         names, opened = self.opener.all([Container("qcow2", ("a.qcow2",)), "b.img", Container(EWF, ("c.E01",))])
         self.assertEqual(names, (f"{self.folder}/opened0/disk", "b.img", f"{self.folder}/opened1/ewf1"))
         self.assertEqual([(it.name, it.typed) for it in opened], [("a.qcow2", "opened/0/disk"), ("c.E01", "opened/2/ewf1")])

@@ -1,5 +1,5 @@
 #!/usr/bin/env python3
-"""Tries the page of `reraid-try --report`: makes a RAID 5 of five disks with an ext4, of which one disk dropped out early and holds old data since,
+"""Tries the page of `reraid-try --report`: makes a RAID 6 of six disks with an ext4, of which one disk dropped out early and holds old data since,
 one is in a container and one has areas that could not be read, searches it, and looks at the page. It has all that it should, with nothing that it
 would fetch, and no script; and in Chromium, where that is installed, no two texts overlap and nothing is cut off, at 1,200 and 400 pixels, light and
 dark; printed to PDF it has no empty page.
@@ -121,10 +121,10 @@ def make(folder):
     for number in range(6):
         run("sh", "-c", f"head -c 2M /dev/urandom | gzip > tree/{number}.gz")
     run("mke2fs", "-q", "-t", "ext4", "-d", "tree", "volume", "40M")
-    run(TOP / "bench/making/disks.py", "5", "128", "volume", "d.img", "a.img", "c.img", "e.img", "b.img")
+    run(TOP / "bench/making/disks.py", "6", "128", "volume", "d.img", "a.img", "c.img", "e.img", "b.img", "f.img")
     # What the old disk holds: that of another volume from a third of it on.
     run("sh", "-c", "head -c 40M /dev/urandom > other")
-    run(TOP / "bench/making/disks.py", "5", "128", "other", "0", "1", "old", "3", "4")
+    run(TOP / "bench/making/disks.py", "6", "128", "other", "0", "1", "old", "3", "4", "5")
     size = (folder / "c.img").stat().st_size
     with open(folder / "c.img", "r+b") as disk, open(folder / "old", "rb") as old:
         disk.seek(size // 3)
@@ -137,14 +137,14 @@ def make(folder):
     length = (folder / "a.img").stat().st_size
     (folder / "a.map").write_text(f"0 + 1\n0 {bad} +\n{bad} 65536 -\n{bad + 65536} {length - bad - 65536} +\n", encoding="ascii")
     run("qemu-img", "convert", "-O", "qcow2", "e.img", "e.qcow2")
-    for name in ("0", "1", "3", "4", "old", "other", "e.img"):
+    for name in ("0", "1", "3", "4", "5", "old", "other", "e.img"):
         (folder / name).unlink()
 
 
 def searched(checks, folder):
     """The page of a search over these, after it is looked at as a text."""
     env = os.environ | {"PATH": os.pathsep.join([str(TOP / "crates/reraid/out"), str(TOP / "bin"), os.environ["PATH"], "/usr/sbin", "/sbin"])}
-    names = ["a.img", "b.img", "c.img", "d.img", "e.qcow2"]
+    names = ["a.img", "b.img", "c.img", "d.img", "f.img", "e.qcow2"]
     words = ["reraid-try", "--json", "--report", "case.html", "--hash", *names]
     done = subprocess.run(words, cwd=folder, env=env, capture_output=True, text=True, check=False)
     events = [json.loads(line) for line in done.stdout.splitlines()]
@@ -159,7 +159,7 @@ def searched(checks, folder):
     elements.feed(text)
     checks.that(elements.good and not elements.open, "its elements are nested")
     checks.that("script" not in elements.tags and not elements.outside and "url(" not in text and "@import" not in text, "it fetches nothing")
-    for name in names[:4]:
+    for name in names[:5]:
         checks.that(hashlib.sha256((folder / name).read_bytes()).hexdigest() in text, f"the digest of {name}")
     for wanted in (*names, "in a container: qcow2", "unread", "reraid-try --json --report case.html", "What was not tried", "Made with", os.uname().release):
         checks.that(wanted in text, f"it has: {wanted}")

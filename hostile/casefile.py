@@ -130,7 +130,7 @@ def make(folder):
         disk.seek(size // 3)
         old.seek(size // 3)
         disk.write(old.read())
-    bad = 3 << 20
+    bad = 4 << 20
     with open(folder / "a.img", "r+b") as disk:
         disk.seek(bad)
         disk.write(bytes(65536))

@@ -140,5 +140,5 @@ class Disks:
         rows = [f"images {', '.join(map(str, it['images']))} stand together in {it['rows']} rows" for it in together[:MOST_TOGETHER]]
         rows += [f"{len(together) - MOST_TOGETHER} more sets of images stand together in fewer rows"] if len(together) > MOST_TOGETHER else []
         rows += [f"in no tie of any row: images {', '.join(map(str, told['alone']))}"] if told["alone"] else []
-        rows += [f"{told['free']} of {told['total']} rows that were looked at have no tie"] if told["total"] else []
+        rows += [f"{told['free']} of {told['total']} rows that were looked at have no tie; rows of zeros count as such"] if told["total"] else []
         return soft("How the images depend on one another in all rows that were looked at:") + bullets(rows)

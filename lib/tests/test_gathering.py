@@ -57,6 +57,7 @@ class Regions(unittest.TestCase):
 
     def test_no_rows(self) -> None:
         self.assertEqual(regions.cut(read_word("5:ls:none:8:16:0,1,2"), 10), [])
+        self.assertEqual([regions.rows_of_each(count) for count in (64, 6, 1)], [2048, 21845, 131072])
 
     def test_moved(self) -> None:
         self.assertEqual(regions.moved(read_word("6:ra:by-slot:8:16+32:0,1"), 100).text, "6:ra:by-slot:8:116+132:0,1")

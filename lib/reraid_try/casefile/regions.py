@@ -9,7 +9,7 @@ from ..calls.plans import Plan
 from ..calls.sets import Word, made
 from ..checks.candidates import Candidate
 
-# So many parts, and so many rows of each at most.
+# So many parts, and so many rows of each; of fewer parts more rows of each, as many in all.
 PARTS, MOST_ROWS = 64, 2048
 
 
@@ -51,13 +51,20 @@ def regions(it: Candidate, jobs: int) -> list[Region]:
     word: Word = it.listed
     hunt, end = it.hunt, min(image.sectors for image in it.hunt.evidence.images)
     bare = dataclasses.replace(hunt.surveys.plan(request).bare().having(badrows=0), end=end)
+    parts = cut(word, end)
+    most = rows_of_each(len(parts))
 
     def ask(part: tuple[int, int]) -> Region:
         first, rows = part
-        told: Checked | None = hunt.program.check(moved(word, first).text, windowed(bare, min(rows, MOST_ROWS)))
+        told: Checked | None = hunt.program.check(moved(word, first).text, windowed(bare, min(rows, most)))
         return Region(first, rows, told.rows, told.unsound) if told else Region(first, rows)
     with concurrent.futures.ThreadPoolExecutor(jobs) as pool:
-        return list(pool.map(ask, cut(word, end)))
+        return list(pool.map(ask, parts))
+
+
+def rows_of_each(parts: int) -> int:
+    """How many rows of each of so many parts are tested at most."""
+    return PARTS * MOST_ROWS // max(1, parts)
 
 
 def windowed(plan: Plan, rows: int) -> Plan:

@@ -2,7 +2,7 @@
 # Refuses each request for memory in turn, over the proved program: a library that is loaded before the C library counts the
 # requests and refuses one of them. The runs are listings, of which one scans few sets and one scans pieces of 720 side by side, a
 # test of a set with Q, surveys of images with tables of their own and with labels, volumes, a member, a generated array, mirrors, a
-# damaged array and classes of sets.
+# damaged array, relations, the help and classes of sets.
 # Each ends with its own status and answer, or with status 20, its line, and nothing put; the images hold what they held.
 #
 # Usage: hostile/fail_alloc.sh PROGRAM [FOLDER]
@@ -78,6 +78,9 @@ runs = [
     (["mirrorwrite", "set=near2:1:0:0,1,2,3", "--", "m", "m", "n", "n"], b""),
     (["salvage", "set=5:ls:none:1:0:0,1,2", "--", "a", "b", "c"], rescue),
     (["salvage", "set=5:ls:none:1:0:0,1,2", "form=lost", "--", "a", "b", "c"], rescue),
+    (["relations", "--", "a", "b", "c"], b""),
+    (["relations", "form=json", "offsets=1+0+0", "--", "d", "e", "f"], b""),
+    (["--help"], b""),
     (["classes", "images=3", "end=2", "--"], b"0 5:ls:none:1:0:0,1,2\n1 5:parity-last:none:1:0:0,1,2\n2 0:plain:none:1:0:0,1\nnext 3 of 3\n"),
 ]
 

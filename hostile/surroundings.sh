@@ -94,6 +94,7 @@ printf '%s\n' "0 5:ls:none:1:0:0,1,2" "1 5:ls:none:1:0:0,2,1" "2 5:ls:none:1:0:1
 printf '%s\n' "row 1 item 0 slot 2 image 2 sector 1 p 1 q -" "name left-symmetric" >place
 : >empty
 echo "classes 0 of 0" >none
+printf '%s\n' "rows 0 0 zero - tied 1=3*0 2=2*0" "rows 1 1 zero - tied 1=2*0 2=3*0" "together 0,1,2 in 2 rows" "alone -" "free 0 of 2" >related
 head -c 1000 a >thousand
 head -c 511 a >short
 sha256sum a b c empty thousand short >sums
@@ -110,6 +111,7 @@ expect "a volume" 0 "" volume write set=$set -- a b c
 expect "a member" 0 "" member rebuild set=5:ls:none:1:0:-,0,1 slot=0 -- b c
 expect "a place" 0 "" place map set=$set sector=2 -- a b c
 through "classes" 0 "" classed '<listing >out 2>err' classes images=3 end=2 --
+expect "relations" 0 "" related relations -- a b c
 
 echo "== standard descriptors that are closed"
 through "input, of a listing" 2 "$noplan" "" '<&- >out 2>err' list -- a b c
@@ -126,6 +128,10 @@ through "output and error" 12 "" "" '<plan >&- 2>&-' list -- a b c
 through "input and error" 0 "" volume '<&- >out 2>&-' write set=$set -- a b c
 through "input, of classes" 0 "" none '<&- >out 2>err' classes images=3 end=2 --
 through "output, of classes" 12 "$output" "" '<listing >&- 2>err' classes images=3 end=2 --
+through "input, of relations" 0 "" related '<&- >out 2>err' relations -- a b c
+through "output, of relations" 12 "$output" "" '<plan >&- 2>err' relations -- a b c
+through "output, of the help" 12 "$output" "" '<plan >&- 2>err' --help
+through "output, of the version" 12 "$output" "" '<plan >&- 2>err' --version
 through "all, of a listing" 2 "" "" '<&- >&- 2>&-' list -- a b c
 through "all, of a volume" 12 "" "" '<&- >&- 2>&-' write set=$set -- a b c
 through "all, of words that are none" 1 "" "" '<&- >&- 2>&-' nothing
@@ -136,6 +142,8 @@ through "a full disk, of a volume" 12 "$output" "" '<plan >/dev/full 2>err' writ
 through "a full disk, of a member" 12 "$output" "" '<plan >/dev/full 2>err' rebuild set=5:ls:none:1:0:-,0,1 slot=0 -- b c
 through "a full disk, of a survey" 12 "$output" "" '<plan >/dev/full 2>err' survey -- a b c
 through "a full disk, of classes" 12 "$output" "" '<listing >/dev/full 2>err' classes images=3 end=2 --
+through "a full disk, of relations" 12 "$output" "" '<plan >/dev/full 2>err' relations -- a b c
+through "a full disk, of the help" 12 "$output" "" '<plan >/dev/full 2>err' --help
 through "a full disk for the line" 6 "" "" '<plan >out 2>/dev/full' list from=7 -- a b c
 through "output that is open for reading" 12 "$output" "" '<plan 1<empty 2>err' list -- a b c
 through "input that is open for writing" 11 "reraid: plan read fault" "" '0>>empty >out 2>err' list -- a b c
@@ -172,7 +180,7 @@ cp a "$long"
 for name in absent inside fifo socket /dev/null /dev/zero /dev/full /dev/tty broken loop a/ a/b "" "$(printf 'n%.0s' $(seq 256))" \
     "$(printf 'n%.0s' $(seq 4096))" "$(printf './%.0s' $(seq 2048))a"; do
     for command in "survey" "list" "check set=$set" "map set=$set sector=0" "write set=$set" "rebuild set=5:ls:none:1:0:-,0,1 slot=0" \
-        "mirrors" "mirrorwrite set=near2:1:0:0,1,2" "salvage set=$set" "salvage set=$set form=lost"; do
+        "mirrors" "mirrorwrite set=near2:1:0:0,1,2" "salvage set=$set" "salvage set=$set form=lost" "relations"; do
         expect "${command%% *} with the name ${name:0:20}" 10 "$fault" "" $command -- a "$name" c
     done
 done
@@ -194,6 +202,9 @@ expect "the name --" 10 "$fault" "" list -- -- b c
 echo "== words"
 expect "none" 1 "reraid: word 1 is not understood" ""
 expect "one that is not text" 1 "reraid: word 1 is not understood" "" list -- a b $'\xff'
+expect "--help" 0 "" - --help
+expect "--version" 0 "" - --version
+expect "--help and more" 1 "reraid: word 1 is not understood" "" --help --version
 expect "one of 100,000 digits" 1 "reraid: word 2 is not understood" "" list "from=$(printf '1%.0s' $(seq 100000))" -- a b c
 expect "no name" 4 "reraid: images: count given 0 planned 3" "" list --
 
@@ -261,13 +272,14 @@ import sys
 
 program = sys.argv[1]
 plan = open("plan", "rb").read()
-files = {name: open(name, "rb").read() for name in ("listing", "volume", "member")}
+files = {name: open(name, "rb").read() for name in ("listing", "volume", "member", "related")}
 runs = [
     (["list", "--", "a", "b", "c"], files["listing"]),
     (["write", "set=5:ls:none:1:0:0,1,2", "--", "a", "b", "c"], files["volume"]),
     (["rebuild", "set=5:ls:none:1:0:-,0,1", "slot=0", "--", "b", "c"], files["member"]),
     (["check", "set=5:ls:none:1:0:0,1,2", "--", "a", "b", "c"], b"rank 0\nunsound 0 of 2\npass\n"),
     (["survey", "--", "a", "b", "c"], None),
+    (["relations", "--", "a", "b", "c"], files["related"]),
     (["write", "set=5:ls:none:32768:0:0,1,2", "--", "x", "y", "z"], bytes(2 * 32 * 2 ** 20)),
 ]
 
@@ -352,7 +364,7 @@ else
     failures=$((failures + 1))
 fi
 for command in "survey" "list" "check set=$set" "map set=$set sector=0" "write set=$set" "rebuild set=5:ls:none:1:0:-,1,2 slot=0" \
-    "mirrors chunks=1 offsets=0" "mirrorwrite set=near2:1:0:0,1,2" "salvage set=$set" "salvage set=$set form=lost"; do
+    "mirrors chunks=1 offsets=0" "mirrorwrite set=near2:1:0:0,1,2" "salvage set=$set" "salvage set=$set form=lost" "relations"; do
     runs=$((runs + 1))
     case $command in
     salvage*) input=empty ;;

@@ -8,6 +8,7 @@ from class_cases import classes_case
 from making import (NAMES, Case, an_end, changed_set, files_of, finished, long_plan, shuffled, some_array, some_bytes, some_plan, torn)
 from mirror_cases import goes_far, mirrors_case, mirrorwrite_case
 from product import Product
+from relation_cases import relations_case
 from salvage_cases import salvage_case
 from sample_cases import sample_case
 from survey_cases import survey_case
@@ -170,7 +171,7 @@ def rebuild_case(rng):
 
 MAKERS = {"survey": survey_case, "list": list_case, "check": check_case, "map": map_case, "write": write_case, "rebuild": rebuild_case,
           "sample": sample_case, "scan": scan_case, "classes": classes_case, "salvage": salvage_case, "mirrors": mirrors_case,
-          "mirrorwrite": mirrorwrite_case}
+          "mirrorwrite": mirrorwrite_case, "relations": relations_case}
 
 
 def make(command, rng):

@@ -1,15 +1,16 @@
 -- What the words ask for, by their two readings.
-use Rattle.std.proofs.Common.{◌≡◌, ℕ, zero, suc, ◌+◌, ◌-◌, ◌≤◌, List, [], ◌∷◌, length, map, drop, codes, Option, None, Some, true, false, Bool, if◌then◌else◌, refl, sym, ap, ◌∙◌, subst, arith}
+use Rattle.std.proofs.Common.{◌≡◌, inl, inr, ℕ, zero, suc, ◌+◌, ◌-◌, ◌≤◌, List, [], ◌∷◌, length, drop, codes, Option, None, Some, true, false, Bool, if◌then◌else◌, refl, sym, ap, ◌∙◌, subst, arith}
 use Rattle.std.proofs.lemmas.Bool.{false≢true}
 use Rattle.std.proofs.lemmas.Slice.Eq.{bytes_eq-Decides}
 use Rattle.std.specs.Option.{option_map}
 use Rattle.std.specs.Str.{bytes_eq}
-use Rattle.command_words.specs.Commands.{EndsInNames, IsCommandLine, command_of, names_after, number_in, set_in, mirror_in, verb_word}
+use Rattle.command_words.specs.Commands.{EndsInNames, IsCommandLine, SaysAlone, command_of, names_after, number_in, set_in, mirror_in, verb_word}
+use Rattle.command_words.proofs.LineStarts.{not_alone}
 use Rattle.command_words.specs.Operands.{value_of}
 use Rattle.command_words.specs.declared.command.Command.{Command}
-use Rattle.command_words.specs.declared.command.Command.TheVariants.{Survey as SurveyCommand, List as ListCommand, Check as CheckCommand, Map as MapCommand, Write as WriteCommand, Rebuild as RebuildCommand, Sample as SampleCommand, Classes as ClassesCommand, Mirrors as MirrorsCommand, MirrorWrite as MirrorWriteCommand, Salvage as SalvageCommand}
+use Rattle.command_words.specs.declared.command.Command.TheVariants.{Survey as SurveyCommand, List as ListCommand, Check as CheckCommand, Map as MapCommand, Write as WriteCommand, Rebuild as RebuildCommand, Sample as SampleCommand, Classes as ClassesCommand, Mirrors as MirrorsCommand, MirrorWrite as MirrorWriteCommand, Salvage as SalvageCommand, Relations as RelationsCommand, Help, Version}
 use Rattle.command_words.specs.declared.command.Verb.{Verb}
-use Rattle.command_words.specs.declared.command.Verb.TheVariants.{Survey, List as ListVerb, Check, Map, Write, Rebuild, Sample, Classes, Mirrors, MirrorWrite, Salvage}
+use Rattle.command_words.specs.declared.command.Verb.TheVariants.{Survey, List as ListVerb, Check, Map, Write, Rebuild, Sample, Classes, Mirrors, MirrorWrite, Salvage, Relations}
 use Rattle.command_words.specs.declared.operands.Operand.{Operand}
 use Rattle.command_words.specs.declared.table.Name.TheVariants.{Set as SetName, End as EndName}
 use Rattle.near_mirror.specs.declared.types.NearSet.{NearSet}
@@ -43,6 +44,7 @@ by_write Classes operands names command same says = absurd (differ (codes "write
 by_write Mirrors operands names command same says = absurd (differ (codes "write") (codes "mirrors") refl same)
 by_write MirrorWrite operands names command same says = absurd (differ (codes "write") (codes "mirrorwrite") refl same)
 by_write Salvage operands names command same says = absurd (differ (codes "write") (codes "salvage") refl same)
+by_write Relations operands names command same says = absurd (differ (codes "write") (codes "relations") refl same)
 
 by_mirrorwrite : (verb : Verb) (operands : List Operand) (names : ℕ) (command : Command) → codes "mirrorwrite" ≡ verb_word verb → command_of verb operands names ≡ Some command → PutsVolume command
 by_mirrorwrite MirrorWrite operands names command same says = puts_mirror (mirror_in (value_of SetName operands)) (number_in (value_of EndName operands)) names command says
@@ -56,15 +58,20 @@ by_mirrorwrite Sample operands names command same says = absurd (differ (codes "
 by_mirrorwrite Classes operands names command same says = absurd (differ (codes "mirrorwrite") (codes "classes") refl same)
 by_mirrorwrite Mirrors operands names command same says = absurd (differ (codes "mirrorwrite") (codes "mirrors") refl same)
 by_mirrorwrite Salvage operands names command same says = absurd (differ (codes "mirrorwrite") (codes "salvage") refl same)
+by_mirrorwrite Relations operands names command same says = absurd (differ (codes "mirrorwrite") (codes "relations") refl same)
 
 -- words of `write` and of `mirrorwrite` ask for a volume
 pub write_puts : (words : List (List ℕ)) (command : Command) → IsCommandLine (codes "write" ∷ words) command → PutsVolume command
-write_puts words command line =
-    by_write line.verb line.operands (length line.operands + 2) command (first_word (codes "write") (verb_word line.verb) words _ line.spelled) line.says
+write_puts words command line = elim line [
+  | inl has ↦ by_write has.verb has.operands (length has.operands + 2) command (first_word (codes "write") (verb_word has.verb) words _ has.spelled) has.says
+  | inr alone ↦ absurd (not_alone Write command (subst (λ (w : List ℕ). SaysAlone w command) (sym (first_word (codes "write") alone.0 words [] alone.1)) alone.2))
+]
 
 pub mirrorwrite_puts : (words : List (List ℕ)) (command : Command) → IsCommandLine (codes "mirrorwrite" ∷ words) command → PutsVolume command
-mirrorwrite_puts words command line =
-    by_mirrorwrite line.verb line.operands (length line.operands + 2) command (first_word (codes "mirrorwrite") (verb_word line.verb) words _ line.spelled) line.says
+mirrorwrite_puts words command line = elim line [
+  | inl has ↦ by_mirrorwrite has.verb has.operands (length has.operands + 2) command (first_word (codes "mirrorwrite") (verb_word has.verb) words _ has.spelled) has.says
+  | inr alone ↦ absurd (not_alone MirrorWrite command (subst (λ (w : List ℕ). SaysAlone w command) (sym (first_word (codes "mirrorwrite") alone.0 words [] alone.1)) alone.2))
+]
 
 -- names are no more than the words
 few_after : (words : List (List ℕ)) → length (names_after words) ≤ length words
@@ -96,3 +103,6 @@ named_behind word words (SampleCommand number set rows xfs) same puts ends = abs
 named_behind word words (ClassesCommand images end) same puts ends = absurd puts
 named_behind word words (MirrorsCommand members chunks offsets missing foreign badrows window end from size span names) same puts ends = absurd puts
 named_behind word words (SalvageCommand set lost end names) same puts ends = absurd puts
+named_behind word words (RelationsCommand asked) same puts ends = absurd puts
+named_behind word words Help same puts ends = absurd puts
+named_behind word words Version same puts ends = absurd puts

@@ -3,3 +3,4 @@ pub mod Asked
 pub mod Shown
 pub mod Ran
 pub mod Served
+pub mod OneWord

@@ -1,7 +1,8 @@
 -- What a run does.
-use Rattle.std.specs.Prelude.{ℕ, ◌≡◌, ◌<◌, ◌≤◌, ◌^◌, min, Bool, List, length, All, IfSome, IfOk, IfErr, IsErrOf, Result, Ok, Err}
+use Rattle.std.specs.Prelude.{ℕ, ◌≡◌, ◌<◌, ◌≤◌, ◌^◌, min, Bool, List, length, All, IfSome, IfOk, IfErr, IsErrOf, MatchResult, Result, Ok, Err}
 use Rattle.std.specs.declared.option.Option.{Option}
 use Rattle.std.specs.declared.option.Option.TheVariants.{None, Some}
+use Rattle.std.specs.Io.KnownBytes.{Appends}
 use Rattle.block_device.specs.Reading.{Asked, Costs, Counts, counts_of}
 use Rattle.command_words.specs.declared.command.Command.{Command}
 use Rattle.command_words.specs.declared.command.Command.TheVariants.{Write, MirrorWrite}
@@ -14,7 +15,8 @@ use Rattle.nbd_text.specs.Dialogue.{dialogue}
 use Rattle.outside.specs.Attached.{told_all}
 use Rattle.outside.specs.Causes.{Rose}
 use Rattle.outside.specs.Seen.{Image, Seen}
-use Rattle.outside.specs.Streams.{Stream}
+use Rattle.outside.specs.Streams.{AppendsFront, Stream}
+use Rattle.program_texts.specs.Texts.{nbd_help_text, nbd_version_text}
 use Rattle.raid_params.specs.declared.types.Geometry.{Geometry}
 use Rattle.run_ends.specs.Counts.{Raises}
 use Rattle.run_ends.specs.Jobs.{Named, stream}
@@ -25,6 +27,9 @@ use Rattle.set_jobs.specs.Writing.{told_for, volume_reads, write_output}
 use Rattle.volume_device.specs.Cost.{range_cost}
 use Rattle.reraid_nbd_cli.specs.declared.ends.NbdEnd.{NbdEnd}
 use Rattle.reraid_nbd_cli.specs.declared.ends.NbdEnd.TheVariants.{Refused, ImageFault, Long, Stopped}
+use Rattle.reraid_nbd_cli.specs.declared.telling.Alone.{Alone}
+use Rattle.reraid_nbd_cli.specs.declared.telling.Alone.TheVariants.{Help, Version}
+use Rattle.reraid_nbd_cli.specs.Words.{Asks, alone_in}
 
 -- what a run stands between: the images, the source and the sink
 pub record Place : Type 0 where
@@ -126,3 +131,29 @@ pub record Runs (asked : Result Command ℕ) (given : Named) (old new : Place) (
   pub leaves : Leaves old new result
   pub images : IfOk asked (λ command. HasImages given result)
   pub none : IfErr asked (λ number. new.images ≡ old.images)
+
+-- the text that a word asks for alone
+abbrev pub alone_text : Alone → List ℕ
+alone_text Help = nbd_help_text
+alone_text Version = nbd_version_text
+
+-- the text was put whole, or a front of it where the output failed
+abbrev pub PutsText : List ℕ → Stream → Stream → Result (Unit {0}) NbdEnd → Type 0
+PutsText text old new result =
+    MatchResult result
+    (λ done. Appends old.known new.known text × (new.faults ≡ old.faults))
+    (λ end. (end ≡ Stopped OutFault) × AppendsFront old.known new.known text × Rose old.faults new.faults)
+
+-- a word asks for this alone: its text is put, and the source and the images are left alone
+pub record Tells (alone : Alone) (old new : Place) (result : Result (Unit {0}) NbdEnd) : Type 0 where
+  pub puts : PutsText (alone_text alone) old.out new.out result
+  pub source : new.source ≡ old.source
+  pub images : new.images ≡ old.images
+
+-- a run by what one word asks for alone, or else by the volume that the words ask for
+abbrev pub RunsBy : Option Alone → List (List ℕ) → Named → Place → Place → Result (Unit {0}) NbdEnd → Type 0
+RunsBy (Some alone) words given old new result = Tells alone old new result
+RunsBy None words given old new result = (asked : Result Command ℕ) × Asks words asked × Runs asked given old new result
+
+abbrev pub RunsWords : List (List ℕ) → Named → Place → Place → Result (Unit {0}) NbdEnd → Type 0
+RunsWords words given old new result = RunsBy (alone_in words) words given old new result

@@ -1,9 +1,19 @@
 -- What the words ask for.
-use Rattle.std.specs.Prelude.{ℕ, ◌≡◌, ◌≤◌, ◌+◌, ◌-◌, ◌⊎◌, max, IfSome, List, ◌∷◌, length, drop, Result, Ok, Err}
+use Rattle.std.specs.Prelude.{ℕ, ◌≡◌, ◌≤◌, ◌+◌, ◌-◌, ◌⊎◌, max, if◌then◌else◌, IfSome, List, [], ◌∷◌, codes, length, drop, Result, Ok, Err}
+use Rattle.std.specs.declared.option.Option.{Option}
+use Rattle.std.specs.declared.option.Option.TheVariants.{None, Some}
+use Rattle.std.specs.Str.{bytes_eq}
 use Rattle.command_words.specs.Commands.{IsCommandLine, IsRefusedWord, names_after, names_of, verb_word}
 use Rattle.command_words.specs.declared.command.Command.{Command}
 use Rattle.command_words.specs.declared.command.Command.TheVariants.{Write as WriteCommand, MirrorWrite as MirrorWriteCommand}
 use Rattle.command_words.specs.declared.command.Verb.TheVariants.{Write, MirrorWrite}
+use Rattle.reraid_nbd_cli.specs.declared.telling.Alone.{Alone}
+use Rattle.reraid_nbd_cli.specs.declared.telling.Alone.TheVariants.{Help, Version}
+
+-- what one word asks for alone, if it does
+abbrev pub alone_in : List (List ℕ) → Option Alone
+alone_in (word ∷ []) = if bytes_eq word (codes "--help") then Some Help else if bytes_eq word (codes "--version") then Some Version else None
+alone_in _ = None
 
 -- The command of `reraid` whose volume is served: `write` where these are its words, else `mirrorwrite`. Or the refused word, counted from 1: the
 -- first with which the words of neither go on, or the one after the last.

@@ -4,19 +4,41 @@ ghost use Rattle.outside.specs.Attached.{AreImagesOf};
 ghost use Rattle.run_ends.specs.Jobs.{named};
 ghost use Rattle.command_words.specs.Commands.{IsWithin, names_after};
 ghost use Rattle.command_words.specs.declared.command.Command.{Command as CommandOf};
-ghost use Rattle.reraid_nbd_cli.specs.Runs.{AreImages, Runs, Shows, cost, place_of, refusal, sectors, volume};
+ghost use Rattle.reraid_nbd_cli.specs.Runs.{AreImages, Runs, RunsWords, Shows, cost, place_of, refusal, sectors, volume};
 ghost use Rattle.reraid_nbd_cli.specs.Words.{AreNamed, Asks, PutsVolume};
 
 use crate::asking::read_asked;
 use crate::ends::NbdEnd;
 use crate::showing::{show_mirror, show_set};
+use crate::telling::{read_alone, tell};
 use command_words::{Command, Word};
 use outside::{Images, Sink, Source};
 use run_ends::{Refusal, attach_front};
 use std::alloc::Global;
 
-/// Does the work in its order: words, images, and the dialogue.
+/// Puts what one word asks for alone, or else does the work for a volume.
 pub(crate) fn run<S: Source, I: Images, K: Sink>(
+    alloc: Global,
+    words: &[Word],
+    source: &mut S,
+    images: &mut I,
+    out: &mut K,
+) -> Result<(), NbdEnd>
+    requires fresh { (I.seen images.old).attached ≡ [] }
+    requires named { All (λ name. IsTrue ((I.seen images.old).world.may_attach name)) (names_after words.now) }
+    ensures runs { RunsWords words.now (named (length (names_after words.now)) (I.seen images.new).attached)
+        (place_of I.seen S.left S.faults K.gained K.faults images.old source.old out.old)
+        (place_of I.seen S.left S.faults K.gained K.faults images.new source.new out.new) result }
+    ensures attached { AreImagesOf (I.seen images.old).world (names_after words.now) (I.seen images.new).attached }
+{
+    match read_alone(words) {
+        Some(alone) => tell(alone, out),
+        None => run_volume(alloc, words, source, images, out),
+    }
+}
+
+/// Does the work in its order: words, images, and the dialogue.
+fn run_volume<S: Source, I: Images, K: Sink>(
     alloc: Global,
     words: &[Word],
     source: &mut S,

@@ -1,12 +1,10 @@
 //! The top call.
-ghost use Rattle.std.specs.Prelude.{◌≡◌, [], All, IsTrue, Result, length, ℕ};
+ghost use Rattle.std.specs.Prelude.{◌≡◌, [], All, IsTrue, Result, length};
 ghost use Rattle.outside.specs.Attached.{AreImagesOf};
 ghost use Rattle.run_ends.specs.Jobs.{named, stream};
 ghost use Rattle.command_words.specs.Commands.{names_after};
-ghost use Rattle.command_words.specs.declared.command.Command.{Command as CommandOf};
 ghost use Rattle.reraid_nbd_cli.specs.Ends.{IsTold};
-ghost use Rattle.reraid_nbd_cli.specs.Runs.{Runs, place_of};
-ghost use Rattle.reraid_nbd_cli.specs.Words.{Asks};
+ghost use Rattle.reraid_nbd_cli.specs.Runs.{RunsWords, place_of};
 ghost use Rattle.reraid_nbd_cli.specs.declared.ends.NbdEnd.{NbdEnd};
 
 use crate::running::run;
@@ -16,7 +14,7 @@ use std::alloc::Global;
 
 /// Does all that the program does, and answers the status that it ends with.
 ///
-/// Status 0: the client ended the dialogue, or the input ended between two messages. 1: the words are refused at a word. 4: the images
+/// Status 0: the client ended the dialogue, or the input ended between two messages, or what the words ask for alone was put. 1: the words are refused at a word. 4: the images
 /// are not those that the set takes. 7: the set breaks a rule. 10, 11 and 12: an image could not be attached, and the input or the output
 /// failed. 14: the client sent what the protocol does not allow, or the input ended inside a message. 15: the volume has 2^63 bytes or
 /// more. 20: out of memory.
@@ -34,10 +32,10 @@ pub fn reraid_nbd<S: Source, I: Images, K: Sink, N: Sink>(
     requires fresh { (I.seen images.old).attached ≡ [] }
     requires named { All (λ name. IsTrue ((I.seen images.old).world.may_attach name)) (names_after words.now) }
 
-    // The words ask for one volume, or are refused at one word. What is done for that, and why it ended, is told by the status and, where
-    // the dialogue did not end, by a line on the notes.
-    ensures runs { (asked : Result CommandOf ℕ) × Asks words.now asked × (end : Result (Unit {0}) NbdEnd) ×
-        Runs asked (named (length (names_after words.now)) (I.seen images.new).attached)
+    // The words ask for one volume, are refused at one word, or are `--help` or `--version` alone, whose text is put. What is done for that,
+    // and why it ended, is told by the status and, where the dialogue did not end or the text was not put, by a line on the notes.
+    ensures runs { (end : Result (Unit {0}) NbdEnd) ×
+        RunsWords words.now (named (length (names_after words.now)) (I.seen images.new).attached)
         (place_of I.seen S.left S.faults K.gained K.faults images.old source.old out.old)
         (place_of I.seen S.left S.faults K.gained K.faults images.new source.new out.new) end
         × IsTold end result (stream (N.gained notes.old) (N.faults notes.old)) (stream (N.gained notes.new) (N.faults notes.new)) }

@@ -56,7 +56,7 @@ fn joined(alloc: Global, parts: &[&[u8]]) -> Result<Vec<u8>, Memory> {
 }
 
 /// Serves these words to the client whose bytes stand for a plan, and gives the status.
-fn serve_words(alloc: Global, words: &[Word], objects: &mut Objects) -> u8
+pub fn serve_words(alloc: Global, words: &[Word], objects: &mut Objects) -> u8
     requires { AreReady words.now objects.old.images objects.old.plan objects.old.out objects.old.notes }
 {
     reraid_nbd(

@@ -1,10 +1,8 @@
 //! What `--help` and `--version` put.
-ghost use Rattle.reraid_rows.specs.Ready.{AreReady};
-
 use crate::objects::{Objects, ready, words_of};
 use crate::rows::{End, compare, run, same_bytes, same_status};
+use crate::served::serve_words;
 use outside::Memory;
-use reraid_nbd_cli::reraid_nbd;
 use std::alloc::Global;
 use std::process::Abort;
 use std::test::Fail;
@@ -62,14 +60,7 @@ fn the_help_has_each_command(rt: HostRuntime) -> Result<(), Fail> {
 fn serve(alloc: Global, line: &str) -> Result<(u8, Objects), Memory> {
     let words = words_of(alloc, line)?;
     let mut met = ready(alloc, &words, &[], b"")?;
-    let status = reraid_nbd(
-        alloc,
-        &words,
-        &mut met.plan,
-        &mut met.images,
-        &mut met.out,
-        &mut met.notes,
-    );
+    let status = serve_words(alloc, &words, &mut met);
     Ok((status, met))
 }
 

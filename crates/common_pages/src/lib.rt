@@ -1,4 +1,4 @@
-//! Pages of the parameter sets of a plan that pass.
+//! Pages of the parameter sets that pass, of a plan of images with a common offset.
 //!
 //! A [`page`] has the sets of a range of ranks that have a whole row and meet the landmark test and the
 //! parity test on the images. [`pages`] gives page after page.
@@ -6,7 +6,7 @@
 //! A page is walked head by head; `head_walk` gathers the sets of each, and tests them. The tables of rows are made where
 //! the first head needs them and kept for all pages of a call.
 //!
-//! `plan_jobs` prints pages for `list`. The sets of a plan stand in `Sets` of `plan_sets`, a page by
+//! `page_engine` makes pages of any plan by these. The sets of a plan stand in `Sets` of `plan_sets`, a page by
 //! its ranks in `Page` of `search_terms`, and pages with what is read for them in `specs/Pages`.
 #![tactic(auto)]
 

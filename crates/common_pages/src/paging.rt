@@ -1,5 +1,5 @@
 //! Pages of the sets that pass.
-ghost use Rattle.std.specs.Prelude.{◌≡◌, ◌-◌, ◌<◌, ◌≤◌, ◌^◌, All, IfErr, IfOk, IfSome, IsErrOf, length};
+ghost use Rattle.std.specs.Prelude.{◌≡◌, ◌-◌, ◌<◌, ◌≤◌, ◌^◌, false, All, IfErr, IfOk, IfSome, IsErrOf, length};
 ghost use Rattle.std.specs.Result.{is_err};
 ghost use Rattle.outside.specs.Attached.{told_all};
 ghost use Rattle.outside.specs.Seen.{OnlyReads};
@@ -20,7 +20,7 @@ use set_product::product_total;
 use std::alloc::Global;
 use std::thread::Threads;
 
-/// The page of a plan from a rank on: the first `size` of the sets that pass and whose ranks are
+/// The page of a plan of images with a common offset, from a rank on: the first `size` of the sets that pass and whose ranks are
 /// below `from + span`, and the rank from which the next page goes on. Where some head of the plan needs a table of
 /// rows, at most the tested rows of the chunk that has most are read, once for each offset and of each image; otherwise
 /// at most 64 of them, where samples are asked for some head. The sets
@@ -37,6 +37,7 @@ pub fn page<R: Threads + Sync, I: Images, G: Gate + Sync>(
     gate: &G,
 ) -> Result<ListPage, PageFault>
     requires plan { IsPlan plan.now }
+    requires common { plan.now.each ≡ false }
     requires lengths { AgreeWith plan.now (I.seen images.old).attached }
     requires size { 1 ≤ size }
     ensures page { IfOk result (λ p. IfSome (told_all (I.seen images.old).attached) (λ bytes. IsPageOf bytes plan.now from size span p)) }
@@ -110,7 +111,7 @@ fn next_page<R: Threads + Sync, I: Images, G: Gate + Sync>(
     })
 }
 
-/// The pages of a plan from a rank on: the page there, then the page where it goes on, until `count`
+/// The pages of a plan of images with a common offset, from a rank on: the page there, then the page where it goes on, until `count`
 /// are made or one goes on at the total. Each has at most `size` lines and goes through at most `span` ranks; `size` and `count`
 /// are 1 at least. The tables of rows are made once for all pages.
 pub fn pages<R: Threads + Sync, I: Images, G: Gate + Sync>(
@@ -125,6 +126,7 @@ pub fn pages<R: Threads + Sync, I: Images, G: Gate + Sync>(
     gate: &G,
 ) -> Result<PageList, PageFault>
     requires plan { IsPlan plan.now }
+    requires common { plan.now.each ≡ false }
     requires lengths { AgreeWith plan.now (I.seen images.old).attached }
     requires size { 1 ≤ size }
     requires count { 1 ≤ count }

@@ -13,8 +13,8 @@ mod running;
 mod top;
 
 pub use command_words::{Command, Form, SurveyWords, Word, read_words};
-pub use common_pages::{CursorFault, Line, Lines, ListPage, PageFault, page};
 pub use gates::{Gate, OpenGate};
+pub use page_engine::{CursorFault, Line, Lines, ListPage, PageFault, page};
 pub use run_ends::{Refusal, Stop};
 pub use top::reraid;
 pub use wide_product::{product_rank, product_set, product_total};

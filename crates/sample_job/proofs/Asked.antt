@@ -23,7 +23,7 @@ use Rattle.search_plan.specs.Plans.{AreBounds, AreRising}
 use Rattle.survey_engine.specs.Surveys.{IsAsk, IsSurveyable}
 use Rattle.survey_job.specs.Surveying.{window_for}
 use Rattle.sample_job.proofs.Attached.{all_long, image_count}
-use Rattle.sample_job.specs.Sampling.{sample_ask, sampled_images}
+use Rattle.sample_job.specs.Sampling.{sample_ask, sample_plan, sampled_images}
 
 -- a list of one number rises
 one_rises : (n : ℕ) → AreRising (n ∷ [])
@@ -86,10 +86,14 @@ window_is : (window : Option ℕ) (end : ℕ) → end < 2 ^ 55 → IfSome window
 window_is None end near given = (omega arith, omega arith)
 window_is (Some n) end near given = given
 
--- the images share an offset
-plain_shared : plain_survey.each ≡ false
+-- the images have a common offset
+plain_common : plain_survey.each ≡ false
 unfolding plain_survey
-plain_shared = refl
+plain_common = refl
+
+pub sample_common : (number : ℕ) (set : Geometry) (rows : ℕ) (xfs : Bool) → (sample_plan number set rows xfs).each ≡ false
+unfolding sample_plan sample_ask
+sample_common number set rows xfs = plain_common
 
 -- it can be asked of the images
 ask_is : (set : Geometry) (end : ℕ) → is_shaped set (held set.slots.items) ≡ true → end < 2 ^ 55 → IsAsk (sample_ask set end)
@@ -127,5 +131,5 @@ surveyable number set rows xfs end attached kept size long is there =
       most = omega arith;
       short = All-weaker (λ (image : Image). image.sectors ≡ end_of set.head rows) (λ (image : Image). image.sectors < 2 ^ 55) (λ image e. omega arith) attached all;
       long = All-weaker (λ (image : Image). image.sectors ≡ end_of set.head rows) (λ (image : Image). end ≤ image.sectors) (λ image e. omega arith) attached all;
-      each = λ e. absurd (let shared = plain_shared in cc);
+      each = λ e. absurd (let common = plain_common in cc);
     }

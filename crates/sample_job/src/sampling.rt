@@ -1,5 +1,5 @@
 //! The command `sample`.
-ghost use Rattle.std.specs.Prelude.{◌≡◌, ◌<◌, ◌≤◌, ◌*◌, ◌-◌, ◌^◌, ◌++◌, All, IfErr, IfOk, IfSome, IsTrue, None, OnOk, Some, sum_by, ℕ, [], ◌∷◌, decimal, length, map, nat_eq};
+ghost use Rattle.std.specs.Prelude.{◌≡◌, ◌<◌, ◌≤◌, ◌*◌, ◌-◌, ◌^◌, ◌++◌, false, All, IfErr, IfOk, IfSome, IsTrue, None, OnOk, Some, sum_by, ℕ, [], ◌∷◌, decimal, length, map, nat_eq};
 ghost use Rattle.std.specs.List.{list_any};
 ghost use Rattle.outside.specs.Attached.{told_all};
 ghost use Rattle.image_source.specs.Memory.{number_of};
@@ -236,6 +236,7 @@ fn first_page<R: Threads + Sync, G: Gate + Sync>(
     plan: &Plan,
 ) -> Result<ListPage, Stop>
     requires plan { IsPlan plan.now }
+    requires common { plan.now.each ≡ false }
     requires lengths { AgreeWith plan.now (seen_of_own images.old).attached }
     ensures page { IfOk result (λ page. IfSome (told_all (seen_of_own images.old).attached) (λ bytes. IsPageOf bytes plan.now 0 FIRST_PAGE (2 ^ 64 - 1) page)) }
     ensures total { IfOk result (λ page. page.total ≡ total_of plan.now) }

@@ -27,7 +27,7 @@ fn page_of<R: Threads + Sync + AllocGlobal + Abort, I: Images>(
     requires plan { IsPlan plan.now }
     requires size { 1 ≤ size }
 {
-    assert!(rt; agree(images, plan));
+    assert!(rt; agree(images, plan) && !plan.each);
     page(rt, rt.alloc(), images, plan, 0, size, 100, &OpenGate).ok()
 }
 
@@ -55,7 +55,7 @@ fn a_page(rt: HostRuntime) -> Result<(), Fail> {
 fn few_pages<R: Threads + Sync + AllocGlobal + Abort>(rt: &R) -> Result<PageList, Fail> {
     let plan = two_levels(rt.alloc());
     let mut images = three_images(rt, [&[1; 1024], &[3; 1024], &[7; 1024]])?;
-    assert!(rt; agree(&images, &plan));
+    assert!(rt; agree(&images, &plan) && !plan.each);
     let made = pages(rt, rt.alloc(), &mut images, &plan, 3, 7, 7, 5, &OpenGate);
     Ok(made.expect(rt, "pages"))
 }

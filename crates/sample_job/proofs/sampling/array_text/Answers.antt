@@ -5,7 +5,8 @@ use Rattle.common_pages.specs.Pages.{IsPageOf}
 use Rattle.sample_job.specs.Sampling.{many_refusal, sample_plan}
 use Rattle.survey_engine.specs.declared.ask.Ask.{Ask}
 use Rattle.survey_job.specs.Surveying.{survey_plan}
-use Rattle.sample_job.proofs.Asked.{surveyable}
+use Rattle.search_plan.specs.declared.plan.Plan.{Plan}
+use Rattle.sample_job.proofs.Asked.{sample_common, surveyable}
 use Rattle.sample_job.proofs.Sampled.{plan_is, refuses_plan, refuses_same, text_is}
 use Rattle.sample_job.specs.Own.{seen_of_own}
 use Rattle.sample_job.proofs.sampling.array_text.Goals as goal
@@ -39,3 +40,9 @@ returns-clause-refuses g c =
     refuses_plan c.in_ok-plan.plan (sample_plan c.args.number c.args.set.now c.args.rows c.args.xfs) _
     (plan_is c.args.number c.args.set.now c.args.rows c.args.xfs c.args.end (seen_of_own c.in_ok-images.images).attached c.in_ok-plan.plan c.in_ok-images.ensures.long c.in_ok-images.ensures.images c.requires.end made)
     (refuses_same (many_refusal c.in_ok-plan.plan) c.in-Err.stop c.in-Err.ensures.refuses)
+
+pub first_page-requires-clause-common : goal.first_page-requires-clause-common
+first_page-requires-clause-common g c κs within =
+    let made = subst (λ (ask : Ask). IfSome (told_all (seen_of_own c.in_ok-images.images).attached) (λ bytes. c.in_ok-plan.plan ≡ survey_plan ask (seen_of_own c.in_ok-images.images).attached bytes)) c.ask_for.ensures c.in_ok-plan.ensures.made in
+    ap (λ (p : Plan). p.each) (plan_is c.args.number c.args.set.now c.args.rows c.args.xfs c.args.end (seen_of_own c.in_ok-images.images).attached c.in_ok-plan.plan c.in_ok-images.ensures.long c.in_ok-images.ensures.images c.requires.end made)
+    ∙ sample_common c.args.number c.args.set.now c.args.rows c.args.xfs

@@ -1,10 +1,10 @@
 //! Sets with an offset for each image: what is written of them, where their sectors lie, and how they are tested.
-use crate::plans::{MOVED, MOVED_EACH, TOO_MANY_BASES};
+use crate::plans::{COMMON_OFFSET, EACH_OFFSET, TOO_MANY_BASES};
 use crate::rows::{Row, TWENTY_FOUR, Written, check, check_all, writes_all};
 use std::test::Fail;
 
 /// Two rows of left-symmetric over three members, which begin at sector 1 of the first image and at sector 0 of the others.
-const LATER: &[&[u8]] = &[&[9, 1, 2], &[3, 4, 9], &[2, 6, 9]];
+pub const LATER: &[&[u8]] = &[&[9, 1, 2], &[3, 4, 9], &[2, 6, 9]];
 
 /// The same without the third image.
 const LATER_LOST: &[&[u8]] = &[&[9, 1, 2], &[3, 4, 9]];
@@ -30,7 +30,7 @@ const WRITTEN: [Written; 3] = [
 
 // The rows 0 1 P and 3 P 2 hold 01 03 and 06 02, also with a member lost, which held 01 + 03 = 02 and 02 + 04 = 06.
 #[test]
-fn volumes_and_members_of_moved_images(rt: HostRuntime) -> Result<(), Fail> {
+fn volumes_and_members_of_padded_images(rt: HostRuntime) -> Result<(), Fail> {
     writes_all(&rt, rt.alloc(), &WRITTEN)
 }
 
@@ -81,7 +81,7 @@ const TESTS: [Row; 4] = [
     Row {
         line: "check set=5:ls:none:1:1+0+0:0,1,2 -- a b c",
         images: LATER,
-        plan: MOVED,
+        plan: COMMON_OFFSET,
         status: 0,
         out: "rank -\nunsound 0 of 2\npass\n",
         notes: "",
@@ -89,7 +89,7 @@ const TESTS: [Row; 4] = [
     Row {
         line: "check set=5:ls:none:1:1+0+0:0,1,2 -- a b c",
         images: LATER,
-        plan: MOVED_EACH,
+        plan: EACH_OFFSET,
         status: 0,
         out: "rank 24\nunsound 0 of 2\npass\n",
         notes: "",
@@ -97,7 +97,7 @@ const TESTS: [Row; 4] = [
     Row {
         line: "check set=5:ls:none:1:0+0+0:0,1,2 -- a b c",
         images: LATER,
-        plan: MOVED_EACH,
+        plan: EACH_OFFSET,
         status: 0,
         out: "rank 0\nunsound 2 of 2\nfail\n",
         notes: "",
@@ -105,17 +105,17 @@ const TESTS: [Row; 4] = [
     Row {
         line: "check set=5:ls:none:1:1:0,1,2 -- a b c",
         images: LATER,
-        plan: MOVED_EACH,
+        plan: EACH_OFFSET,
         status: 0,
         out: "rank -\nunsound 2 of 2\nfail\n",
         notes: "",
     },
 ];
 
-// Of the eight lists of offsets 0 and 1, each with six orders, 1 0 0 is the fifth. Without moves the rows hold 09 03 02 and
+// Of the eight lists of offsets 0 and 1, each with six orders, 1 0 0 is the fifth. Without padding the rows hold 09 03 02 and
 // 01 04 06, and from sector 1 on 01 04 06 and 02 09 09.
 #[test]
-fn moved_images_are_tested(rt: HostRuntime) -> Result<(), Fail> {
+fn padded_images_are_tested(rt: HostRuntime) -> Result<(), Fail> {
     check_all(&rt, rt.alloc(), &TESTS)
 }
 
@@ -157,7 +157,7 @@ const BROKEN_SETS: [Row; 5] = [
     Row {
         line: "check set=5:ls:none:3:0+0:0,1,2 -- a b c",
         images: LATER,
-        plan: MOVED,
+        plan: COMMON_OFFSET,
         status: 7,
         out: "",
         notes: "reraid: set rule 4 value 3\n",
@@ -189,7 +189,7 @@ fn offsets_of_images_may_be_too_many(rt: HostRuntime) -> Result<(), Fail> {
 const LISTED: [Row; 1] = [Row {
     line: "list form=json from=24 size=1 -- a b c",
     images: LATER,
-    plan: MOVED_EACH,
+    plan: EACH_OFFSET,
     status: 0,
     out: "{\"chunk\":1,\"level\":5,\"name\":\"left-symmetric\",\"offset\":[1,0,0],\"pattern\":\"ls\",\"rank\":24,\"slots\":[0,1,2],\"syndrome\":\"none\"}\n{\"next\":25,\"total\":48}\n",
     notes: "",

@@ -4,7 +4,7 @@ ghost use Rattle.reraid_rows.specs.Ready.{AreReady};
 
 use crate::objects::{Objects, filled, images_of, ready, run_in_pieces, run_words, words_of};
 use crate::placed::{Placed, put_all};
-use crate::plans::{LEVEL_SIX, LISTING, NO_LANDMARK, PLAN, bytes_of};
+use crate::plans::{EACH_OFFSET, LEVEL_SIX, LISTING, NO_LANDMARK, PLAN, bytes_of};
 use crate::rows::{End, STRIPES, STRIPES_LOST, compare, same_bytes, same_status};
 use outside::Memory;
 use reraid_cli::Word;
@@ -243,10 +243,18 @@ const OWN_TABLES: &[Placed] = &[
     },
 ];
 
+/// The members, where they begin at sector 1 of the first image.
+const LATER: &[&[u8]] = &[&[9, 1, 2], &[3, 4, 9], &[2, 6, 9]];
+
+/// A text that says of the first image that its first sector is bad.
+const MAP: &str = "map 0\n0x0 ? 1\n0x0 0x200 -\n0x200 0x200 +\n";
+
 /// The runs. A listing reads each image for the tables of rows, which decide at level 5, and at level 6 again in its
 /// scan; a test, a volume and a member read each image that a slot holds; a survey reads each image. All answers are
-/// one put, but for the volume's, which may be more; and so is the line of the cursor.
-static RUNS: [Run; 7] = [
+/// one put, but for the volume's, which may be more; and so is the line of the cursor. A search for mirrors reads each image, their volume
+/// one copy of each chunk; `salvage` reads each image, or none where it only says what is lost; `map` reads none, and `classes` and
+/// `sample` have none.
+static RUNS: [Run; 16] = [
     Run {
         line: "list size=10 -- a b c",
         images: STRIPES,
@@ -316,6 +324,98 @@ static RUNS: [Run; 7] = [
         answer: Answer::Text("rank 0\nunsound 0 of 1\npass\n"),
         notes: "",
         calls: (8, 2, 1, 0),
+    },
+    Run {
+        line: "list size=1 -- a b c",
+        images: LATER,
+        placed: &[],
+        plan: EACH_OFFSET,
+        status: 0,
+        answer: Answer::Text("24 5:ls:none:1:1+0+0:0,1,2\nnext 25 of 48\n"),
+        notes: "",
+        calls: (6, 2, 1, 0),
+    },
+    Run {
+        line: "write set=5:ls:none:1:1+0+0:0,1,2 -- a b c",
+        images: LATER,
+        placed: &[],
+        plan: "",
+        status: 0,
+        answer: Answer::Sectors(&[1, 3, 6, 2]),
+        notes: "",
+        calls: (6, 0, 1, 0),
+    },
+    Run {
+        line: "map set=5:ls:none:1:0:0,1,2 sector=2 -- a b c",
+        images: STRIPES,
+        placed: &[],
+        plan: "",
+        status: 0,
+        answer: Answer::Text("row 1 item 0 slot 2 image 2 sector 1 p 1 q -\nname left-symmetric\n"),
+        notes: "",
+        calls: (3, 0, 1, 0),
+    },
+    Run {
+        line: "mirrors chunks=1 offsets=0 size=1 -- a b c",
+        images: &[&[5, 6], &[5, 7], &[6, 7]],
+        placed: &[],
+        plan: "",
+        status: 0,
+        answer: Answer::Text("0 near2:1:0:0,1,2\nnext 1 of 6\n"),
+        notes: "",
+        calls: (6, 0, 1, 0),
+    },
+    Run {
+        line: "mirrorwrite set=near2:1:0:0,-,1 -- a b",
+        images: &[&[5, 6], &[6, 7]],
+        placed: &[],
+        plan: "",
+        status: 0,
+        answer: Answer::Sectors(&[5, 6, 7]),
+        notes: "",
+        calls: (4, 0, 1, 0),
+    },
+    Run {
+        line: "salvage set=5:ls:none:1:0:0,1,2 -- a b c",
+        images: STRIPES,
+        placed: &[],
+        plan: MAP,
+        status: 0,
+        answer: Answer::Sectors(&[1, 3, 6, 2]),
+        notes: "",
+        calls: (6, 2, 1, 0),
+    },
+    Run {
+        line: "salvage set=5:ls:none:1:0:0,1,2 form=lost -- a b c",
+        images: STRIPES,
+        placed: &[],
+        plan: MAP,
+        status: 0,
+        answer: Answer::Text("good 4 of 4\n"),
+        notes: "",
+        calls: (3, 2, 1, 0),
+    },
+    Run {
+        line: "classes images=3 end=2 --",
+        images: &[],
+        placed: &[],
+        plan: "0 5:ls:none:1:0:0,1,2\nnext 1 of 6\n",
+        status: 0,
+        answer: Answer::Text("0 5:ls:none:1:0:0,1,2\nclasses 1 of 1\n"),
+        notes: "",
+        calls: (0, 2, 1, 0),
+    },
+    Run {
+        line: "sample number=7 set=5:ls:none:8:0:0,1,2 rows=2 --",
+        images: &[],
+        placed: &[],
+        plan: "",
+        status: 0,
+        answer: Answer::Text(
+            "images 3\nsectors 16\nmarks 0\ntotal 1296\nfound yes\nnext 1296 of 1296\n",
+        ),
+        notes: "",
+        calls: (0, 0, 1, 0),
     },
 ];
 

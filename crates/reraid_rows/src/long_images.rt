@@ -199,7 +199,7 @@ const RUNS: [Row; 9] = [
 // An image may have an offset of its own where it has fewer than 2^54 sectors. One that has more is refused before any rule of
 // the set, and is no reason to refuse a set with one offset.
 #[test]
-fn images_may_be_too_long_to_be_moved(rt: HostRuntime) -> Result<(), Fail> {
+fn images_may_be_too_long_to_be_padded(rt: HostRuntime) -> Result<(), Fail> {
     for row in &RUNS {
         check(&rt, rt.alloc(), row)?;
     }

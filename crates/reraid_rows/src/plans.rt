@@ -88,12 +88,16 @@ pub const NO_WHOLE_ROW: &str =
     "reraid-plan 1\nimages 16\nlength 1\nlength 1\nlength 1\nlength 1\nlength 1\nlength 1\nlength 1\nlength 1\nlength 1\nlength 1\nlength 1\nlength 1\nlength 1\nlength 1\nlength 1\nlength 1\nend 1\nlevels 6\nmembers 16\npatterns la,ra,ls,rs,parity-first,parity-last,n-restart,n-continue,la-6,ra-6,ls-6,rs-6,parity-first-6\nsyndromes after-q,by-data,by-slot\nchunks 2,4,8,16,32,64,128,256,512,1024,2048,4096,8192,16384,32768\noffsets 0,1,2,3,4,5,6,7,8,9,10,11,12,13,14,15,16,17,18,19,20,21,22,23,24,25,26,27,28,29,30,31,32,33,34,35,36,37,38,39,40,41,42,43,44,45,46,47,48,49,50,51,52,53,54,55,56,57,58,59,60,61,62,63\norigins 0\nmissing 1\nforeign 1\nbadrows 0\nwindow 1\nmisfits 0\nleast 1\ndone\n";
 
 /// Three images of three sectors, of which all data begin at sector 0 or at sector 1.
-pub const MOVED: &str =
+pub const COMMON_OFFSET: &str =
     "reraid-plan 1\nimages 3\nlength 3\nlength 3\nlength 3\nend 3\nlevels 5\nmembers 3\npatterns ls\nsyndromes none\nchunks 1\noffsets 0,1\norigins 0\nmissing 0\nforeign 0\nbadrows 0\nwindow 2\nmisfits 0\nleast 1\ndone\n";
 
 /// The same, where the data of each begin at one of these sectors.
-pub const MOVED_EACH: &str =
+pub const EACH_OFFSET: &str =
     "reraid-plan 2\nimages 3\nlength 3\nlength 3\nlength 3\nend 3\nlevels 5\nmembers 3\npatterns ls\nsyndromes none\nchunks 1\noffsets 0,1\norigins 0\nmissing 0\nforeign 0\nbadrows 0\nwindow 2\nmisfits 0\nleast 1\ndone\n";
+
+/// The same with two marks.
+pub const EACH_OFFSET_MARKED: &str =
+    "reraid-plan 2\nimages 3\nlength 3\nlength 3\nlength 3\nend 3\nlevels 5\nmembers 3\npatterns ls\nsyndromes none\nchunks 1\noffsets 0,1\norigins 0\nmissing 0\nforeign 0\nbadrows 0\nwindow 2\nmisfits 0\nleast 2\ngroup gpt\nmark gpt 1 0 at:1\nmark gpt 2 1 at:2\ndone\n";
 
 /// Level 0 over sixteen images of one sector, each with one of 64 offsets.
 pub const TOO_MANY_BASES: &str =

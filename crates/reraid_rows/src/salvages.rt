@@ -18,6 +18,11 @@ const ONE: &str = "map 0\n# x\n0x0 ? 1\n0x0 0x200 -\n0x200 0x200 +\n";
 const TWO: &str =
     "map 0\n# x\n0x0 ? 1\n0x0 0x200 -\n0x200 0x200 +\nmap 1\n0 +\n0 512 -\n512 512 +\n";
 
+/// So they lie.
+const ONE_HOLE: &[(u32, u64)] = &[(0, 0)];
+
+const TWO_HOLES: &[(u32, u64)] = &[(0, 0), (1, 0)];
+
 /// A block that does not go on from the one before.
 const APART: &str =
     "map 0\n# x\n0x0 ? 1\n0x0 0x200 -\n0x200 0x200 +\nmap 1\n0 +\n0 512 -\n513 512 +\n";
@@ -153,23 +158,23 @@ const DOUBLE_WRITTEN: Written = Written {
 };
 
 /// The data begin at sector 1 of the first image, and at sector 0 of the others, in chunks of two sectors.
-const MOVED: &[&[u8]] = &[
+const LATER: &[&[u8]] = &[
     &[9, 1, 2, 5, 6],
     &[16, 32, 85, 102, 9],
     &[17, 34, 80, 96, 9],
 ];
 
 /// Sectors of the images: what is before and after the data, and one of each member, in different rows.
-const MOVED_HOLES: &[(u32, u64)] = &[(0, 0), (0, 2), (1, 0), (1, 4), (2, 3)];
+const LATER_HOLES: &[(u32, u64)] = &[(0, 0), (0, 2), (1, 0), (1, 4), (2, 3)];
 
 /// So the maps say.
-const MOVED_MAPS: &str =
+const LATER_MAPS: &str =
     "map 0\n0 ? 1\n0 512 -\n512 512 +\n1024 512 -\n1536 1024 +\nmap 1\n0 ? 1\n0 512 -\n512 1536 +\n2048 512 -\nmap 2\n0 ? 1\n0 1536 +\n1536 512 -\n2048 512 +\n";
 
 /// All is found.
-const MOVED_WRITTEN: Written = Written {
+const LATER_WRITTEN: Written = Written {
     line: "salvage set=5:ls:none:2:1+0+0:0,1,2 -- a b c",
-    images: MOVED,
+    images: LATER,
     out: &[1, 2, 16, 32, 80, 96, 5, 6],
 };
 
@@ -227,10 +232,12 @@ fn writes_around<R: Threads + Sync + Abort>(
 #[test]
 fn no_bad_sector_is_read(rt: HostRuntime) -> Result<(), Fail> {
     let alloc = rt.alloc();
+    writes_around(&rt, alloc, &WRITTEN, ONE, ONE_HOLE)?;
+    writes_around(&rt, alloc, &LEFT, TWO, TWO_HOLES)?;
     writes_around(&rt, alloc, &APART_WRITTEN, APART_MAPS, APART_HOLES)?;
     writes_around(&rt, alloc, &BESIDE_WRITTEN, BESIDE_MAPS, BESIDE_HOLES)?;
     writes_around(&rt, alloc, &DOUBLE_WRITTEN, DOUBLE_MAPS, DOUBLE_HOLES)?;
-    writes_around(&rt, alloc, &MOVED_WRITTEN, MOVED_MAPS, MOVED_HOLES)
+    writes_around(&rt, alloc, &LATER_WRITTEN, LATER_MAPS, LATER_HOLES)
 }
 
 // Such a reading fails: without maps all is read, and so it is with maps that call sector 6 of the first image good.

@@ -367,6 +367,19 @@ class Tested(InFolder):
         tests.late = True
         self.assertEqual([len(part) for part in tests.parts(some)], [1, 8])
 
+    def test_encrypted_ones_are_enough(self) -> None:
+        """Where some of many begin with the head of an encrypted volume the others, which begin with nothing known, are not looked at."""
+        some = [candidate(f"5:ls:none:8:{k}:0,1,2", hunt=hunt_of(("reraid check", put("unsound 0 of 9\npass\n")))) for k in range(9)]
+        tests = self.over(("reraid write", lambda words, _: Answer(0, b"LUKS\xba\xbe" if ":5:" in words[2] else b"none")),
+                          ("reraid classes", put("".join(f"{k} x\n" for k in range(8)) + "classes 8 of 8\n")))
+        tests.late = True
+        for kind, looked_at in (("crypto_LUKS", 1), ("vfat", 9)):
+            def read(it: Candidate, kind: str = kind) -> Candidate:
+                it.verdict = Verdict([Finding("", kind)])
+                return it
+            with mock.patch.object(tests, "read", read):
+                self.assertEqual(len(tests.test(some)), looked_at)
+
     def test_images_that_make_rows_unsound(self) -> None:
         def told(answered: list[str], _: str) -> Answer:
             return put(f"unsound {2 if '-,1,2' in answered[2] else 5 if '0,-,2' in answered[2] else 9} of 9\nfail\n")

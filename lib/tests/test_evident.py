@@ -90,10 +90,12 @@ class Attempts(unittest.TestCase):
         """What is asked of a shape, with marks or without, where each listing gives these candidates."""
         asked: list[str] = []
         tested: list[Any] = []
+        self.times: list[int] = []
 
         def step(it: Step, _hunt: Any) -> bool:
             """A listing with so much loosened."""
             asked.append(f"list {it.count}")
+            self.times.append(hunt.program.seconds)
             tested.extend(found)
             return False
 
@@ -103,13 +105,15 @@ class Attempts(unittest.TestCase):
             return False
         it = Zeros(cast(Any, types.SimpleNamespace(options=Options(("a",)), take_step=step, attempt_bare=bare, tested=tested)))
         it.order = asked
-        hunt = types.SimpleNamespace(plan=types.SimpleNamespace(groups=["a group"] if groups else []))
+        hunt = types.SimpleNamespace(plan=types.SimpleNamespace(groups=["a group"] if groups else []), program=types.SimpleNamespace(seconds=0))
         it.attempt(cast(Any, hunt), Aim((0, 1, 2), Span(0, 9), "why", (shape,), tied=True), 0)
         return asked
 
     def test_marks_and_parity(self) -> None:
-        """Where parity tells something and there are marks a plain listing comes before what zeros allow."""
+        """Where Q tells something and there are marks a plain listing comes before what zeros allow, and has the whole time of a trial."""
         self.assertEqual(self.order(Shape("6", 6, 1), True), ["list 0", "zeros", "list 1", "list 2"])
+        self.assertEqual(self.times, [60, 10, 10])
+        self.assertEqual(self.order(Shape("5", 6), True), ["zeros", "list 0", "list 1", "list 2"])
 
     def test_encrypted(self) -> None:
         """A volume that is encrypted ends it where parity speaks for it, since nothing more is to be seen."""

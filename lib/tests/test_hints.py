@@ -141,6 +141,15 @@ class Gathered(InFolder):
         self.assertEqual((found.base.get("offsets"), found.base.get("origins"), found.base.get("kinds")), ("0,2048", "0,2048", surveys.KINDS))
         self.assertEqual([hint.what for hint in found.said], [What.OFFSET, What.DATA, What.LEVEL])
 
+    def test_within_a_part(self) -> None:
+        """Where an array may lie in a part of a disk alone, that ends it; the table of the disk is none of its own."""
+        heads = tuple(Head("mbr", 0, sector) for sector in (5, 100, 599, 600))
+        whole = image(0, sectors=1000, table=Table("MBR", True, (Partition(100, 500, "fd"),)), heads=heads)
+        for end, sectors in ((600, 600), (2000, 1000)):
+            part = gathered.within(whole, 100, end)
+            self.assertEqual((part.sectors, part.table), (sectors, Table()))
+        self.assertEqual([head.sector for head in gathered.within(whole, 100, 600).heads], [100, 599])
+
     def test_copies_say_no_level(self) -> None:
         self.assertEqual(self.gather(self.plan("super 0 2048 every:4096:2:0"), like=0).levels, ())
 

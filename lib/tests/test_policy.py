@@ -19,6 +19,7 @@ from reraid_try.policy.mirrors import Mirrors, pair, pairings
 from reraid_try.policy.plans import Asking
 from reraid_try.policy.questions import Questions
 from reraid_try.policy.shapes import Shape, Shapes
+from reraid_try.policy.steps import Step
 from reraid_try.policy.trials import Trial
 from reraid_try.calls.formats import Ranked
 from reraid_try.calls.sets import read_word
@@ -356,6 +357,14 @@ class Hunts(InFolder):
         self.assertIsNone(none.to_list(Shape("0", 3), none.asking.request(Shape("0", 3))))
         plan = none.to_list(Shape("5,6", 4, 1), none.asking.request(Shape("5,6", 4, 1)))
         self.assertEqual(plan and plan.values["levels"], "6")
+
+    def test_a_step_is_neither_hasty_nor_asks_for_all(self) -> None:
+        """A step has all cures but those for what is mostly wrong, where nothing else is said."""
+        step = Step((Shape("5", 4, 1),), 1)
+        hunt, _ = self.hunt(lambda *_: put("next 9 of 9\n"))
+        names = [cure.name for cure in hunt.asking.cures(step.shapes[0], step.every, step.quick)]
+        self.assertEqual((any("each image its own" in name for name in names), step.every), (True, False))
+        self.assertFalse(any("each image its own" in cure.name for cure in hunt.asking.cures(step.shapes[0], quick=True)))
 
     def test_passed_over_is_counted(self) -> None:
         hunt, _ = self.hunt(lambda *_: put("next 9 of 9\n"))

@@ -69,6 +69,16 @@ class Contents(unittest.TestCase):
         self.assertIn("nothing but zeros", found[1000].line())
         self.assertIn("an array of its own", found[2000].line())
 
+    def test_an_array_with_some_equal_blocks(self) -> None:
+        """Images of which a half is the same are no copies; those of which but one in twenty blocks differs are."""
+        for differing, copied in ((62, False), (6, True)):
+            for it in self.disks:
+                with open(it.name, "r+b") as file:
+                    for block in range(125):
+                        file.seek(block * 4096)
+                        file.write(random.Random(f"{it.number} {block}" if block < differing else str(block)).randbytes(4096))
+            self.assertEqual([it.copied for it in shared.looked_at(self.disks) if it.first == 0], [copied])
+
     def test_searched(self) -> None:
         """Arrays alone are searched; where all there is are copies, the largest of these."""
         found = shared.looked_at(self.disks)

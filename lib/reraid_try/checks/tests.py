@@ -168,8 +168,8 @@ class Tests:
         return done
 
     def test(self, found: list[Candidate]) -> list[Candidate]:
-        """Tests one of each class: of many, those first that begin with something known, and the others where none of these is clean. Doubtful
-        sets, and too many, are put off."""
+        """Tests one of each class: of many, those first that begin with something known, and the others where none of these is clean or encrypted.
+        Doubtful sets, and too many, are put off."""
         if len(found) > MOST_UNTOLD and not found[0].trial.shape.parity and not self.late:
             self.report.say("put off", f"  {len(found)} sets are too many where parity tells nothing: they are put off", sets=len(found))
             self.put_off += found
@@ -183,7 +183,7 @@ class Tests:
             if len(classes) > MOST_CLASSED:
                 self.report.say("many", f"  of {len(classes)} classes the first {MOST_CLASSED} are looked at", classes=len(classes))
             tested += self.side_by_side(self.read, classes[:MOST_CLASSED], "looks at the candidates", self.tell)
-            if any(it.score >= Score.CHECKED for it in tested):
+            if any(it.score >= Score.CHECKED or it.found.closed for it in tested):
                 break
         return tested
 

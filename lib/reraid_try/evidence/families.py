@@ -51,8 +51,8 @@ class Reshape:
 
     def line(self) -> str:
         """What is said of it."""
-        return (f"a reshape stopped between sector {self.last} and sector {self.sector}: up to the first {len(self.before)} images are tied, "
-                f"from the second on {len(self.after)}")
+        return (f"a reshape stopped between sector {self.last} and sector {self.sector}: up to the first {len(self.before)} images are tied, from "
+                f"the second on {len(self.after)}")
 
     def closer(self, relations: Relations) -> "Reshape":
         """The same by rows between the two, which lie closer to each other."""

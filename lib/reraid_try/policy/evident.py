@@ -204,12 +204,14 @@ class Evident:
 
     def attempt(self, hunt: Hunt, aim: Aim, before: int) -> None:
         """The trials of the shapes of an aim, with ever more loosened, until a candidate is whole or encrypted, or content where something is
-        loosened. What is listed comes before what zeros allow where parity tells something and there are marks, since few sets pass then. `before`
-        is how many candidates were tested before them."""
-        listed = bool(hunt.plan.groups) and any(shape.parity for shape in aim.shapes)
+        loosened. What is listed comes before what zeros allow where Q tells the order of the disks and there are marks, since few sets pass then:
+        P is the same in any order. `before` is how many candidates were tested before them."""
+        listed = bool(hunt.plan.groups) and any(LEVEL_6 in shape.telling for shape in aim.shapes)
         if not listed and self.by_places(hunt, aim):
             return
         for count in range(MOST_LOOSENED + 1):
+            # What the images are tied for is worth the whole time of a trial.
+            hunt.program.seconds = self.search.options.seconds if aim.tied and not count else self.options.seconds
             if self.search.take_step(Step(aim.shapes, count), hunt) or count and self.is_content(before) or any(map(is_closed, self.since(before))):
                 return
             if count == 0 and listed and not self.is_content(before) and self.by_places(hunt, aim):

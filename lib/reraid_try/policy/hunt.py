@@ -87,7 +87,7 @@ class Hunt:
         return may
 
     def listing(self, shape: Shape, request: Request, plan: Plan) -> Listing:
-        """What a trial lists, without the sets against which rows speak whose zeros tell where parity lies. These are asked for where it has many."""
+        """What a trial lists, without the sets that rows speak against whose zeros tell where parity lies. Zeros are asked where it lists many."""
         self.tell(request)
         found = self.questions.climb(plan) if self.questions.has_bad_rows(plan, shape) else self.program.listing(plan)
         if self.places is None and self.ask_places and len(found.sets) > FEW_SETS:

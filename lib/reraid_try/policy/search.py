@@ -251,8 +251,8 @@ class Search:
     def say_late(self, what: str, seconds: int) -> None:
         """Says that a question ran out of its time, which was so many seconds."""
         self.was_late = True
-        told = f"  {counted(seconds, 'second')} were up before it was known whether {what} a set: goes on as if so, and passes over no trial for it"
-        self.report.say("late", f"{told} (--time gives more)", what=what, seconds=seconds)
+        self.report.say("late", f"  {counted(seconds, 'second')} were up before it was known whether {what} a set: goes on as if so, and passes over "
+                        "no trial for it (--time gives more)", what=what, seconds=seconds)
 
     def say_trial(self, hunt: Hunt, trial: Trial, listing: Listing) -> Trial:
         """A trial with its number, after it is printed with what it listed."""

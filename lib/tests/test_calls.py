@@ -61,6 +61,13 @@ class Sets(unittest.TestCase):
         self.assertEqual(simplest(read_word("5:parity-first:none:8:0:-,1,0")).text, "0:plain:none:8:0:1,0")
         self.assertEqual(simplest(read_word("5:parity-last:none:8:0:1,0,-")).text, "0:plain:none:8:0:1,0")
 
+    def test_two_orders_of_q_that_are_one(self) -> None:
+        """Behind Q the data of a symmetric layout stand in their order, so that Q weighs them alike by either."""
+        for text, found in [("6:ls:by-data:8:0:0,-,1,2", "6:ls:after-q:8:0:0,-,1,2"),
+                            ("6:rs:by-data:8:4+5+6+7:0,3,1,2", "6:rs:after-q:8:4+5+6+7:0,3,1,2"),
+                            ("6:la:by-data:8:0:0,-,1,2", "6:la:by-data:8:0:0,-,1,2"), ("6:ls:by-slot:8:0:0,-,1,2", "6:ls:by-slot:8:0:0,-,1,2")]:
+            self.assertEqual(simplest(read_word(text)).text, found)
+
     def test_others_stay(self) -> None:
         for text in ("6:ls-6:after-q:8:0:0,1,2,3", "6:ls:after-q:8:0:0,1,2,-", "6:ls-6:after-q:8:0:-,0,1,2", "5:ls:none:8:0:-,0,1",
                      "5:parity-first:none:8:0:0,-,1", "6:parity-first:by-data:8:0:-,0,1,2", "6:parity-last:by-data:8:0:0,1,-,2",
@@ -177,6 +184,15 @@ class Surveyed(unittest.TestCase):
         self.assertEqual(self.standin.count("reraid survey"), 4)
         self.surveys.plan(self.request.having(end=200000))
         self.assertEqual(self.standin.count("reraid survey"), 5)
+
+    def test_made_anew_where_less_was_read(self) -> None:
+        """A survey without marks says nothing of what lies before where it began, or behind its end."""
+        self.standin = Standin(("reraid survey", put(PLAN[:PLAN.index("group")] + "done\n")))
+        surveys = Surveys(self.standin, ["a", "b", "c"])
+        for values, count in (({"offsets": 4096, "end": 50000}, 1), ({"offsets": 2048, "end": 50000}, 2), ({"offsets": 4096, "end": 60000}, 3),
+                              ({"offsets": 9000, "end": 40000}, 3)):
+            surveys.plan(self.request.having(**values))
+            self.assertEqual(self.standin.count("reraid survey"), count)
 
     def test_what_is_asked_stands_in_the_plan(self) -> None:
         plan = self.surveys.plan(self.request.having(levels="5,6", badrows=9, mode="each", end=50000))

@@ -367,6 +367,24 @@ class Tested(InFolder):
         tests.late = True
         self.assertEqual([len(part) for part in tests.parts(some)], [1, 8])
 
+    def test_files_of_many(self) -> None:
+        """Of many sets those alone are looked through for files of which no checker found fault; all of them where none is content."""
+        for clean, looked in ((3, [(3, True)]), (99, [(k, True) for k in range(9)])):
+            some = [candidate(f"5:ls:none:8:{k}:0,1,2") for k in range(9)]
+            tests, asked = self.over(), list[tuple[int, bool]]()
+
+            def read(it: Candidate, files: bool = True, clean: int = clean, asked: list[tuple[int, bool]] = asked) -> Candidate:
+                asked.append((it.word.offset, files))
+                it.verdict = Verdict([Finding("", "xfs", it.word.offset == clean)], counted=files)
+                return it
+            with mock.patch.object(tests, "read", read):
+                self.assertEqual(tests.looked_at(some), some)
+                self.assertEqual((sorted(asked[:9]), sorted(asked[9:])), ([(k, False) for k in range(9)], looked))
+                asked.clear()
+                tests.looked_at(some[:8])
+                self.assertEqual(sorted(asked), [(k, True) for k in range(8)])
+        self.assertEqual(Verdict([Finding("", "xfs", False)], counted=False).text(), "xfs")
+
     def test_encrypted_ones_are_enough(self) -> None:
         """Where some of many begin with the head of an encrypted volume the others, which begin with nothing known, are not looked at."""
         some = [candidate(f"5:ls:none:8:{k}:0,1,2", hunt=hunt_of(("reraid check", put("unsound 0 of 9\npass\n")))) for k in range(9)]
@@ -374,7 +392,7 @@ class Tested(InFolder):
                           ("reraid classes", put("".join(f"{k} x\n" for k in range(8)) + "classes 8 of 8\n")))
         tests.late = True
         for kind, looked_at in (("crypto_LUKS", 1), ("vfat", 9)):
-            def read(it: Candidate, kind: str = kind) -> Candidate:
+            def read(it: Candidate, _files: bool = True, kind: str = kind) -> Candidate:
                 it.verdict = Verdict([Finding("", kind)])
                 return it
             with mock.patch.object(tests, "read", read):

@@ -196,6 +196,7 @@ class Maps(InFolder):
     def test_no_map(self) -> None:
         for text, line in (("", "it has no lines"), ("no map\n", "line 1"), ("# x\n\n0x0 +\n", "no blocks"), ("0 +\n", "no blocks"),
                            ("0 x\n0 5 +\n", "line 1"), ("0 5 +\n0 5 +\n", "line 1"), ("0 + x\n0 5 +\n", "line 1"), ("0\n0 5 +\n", "line 1"),
+                           ("0 +\n0 0xffffffffffffffffffff +\n", "line 2"),
                            ("0 +\nfile one\n", "line 2"), ("0 +\n0 5 x\n", "line 2"), ("0 +\n0 5 +\n6 5 +\n", "line 3"),
                            ("0 +\n# x\n0 0 +\n", "line 3"), ("0 +\n0 5\n", "line 2"), ("0 +\n0 5 +-\n", "line 2"), ("0 +\n0 5 + +\n", "line 2")):
             with self.assertRaisesRegex(OutsideError, line):

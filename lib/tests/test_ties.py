@@ -161,6 +161,13 @@ class UnlikeOffsets(unittest.TestCase):
         self.assertEqual((found.offsets, found.known.family.level, found.known.family.parity), (starts, "5", 1))
         self.assertIn("16, 16, 64, 32", found.line())
 
+    def test_offsets_that_are_the_same(self) -> None:
+        """Images that all begin at one sector have no offsets of their own; of others the greatest beginning comes first."""
+        images = [Image(f"{number}.img", number, 464, first=first) for number, first in enumerate((16, 16, 70))]
+        self.assertEqual(unlike.ways(images[:2], []), [])
+        self.assertEqual(unlike.ways(images, []), [(16, 16, 64)])
+        self.assertEqual(unlike.ways(images[:2], [Shift(0, 1, 8, 40)]), [(16, 24), (8, 16)])
+
     def test_none(self) -> None:
         """Where nothing ties the images at unlike offsets either, none are told."""
         rnd = random.Random(10)

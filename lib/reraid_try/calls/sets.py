@@ -17,6 +17,8 @@ class Level:
 LEVELS = {"0": Level(0, 2), "5": Level(1, 3), "6": Level(2, 4)}
 # Patterns whose Q stands on the last slot, behind those of level 5.
 LAST_Q = "-6"
+# The patterns whose data are numbered from the slot behind Q on, so that these two orders of Q are one.
+SYMMETRIC, BY_DATA, AFTER_Q = ("ls", "rs"), "by-data", "after-q"
 # The slot that has all parity at level 5, and all Q at level 6, for the patterns that have such a one.
 FIXED_P = {"parity-first": 0, "parity-last": -1}
 FIXED_Q = {"parity-first": 1, "parity-last": -1}
@@ -122,9 +124,12 @@ def lower(word: Word) -> Word | None:
 
 
 def simplest(word: Word) -> Word:
-    """The set of the lowest level, with the fewest members, that has the same volume whatever the images hold."""
+    """The set of the lowest level, with the fewest members, that has the same volume whatever the images hold; of two orders of Q that weigh the same
+    disks alike the first."""
     while (found := lower(word)) is not None:
         word = found
+    if word.level == "6" and word.pattern in SYMMETRIC and word.order == BY_DATA:
+        return made(word.level, word.pattern, AFTER_Q, word.chunk, word.offsets, word.slots)
     return word
 
 

@@ -136,9 +136,9 @@ class Checkers:
         return [it for it in found if it.first < volume.length and
                 (it.there(volume.length) == it.length or lacking(it.length, it.there(volume.length)))]
 
-    def look(self, volume: Volume, origins: Sequence[int], chunk: int, row: int) -> Verdict:
+    def look(self, volume: Volume, origins: Sequence[int], chunk: int, row: int, files: bool = True) -> Verdict:
         """What is in a volume whose chunks, and rows of these, have so many bytes, at its start, in its partitions and at these sectors: its tables,
-        its file systems, and the files that are whole."""
+        its file systems, and the files that are whole, where these are asked for."""
         kind, todo = self.regions(volume)
         notes = ["only its first bytes were looked at"] if volume.cut else []
         it = Looked(volume, Verdict(notes=notes, length=volume.length, chunk=chunk, row=row), todo)
@@ -150,8 +150,9 @@ class Checkers:
             self.look_into(it)
         if it.verdict.findings and not it.verdict.inner:
             it.verdict.empty, it.verdict.findings[-1].said = True, "nothing known in it"
-        if it.verdict.findings and not it.verdict.wholly_summed and not it.verdict.closed:
+        if files and it.verdict.findings and not it.verdict.wholly_summed and not it.verdict.closed:
             self.count_files(it)
+        it.verdict.counted = files
         return it.verdict
 
     def look_into(self, it: Looked) -> None:

@@ -122,8 +122,8 @@ class Tests:
                             unsound=candidate.unsound, images=blamed)
         return [frozenset(blamed[:MOST_OUT])] if blamed else []
 
-    def read(self, candidate: Candidate) -> Candidate:
-        """Looks at the volume of a candidate."""
+    def read(self, candidate: Candidate, files: bool = True) -> Candidate:
+        """Looks at the volume of a candidate, for files that are whole too where these are asked for."""
         self.ask(candidate)
         word = candidate.word
         source = Source(word, self.names, self.end, self.maps)
@@ -133,7 +133,7 @@ class Tests:
                 if volume is None:
                     candidate.verdict = Verdict(notes=["its volume could not be written"])
                 else:
-                    candidate.verdict = self.checks.look(volume, candidate.origins, word.chunk * SECTOR, word.row * SECTOR)
+                    candidate.verdict = self.checks.look(volume, candidate.origins, word.chunk * SECTOR, word.row * SECTOR, files)
                     candidate.verdict.notes += self.lost(word)
         except OSError as error:
             candidate.verdict = Verdict(notes=[f"its volume could not be looked at: {said(error)}"])
@@ -182,10 +182,22 @@ class Tests:
             classes = in_classes(self.program, part, self.end)
             if len(classes) > MOST_CLASSED:
                 self.report.say("many", f"  of {len(classes)} classes the first {MOST_CLASSED} are looked at", classes=len(classes))
-            tested += self.side_by_side(self.read, classes[:MOST_CLASSED], "looks at the candidates", self.tell)
+            tested += self.looked_at(classes[:MOST_CLASSED])
             if any(it.score >= Score.CHECKED or it.found.closed for it in tested):
                 break
         return tested
+
+    def looked_at(self, classes: list[Candidate]) -> list[Candidate]:
+        """Looks at the volumes of these. Of many the checkers are asked first, and files are looked for where none found fault; elsewhere only if no
+        checker is content, since they are the longer work."""
+        if len(classes) <= FEW:
+            return self.side_by_side(self.read, classes, "looks at the candidates", self.tell)
+        self.side_by_side(lambda it: self.read(it, False), classes, "asks the checkers about the candidates")
+        for refuted in (False, True):
+            self.side_by_side(self.read, [it for it in classes if it.found.refuted == refuted], "looks at the candidates", self.tell)
+            if any(it.score >= Score.CHECKED for it in classes):
+                break
+        return classes
 
     def without_doubtful(self, found: list[Candidate]) -> list[Candidate]:
         """The sets of which more speaks for them than against them; the others are kept for the end."""

@@ -80,7 +80,7 @@ def covered(pieces: Sequence[Piece], length: int) -> int:
 @dataclasses.dataclass
 class Verdict:
     """What was found in a volume of so many bytes: regions, files, the bytes of a chunk and of a row of chunks, and what else is said of it. `empty`
-    says that nothing lies in what was found."""
+    says that nothing lies in what was found, `counted` that files were looked for."""
 
     findings: list[Finding] = dataclasses.field(default_factory=list)
     files: Wholes = dataclasses.field(default_factory=Wholes)
@@ -89,6 +89,7 @@ class Verdict:
     chunk: int = 0
     row: int = 0
     empty: bool = False
+    counted: bool = True
 
     @property
     def inner(self) -> list[Finding]:
@@ -173,5 +174,5 @@ class Verdict:
     def text(self) -> str:
         """What is said of the volume."""
         said = [finding.text() for finding in self.findings] or ["nothing known"]
-        files = [] if self.wholly_summed or self.closed else [self.files.text(self.chunk, self.row)]
+        files = [] if self.wholly_summed or self.closed or not self.counted else [self.files.text(self.chunk, self.row)]
         return "; ".join(said + files + self.notes)

@@ -81,8 +81,10 @@ class Search:
             it.old = tuple(old.text(names) for old in rows.old(it))
 
     def best_told(self) -> list[tuple[int, Candidate]]:
-        """The best candidates, with their numbers, of which more is told."""
-        return words.best(kin.in_order(self.tested, self.images))[:words.MOST_TOLD]
+        """The candidates, with their numbers, of which more is told: the best, and those that are encrypted."""
+        order = kin.in_order(self.tested, self.images)
+        best = words.best(order)[:words.MOST_TOLD]
+        return best + [pair for pair in words.encrypted(order) if pair not in best][:words.MOST_TOLD]
 
     def diagnose(self, show: Callable[[Diagnosis], None]) -> None:
         """Prints of the nearest sets of the hunt over all images, as far as nothing is refused."""

@@ -2,8 +2,14 @@ pub mod Columns
 pub mod Sums
 pub mod Vectors
 pub mod Lost
+pub mod Bytes
+pub mod Left
+pub mod Counting
+pub mod Told
 pub mod Sound
 pub mod Systems
 pub mod Dependents
 pub mod Following
 pub mod Pinned
+pub mod Begun
+pub mod Keeping

@@ -11,7 +11,7 @@ use Rattle.relation_prefix.specs.declared.equation.Equation.{Equation}
 use Rattle.relation_prefix.specs.declared.row_ties.RowTies.{RowTies}
 use Rattle.relation_prefix.specs.Prefixes.{Allows, IsForeign}
 use Rattle.relation_prefix.specs.Systems.{sum_at, AreValues}
-use Rattle.relation_prefix.specs.Ties.{coefficients_of, AreSlots, AreTiesOf, AreWeightsOf, FitTies, ForeignHaveNone, HasWeight, HaveWeights}
+use Rattle.relation_prefix.specs.Ties.{coefficients_of, AreSlots, AreTiesOf, AreWeightsOf, CanHaveAll, FitTies, ForeignHaveNone, HasWeight, HaveWeights}
 use Rattle.relation_prefix.proofs.Systems.{sum_is_value}
 use Rattle.relation_prefix.proofs.Vectors.{weight_at, weight_at_fits, weights_at, weights_foreign, weights_held}
 
@@ -52,22 +52,25 @@ choice_fits : (b : Bool) (m n : ℕ) → m < 256 → n < 256 → cond b m n < 25
 choice_fits true m n hm hn = hm
 choice_fits false m n hm hn = hn
 
-module _ (sectors : List ℕ) (table : Table) (ties : RowTies) (head : Head) (row : ℕ) (equation : Equation) (weights : List ℕ) (slots : List (Option ℕ))
-    (fit : FitTies ties) (of : AreTiesOf table ties) (is : IsTable ties.images sectors table) (are : AreSlots ties.images slots) (few : length slots ≤ head.members) (fits : AreBytes weights)
-    (weigh : AreWeightsOf head row equation weights) where
-  -- weights of a relation that an equation may have are met by the values of its ties
-  pub values_of : Allows ties.images table head row slots equation →
-      (x : ℕ → ℕ) × AreValues x × HaveWeights ties x weights slots (length slots) × (length slots ≡ head.members → ForeignHaveNone ties x slots ties.images)
-  values_of allowed =
-      let v = allowed.0 in
-      let a = allowed.1 in
-      let given = of.gives sectors v is a.relation in (
-        given.0,
-        given.1,
-        λ slot image lt held some. sym (given.2 image (are.there slot image (lt, held)) some) ∙ a.held slot image (lt, held) ∙ sym (weigh slot (omega arith)),
-        λ whole image lt foreign some. sym (given.2 image lt some) ∙ a.foreign whole image lt foreign,
-      )
+-- weights of a relation that an equation may have are met by the values of its ties
+pub values_of : (sectors : List ℕ) (table : Table) (ties : RowTies) (head : Head) (row : ℕ) (equation : Equation) (weights : List ℕ) (slots : List (Option ℕ)) → AreTiesOf table ties →
+    IsTable ties.images sectors table → AreSlots ties.images slots → AreWeightsOf head row equation (length slots) weights → Allows ties.images table head row slots equation →
+    CanHaveAll ties weights head.members slots
+values_of sectors table ties head row equation weights slots of is are weigh allowed =
+    let v = allowed.0 in
+    let a = allowed.1 in
+    let given = of.gives sectors v is a.relation in (
+      given.0,
+      record {
+        bytes = given.1;
+        held = λ slot image lt held some. sym (given.2 image (are.there slot image (lt, held)) some) ∙ a.held slot image (lt, held) ∙ sym (weigh slot lt);
+        foreign = λ whole image lt foreign some. sym (given.2 image lt some) ∙ a.foreign whole image lt foreign;
+      },
+    )
 
+module _ (sectors : List ℕ) (table : Table) (ties : RowTies) (head : Head) (row : ℕ) (equation : Equation) (weights : List ℕ) (slots : List (Option ℕ))
+    (fit : FitTies ties) (of : AreTiesOf table ties) (is : IsTable ties.images sectors table) (are : AreSlots ties.images slots) (fits : AreBytes weights)
+    (weigh : AreWeightsOf head row equation (length slots) weights) where
   module _ (x : ℕ → ℕ) (hx : AreValues x) (have : HaveWeights ties x weights slots (length slots)) (none : length slots ≡ head.members → ForeignHaveNone ties x slots ties.images) where
     chosen : ℕ → ℕ
     chosen i = cond (slice_index_or ties.zeros i false) (weight_at (λ s. get_or weights s 0) slots i) (sum_at (coefficients_of ties i) x)

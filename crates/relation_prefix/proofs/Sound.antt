@@ -1,12 +1,12 @@
 -- A sound row refuses no prefix.
-use Rattle.std.proofs.Common.{ℕ, zero, suc, ◌≡◌, ◌<◌, ◌≤◌, ◌+◌, ◌*◌, ◌-◌, ◌/◌, ◌||◌, ◌==◌, Bool, true, false, List, [], ◌∷◌, Option, None, Some, IfSome, length, map, take, slice_index_or, refl, sym, ap, subst, ◌∙◌, arith, inl, inr}
+use Rattle.std.proofs.Common.{ℕ, suc, ◌≡◌, ◌<◌, ◌≤◌, ◌+◌, ◌*◌, ◌-◌, ◌/◌, true, false, List, [], ◌∷◌, Option, None, Some, IfSome, length, map, take, slice_index_or, refl, sym, ap, subst, ◌∙◌, arith, inl, inr}
 use Rattle.std.specs.List.{AllByRecursion}
-use Rattle.std.proofs.lemmas.Bool.{cases_eq, cases_lt, eq-eqb}
+use Rattle.std.proofs.lemmas.Bool.{cases_eq, cases_lt}
 use Rattle.std.proofs.lemmas.List.{get_or-take, get_or_past, length-map, length-take, length-take-le, take_all}
 use Rattle.raid_layouts.proofs.Counts.{cells_length, count_missing}
 use Rattle.raid_layouts.proofs.Shapes.{shaped_images, shaped_once, shaped_slots}
 use Rattle.raid_params.specs.Size.{redundancy}
-use Rattle.raid_params.specs.Slots.{empties, stands}
+use Rattle.raid_params.specs.Slots.{empties}
 use Rattle.raid_params.specs.Validity.{is_shaped}
 use Rattle.raid_params.specs.declared.types.Geometry.{Geometry}
 use Rattle.raid_params.specs.declared.types.Level.{Level}
@@ -25,25 +25,14 @@ use Rattle.relation_prefix.specs.Prefixes.{Allows, AllowsAll, AllowsOneLost, Hol
 use Rattle.relation_prefix.proofs.Columns.{Cancels, IsOpen, each_column, left_cancels, p_cancels, q_cancels}
 use Rattle.relation_prefix.proofs.Lost.{IsOneLost, empties_front, empties_rest, none_lost, one_lost}
 use Rattle.relation_prefix.proofs.Sums.{cancels_by_slots, share, weight_fits}
+use Rattle.relation_prefix.proofs.Told.{stands_held}
 use Rattle.relation_prefix.proofs.Vectors.{weights, weights_bytes, weights_foreign, weights_held, weights_long, weights_sum}
 
-or_true : (b : Bool) → (b || true) ≡ true
-or_true true = refl
-or_true false = refl
-
-stands_held : (slots : List (Option ℕ)) (k i : ℕ) → slice_index_or slots k None ≡ Some i → stands i slots ≡ true
-unfolding stands
-stands_held [] k i e = absurd (cc)
-stands_held (None ∷ slots) zero i e = absurd (cc)
-stands_held (None ∷ slots) (suc k) i e = stands_held slots k i e
-stands_held (Some j ∷ slots) zero i e = let same : i ≡ j = cc in ap (λ (b : Bool). b || stands i slots) (eq-eqb i j same)
-stands_held (Some j ∷ slots) (suc k) i e = ap (λ (b : Bool). (i == j) || b) (stands_held slots k i e) ∙ or_true (i == j)
-
-in_slots : (slots : List (Option ℕ)) (k i : ℕ) → slice_index_or slots k None ≡ Some i → k < length slots
+pub in_slots : (slots : List (Option ℕ)) (k i : ℕ) → slice_index_or slots k None ≡ Some i → k < length slots
 in_slots slots k i e = elim (cases_lt k (length slots)) [ inl lt ↦ lt | inr past ↦ absurd (let none = get_or_past slots k None past in cc) ]
 
 -- no image stands in two slots
-twice : (geo : Geometry) (images a b i : ℕ) → is_shaped geo images ≡ true → a < b → slice_index_or geo.slots.items a None ≡ Some i → slice_index_or geo.slots.items b None ≡ Some i → ⊥
+pub twice : (geo : Geometry) (images a b i : ℕ) → is_shaped geo images ≡ true → a < b → slice_index_or geo.slots.items a None ≡ Some i → slice_index_or geo.slots.items b None ≡ Some i → ⊥
 twice geo images a b i shaped lt ea eb =
     let no = shaped_once geo images b i shaped (in_slots geo.slots.items b i eb) eb in
     let yes = stands_held (take b geo.slots.items) a i (get_or-take b geo.slots.items a None lt ∙ ea) in
@@ -133,20 +122,20 @@ module _ (images : List (List ℕ)) (geo : Geometry) (t k : ℕ) (sectors : List
           },
         )
 
-level_of_two : (level : Level) → 1 < redundancy level → level ≡ Raid6
+pub level_of_two : (level : Level) → 1 < redundancy level → level ≡ Raid6
 level_of_two Raid0 h = absurd (omega arith)
 level_of_two Raid5 h = absurd (omega arith)
 level_of_two Raid6 h = refl
 
-most_two : (level : Level) → redundancy level ≤ 2
+pub most_two : (level : Level) → redundancy level ≤ 2
 most_two Raid0 = omega arith
 most_two Raid5 = omega arith
 most_two Raid6 = omega arith
 
-untested : (r missing all front left : ℕ) → r ≤ all → all ≤ missing → all ≤ front + left → r ≤ Rattle.std.specs.Prelude.min missing (front + left)
+pub untested : (r missing all front left : ℕ) → r ≤ all → all ≤ missing → all ≤ front + left → r ≤ Rattle.std.specs.Prelude.min missing (front + left)
 untested r missing all front left a b c = omega arith
 
-less_one : (missing count : ℕ) → count ≤ missing → count ≡ 1 → 1 ≤ missing
+pub less_one : (missing count : ℕ) → count ≤ missing → count ≡ 1 → 1 ≤ missing
 less_one missing count h e = omega arith
 
 place : (geo : Geometry) (images k missing slot : ℕ) → is_shaped geo images ≡ true → 1 ≤ missing → (row : ℕ) → IsOneLost geo.head row 0 geo.slots.items slot → MayBeLost geo.head missing (take k geo.slots.items) slot
@@ -158,25 +147,35 @@ place geo images k missing slot shaped some row lost =
       | inr later ↦ inr (lost.before k later, some, (let within = lost.within in omega arith), (let within = lost.within in omega arith))
     ]
 
+-- what is left without a slot that alone is empty is allowed
+pub left_allowed : (images : List (List ℕ)) (geo : Geometry) (t k : ℕ) (sectors : List ℕ) (table : Table) → length images ≤ 64 → is_shaped geo (length images) ≡ true → AreBytes sectors →
+    AreSectorsAt images (geo.head.offset + t) sectors → IsTable (length images) sectors table → is_sound_row images geo t ≡ true → IsOpen geo (t / geo.head.chunk) → (slot : ℕ) →
+    IsOneLost geo.head (t / geo.head.chunk) 0 geo.slots.items slot →
+    Allows (length images) table geo.head (t / geo.head.chunk) (take k geo.slots.items) (left_without (part_of geo.head (t / geo.head.chunk) slot))
+left_allowed images geo t k sectors table few shaped bytes at is sound open_row slot lost =
+    let row = t / geo.head.chunk in
+    let slots = geo.slots.items in
+    let same : 0 + slot ≡ slot = omega arith in
+    subst (λ (s : ℕ). Allows (length images) table geo.head row (take k slots) (left_without (part_of geo.head row s))) same
+    (allowed images geo t k sectors table few shaped bytes at is sound (left_without (part_of geo.head row (0 + slot)))
+    (λ c inside. left_cancels geo (length images) row shaped open_row (member_column images geo t c) (column_long images geo t k sectors table few shaped bytes at is sound c)
+    (fits_column images geo t k sectors table few shaped bytes at is sound c inside) (sound_at images geo t k sectors table few shaped bytes at is sound c inside)
+    (part_of geo.head row (0 + slot)) lost.first))
+
 one : (images : List (List ℕ)) (geo : Geometry) (t missing k : ℕ) (sectors : List ℕ) (table : Table) → length images ≤ 64 → is_shaped geo (length images) ≡ true → AreBytes sectors →
     AreSectorsAt images (geo.head.offset + t) sectors → IsTable (length images) sectors table → is_sound_row images geo t ≡ true → IsOpen geo (t / geo.head.chunk) → empties geo.slots.items ≤ missing →
     empties geo.slots.items ≡ 1 → geo.head.level ≡ Raid6 → AllowsOneLost (length images) table geo.head (t / geo.head.chunk) missing (take k geo.slots.items)
 one images geo t missing k sectors table few shaped bytes at is sound open_row less e six =
     let row = t / geo.head.chunk in
     let slots = geo.slots.items in
-    let lost = one_lost geo.head row 0 slots e in
-    let same : 0 + lost.0 ≡ lost.0 = omega arith in (
+    let lost = one_lost geo.head row 0 slots e in (
       six,
       lost.0,
       place geo (length images) k missing lost.0 shaped (less_one missing (empties slots) less e) row lost.1,
-      subst (λ (s : ℕ). Allows (length images) table geo.head row (take k slots) (left_without (part_of geo.head row s))) same
-          (allowed images geo t k sectors table few shaped bytes at is sound (left_without (part_of geo.head row (0 + lost.0)))
-          (λ c inside. left_cancels geo (length images) row shaped open_row (member_column images geo t c) (column_long images geo t k sectors table few shaped bytes at is sound c)
-          (fits_column images geo t k sectors table few shaped bytes at is sound c inside) (sound_at images geo t k sectors table few shaped bytes at is sound c inside)
-          (part_of geo.head row (0 + lost.0)) lost.1.first)),
+      left_allowed images geo t k sectors table few shaped bytes at is sound open_row lost.0 lost.1,
     )
 
-whole : (images : List (List ℕ)) (geo : Geometry) (t k : ℕ) (sectors : List ℕ) (table : Table) → length images ≤ 64 → is_shaped geo (length images) ≡ true → AreBytes sectors →
+pub whole : (images : List (List ℕ)) (geo : Geometry) (t k : ℕ) (sectors : List ℕ) (table : Table) → length images ≤ 64 → is_shaped geo (length images) ≡ true → AreBytes sectors →
     AreSectorsAt images (geo.head.offset + t) sectors → IsTable (length images) sectors table → is_sound_row images geo t ≡ true → IsOpen geo (t / geo.head.chunk) → empties geo.slots.items ≡ 0 →
     (level : Level) → geo.head.level ≡ level → AllowsAll (length images) table geo.head (t / geo.head.chunk) (take k geo.slots.items) level
 whole images geo t k sectors table few shaped bytes at is sound open_row z Raid0 e = tt

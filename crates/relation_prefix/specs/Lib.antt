@@ -1,5 +1,6 @@
 pub mod Equations
 pub mod Prefixes
 pub mod Laws
+pub mod Sampled
 pub mod Systems
 pub mod Ties

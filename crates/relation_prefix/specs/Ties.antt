@@ -79,6 +79,20 @@ pub record AreSlots (images : ℕ) (slots : List (Option ℕ)) : Type 0 where
   pub there : (slot image : ℕ) → Holds slots slot image → image < images
   pub once : (slot other image : ℕ) → Holds slots slot image → Holds slots other image → slot ≡ other
 
--- the weights of the slots in an equation of a row of chunks
-abbrev pub AreWeightsOf : Head → ℕ → Equation → List ℕ → Type 0
-AreWeightsOf head row equation weights = (slot : ℕ) → slot < head.members → slice_index weights slot ≡ slot_weight head row equation slot
+-- the weights of the first n slots in an equation of a row of chunks
+abbrev pub AreWeightsOf : Head → ℕ → Equation → ℕ → List ℕ → Type 0
+AreWeightsOf head row equation n weights = (slot : ℕ) → slot < n → slice_index weights slot ≡ slot_weight head row equation slot
+
+-- the image that a slot holds is there
+abbrev pub AreThere : ℕ → List (Option ℕ) → Type 0
+AreThere images slots = (slot image : ℕ) → Holds slots slot image → image < images
+
+-- with these values of the ties each image in a slot has the weight of its slot, and once there are all slots each other image 0
+pub record HaveAll (ties : RowTies) (weights : List ℕ) (members : ℕ) (slots : List (Option ℕ)) (x : ℕ → ℕ) : Type 0 where
+  pub bytes : AreValues x
+  pub held : HaveWeights ties x weights slots (length slots)
+  pub foreign : length slots ≡ members → ForeignHaveNone ties x slots ties.images
+
+-- the ties have such values
+abbrev pub CanHaveAll : RowTies → List ℕ → ℕ → List (Option ℕ) → Type 0
+CanHaveAll ties weights members slots = (x : ℕ → ℕ) × HaveAll ties weights members slots x

@@ -6,18 +6,32 @@
 //!
 //! [`RowTies`] has what the table of a row says in few numbers: a relation of the row is told by a weight for each of its ties.
 //! What is asked of an image is then one linear condition on these, and [`System`] takes one after the other and says which
-//! contradicts those before it. No crate above goes by it yet.
+//! contradicts those before it.
+//!
+//! [`SampledRows`] keeps the ties of some rows, and [`HeadRelations`] asks them of the slot lists of a head: a prefix may begin a set where no
+//! more of the tested rows refuse it than may be unsound, with no slot lost or with some one that may still be. What it says stands in
+//! `specs/Sampled`. The law: where a set passes the parity test, each prefix of its slots may begin a set, whichever its rows are. No crate
+//! above goes by it yet.
 #![tactic(auto)]
 
+mod beginning;
 mod condition;
 mod equation;
+mod head_relations;
 pub mod laws;
 mod pins;
 mod row_ties;
+mod sampled;
+mod sampled_rows;
 mod system;
+mod weights;
 
 pub use condition::{Condition, MOST_TIES};
 pub use equation::Equation;
-pub use pins::allows;
+pub use head_relations::HeadRelations;
+pub use pins::{allows, are_there};
 pub use row_ties::RowTies;
+pub use sampled::{PrefixTest, SampledRow};
+pub use sampled_rows::SampledRows;
 pub use system::System;
+pub use weights::RowWeights;

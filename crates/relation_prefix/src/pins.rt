@@ -6,7 +6,8 @@ ghost use Rattle.row_relations.specs.Tables.{Table, IsTable};
 ghost use Rattle.relation_prefix.specs.declared.equation.Equation.{Equation};
 ghost use Rattle.relation_prefix.specs.Prefixes.{Allows, Holds, IsForeign};
 ghost use Rattle.relation_prefix.specs.Systems.{AreValues, IsTriangular, Solves};
-ghost use Rattle.relation_prefix.specs.Ties.{AreSlots, AreTiesOf, AreWeightsOf, FitTies, ForeignHaveNone, HasWeight, HaveWeights};
+ghost use Rattle.relation_prefix.specs.Sampled.{allows_by};
+ghost use Rattle.relation_prefix.specs.Ties.{AreSlots, AreThere, AreTiesOf, AreWeightsOf, CanHaveAll, FitTies, ForeignHaveNone, HasWeight, HaveWeights};
 
 use crate::condition::Condition;
 use crate::row_ties::RowTies;
@@ -37,7 +38,7 @@ fn pin(ties: &RowTies, system: &mut System, image: usize, weight: u8) -> bool
 fn pin_slots(ties: &RowTies, system: &mut System, weights: &[u8], slots: &[Option<u8>]) -> bool
     requires ties { FitTies ties.now }
     requires weights { length slots.now ≤ length weights.now }
-    requires slots { AreSlots ties.now.images slots.now }
+    requires slots { AreThere ties.now.images slots.now }
     requires triangular { IsTriangular system.old.conditions }
     ensures triangular { IsTriangular system.new.conditions }
     ensures pinned { result ≡ true → (x : ℕ → ℕ) → AreValues x →
@@ -48,6 +49,20 @@ fn pin_slots(ties: &RowTies, system: &mut System, weights: &[u8], slots: &[Optio
     for slot in 0..slots.len() {
         if let Some(image) = slots[slot] {
             if !pin(ties, system, image as usize, weights[slot]) {
+                return false;
+            }
+        }
+    }
+    true
+}
+
+/// Whether each slot holds none or one of the first `images` images.
+pub fn are_there(images: usize, slots: &[Option<u8>]) -> bool
+    ensures { Decides result (AreThere images slots.now) }
+{
+    for slot in 0..slots.len() {
+        if let Some(image) = slots[slot] {
+            if image as usize >= images {
                 return false;
             }
         }
@@ -90,15 +105,14 @@ fn pin_foreign(ties: &RowTies, system: &mut System, slots: &[Option<u8>]) -> boo
     true
 }
 
-/// Whether some relation of the row may be an equation, where the slots of a set of so many members begin so. `weights` are the
-/// weights of the slots in this equation.
-pub fn allows(ties: &RowTies, members: usize, weights: &[u8], slots: &[Option<u8>]) -> bool
+/// Whether the ties have values with which each image in a slot has the weight of its slot, and once there are all slots each
+/// other image 0.
+fn can_have_all(ties: &RowTies, members: usize, weights: &[u8], slots: &[Option<u8>]) -> bool
     requires ties { FitTies ties.now }
-    requires weights { members ≤ length weights.now }
+    requires weights { length slots.now ≤ length weights.now }
     requires members { length slots.now ≤ members }
-    requires slots { AreSlots ties.now.images slots.now }
-    ensures { (sectors : List ℕ) (table : Table) (head : Head) (row : ℕ) (equation : Equation) → AreTiesOf table ties.now → IsTable ties.now.images sectors table →
-        head.members ≡ members → AreWeightsOf head row equation weights.now → Decides result (Allows ties.now.images table head row slots.now equation) }
+    requires slots { AreThere ties.now.images slots.now }
+    ensures { Decides result (CanHaveAll ties.now weights.now members slots.now) }
 {
     let mut system = System::new();
     if !pin_slots(ties, &mut system, weights, slots) {
@@ -108,4 +122,20 @@ pub fn allows(ties: &RowTies, members: usize, weights: &[u8], slots: &[Option<u8
         return true;
     }
     pin_foreign(ties, &mut system, slots)
+}
+
+/// Whether some relation of the row may be an equation, where the slots of a set of so many members begin so. `weights` are the
+/// weights of these slots in this equation.
+pub fn allows(ties: &RowTies, members: usize, weights: &[u8], slots: &[Option<u8>]) -> bool
+    requires ties { FitTies ties.now }
+    requires weights { length slots.now ≤ length weights.now }
+    requires members { length slots.now ≤ members }
+    requires slots { AreThere ties.now.images slots.now }
+    ensures of_table { (sectors : List ℕ) (table : Table) (head : Head) (row : ℕ) (equation : Equation) → AreTiesOf table ties.now → IsTable ties.now.images sectors table →
+        AreSlots ties.now.images slots.now → head.members ≡ members → AreWeightsOf head row equation (length slots.now) weights.now →
+        Decides result (Allows ties.now.images table head row slots.now equation) }
+    ensures by_ties { (head : Head) (row : ℕ) (equation : Equation) → head.members ≡ members → AreWeightsOf head row equation (length slots.now) weights.now →
+        result ≡ allows_by ties.now head row slots.now equation }
+{
+    can_have_all(ties, members, weights, slots)
 }

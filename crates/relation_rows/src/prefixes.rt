@@ -1,0 +1,213 @@
+//! Which prefixes of slots two rows let begin a set. What is wanted was worked out by hand from the equations of the rows: each
+//! sector is a sum of generated ones, of which no sum is zeros.
+use gf256::mul;
+use raid_params::{Head, Level, Pattern, Syndrome};
+use relation_prefix::{HeadRelations, PrefixTest, SampledRows, are_there};
+use row_relations::RowTable;
+use std::alloc::{AllocError, Global};
+use std::process::Abort;
+use std::test::Fail;
+
+/// A sector: a sum of generated ones, each by its weight and its number.
+type Terms = &'static [(u8, u32)];
+
+const A: Terms = &[(1, 1)];
+
+const B: Terms = &[(1, 2)];
+
+const C: Terms = &[(1, 3)];
+
+const D: Terms = &[(1, 4)];
+/// The parity P of two data blocks, and with a third block in it.
+const P: Terms = &[(1, 1), (1, 2)];
+
+const PC: Terms = &[(1, 1), (1, 2), (1, 3)];
+/// Their Q.
+const Q: Terms = &[(1, 1), (2, 2)];
+/// Zeros.
+const NONE: Terms = &[];
+
+/// Four members of RAID 6, P on the third slot and Q on the last one: their weights are 1, 1, 1, 0 in P's equation and 1, 2, 0, 1 in
+/// Q's.
+const SIX: Head = Head {
+    level: Level::Raid6,
+    members: 4,
+    pattern: Pattern::ParityLast,
+    syndrome: Syndrome::ByData,
+    chunk: 1,
+    offset: 0,
+};
+
+/// Three members of RAID 5.
+const FIVE: Head = Head {
+    level: Level::Raid5,
+    members: 3,
+    pattern: Pattern::ParityLast,
+    syndrome: Syndrome::NoQ,
+    chunk: 1,
+    offset: 0,
+};
+
+/// Appends a sector.
+fn push_sector(bytes: &mut Vec<u8>, terms: Terms) -> Result<(), AllocError> {
+    let mut sector = [0u8; 512];
+    for (weight, seed) in terms {
+        let mut number = *seed;
+        for place in 0..512 {
+            number = number.wrapping_mul(75).wrapping_add(74) % 65537;
+            sector[place] ^= mul(*weight, (number % 256) as u8);
+        }
+    }
+    bytes.extend_from_slice(&sector)
+}
+
+/// The sectors of a row.
+fn row_of(alloc: Global, images: &[Terms]) -> Result<Vec<u8>, AllocError> {
+    let mut bytes = Vec::new(alloc);
+    for terms in images {
+        push_sector(&mut bytes, terms)?;
+    }
+    Ok(bytes)
+}
+
+/// Looks whether two rows of four sectors let these slots begin a set, or do not.
+fn tells<R: Abort>(
+    rt: &R,
+    alloc: Global,
+    rows: [&[Terms]; 2],
+    test: &PrefixTest,
+    slots: &[Option<u8>],
+    wanted: bool,
+) -> Result<(), Fail> {
+    let images = rows[0].len();
+    assert!(rt; images <= 64);
+    let first = row_of(alloc, rows[0])?;
+    let second = row_of(alloc, rows[1])?;
+    assert!(rt; first.len() == 512 * images && second.len() == 512 * images);
+    let mut kept = SampledRows::new(alloc, images);
+    let mut table = RowTable::new(alloc, images)?;
+    table.fill(&first);
+    kept.keep(0, &table)?;
+    table.fill(&second);
+    kept.keep(1, &table)?;
+    assert!(rt; kept.count() == 2);
+    assert!(rt; test.head.is_valid() && slots.len() <= test.head.members as usize);
+    assert!(rt; are_there(images, slots));
+    let relations = HeadRelations::new(alloc, &kept, test)?;
+    assert!(rt; relations.may_begin(slots) == wanted);
+    Ok(())
+}
+
+/// What is asked of both rows, where none may be unsound.
+fn both(head: Head, missing: u8) -> PrefixTest {
+    PrefixTest {
+        head,
+        tested: 2,
+        badrows: 0,
+        missing,
+    }
+}
+
+// Of the order 1, 0 P's equation may hold, and Q's with any third image but P's: 2 A + B is no sum that P takes part in.
+#[test]
+fn no_slot_lost(rt: HostRuntime) -> Result<(), Fail> {
+    let rows: [&[Terms]; 2] = [&[A, B, P, Q], &[A, B, P, Q]];
+    let test = both(SIX, 0);
+    let alloc = rt.alloc();
+    tells(&rt, alloc, rows, &test, &[], true)?;
+    tells(&rt, alloc, rows, &test, &[Some(1), Some(0)], true)?;
+    tells(&rt, alloc, rows, &test, &[Some(1), Some(0), Some(2)], false)?;
+    tells(&rt, alloc, rows, &test, &[Some(0), Some(1), Some(2)], true)?;
+    let whole = [Some(0), Some(1), Some(2), Some(3)];
+    tells(&rt, alloc, rows, &test, &whole, true)
+}
+
+// P is lost: A + 2 B + Q is the only relation. With the images of A and B exchanged no slot may be the lost one.
+#[test]
+fn a_slot_lost(rt: HostRuntime) -> Result<(), Fail> {
+    let rows: [&[Terms]; 2] = [&[A, B, Q], &[A, B, Q]];
+    let test = both(SIX, 1);
+    let alloc = rt.alloc();
+    tells(&rt, alloc, rows, &test, &[Some(0), Some(1)], true)?;
+    tells(&rt, alloc, rows, &test, &[Some(1), Some(0)], false)?;
+    tells(
+        &rt,
+        alloc,
+        rows,
+        &test,
+        &[Some(0), Some(1), None, Some(2)],
+        true,
+    )?;
+    tells(
+        &rt,
+        alloc,
+        rows,
+        &test,
+        &[Some(0), Some(1), Some(2), None],
+        false,
+    )?;
+    let none_lost = both(SIX, 0);
+    tells(&rt, alloc, rows, &none_lost, &[Some(0), Some(1)], false)
+}
+
+// At most one may be lost, and none is.
+#[test]
+fn none_of_one_lost(rt: HostRuntime) -> Result<(), Fail> {
+    let rows: [&[Terms]; 2] = [&[A, B, P, Q], &[A, B, P, Q]];
+    let whole = [Some(0), Some(1), Some(2), Some(3)];
+    tells(&rt, rt.alloc(), rows, &both(SIX, 1), &whole, true)
+}
+
+// The fifth image takes part in the parity of the first three. As long as slots are to come it may be one of them.
+#[test]
+fn a_foreign_image(rt: HostRuntime) -> Result<(), Fail> {
+    let rows: [&[Terms]; 2] = [&[A, B, PC, Q, C], &[A, B, PC, Q, C]];
+    let test = both(SIX, 0);
+    let alloc = rt.alloc();
+    tells(&rt, alloc, rows, &test, &[Some(0), Some(1), Some(2)], true)?;
+    let whole = [Some(0), Some(1), Some(2), Some(3)];
+    tells(&rt, alloc, rows, &test, &whole, false)?;
+    let others: [&[Terms]; 2] = [&[A, B, P, Q, C], &[A, B, P, Q, D]];
+    tells(&rt, alloc, others, &test, &whole, true)
+}
+
+// The second row is unsound: it refuses where it is tested, unless one may be unsound.
+#[test]
+fn a_row_that_is_unsound(rt: HostRuntime) -> Result<(), Fail> {
+    let rows: [&[Terms]; 2] = [&[A, B, P], &[A, B, C]];
+    let whole = [Some(0), Some(1), Some(2)];
+    let alloc = rt.alloc();
+    let strict = both(FIVE, 0);
+    tells(&rt, alloc, rows, &strict, &whole, false)?;
+    let mut lenient = strict;
+    lenient.badrows = 1;
+    tells(&rt, alloc, rows, &lenient, &whole, true)?;
+    let mut short = strict;
+    short.tested = 1;
+    tells(&rt, alloc, rows, &short, &whole, true)
+}
+
+// With as many slots lost as the level survives nothing is tested, and rows of zeros refuse nothing.
+#[test]
+fn what_tells_nothing(rt: HostRuntime) -> Result<(), Fail> {
+    let alloc = rt.alloc();
+    let rows: [&[Terms]; 2] = [&[A, B], &[B, A]];
+    tells(
+        &rt,
+        alloc,
+        rows,
+        &both(FIVE, 1),
+        &[Some(1), Some(0), None],
+        true,
+    )?;
+    tells(&rt, alloc, rows, &both(FIVE, 0), &[Some(1)], false)?;
+    let blank: [&[Terms]; 2] = [&[NONE, NONE, NONE], &[NONE, NONE, NONE]];
+    tells(
+        &rt,
+        alloc,
+        blank,
+        &both(FIVE, 0),
+        &[Some(2), Some(0), Some(1)],
+        true,
+    )
+}

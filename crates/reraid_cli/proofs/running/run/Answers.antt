@@ -1,6 +1,7 @@
 use Rattle.std.proofs.Common.{◌≡◌, ℕ, ◌<◌, ◌^◌, ◌++◌, List, All, length, sym, ap, ◌∙◌, subst, refl, Err, Ok, Some, None, arith}
 use Rattle.command_words.specs.Commands.{names_after}
 use Rattle.outside.specs.Seen.{Image}
+use Rattle.run_ends.proofs.Printed.{keeps_itself}
 use Rattle.run_ends.proofs.Refusals.{does_refused}
 use Rattle.run_ends.specs.Jobs.{Does, around, imageless, named, stream}
 use Rattle.run_ends.specs.declared.stop.Refusal.TheVariants.{Word}
@@ -70,3 +71,6 @@ returns-in-Err-attach_front-clause-does g c =
           (λ apart. ap (λ (names : List (List ℕ)). length names) (apart_names words c.in-Ok.command c.in-Ok.ensures.names apart))
           c.in-Err-attach_front.ensures.cause.failed c.attach_front.ensures.some.faults c.attach_front.ensures.some.unread c.attach_front.ensures.some.world,
     )
+
+pub returns-in-Err-attach_front-clause-cut : goal.returns-in-Err-attach_front-clause-cut
+returns-in-Err-attach_front-clause-cut g c fewer = (keeps_itself (g.K.Sink.gained c.args.out.now), c.attach_front.ensures.some.unread, refl, refl, refl)

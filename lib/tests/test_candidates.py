@@ -2,6 +2,7 @@
 
 import dataclasses
 import json
+import time
 import unittest
 from collections.abc import Sequence
 from typing import cast
@@ -27,7 +28,7 @@ from reraid_try.policy import cures
 from reraid_try.policy.hunt import Hunt
 from reraid_try.policy.shapes import Shape
 from reraid_try.policy.trials import Trial
-from reraid_try.report import table, words
+from reraid_try.report import report, table, words
 from reraid_try.report.diagnosis import Diagnosis
 from reraid_try.report.report import Report
 from reraid_try.units import SECTOR
@@ -527,6 +528,21 @@ class Printed(unittest.TestCase):
         self.assertNotIn("(this shows zeros", self.shown(candidate(verdict=whole())).text)
 
 
+class Faulty(unittest.TestCase):
+    def test_those_with_the_longest_whole_file_first(self) -> None:
+        many, long = (candidate(verdict=Verdict([], Wholes(9, count, longest))) for count, longest in ((9, 5), (1, 10)))
+        self.assertEqual(sorted([(0, many), (1, long), (2, many)], key=table.soundness), [(1, long), (0, many), (2, many)])
+
+
+class Left(unittest.TestCase):
+    def test_only_of_what_takes_long_and_is_not_done(self) -> None:
+        bar = report.Bar()
+        bar.since = time.monotonic() - 10
+        self.assertEqual((bar.left(1, 3), bar.left(3, 3), bar.left(0, 3)), (", about 20 s left", "", ""))
+        bar.since = time.monotonic() - 1
+        self.assertEqual(bar.left(1, 3), "")
+
+
 class Reported(unittest.TestCase):
     def test_lines_and_objects(self) -> None:
         report = Told()
@@ -566,6 +582,22 @@ class Nearest(unittest.TestCase):
         self.assertIsNone(found.fewest(plan, 8000))
         found.until = 0
         self.assertEqual(found.sets(plan.having(misfits=9, badrows=999), 5), [])
+
+    def test_about_the_fewest(self) -> None:
+        """Of sets with 64, 60 and 32 unsound rows the listing gives the worst that may pass, and each says how many the next may have."""
+        def listed(_: list[str], text: str) -> Answer:
+            most = int(text.split("badrows ")[1].split()[0])
+            return put("".join(f"1 5:ls:none:8:{rows}:0,1,2\n" for rows in (64, 60, 32) if rows <= most) + "next 9 of 9\n")
+
+        def check(words: list[str], _: str) -> Answer:
+            return put(f"unsound {words[2].split(':')[-2]} of 1000\nfail\n")
+        found = Diagnosis(hunt_of(("reraid list", listed), ("reraid check", check)), Told(), 60, 1)
+        self.assertEqual([found.fewest(plan_of(XFS), most) for most in (1000, 63, 31)], [32, 32, None])
+        # One that has hardly fewer is not asked for: 6400 less a sixty-fourth is more than 6301.
+        found = Diagnosis(hunt_of(("reraid list", put("1 5:ls:none:8:6400:0,1,2\nnext 9 of 9\n")), ("reraid check", check)), Told(), 60, 1)
+        with mock.patch.object(found, "sets", side_effect=[["5:ls:none:8:6400:0,1,2"], []]) as asked:
+            self.assertEqual(found.fewest(plan_of(XFS), 9000), 6400)
+        self.assertEqual(asked.call_args[0][0].values["badrows"], "6299")
 
     def test_order(self) -> None:
         plan = plan_of(XFS)

@@ -7,7 +7,7 @@ import tempfile
 import unittest
 from typing import Any
 
-from reraid_try.casefile import drawing, page, strips
+from reraid_try.casefile import drawing, page, parts, strips
 from reraid_try.casefile.drawing import Bar, Lane
 from reraid_try.casefile.disks import Disks
 from reraid_try.casefile.record import Record
@@ -92,6 +92,26 @@ class Strips(unittest.TestCase):
         hashing = strips.Hashing([(0, self.name, 1)], 1)
         self.assertTrue(hashing.wait(60))
         self.assertEqual((hashing.done, hashing.found[0].sha256), (1000, hashlib.sha256(b"a" * 1000).hexdigest()))
+
+
+class Small(unittest.TestCase):
+    """Small parts of the page."""
+
+    def test_sizes(self) -> None:
+        """The largest unit of which there is one at least."""
+        told = [parts.size(count) for count in (0, 1023, 1024, 1 << 20, (1 << 20) + (1 << 19), 1 << 40)]
+        self.assertEqual(told, ["0 bytes", "1023 bytes", "1 KiB", "1 MiB", "1.5 MiB", "1 TiB"])
+
+    def test_last_event(self) -> None:
+        """Of several events of a kind the last one counts."""
+        record = Record()
+        for kind, text in (("a", "1"), ("a", "2"), ("b", "3")):
+            record.add(kind, text, {})
+        self.assertEqual((record.last("a")["text"], record.last("c")), ("2", {}))
+
+    def test_bars_from_a_height_on(self) -> None:
+        """Heights are counted from below, and places in a drawing from above."""
+        self.assertEqual(drawing.rectangles([Bar(0, 4, "x", 30, 20), Bar(4, 8, "x", 100)], 1), '<path class="x" d="M0 50h4v30h-4zM4 0h4v100h-4z"/>')
 
 
 class Drawing(unittest.TestCase):

@@ -47,6 +47,22 @@ class Distances(unittest.TestCase):
         self.rnd.shuffle(mixed)
         self.assertEqual(shifts.shifts({0: self.write(0, many), 1: self.write(1, mixed)}, 0, 200), [])
 
+    def test_weak(self) -> None:
+        """A distance that stands out but is of few of the contents in common tells of images that no other distance connects."""
+        same, many, strong = self.sectors(30), self.sectors(200), self.sectors(600)
+        mixed = many[:]
+        self.rnd.shuffle(mixed)
+        names = {0: self.write(0, same + many), 1: self.write(1, [ZERO] * 8 + same + mixed)}
+        self.assertEqual([(it.one, it.other, it.distance) for it in shifts.shifts(names, 0, 300)], [(0, 1, 8)])
+        names = {0: self.write(0, same + many + strong[:300]), 1: self.write(1, [ZERO] * 5 + same + mixed + strong[300:]), 2: self.write(2, strong)}
+        self.assertEqual([(it.one, it.other) for it in shifts.shifts(names, 0, 900)], [(0, 2), (1, 2)])
+
+    def test_twice(self) -> None:
+        """What is on an image twice tells no distance, though it is on another one once."""
+        table = self.sectors(20)
+        names = {0: self.write(0, table + self.sectors(9) + table), 1: self.write(1, self.sectors(5) + table)}
+        self.assertEqual(shifts.shifts(names, 0, 60), [])
+
     def test_some_taken(self) -> None:
         """Of many sectors some are taken, the same of each image."""
         same = self.sectors(512)

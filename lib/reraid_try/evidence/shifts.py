@@ -9,12 +9,15 @@ import itertools
 import zlib
 from collections.abc import Iterator, Mapping, Sequence
 
+from .families import connected
+
 SECTOR = 512
 STEP = 1 << 20
 # So many sectors of an image are taken at most, about, and so many bytes of it are read.
 MOST_TAKEN, MOST_READ = 1 << 16, 1 << 30
 # A distance tells where so many sectors have it, and one in so many of all that two images have in common.
-LEAST_SHOWN, FEW = 12, 5
+# A weak one is so many times as frequent as the next.
+LEAST_SHOWN, FEW, CLEARLY = 12, 5, 2
 MOST_CHUNK = 32768
 
 
@@ -54,13 +57,15 @@ def taken(name: str, first: int, last: int, every: int) -> dict[int, int]:
     return {value: place for value, place in found.items() if value not in twice}
 
 
-def shift(one: Mapping[int, int], other: Mapping[int, int]) -> tuple[int, int] | None:
-    """The distance that most of the common contents have, and how many have it; None where too few agree."""
+def shift(one: Mapping[int, int], other: Mapping[int, int], weak: bool = False) -> tuple[int, int] | None:
+    """The distance that most of the common contents have, and how many have it; None where too few agree. A weak one is but twice as frequent as the
+    next."""
     distances = collections.Counter(other[value] - place for value, place in one.items() if value in other)
     if not distances:
         return None
-    distance, shown = distances.most_common(1)[0]
-    return (distance, shown) if shown >= LEAST_SHOWN and FEW * shown >= sum(distances.values()) else None
+    (distance, shown), *more = distances.most_common(2)
+    told = FEW * shown >= sum(distances.values()) or weak and shown >= CLEARLY * more[0][1]
+    return (distance, shown) if shown >= LEAST_SHOWN and told else None
 
 
 def shifts(names: Mapping[int, str], first: int, last: int) -> list[Shift]:
@@ -69,10 +74,12 @@ def shifts(names: Mapping[int, str], first: int, last: int) -> list[Shift]:
     last = min(last, first + MOST_READ // SECTOR)
     every = max(1, (last - first) // MOST_TAKEN)
     places = {image: taken(name, first, last, every) for image, name in names.items()}
-    found = []
-    for one, other in itertools.permutations(names, 2):
-        if one < other and (told := shift(places[one], places[other])):
-            found.append(Shift(one, other, *told))
+    found: list[Shift] = []
+    for weak in (False, True):
+        # A weak distance tells of images alone that no other one connects.
+        joined = connected((it.one, it.other) for it in found)
+        found += [Shift(one, other, *told) for one, other in itertools.permutations(names, 2) if one < other
+                  and not any({one, other} <= part for part in joined) and (told := shift(places[one], places[other], weak))]
     return found
 
 

@@ -173,6 +173,11 @@ class InImages(InFolder):
         with self.assertRaisesRegex(OutsideError, "^image 0 .*: Is a directory"):
             images.look(self.folder, 0, MIB)
 
+    def test_an_image_without_a_sector(self) -> None:
+        for data, said in ((b"", "0 bytes"), (b"x", "1 byte"), (bytes(511), "511 bytes")):
+            with self.assertRaisesRegex(OutsideError, f"^image 2 .* has no whole sector of 512 bytes, but {said}: leave it out$"):
+                images.look(self.file("a", data), 2, MIB)
+
     def test_is_image(self) -> None:
         self.assertTrue(images.is_image(self.file("a")))
         self.assertFalse(images.is_image(self.folder) or images.is_image(f"{self.folder}/none") or images.is_image("/dev/null"))

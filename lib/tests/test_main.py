@@ -4,7 +4,9 @@ import contextlib
 import errno
 import io
 import os
+import pathlib
 import signal
+import subprocess
 import sys
 import unittest
 from collections.abc import Callable
@@ -103,6 +105,12 @@ class Statuses(Runs):
             with mock.patch.object(main, "with_log", raising(BrokenPipeError())):
                 self.assertEqual(main.main(self.images), 141)
         again.assert_called_once()
+
+    def test_outputs_that_are_closed(self) -> None:
+        program = pathlib.Path(__file__).resolve().parents[2] / "bin/reraid-try"
+        for closed in (">&-", "2>&-"):
+            done = subprocess.run(["sh", "-c", f'"$0" --version {closed}', str(program)], stdin=subprocess.DEVNULL, capture_output=True, check=False)
+            self.assertEqual((done.returncode, done.stderr), (0, b""))
 
     def test_nothing_is_left(self) -> None:
         room = os.path.join(self.folder, "room")

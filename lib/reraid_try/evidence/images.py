@@ -119,6 +119,8 @@ def look_into(file: BinaryIO, name: str, called: str, number: int, first_bytes: 
     size = file.seek(0, os.SEEK_END)
     sectors = size // SECTOR
     length = sectors * SECTOR
+    if not sectors:
+        raise OutsideError(f"image {number} {called} has no whole sector of {SECTOR} bytes, but {counted(size, 'byte')}: leave it out")
 
     def read(place: int, count: int) -> bytes:
         file.seek(place)

@@ -36,6 +36,7 @@ class Best(unittest.TestCase):
         self.assertEqual({(it.turn.patterns[0][0], it.chunk, it.slots, it.against) for it in found},
                          {("ls", 16, (1, None, 3, 0, 2), 0), ("rs", 16, (2, 0, 3, None, 1), 0)})
         self.assertEqual(list(found[0].words("5", {0: 0, 1: 1, 2: 2, 3: 3})), ["5:ls:none:16:64:1,-,3,0,2", "5:la:none:16:64:1,-,3,0,2"])
+        self.assertEqual(list(found[0].words("5", {0: 3, 1: 2, 2: 1, 3: 0}, (8, 9, 8, 9)))[0], "5:ls:none:16:8+9+8+9:2,-,0,3,1")
 
     def test_level_6_two_lost(self) -> None:
         """A RAID 6 of which two disks are lost."""

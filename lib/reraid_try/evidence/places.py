@@ -103,11 +103,11 @@ class Placement:
     against: int
     rows: int
 
-    def words(self, level: str, numbers: Mapping[int, int]) -> Iterator[str]:
-        """The sets of it, with other numbers for the images."""
+    def words(self, level: str, numbers: Mapping[int, int], offsets: tuple[int, ...] = ()) -> Iterator[str]:
+        """The sets of it, with other numbers for the images, and with offsets of their own where there are some."""
         slots = tuple(None if image is None else numbers[image] for image in self.slots)
         for pattern, order in self.turn.patterns:
-            yield made(level, pattern, order, self.chunk, (self.offset,), slots).text
+            yield made(level, pattern, order, self.chunk, offsets or (self.offset,), slots).text
 
 
 def seen_in(relations: Relations, images: frozenset[int]) -> Iterator[Seen]:

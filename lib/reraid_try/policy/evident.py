@@ -177,11 +177,12 @@ class Evident:
     def places_of(self, aim: Aim) -> Places | None:
         """Where parity may lie on the images of an aim, by rows of which a part is zeros; None where that cannot be told."""
         shape = aim.shapes[0] if aim.shapes else None
-        if shape is None or aim.is_each or shape.levels not in (LEVEL_5, LEVEL_6) or not aim.tied:
+        if shape is None or aim.is_each and not aim.moved or shape.levels not in (LEVEL_5, LEVEL_6) or not aim.tied:
             return None
         self.search.report.bar.show("asks in which rows zeros are")
-        step = max(1, (aim.span.end - aim.span.first) // places.MOST_ROWS)
-        found = self.asked().relations(aim.images, aim.span.first, aim.span.end, step)
+        end = min(aim.span.end, *(self.search.images[image].sectors for image in aim.images)) - max(aim.moved, default=0)
+        step = max(1, (end - aim.span.first) // places.MOST_ROWS)
+        found = self.asked().relations(aim.images, aim.span.first, end, step, aim.moved)
         return Places(found, aim.images, shape.levels, shape.members) if found else None
 
     def by_places(self, hunt: Hunt, aim: Aim) -> bool:
@@ -192,9 +193,10 @@ class Evident:
         shape = aim.shapes[0]
         more = (aim.span.first + offset for offset in hints.MORE_OFFSETS)
         offsets = {it for it in (*hunt.evidence.tried, *more) if it < hunt.evidence.end and (aim.begin is None or it <= aim.begin)}
-        best = hunt.places.best(sorted(offsets))
+        # Rows of images that are moved are counted from where their data begin.
+        best = hunt.places.best([0] if aim.moved else sorted(offsets))
         numbers = {image: place for place, image in enumerate(aim.images)}
-        words = dict.fromkeys(word for it in best for word in it.words(shape.levels, numbers))
+        words = dict.fromkeys(word for it in best for word in it.words(shape.levels, numbers, aim.moved))
         if not words:
             return False
         listing = Listing(tuple(Ranked(rank, word) for rank, word in enumerate(words)), len(words), True, "of those that zeros allow")

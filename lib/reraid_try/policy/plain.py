@@ -28,7 +28,8 @@ class Span:
 class Aim:
     """Images, by their numbers, that are searched as an array, in a part of each; the shapes that are tried, in order, and why. `asked` are operands
     that are asked for in each trial, as far as they are known; `copied` says that RAID 10 is tried before them, `tied` that parity ties
-    them; `begin` is a row of the array, so that its data do not begin later, None where none is known."""
+    them; `begin` is a row of the array, so that its data do not begin later, None where none is known; `moved` has the offset of each image, where
+    these are known and not the same."""
 
     images: tuple[int, ...]
     span: Span
@@ -38,6 +39,7 @@ class Aim:
     copied: bool = False
     tied: bool = False
     begin: int | None = None
+    moved: tuple[int, ...] = ()
 
     @property
     def is_each(self) -> bool:
@@ -79,7 +81,8 @@ def chunks(chunk: int | None) -> tuple[tuple[str, str], ...]:
 def unlike_aim(found: Unlike, numbers: Sequence[int], span: Span, options: Options) -> Aim:
     """What is tried of images whose data begin at unlike sectors."""
     asked = (("mode", "each"), ("offsets", listed(found.offsets)), ("window", str(EACH_WINDOW)), *chunks(found.known.chunk))
-    return Aim(tuple(numbers), span, f"{found.line()}: {ties.lost_line(found.known.family)}", allowed(shapes_of(found.known.family), options), asked)
+    why = f"{found.line()}: {ties.lost_line(found.known.family)}"
+    return Aim(tuple(numbers), span, why, allowed(shapes_of(found.known.family), options), asked, tied=True, moved=found.offsets)
 
 
 def metadata_aim(members: Sequence[Member], span: Span, options: Options) -> Aim | None:

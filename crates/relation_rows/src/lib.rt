@@ -1,14 +1,18 @@
 //! Tests of how the images of a row depend on one another, and of what is said of it.
 //!
 //! `tables` holds rows whose ties were worked out by hand from the equations by which their sectors are made. `reports` holds rows of
-//! sectors and the lines over them, written by hand or by the reference of `hostile/differential`. `prefixes` holds rows, and which
-//! prefixes of slots they let begin a set. They stand here, since a library
-//! with tests is proved a second time with them.
+//! sectors and the lines over them, written by hand or by the reference of `hostile/differential`. `jobs` runs the command `relations`
+//! over images in memory, `objects` has what it takes, and `sectors` the sectors of all. They stand here, since a library with tests is
+//! proved a second time with them.
 #![tactic(auto)]
 
 #[cfg(test)]
-mod prefixes;
+mod jobs;
+#[cfg(test)]
+mod objects;
 #[cfg(test)]
 mod reports;
+#[cfg(test)]
+mod sectors;
 #[cfg(test)]
 mod tables;

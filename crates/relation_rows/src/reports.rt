@@ -1,50 +1,11 @@
 //! Two rows, and what is said of them.
-use gf256::mul;
+use crate::sectors::{A, AB, B, C, CD, D, E, NONE, P, Q, SEVEN, Terms, push_sector};
 use image_source::MemSink;
 use relation_lines::{Report, Style};
 use row_relations::RowTable;
 use std::alloc::{AllocError, Global};
 use std::process::Abort;
 use std::test::Fail;
-
-/// A sector: a sum of others, each by its weight and the number from which it is generated. No term is zeros.
-type Terms = &'static [(u8, u32)];
-
-/// Bytes of a generated sector.
-const A: Terms = &[(1, 1)];
-
-const B: Terms = &[(1, 2)];
-
-const C: Terms = &[(1, 3)];
-
-const D: Terms = &[(1, 4)];
-
-const E: Terms = &[(1, 5)];
-/// Zeros.
-const NONE: Terms = &[];
-/// Seven times the first.
-const SEVEN: Terms = &[(7, 1)];
-/// The parity of two members.
-const AB: Terms = &[(1, 1), (1, 2)];
-
-const CD: Terms = &[(1, 3), (1, 4)];
-/// The parity P of six members, and Q.
-const P: Terms = &[(1, 1), (1, 2), (1, 3), (1, 4), (1, 5), (1, 6)];
-
-const Q: Terms = &[(1, 1), (2, 2), (4, 3), (8, 4), (16, 5), (32, 6)];
-
-/// Appends a sector.
-fn push_sector(bytes: &mut Vec<u8>, terms: Terms) -> Result<(), AllocError> {
-    let mut sector = [0u8; 512];
-    for (weight, seed) in terms {
-        let mut number = *seed;
-        for place in 0..512 {
-            number = number.wrapping_mul(75).wrapping_add(74) % 65537;
-            sector[place] ^= mul(*weight, (number % 256) as u8);
-        }
-    }
-    bytes.extend_from_slice(&sector)
-}
 
 /// The sectors of a row.
 fn row_of(alloc: Global, images: &[Terms]) -> Result<Vec<u8>, AllocError> {

@@ -159,6 +159,12 @@ class Verdicts(unittest.TestCase):
         for files in (Wholes(64, 61, 11), Wholes(64, 64, 10), Wholes(4, 0, 0)):
             self.assertEqual(self.verdict(self.found(), files=files).score, Score.CHECKED)
 
+    def test_files_in_pieces_anyway(self) -> None:
+        """An ext2 or ext3 has blocks that list blocks within each longer file, so that none of these counts as whole."""
+        for kind, score in (("ext2", Score.CHECKED), ("ext3", Score.CHECKED), ("ext4", Score.KNOWN), ("ntfs", Score.KNOWN)):
+            self.assertEqual(self.verdict(self.found(kind), files=Wholes(64, 61, 10)).score, score)
+        self.assertEqual(self.verdict(self.found("ext3", False), files=Wholes(64, 61, 10)).score, Score.NOTHING)
+
     def test_covered(self) -> None:
         self.assertEqual(covered([Piece(0, 10), Piece(5, 10), Piece(95, 10)], 100), 20)
         self.assertEqual(covered([Piece(50, 10), Piece(0, 100)], 100), 100)

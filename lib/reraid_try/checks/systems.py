@@ -57,7 +57,8 @@ class System:
     """A kind of volume as `blkid` calls it. `tool` is its checker and `words` what it is given behind its name, before the path; `at` says that it
     takes the byte at which the volume begins in the path; `exact` that it may see no more bytes than the volume has; `sums` that it reads all data
     by their sums; `ends` that its last sector is a copy of its first. `mount` has the options with which nothing is written; `opened` the command
-    that opens what is encrypted; `holds` says that it has volumes inside; `length` is how many bytes it says that it has, by its head, 0 where that
+    that opens what is encrypted; `holds` says that it has volumes inside; `scattered` that a long file is in several pieces, with blocks that list its
+    blocks between them; `length` is how many bytes it says that it has, by its head, 0 where that
     is not told."""
 
     kind: str
@@ -70,6 +71,7 @@ class System:
     sums: bool = False
     ends: bool = False
     holds: bool = False
+    scattered: bool = False
     length: Callable[[bytes], int] | None = None
 
     def command(self, path: str, first: int = 0) -> list[str]:
@@ -90,8 +92,8 @@ class System:
 
 E2FSCK = ("e2fsck", ("-fn",))
 SYSTEMS = {it.kind: it for it in (
-    System("ext2", *E2FSCK, mount="ro", at=True, length=ext_length),
-    System("ext3", *E2FSCK, mount="ro,noload", at=True, length=ext_length),
+    System("ext2", *E2FSCK, mount="ro", at=True, scattered=True, length=ext_length),
+    System("ext3", *E2FSCK, mount="ro,noload", at=True, scattered=True, length=ext_length),
     System("ext4", *E2FSCK, mount="ro,noload", at=True, length=ext_length),
     System("xfs", "xfs_repair", ("-n", "-f"), mount="ro,norecovery", length=xfs_length),
     System("ntfs", "ntfsfix", ("-n",), mount="ro", exact=True, ends=True, length=ntfs_length),

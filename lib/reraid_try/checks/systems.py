@@ -57,9 +57,8 @@ class System:
     """A kind of volume as `blkid` calls it. `tool` is its checker and `words` what it is given behind its name, before the path; `at` says that it
     takes the byte at which the volume begins in the path; `exact` that it may see no more bytes than the volume has; `sums` that it reads all data
     by their sums; `ends` that its last sector is a copy of its first. `mount` has the options with which nothing is written; `opened` the command
-    that opens what is encrypted; `holds` says that it has volumes inside; `scattered` that a long file is in several pieces, with blocks that list its
-    blocks between them; `length` is how many bytes it says that it has, by its head, 0 where that
-    is not told."""
+    that opens what is encrypted; `holds` says that it has volumes inside; `scattered` that a long file is in several pieces, between which the
+    blocks lie that list them; `length` is how many bytes it says that it has, by its head, 0 where that is not told."""
 
     kind: str
     tool: str | None = None

@@ -139,8 +139,8 @@ class Verdict:
 
     @property
     def within_chunks(self) -> bool:
-        """Some files are whole, but none that is longer than a chunk; others are broken. Such files are whole in whatever order the chunks stand. Where
-        long files are in pieces anyway that says nothing."""
+        """Some files are whole, but none that is longer than a chunk; others are broken. Such files are whole in whatever order the chunks stand.
+        Where long files are in pieces anyway that says nothing."""
         scattered = any(finding.system.scattered for finding in self.inner)
         return not scattered and 0 < self.files.longest_of_all <= self.chunk and self.files.whole < self.files.found
 

@@ -417,6 +417,14 @@ class Looks(InFolder):
                          "which are not there")
         self.assertEqual((seen_length(SYSTEMS["ntfs"], 0, 50, 0), seen_length(SYSTEMS["xfs"], 40, 50, 0)), (50, 50))
 
+    def test_long_files_where_the_first_ones_lie_within_a_chunk(self) -> None:
+        """Large chunks: the first files are all shorter, so those that may be long are looked for before that says anything."""
+        for status, more, score in ((0, True, Score.WHOLE), (0, False, Score.KNOWN), (4, True, Score.NOTHING)):
+            with mock.patch.object(wholes, "count", return_value=Wholes(64, 60, 4000, more)), \
+                    mock.patch.object(wholes, "count_long", return_value=Wholes(1, 1, 9000)) as long:
+                verdict = self.checkers(("xfs_repair", put("", status))).look(self.volume((0, self.xfs(4096 * SECTOR))), [], 4096, 8192)
+            self.assertEqual((verdict.score, long.called), (score, status == 0 and more))
+
     def test_encrypted(self) -> None:
         verdict = self.checkers().look(self.volume((0, b"LUKS\xba\xbe")), [], 4096, 8192)
         self.assertEqual((verdict.text(), verdict.score), ("crypto_LUKS: encrypted", Score.KNOWN))

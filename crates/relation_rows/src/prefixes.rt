@@ -1,5 +1,7 @@
 //! Which prefixes of slots two rows let begin a set. What is wanted was worked out by hand from the equations of the rows: each
 //! sector is a sum of generated ones, of which no sum is zeros.
+ghost use Rattle.std.specs.Prelude.{◌≡◌, IfOk};
+
 use gf256::mul;
 use raid_params::{Head, Level, Pattern, Syndrome};
 use relation_prefix::{HeadRelations, PrefixTest, SampledRows, are_there};
@@ -70,6 +72,29 @@ fn row_of(alloc: Global, images: &[Terms]) -> Result<Vec<u8>, AllocError> {
     Ok(bytes)
 }
 
+/// Two rows of images, kept.
+fn both_kept<R: Abort>(
+    rt: &R,
+    alloc: Global,
+    images: usize,
+    first: &[u8],
+    second: &[u8],
+) -> Result<SampledRows, Fail>
+    ensures { IfOk result (λ kept. kept.images ≡ images) }
+{
+    assert!(rt; images <= 64);
+    let mut kept = SampledRows::new(alloc, images);
+    let mut table = RowTable::new(alloc, images)?;
+    assert!(rt; first.len() == 512 * table.images());
+    table.fill(first);
+    kept.keep(0, &table)?;
+    assert!(rt; second.len() == 512 * table.images());
+    table.fill(second);
+    kept.keep(1, &table)?;
+    assert!(rt; kept.count() == 2);
+    Ok(kept)
+}
+
 /// Looks whether two rows of four sectors let these slots begin a set, or do not.
 fn tells<R: Abort>(
     rt: &R,
@@ -80,17 +105,9 @@ fn tells<R: Abort>(
     wanted: bool,
 ) -> Result<(), Fail> {
     let images = rows[0].len();
-    assert!(rt; images <= 64);
     let first = row_of(alloc, rows[0])?;
     let second = row_of(alloc, rows[1])?;
-    assert!(rt; first.len() == 512 * images && second.len() == 512 * images);
-    let mut kept = SampledRows::new(alloc, images);
-    let mut table = RowTable::new(alloc, images)?;
-    table.fill(&first);
-    kept.keep(0, &table)?;
-    table.fill(&second);
-    kept.keep(1, &table)?;
-    assert!(rt; kept.count() == 2);
+    let kept = both_kept(rt, alloc, images, &first, &second)?;
     assert!(rt; test.head.is_valid() && slots.len() <= test.head.members as usize);
     assert!(rt; are_there(images, slots));
     let relations = HeadRelations::new(alloc, &kept, test)?;

@@ -101,47 +101,49 @@ fn check_all<R: Threads + Sync + Abort>(
     Ok(())
 }
 
+/// Images that depend on one another, or do not.
+const DEPENDENT: [Related; 6] = [
+    // two equal images
+    Related {
+        line: "relations -- a b",
+        images: &[&[A, B], &[A, B]],
+        out: "rows 0 1 zero - tied 1=1*0\ntogether 0,1 in 2 rows\nalone -\nfree 0 of 2\n",
+    },
+    // three of RAID 5: the parity moves, and no tie shows it
+    Related {
+        line: "relations -- a b c",
+        images: &[&[A, D], &[B, CD], &[AB, C]],
+        out: "rows 0 1 zero - tied 2=1*0+1*1\ntogether 0,1,2 in 2 rows\nalone -\nfree 0 of 2\n",
+    },
+    // zeros, of which none depends on any
+    Related {
+        line: "relations -- a b",
+        images: &[&[ZEROS, ZEROS], &[A, ZEROS]],
+        out: "rows 0 0 zero 0 tied -\nrows 1 1 zero 0,1 tied -\nalone 0,1\nfree 2 of 2\n",
+    },
+    // a multiple of another
+    Related {
+        line: "relations -- a b",
+        images: &[&[A], &[SEVEN_A]],
+        out: "rows 0 0 zero - tied 1=7*0\ntogether 0,1 in 1 rows\nalone -\nfree 0 of 1\n",
+    },
+    // a foreign image between two of a mirror
+    Related {
+        line: "relations -- a b c",
+        images: &[&[A, B], &[C, D], &[A, B]],
+        out: "rows 0 1 zero - tied 2=1*0\ntogether 0,2 in 2 rows\nalone 1\nfree 0 of 2\n",
+    },
+    // images that are shorter than their offset have no row
+    Related {
+        line: "relations offsets=0+3 -- a b",
+        images: &[&[A], &[A]],
+        out: "alone 0,1\nfree 0 of 0\n",
+    },
+];
+
 #[test]
 fn images_that_depend(rt: HostRuntime) -> Result<(), Fail> {
-    let rows = [
-        // two equal images
-        Related {
-            line: "relations -- a b",
-            images: &[&[A, B], &[A, B]],
-            out: "rows 0 1 zero - tied 1=1*0\ntogether 0,1 in 2 rows\nalone -\nfree 0 of 2\n",
-        },
-        // three of RAID 5: the parity moves, and no tie shows it
-        Related {
-            line: "relations -- a b c",
-            images: &[&[A, D], &[B, CD], &[AB, C]],
-            out: "rows 0 1 zero - tied 2=1*0+1*1\ntogether 0,1,2 in 2 rows\nalone -\nfree 0 of 2\n",
-        },
-        // zeros, of which none depends on any
-        Related {
-            line: "relations -- a b",
-            images: &[&[ZEROS, ZEROS], &[A, ZEROS]],
-            out: "rows 0 0 zero 0 tied -\nrows 1 1 zero 0,1 tied -\nalone 0,1\nfree 2 of 2\n",
-        },
-        // a multiple of another
-        Related {
-            line: "relations -- a b",
-            images: &[&[A], &[SEVEN_A]],
-            out: "rows 0 0 zero - tied 1=7*0\ntogether 0,1 in 1 rows\nalone -\nfree 0 of 1\n",
-        },
-        // a foreign image between two of a mirror
-        Related {
-            line: "relations -- a b c",
-            images: &[&[A, B], &[C, D], &[A, B]],
-            out: "rows 0 1 zero - tied 2=1*0\ntogether 0,2 in 2 rows\nalone 1\nfree 0 of 2\n",
-        },
-        // images that are shorter than their offset have no row
-        Related {
-            line: "relations offsets=0+3 -- a b",
-            images: &[&[A], &[A]],
-            out: "alone 0,1\nfree 0 of 0\n",
-        },
-    ];
-    check_all(&rt, rt.alloc(), &rows)
+    check_all(&rt, rt.alloc(), &DEPENDENT)
 }
 
 /// The parity P of the blocks of row 0, and Q, in which they weigh 1, 2, 4 and so on.
@@ -199,46 +201,48 @@ fn two_arrays(rt: HostRuntime) -> Result<(), Fail> {
     check_all(&rt, rt.alloc(), &rows)
 }
 
+/// Images that differ in rows that are not looked at.
+const LOOKED_AT: [Related; 6] = [
+    // every second from row 1 on: the others differ
+    Related {
+        line: "relations from=1 step=2 -- a b",
+        images: &[&[A, B, C, D, A], &[B, B, D, D, C]],
+        out: "rows 1 3 zero - tied 1=1*0\ntogether 0,1 in 2 rows\nalone -\nfree 0 of 2\n",
+    },
+    // none behind the end, and none behind the shorter image
+    Related {
+        line: "relations end=1 -- a b",
+        images: &[&[A, B], &[A, D]],
+        out: "rows 0 0 zero - tied 1=1*0\ntogether 0,1 in 1 rows\nalone -\nfree 0 of 1\n",
+    },
+    Related {
+        line: "relations -- a b",
+        images: &[&[A, B, C], &[A]],
+        out: "rows 0 0 zero - tied 1=1*0\ntogether 0,1 in 1 rows\nalone -\nfree 0 of 1\n",
+    },
+    // none from the end on
+    Related {
+        line: "relations from=2 end=2 -- a b",
+        images: &[&[A, B], &[A, B]],
+        out: "alone 0,1\nfree 0 of 0\n",
+    },
+    // the second image begins a sector later
+    Related {
+        line: "relations offsets=0+1 -- a b",
+        images: &[&[A, B, C], &[D, A, B]],
+        out: "rows 0 1 zero - tied 1=1*0\ntogether 0,1 in 2 rows\nalone -\nfree 0 of 2\n",
+    },
+    // a run ends where the table changes, and goes on nowhere
+    Related {
+        line: "relations -- a b",
+        images: &[&[A, B, A, D], &[A, C, A, D]],
+        out: "rows 0 0 zero - tied 1=1*0\nrows 1 1 zero - tied -\nrows 2 3 zero - tied 1=1*0\ntogether 0,1 in 3 rows\nalone -\nfree 1 of 4\n",
+    },
+];
+
 #[test]
 fn which_rows_are_looked_at(rt: HostRuntime) -> Result<(), Fail> {
-    let rows = [
-        // every second from row 1 on: the others differ
-        Related {
-            line: "relations from=1 step=2 -- a b",
-            images: &[&[A, B, C, D, A], &[B, B, D, D, C]],
-            out: "rows 1 3 zero - tied 1=1*0\ntogether 0,1 in 2 rows\nalone -\nfree 0 of 2\n",
-        },
-        // none behind the end, and none behind the shorter image
-        Related {
-            line: "relations end=1 -- a b",
-            images: &[&[A, B], &[A, D]],
-            out: "rows 0 0 zero - tied 1=1*0\ntogether 0,1 in 1 rows\nalone -\nfree 0 of 1\n",
-        },
-        Related {
-            line: "relations -- a b",
-            images: &[&[A, B, C], &[A]],
-            out: "rows 0 0 zero - tied 1=1*0\ntogether 0,1 in 1 rows\nalone -\nfree 0 of 1\n",
-        },
-        // none from the end on
-        Related {
-            line: "relations from=2 end=2 -- a b",
-            images: &[&[A, B], &[A, B]],
-            out: "alone 0,1\nfree 0 of 0\n",
-        },
-        // the second image begins a sector later
-        Related {
-            line: "relations offsets=0+1 -- a b",
-            images: &[&[A, B, C], &[D, A, B]],
-            out: "rows 0 1 zero - tied 1=1*0\ntogether 0,1 in 2 rows\nalone -\nfree 0 of 2\n",
-        },
-        // a run ends where the table changes, and goes on nowhere
-        Related {
-            line: "relations -- a b",
-            images: &[&[A, B, A, D], &[A, C, A, D]],
-            out: "rows 0 0 zero - tied 1=1*0\nrows 1 1 zero - tied -\nrows 2 3 zero - tied 1=1*0\ntogether 0,1 in 3 rows\nalone -\nfree 1 of 4\n",
-        },
-    ];
-    check_all(&rt, rt.alloc(), &rows)
+    check_all(&rt, rt.alloc(), &LOOKED_AT)
 }
 
 /// Relations of so many times one image.

@@ -134,6 +134,15 @@ class OfCandidates(unittest.TestCase):
         self.assertEqual(candidate(verdict=whole(), left_most=True).doubts, ["a group with most of the marks was left out"])
         self.assertEqual(candidate(verdict=whole(False), left_most=True).score, Score.NOTHING)
 
+    def test_files_that_tell_the_order_of_chunks_keep_one_sign(self) -> None:
+        verdict = whole(longest=50)
+        verdict.files.long = Wholes(16, 12, 50, joined=10)
+        kept = candidate(verdict=verdict, left_most=True)
+        self.assertEqual((kept.score, kept.doubts), (Score.CHECKED, []))
+        verdict.files.long.joined = 9
+        lost = candidate(verdict=verdict, left_most=True)
+        self.assertEqual((lost.score, lost.doubts), (Score.KNOWN, ["a group with most of the marks was left out"]))
+
     def test_printed_by_sign_fits_and_members(self) -> None:
         fits = (Held("xfs", 0, 12, 0),)
         order = [candidate(verdict=whole(), number=9), candidate(verdict=whole(longest=50), number=8, groups=fits),

@@ -153,6 +153,14 @@ class Verdicts(unittest.TestCase):
         # What lies in a physical volume or a table counts, not these.
         self.assertEqual(self.verdict(self.found("LVM2_member", None), self.found(length=100)).score, Score.KNOWN)
 
+    def test_in_order(self) -> None:
+        """A clean file system over more than half of the volume, half of the first files whole, and files that go on from each chunk of a row."""
+        def told(joined: int = 3, clean: bool | None = True, length: int = 501, first: int = 2) -> bool:
+            return self.verdict(self.found(clean=clean, length=length), files=Wholes(first, 1, 30, long=Wholes(1, 1, 30, joined=joined))).in_order
+        self.assertTrue(told())
+        self.assertEqual([told(joined=2), told(clean=False), told(clean=None), told(length=500), told(first=3)], [False] * 5)
+        self.assertFalse(self.verdict(self.found(), files=Wholes(2, 2, 30, joined=3)).in_order)
+
     def test_no_sign_where_only_files_within_a_chunk_are_whole(self) -> None:
         within = self.verdict(self.found(), files=Wholes(64, 61, 10))
         self.assertEqual((within.score, within.doubts), (Score.KNOWN, ["only files within one chunk are whole, as in any order of the chunks"]))
@@ -232,9 +240,20 @@ class Files(InFolder):
     def test_the_longest_ones(self) -> None:
         small, large = gzip.compress(b"a").ljust(SECTOR, b"\0"), gzip.compress(NOISE[:200 * KIB])
         name = self.file("a", small * 20 + large.ljust(400 * SECTOR + 512, b"\0") + small * 5)
-        told = wholes.count_long(name, os.path.getsize(name), 100 * KIB, 20)
+        told = wholes.count_long(name, os.path.getsize(name), 100 * KIB, 50 * KIB, 20)
         self.assertEqual((told.found, told.whole), (1, 1))
         self.assertEqual(told.longest, len(large))
+
+    def test_files_that_go_on_in_the_next_chunk(self) -> None:
+        """Files of 1,023 bytes, each in three sectors, the third one broken."""
+        one = gzip.compress(NOISE[:1000])
+        broken = one[:500] + bytes([one[500] ^ 1]) + one[501:]
+        name = self.file("a", b"".join(it.ljust(3 * SECTOR, b"\0") for it in (one, one, broken, one)))
+        for chunk, chunks, joined in ((1, 4, 3), (2, 4, 2), (4, 1, 1), (4, 3, 1), (5, 2, 1), (1, 3, 1), (1, 9, 2)):
+            told = wholes.count_long(name, 12 * SECTOR, chunks * chunk * SECTOR, chunk * SECTOR, 20)
+            self.assertEqual((told.longest > chunks * chunk * SECTOR, told.joined), (False, joined), (chunk, chunks))
+        long = wholes.count_long(name, 12 * SECTOR, SECTOR, SECTOR, 20)
+        self.assertEqual((long.longest, long.joined), (len(one), 0))
 
     def test_zip_that_does_not_say_where_it_ends(self) -> None:
         head = b"PK\3\4" + struct.pack("<HHH4xIIIHH", 20, 8, 0, 0, 0, 0, 1, 0) + b"a"

@@ -57,14 +57,20 @@ class Candidate:
 
     @property
     def score(self) -> Score:
-        """How much speaks for its volume: one step less where a group with most of the marks was left out."""
+        """How much speaks for its volume."""
         score = self.found.score
-        return Score(score - 1) if self.left_most and score >= Score.CHECKED else score
+        return Score(score - 1) if self.lessened else score
+
+    @property
+    def lessened(self) -> bool:
+        """There is one sign less: a group with most of the marks was left out. One sign is left where files tell the order of the chunks."""
+        return self.left_most and self.found.score >= Score.CHECKED and not self.found.in_order
 
     @property
     def doubts(self) -> list[str]:
         """Why it has no sign, or one less."""
-        return self.found.doubts + ["a group with most of the marks was left out"] * self.left_most
+        kept = self.left_most and self.found.in_order
+        return self.found.doubts + ["a group with most of the marks was left out"] * (self.left_most and not kept)
 
     @property
     def alike_said(self) -> str:

@@ -170,4 +170,4 @@ class Checkers:
         most, verdict = min(it.volume.length, self.most), it.verdict
         verdict.files = wholes.count(it.volume.path, 0, most, FILES_TIMES * self.seconds)
         if verdict.files.more and verdict.clean and (verdict.score is Score.CHECKED or verdict.within_chunks):
-            verdict.files.long = wholes.count_long(it.volume.path, most, verdict.row, self.seconds)
+            verdict.files.long = wholes.count_long(it.volume.path, most, verdict.row, verdict.chunk, self.seconds)

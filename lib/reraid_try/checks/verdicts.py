@@ -9,8 +9,8 @@ from .lvm import Piece
 from .systems import System, system_of
 from .wholes import Wholes
 
-# A file system that covers less than this part of its volume says little of it.
-LITTLE = 4
+# A file system that covers less than this part of its volume says little of it, and one that covers more than this part says much.
+LITTLE, MUCH = 4, 2
 
 
 class Score(enum.IntEnum):
@@ -106,6 +106,14 @@ class Verdict:
     def whole(self) -> bool:
         """A file that is longer than a row of chunks is whole, and at least half of the first ones are."""
         return self.files.longest_of_all > self.row and 2 * self.files.whole >= self.files.found
+
+    @property
+    def in_order(self) -> bool:
+        """A checker is content with more than half of the volume, at least half of the first files are whole, and from each chunk of a row some whole
+        file goes on into the next one, as hardly is so where chunks stand in another order."""
+        long = self.files.long
+        joined = long is not None and self.chunk > 0 and long.joined == self.row // self.chunk
+        return self.score is Score.CHECKED and joined and 2 * self.files.whole >= self.files.found and MUCH * self.covers > self.length
 
     @property
     def summed(self) -> bool:

@@ -11,7 +11,7 @@ import lzma
 import struct
 import time
 import zlib
-from collections.abc import Callable, Iterator
+from collections.abc import Callable, Iterable, Iterator
 from typing import BinaryIO, Optional
 
 from ..evidence import reading
@@ -22,6 +22,8 @@ MOST_FILES = 64
 MOST_BYTES, BLOCK, UNPACKED = 256 * MIB, 256 * KIB, 4 * MIB
 # So many are read of those that may be the longest, of so many.
 MOST_LONG, MOST_STARTS = 16, 1 << 16
+# So many are read of those that may lie on more than one chunk.
+MOST_ACROSS = 512
 # A file is looked for so long, in seconds, where no time is given.
 NO_END = 1e9
 # A chunk of a picture has so many bytes at most.
@@ -31,13 +33,14 @@ MOST_CHUNK = 64 * MIB
 @dataclasses.dataclass
 class Wholes:
     """How many files were read, how many are whole, and how long the longest whole one is in bytes. `more` says that others begin behind them, `long`
-    has those that may be the longest."""
+    has those that may be the longest; `joined` says from how many chunks of a row some whole file goes on into the next one, as far as was asked."""
 
     found: int = 0
     whole: int = 0
     longest: int = 0
     more: bool = False
     long: Optional["Wholes"] = None
+    joined: int = 0
 
     def take(self, size: int | None) -> None:
         """Counts a file of so many bytes, or a broken one; not one of which nothing is told."""
@@ -235,9 +238,10 @@ def count(path: str, first: int = 0, last: int | None = None, seconds: float = N
     return told
 
 
-def count_long(path: str, last: int, row: int, seconds: float) -> Wholes:
+def count_long(path: str, last: int, row: int, chunk: int, seconds: float) -> Wholes:
     """Of the files that begin in a volume those behind which most bytes lie up to the next one, longest first, until one longer than a row is
-    whole, or until time is up; half of it goes to the search for where they begin."""
+    whole, or until time is up; half of it goes to the search for where they begin. Where none of them is so long, from how many chunks of a row files
+    go on."""
     told, now = Wholes(), time.monotonic()
     with open(path, "rb") as file:
         found = list(itertools.islice(starts(file, 0, last, now + seconds / 2), MOST_STARTS))
@@ -247,4 +251,19 @@ def count_long(path: str, last: int, row: int, seconds: float) -> Wholes:
             if told.longest > row or time.monotonic() > now + seconds:
                 break
             told.take(kind.length(file, place))
+        if told.longest <= row:
+            told.joined = joined(file, room, row, chunk, now + 2 * seconds)
     return told
+
+
+def joined(file: BinaryIO, room: Iterable[tuple[int, int, "Kind"]], row: int, chunk: int, until: float) -> int:
+    """From how many chunks of a row some whole file goes on into the next chunk, as far as that is known at a time. Of each file it is known how many
+    bytes lie up to the next one, and where it begins."""
+    seen: set[int] = set()
+    across = (it for it in room if it[1] // chunk < (it[1] + it[0] - 1) // chunk)
+    for _, place, kind in itertools.islice(across, MOST_ACROSS):
+        if time.monotonic() > until or len(seen) == row // chunk:
+            break
+        size = kind.length(file, place) or 0
+        seen |= {number % (row // chunk) for number in range(place // chunk, (place + size - 1) // chunk)}
+    return len(seen)

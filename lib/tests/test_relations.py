@@ -82,6 +82,28 @@ class Families(unittest.TestCase):
         found, = told(rows.without(rows.striped(self.rnd, 5, 5, 4 * NUMBER, sparse=0.6), 2))
         self.assertEqual((found.images, found.level, found.parity, found.lost, found.members), ((0, 1, 2, 3), "5", 0, 1, 5))
 
+    def few_rows(self, joining: int, others: int = 600) -> list[rows.Row]:
+        """Rows of three images: so many untied ones, 60 that tie the second to the third, and so many that tie the first to the third."""
+        empty, made = bytes(rows.COLUMNS), [[rows.sector(self.rnd) for _ in range(3)] for _ in range(others)]
+        for number in range(60 + joining):
+            same = rows.sector(self.rnd)
+            made.insert(number * 5, [empty, same, same] if number < 60 else [same, empty, same])
+        return made
+
+    def test_a_disk_that_few_rows_tie(self) -> None:
+        """Where few rows of a RAID 5 that lacks a disk have zeros, one that is in a tenth of the ties belongs to it, and not one in fewer."""
+        found, = told(self.few_rows(6))
+        self.assertEqual((found.images, found.level, found.parity, found.lost, found.members), ((0, 1, 2), "5", 0, 1, 4))
+        self.assertEqual([it.images for it in told(self.few_rows(5))], [(1, 2)])
+
+    def test_families_that_few_rows_tie_stay_apart(self) -> None:
+        """Two pairs of copies of which few rows tie one to the other."""
+        made = [[rows.sector(self.rnd) for _ in range(4)] for _ in range(600)]
+        for number in range(70):
+            one, other = rows.sector(self.rnd), rows.sector(self.rnd)
+            made.insert(number * 5, [one, one, other, other] if number < 60 else [rows.sector(self.rnd), one, one, other])
+        self.assertEqual([it.images for it in told(made)], [(0, 1), (2, 3)])
+
     def test_level_6(self) -> None:
         """All disks of a RAID 6, and the same with one or two lost."""
         made = rows.striped(self.rnd, 6, 6, 4 * NUMBER, sparse=0.4)

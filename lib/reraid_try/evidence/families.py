@@ -3,13 +3,15 @@
 import collections
 import dataclasses
 import itertools
-from collections.abc import Iterable, Iterator
+from collections.abc import Iterable, Iterator, Mapping, Sequence
 from fractions import Fraction
 
 from .relations import Relations, Rows, Tie
 
 # Two images belong together where ties hold both in so many rows at least, and in one of so many in which neither is zeros.
 LEAST_TIED, FEW_TIED = 4, 50
+# An image that no such ties hold belongs to a family that few rows tie, where it has one in so many ties of the family with an image of it.
+FEW_OF_FAMILY = 10
 # So much of what is tied has weights of 1 alone at level 5. A number of ties that one in so many rows has, and not most, is possible too.
 PART_PLAIN, FEW_OTHER = Fraction(4, 5), 10
 # Where so few rows have no image of zeros, all others count: so many ties as nearly all of them have are those of parity.
@@ -143,7 +145,15 @@ def belonging(relations: Relations, images: frozenset[int]) -> list[frozenset[in
     """The sets of images that belong together, the largest first."""
     tied, there = pair_counts(relations, images)
     strong = [pair for pair, count in tied.items() if count >= LEAST_TIED and FEW_TIED * count >= there[pair]]
-    return sorted(connected(strong), key=lambda it: (-len(it), sorted(it)))
+    return sorted(connected([*strong, *joining(tied, connected(strong))]), key=lambda it: (-len(it), sorted(it)))
+
+
+def joining(tied: Mapping[tuple[int, int], int], found: Sequence[frozenset[int]]) -> Iterator[tuple[int, int]]:
+    """The pairs by which an image that is in no family joins one. `tied` has in how many rows ties connect two images."""
+    within = frozenset().union(*found)
+    for family in found:
+        least = max(LEAST_TIED, *(-(-count // FEW_OF_FAMILY) for pair, count in tied.items() if family.issuperset(pair)))
+        yield from (pair for pair, count in tied.items() if len(within.intersection(pair)) == len(family.intersection(pair)) == 1 and count >= least)
 
 
 @dataclasses.dataclass
@@ -199,7 +209,7 @@ class Tally:
     @property
     def copied(self) -> bool:
         """Where more than two images are not zeros most ties hold two that are the same, and parity would hold all of them."""
-        return 2 * self.paired > self.joined
+        return self.joined >= LEAST_TIED and 2 * self.paired > self.joined
 
     @property
     def parity(self) -> int:

@@ -123,11 +123,11 @@ class OnImages(InFolder):
 
 
 class Gathered(InFolder):
-    def gather(self, text: str, pairs: Pairs | None = None, **values: object) -> gathered.Evidence:
-        """What is gathered of three images and a survey."""
+    def gather(self, text: str, pairs: Pairs | None = None, start: int = 0, **values: object) -> gathered.Evidence:
+        """What is gathered of three images behind a start, and a survey."""
         names = [self.file(f"{k}.img", b"x" * 8000 * SECTOR) for k in range(3)]
         seen = [image(k, name, 8000, **values) for k, name in enumerate(names)]
-        return gathered.gather(Surveys(Standin(("reraid survey", put(text))), names), seen, 1 << 30, pairs)
+        return gathered.gather(Surveys(Standin(("reraid survey", put(text))), names), seen, 1 << 30, pairs, start)
 
     def plan(self, *marks: str) -> str:
         """A survey's text with one group."""
@@ -149,6 +149,12 @@ class Gathered(InFolder):
             part = gathered.within(whole, 100, end)
             self.assertEqual((part.sectors, part.table), (sectors, Table()))
         self.assertEqual([head.sector for head in gathered.within(whole, 100, 600).heads], [100, 599])
+
+    def test_nothing_before_a_part(self) -> None:
+        """An offset before the start says nothing, and a survey there would see what is no part of the array."""
+        plan = self.plan("super 0 3000 at:1000", "super 1 3000 at:999")
+        self.assertEqual([self.gather(plan, start=start).offset_values for start in (0, 2000, 2001)], [[2000, 2001], [2000, 2001], [2001]])
+        self.assertEqual(min(self.gather(plan, start=2001).tried), 2001)
 
     def test_copies_say_no_level(self) -> None:
         self.assertEqual(self.gather(self.plan("super 0 2048 every:4096:2:0"), like=0).levels, ())

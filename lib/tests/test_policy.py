@@ -241,6 +241,8 @@ class OfAsking(unittest.TestCase):
         self.assertEqual(Asking(evidence(), OPTIONS).unlike_offsets(), [[2048, 4096], [0, 2048]])
         self.assertEqual(Asking(evidence(offsets=(4096, 2048, 9)), OPTIONS).unlike_offsets(), [[2048, 4096], [4096, 6144]])
         self.assertEqual(Asking(evidence(offsets=(99000,)), OPTIONS).unlike_offsets(), [[96952, 99000]])
+        within = [dataclasses.replace(evidence(offsets=(4096,)), start=start) for start in (2048, 2049)]
+        self.assertEqual([Asking(it, OPTIONS).unlike_offsets() for it in within], [[[4096, 6144], [2048, 4096]], [[4096, 6144]]])
 
 
 class Asked(unittest.TestCase):

@@ -138,7 +138,7 @@ def gather(made: Surveys, images: Sequence[Image], first: int, pairs: Pairs | No
         plan = numbered(made.plan(base), images)
     heads = sorted((head for image in images for head in image.heads), key=lambda head: head.sector)
     data = hints.data_disks(plan, len(images) + 2)
-    offsets = offset_hints(plan, images, pairs, data)
+    offsets = [hint for hint in offset_hints(plan, images, pairs, data) if hint.value >= start]
     starts = {hint.value for hint in offsets} | {start + usual for usual in hints.USUAL_OFFSETS}
     origins = hints.lvm_origins(plan, by_number) + hints.table_origins(images, starts)
     # Where images are copies of one another, how many show a mark at one place tells of mirrors, not of a level.

@@ -100,5 +100,5 @@ class Asking:
         values = self.evidence.offset_values[:MOST_UNLIKE]
         found = [sorted(values)] if len(values) == MOST_UNLIKE else []
         for first in values[:1]:
-            found += [[first, first + APART]] + ([[first - APART, first]] if first >= APART else [])
+            found += [[first, first + APART]] + ([[first - APART, first]] if first >= APART + self.evidence.start else [])
         return [it for k, it in enumerate(found) if it not in found[:k] and max(it) < self.evidence.end]

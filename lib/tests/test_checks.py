@@ -167,6 +167,15 @@ class Verdicts(unittest.TestCase):
         for files in (Wholes(64, 61, 11), Wholes(64, 64, 10), Wholes(4, 0, 0)):
             self.assertEqual(self.verdict(self.found(), files=files).score, Score.CHECKED)
 
+    def test_no_sign_where_a_checker_reads_little_and_files_are_broken(self) -> None:
+        """As `ntfsfix` is content with wrong orders of the chunks, files have to tell the right one where some are broken."""
+        def told(kind: str, joined: int | None, whole: int = 61, longest: int = 30) -> Score:
+            long = None if joined is None else Wholes(16, 5, 11, joined=joined)
+            return self.verdict(self.found(kind), files=Wholes(64, whole, longest, long=long)).score
+        self.assertEqual([told("ntfs", joined) for joined in (None, 2, 3)], [Score.KNOWN] * 3)
+        self.assertEqual([told("ntfs", 2, 64), told("ntfs", None, 61, 31), told("ext4", 2)], [Score.CHECKED, Score.WHOLE, Score.CHECKED])
+        self.assertIn("its checker reads little of it", self.verdict(self.found("ntfs"), files=Wholes(64, 61, 30)).doubts[0])
+
     def test_files_in_pieces_anyway(self) -> None:
         """An ext2 or ext3 has blocks that list blocks within each longer file, so that none of these counts as whole."""
         for kind, score in (("ext2", Score.CHECKED), ("ext3", Score.CHECKED), ("ext4", Score.KNOWN), ("ntfs", Score.KNOWN)):

@@ -169,5 +169,6 @@ class Checkers:
         """Counts the files that are whole, and those that may be long where the first ones do not tell."""
         most, verdict = min(it.volume.length, self.most), it.verdict
         verdict.files = wholes.count(it.volume.path, 0, most, FILES_TIMES * self.seconds)
-        if verdict.files.more and verdict.clean and (verdict.score is Score.CHECKED or verdict.within_chunks):
+        doubted = verdict.score is Score.CHECKED or verdict.within_chunks
+        if verdict.clean and (verdict.unjoined or verdict.files.more and doubted):
             verdict.files.long = wholes.count_long(it.volume.path, most, verdict.row, verdict.chunk, self.seconds)

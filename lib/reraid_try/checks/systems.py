@@ -58,7 +58,8 @@ class System:
     takes the byte at which the volume begins in the path; `exact` that it may see no more bytes than the volume has; `sums` that it reads all data
     by their sums; `ends` that its last sector is a copy of its first. `mount` has the options with which nothing is written; `opened` the command
     that opens what is encrypted; `holds` says that it has volumes inside; `scattered` that a long file is in several pieces, between which the
-    blocks lie that list them; `length` is how many bytes it says that it has, by its head, 0 where that is not told."""
+    blocks lie that list them; `shallow` that its checker reads little of it; `length` is how many bytes it says that it has, by its head, 0 where
+    that is not told."""
 
     kind: str
     tool: str | None = None
@@ -71,6 +72,7 @@ class System:
     ends: bool = False
     holds: bool = False
     scattered: bool = False
+    shallow: bool = False
     length: Callable[[bytes], int] | None = None
 
     def command(self, path: str, first: int = 0) -> list[str]:
@@ -95,7 +97,7 @@ SYSTEMS = {it.kind: it for it in (
     System("ext3", *E2FSCK, mount="ro,noload", at=True, scattered=True, length=ext_length),
     System("ext4", *E2FSCK, mount="ro,noload", at=True, length=ext_length),
     System("xfs", "xfs_repair", ("-n", "-f"), mount="ro,norecovery", length=xfs_length),
-    System("ntfs", "ntfsfix", ("-n",), mount="ro", exact=True, ends=True, length=ntfs_length),
+    System("ntfs", "ntfsfix", ("-n",), mount="ro", exact=True, ends=True, shallow=True, length=ntfs_length),
     System("btrfs", "btrfs", ("check", "--readonly", "--check-data-csum"), mount="ro", sums=True, length=btrfs_length),
     System("vfat", mount="ro", length=fat_length),
     System("exfat", mount="ro", length=exfat_length),

@@ -111,9 +111,20 @@ class Verdict:
     def in_order(self) -> bool:
         """A checker is content with more than half of the volume, at least half of the first files are whole, and from each chunk of a row some whole
         file goes on into the next one, as hardly is so where chunks stand in another order."""
-        long = self.files.long
-        joined = long is not None and self.chunk > 0 and long.joined == self.row // self.chunk
-        return self.score is Score.CHECKED and joined and 2 * self.files.whole >= self.files.found and MUCH * self.covers > self.length
+        return self.score is Score.CHECKED and self.joined and 2 * self.files.whole >= self.files.found and MUCH * self.covers > self.length
+
+    @property
+    def joined(self) -> bool:
+        """From each chunk of a row some whole file goes on into the next one."""
+        return self.files.long is not None and self.chunk > 0 and self.files.long.joined == self.row // self.chunk
+
+    @property
+    def unjoined(self) -> bool:
+        """What was found has no checker but such as read little of it, and files do not make up for that: some are broken, and none that is whole is
+        longer than a row of chunks."""
+        checked = [finding.system for finding in self.inner if finding.clean is not None]
+        broken = self.files.whole < self.files.found
+        return bool(checked) and all(it.shallow for it in checked) and broken and self.files.longest_of_all <= self.row
 
     @property
     def summed(self) -> bool:
@@ -162,6 +173,8 @@ class Verdict:
             said.append(f"what was found covers {percent(self.covers, self.length)} of the volume")
         if self.within_chunks and not self.wholly_summed:
             said.append("only files within one chunk are whole, as in any order of the chunks")
+        elif self.unjoined:
+            said.append("its checker reads little of it, some files are broken, and no whole one is longer than a row of chunks")
         return said
 
     @property

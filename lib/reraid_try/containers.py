@@ -200,9 +200,14 @@ def described(name: str, head: bytes) -> bytes:
     """The text of a VMDK, in which its extents are named; nothing where it has none."""
     if head.startswith(b"KDMV") and len(head) >= 44:
         first, count = struct.unpack_from("<QQ", head, 28)
-        text = read_at(name, first * SECTOR, min(count, 64) * SECTOR) if 0 < first < ALL // SECTOR else b""
-    elif head.startswith(b"# Disk DescriptorFile"):
-        text = read_at(name, 0, 1 << 16)
+        return read_at(name, first * SECTOR, min(count, 64) * SECTOR) if 0 < first < ALL // SECTOR else b""
+    if head.startswith(b"# Disk DescriptorFile"):
+        return read_at(name, 0, 1 << 16)
+    return b""
+
+
+def extents(name: str, head: bytes) -> set[str]:
+    """The other files that the text of a VMDK names."""
     folder = os.path.dirname(name)
     return {os.path.join(folder, it.decode(errors="surrogateescape")) for it in EXTENT.findall(described(name, head))} - {name}
 

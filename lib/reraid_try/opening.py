@@ -79,11 +79,11 @@ class Opener:
         words = it.command(folder)
         self.note(shlex.join(words))
         path = os.path.join(folder, it.shown())
-        error = self.begin(it, words, folder, path)
-        if error is None and os.path.getsize(path) < SECTOR:
-            error = "it shows a disk without a sector"
-        if error is not None:
-            raise OutsideError(f"{it.line()}, and {it.tools()[0]} does not open it: {error or 'it says nothing'}")
+        failed = self.begin(it, words, folder, path)
+        if failed is None and os.path.getsize(path) < SECTOR:
+            failed = "it shows a disk without a sector"
+        if failed is not None:
+            raise OutsideError(f"{it.line()}, and {it.tools()[0]} does not open it: {failed or 'it says nothing'}")
         return path
 
     def begin(self, it: Container, words: Sequence[str], folder: str, path: str) -> str | None:

@@ -147,6 +147,7 @@ class Opens(unittest.TestCase):
         self.tool("fusermount3", "rm -f \"$3\"/*")
         self.tool("qemu-nbd", "exit 1")
         self.enterContext(mock.patch.dict(os.environ, PATH=f"{self.folder}:{os.environ['PATH']}"))
+        self.enterContext(mock.patch.object(opening, "fault", lambda it: None))
         self.opener = opening.Opener(self.folder)
         self.addCleanup(self.opener.close)
 

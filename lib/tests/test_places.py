@@ -99,14 +99,6 @@ class Allowed(unittest.TestCase):
         self.assertEqual([it.against(word) for word in words], [0, Fraction(1, 10)])
         self.assertEqual((it.allowed(words), it.allowed(words[1:])), ([True, False], [True]))
 
-    def test_other_shapes(self) -> None:
-        """Of sets with more members or fewer, and of those of another level, nothing is said."""
-        whole = rows.striped(random.Random(5), 4, 5, 1600, chunk=16, sparse=0.5)
-        it = told(rows.without(whole, 2), "5", 4)
-        for slots in ((1, 0, 2), (1, 0, None, 2, None), (1, 0, 2, None, None)):
-            self.assertTrue(it.allows(made_word(slots)), slots)
-        self.assertTrue(it.allows(made("6", "ls", "after-q", 16, (64,), (1, 0, None, 2))))
-
     def test_fixed(self) -> None:
         """Parity that stands on one disk: which that is."""
         rnd = random.Random(6)

@@ -2,11 +2,11 @@
 //!
 //! A run has its words as one line, images and a plan, and a status, an output and a note that were worked out by hand.
 //! `listings`, `checks`, `classes`, `landmarks`, `samples`, `surveys`, `volumes`, `bases`, `marked_bases`, `mirrors`,
-//! `mirror_searches`, `salvages` and `many_images` have answers, `refusals`, `refused_words` and `long_images` what is refused, and
-//! `defaults` operands that are not given. `failing` has each call of each object made to fail in turn, `cut` plans whose end is
-//! missing, and `plan_limits`, `sector_limits`, `image_limits` and `long_texts` what stands at both sides of each limit. `served`
-//! has runs of `reraid-nbd`, and what its client is answered. In `side_by_side` pieces of a scan wait for each other. `paged` has
-//! pages by the call that `reraid_cli` hands on. That objects are ready for a run stands in `specs/Ready`.
+//! `mirror_searches`, `salvages`, `related`, `texts` and `many_images` have answers, `refusals`, `refused_words` and `long_images` what
+//! is refused, and `defaults` operands that are not given. `failing` has each call of each object made to fail in turn, `cut` plans
+//! whose end is missing, and `plan_limits`, `sector_limits`, `image_limits` and `long_texts` what stands at both sides of each limit.
+//! `served` has runs of `reraid-nbd`, and what its client is answered. In `side_by_side` pieces of a scan wait for each other. `paged`
+//! has pages by the call that `reraid_cli` hands on. That objects are ready for a run stands in `specs/Ready`.
 #![tactic(auto)]
 
 #[cfg(test)]

@@ -1,5 +1,8 @@
--- What a device is asked for, and what readings of images do to their counts.
-use Rattle.std.specs.Prelude.{ℕ, ◌≡◌, ◌+◌, ◌/◌, ◌%◌, ◌≤◌, Bool, true, false}
+-- What a device is asked for, when a reading of it fails, and what readings of images do to their counts.
+use Rattle.std.specs.Prelude.{ℕ, zero, suc, ◌≡◌, ◌+◌, ◌/◌, ◌%◌, ◌≤◌, Bool, true, false, refl}
+use Rattle.std.specs.List.{list_any, range_with_len}
+use Rattle.std.specs.declared.option.Option.{Option}
+use Rattle.std.specs.declared.option.Option.TheVariants.{None, Some}
 use Rattle.outside.specs.Causes.{Rose}
 use Rattle.outside.specs.Seen.{Seen}
 
@@ -30,3 +33,26 @@ pub record Costs (cost : ℕ) (failed : Bool) (before after : Counts) : Type 0 w
   pub few : after.sectors_read ≤ before.sectors_read + cost
   pub later : before.sectors_read ≤ after.sectors_read
   pub faults : RisesWith failed before.faults after.faults
+
+-- one of the sectors that are asked for is lost
+abbrev pub is_any_lost : (ℕ → Bool) → Asked → Bool
+is_any_lost lost asked = list_any lost (range_with_len asked.first asked.count)
+
+-- why a reading failed, or did not: it fails where one of its sectors is lost, and the count of faults stays; and else just where the count rose
+abbrev pub FailsFor : Bool → Bool → ℕ → ℕ → Type 0
+FailsFor true failed before after = (failed ≡ true) × (after ≡ before)
+FailsFor false failed before after = RisesWith failed before after
+
+-- a reading of images for sectors that cost so many of theirs, or of which one is lost: then it failed, and nothing was read
+abbrev pub Answers : Option ℕ → Bool → Counts → Counts → Type 0
+Answers (Some cost) failed before after = Costs cost failed before after
+Answers None failed before after = (failed ≡ true) × (after ≡ before)
+
+-- of a device no sector of which is lost none of those that are asked for is
+none_of : (first n : ℕ) → list_any (λ v. false) (range_with_len first n) ≡ false
+none_of first zero = refl
+none_of first (suc n) = none_of (first + 1) n
+
+-- so a reading of it fails just where the count rose
+pub fails_never_lost : (asked : Asked) (failed : Bool) (before after : ℕ) → RisesWith failed before after → FailsFor (is_any_lost (λ v. false) asked) failed before after
+fails_never_lost asked failed before after rises = rw (none_of asked.first asked.count) rises

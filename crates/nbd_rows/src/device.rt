@@ -1,5 +1,6 @@
 //! A device in memory.
-ghost use Rattle.std.specs.Prelude.{◌≡◌, ◌+◌, ◌-◌, ◌^◌, ◌/◌, min, Some, length};
+ghost use Rattle.std.specs.Prelude.{◌≡◌, ◌+◌, ◌-◌, ◌^◌, ◌/◌, min, false, Some, length};
+ghost use Rattle.block_device.specs.Reading.{RisesWith, fails_never_lost};
 ghost use Rattle.outside.specs.Seen.{whole_sectors};
 ghost use Rattle.nbd_rows.specs.Whole.{nothing_below, whole_length};
 
@@ -24,14 +25,18 @@ impl BlockDevice for MemDevice {
 
     ghost size = { λ d. length d.bytes.items / 512 };
 
+    ghost lost = { λ d v. false };
+
     ghost faults = { λ d. d.faults };
 
     ghost fixed = { λ d. nothing_below };
 
-    // A reading is counted.
-    ghost reads = { λ before asked failed after. after.reads ≡ min (before.reads + 1) (2 ^ 64 - 1) };
+    // A reading is counted, and fails where a fault is.
+    ghost reads = { λ before asked failed after. (after.reads ≡ min (before.reads + 1) (2 ^ 64 - 1)) × RisesWith failed before.faults after.faults };
 
     ghost whole = { λ d. whole_length d.bytes.items };
+
+    ghost fails = { λ before asked failed after read. fails_never_lost asked failed before.faults after.faults read.1 };
 
     fn sectors(&self) -> u64 {
         (self.bytes.len() / SECTOR) as u64

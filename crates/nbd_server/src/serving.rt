@@ -58,7 +58,8 @@ fn talk<D: BlockDevice, S: Source, K: Sink>(
 ///
 /// All memory is taken before the greeting. A reply is put once it is whole, before more is taken, and no byte is taken behind the end.
 /// The device is read for requests alone, and asked for their sectors alone. A reading of it that fails is told the client as `EIO`,
-/// and the dialogue goes on. Every run ends, at the latest with its input.
+/// and nothing else is: so by the device's `fails` just a request of which a sector is lost, or in whose reading a fault rose. The
+/// dialogue goes on. Every run ends, at the latest with its input.
 pub fn serve<D: BlockDevice, S: Source, K: Sink>(
     alloc: Global,
     device: &mut D,

@@ -1,7 +1,7 @@
 //! The volume of a mirror of two copies as a device.
-ghost use Rattle.std.specs.Prelude.{◌≡◌};
+ghost use Rattle.std.specs.Prelude.{◌≡◌, false};
 ghost use Rattle.block_device.specs.Content.{fixed_behind};
-ghost use Rattle.block_device.specs.Reading.{Costs, counts_of};
+ghost use Rattle.block_device.specs.Reading.{Costs, counts_of, fails_never_lost};
 ghost use Rattle.outside.specs.Attached.{told_all};
 ghost use Rattle.near_mirror.specs.Copies.{near_sectors};
 ghost use Rattle.near_volume.specs.Mirrored.{IsMirrored};
@@ -38,6 +38,8 @@ impl<'a, I: Images> BlockDevice for MirrorDevice<'a, I> {
 
     ghost size = { λ d. near_sectors d.set.now.head d.end };
 
+    ghost lost = { λ d v. false };
+
     ghost faults = { λ d. (I.seen d.images.now).faults };
 
     ghost fixed = { λ d. fixed_behind I.seen d.images };
@@ -46,6 +48,8 @@ impl<'a, I: Images> BlockDevice for MirrorDevice<'a, I> {
     ghost reads = { λ before asked failed after. Costs asked.count failed (counts_of (I.seen before.images.now)) (counts_of (I.seen after.images.now)) };
 
     ghost whole = { λ d. mirror_whole (told_all (I.seen d.images.now).attached) d.set.now d.end };
+
+    ghost fails = { λ before asked failed after read. fails_never_lost asked failed (I.seen before.images.now).faults (I.seen after.images.now).faults read.faults };
 
     fn sectors(&self) -> u64 {
         self.set.head.volume_sectors(self.end)

@@ -1,8 +1,8 @@
 //! The volume of a set of level 0, 4, 5 or 6 as a device.
-ghost use Rattle.std.specs.Prelude.{◌≡◌};
+ghost use Rattle.std.specs.Prelude.{◌≡◌, false};
 ghost use Rattle.std.proofs.Props.{props};
 ghost use Rattle.block_device.specs.Content.{fixed_behind};
-ghost use Rattle.block_device.specs.Reading.{Costs, counts_of};
+ghost use Rattle.block_device.specs.Reading.{Costs, counts_of, fails_never_lost};
 ghost use Rattle.outside.specs.Attached.{told_all};
 ghost use Rattle.raid_params.specs.Size.{volume_sectors as volume_sectors_of};
 ghost use Rattle.virtual_volume.specs.Served.{IsServed};
@@ -58,6 +58,8 @@ impl<'a, I: Images> BlockDevice for ParityDevice<'a, I> {
 
     ghost size = { λ d. volume_sectors_of d.geo.now.head d.end };
 
+    ghost lost = { λ d v. false };
+
     ghost faults = { λ d. (I.seen d.images.now).faults };
 
     ghost fixed = { λ d. fixed_behind I.seen d.images };
@@ -68,6 +70,8 @@ impl<'a, I: Images> BlockDevice for ParityDevice<'a, I> {
         × (after.geo.now ≡ before.geo.now) × (after.end ≡ before.end) };
 
     ghost whole = { λ d. volume_whole (told_all (I.seen d.images.now).attached) d.geo.now d.end };
+
+    ghost fails = { λ before asked failed after read. fails_never_lost asked failed (I.seen before.images.now).faults (I.seen after.images.now).faults read.0.faults };
 
     fn sectors(&self) -> u64 {
         volume_sectors(&self.geo.head, self.end)

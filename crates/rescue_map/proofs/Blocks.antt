@@ -81,7 +81,7 @@ read_more images sections set first n s j k l rows block row to many stride long
     ]
 
 -- a list is the sectors that it agrees with
-blocks_are : (xs : List ℕ) (f : ℕ → List ℕ) (a n : ℕ) → length xs ≡ 512 * n → ((j : ℕ) → length (f j) ≡ 512) →
+pub blocks_are : (xs : List ℕ) (f : ℕ → List ℕ) (a n : ℕ) → length xs ≡ 512 * n → ((j : ℕ) → length (f j) ≡ 512) →
     ((j x : ℕ) → j < n → x < 512 → get_or xs (512 * j + x) 0 ≡ get_or (f (a + j)) x 0) → xs ≡ flat_map f (range_with_len a n)
 blocks_are [] f a zero long each same = refl
 blocks_are (x ∷ xs) f a zero long each same = absurd (omega arith)

@@ -9,3 +9,4 @@ pub mod Padding
 pub mod LawsShown
 pub mod Adjacent
 pub mod ReadAhead
+pub mod AskedFor

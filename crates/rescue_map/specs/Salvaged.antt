@@ -77,6 +77,11 @@ IsFilled sections set first start rows old new j =
     (x : ℕ) → x < 512 → slice_index new (512 * j + x)
     ≡ filled_byte sections set (first + (start + j)) (column_at (length set.geo.slots.items) rows (512 * length set.geo.slots.items * (start + j)) x) (slice_index old (512 * j + x))
 
+-- the first n sectors of a list of bytes are those of it from a sector on
+abbrev pub AreSalvaged : List (List ℕ) → List Section → Wide → ℕ → ℕ → List ℕ → Type 0
+AreSalvaged images sections set first n bytes =
+    (i x : ℕ) → i < n → x < 512 → slice_index bytes (512 * i + x) ≡ slice_index (salvaged_sector images sections set (first + i)) x
+
 -- a piece of a block was filled: each of its sectors by what was read for it, and it is as long as before
 pub record FillsPiece (sections : List Section) (set : Wide) (first start : ℕ) (rows old new : List ℕ) : Type 0 where
   pub long : length new ≡ length old

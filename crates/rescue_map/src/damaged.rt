@@ -11,7 +11,7 @@ use rescue_text::Rescue;
 
 /// An array whose images are damaged.
 #[derive(Clone, Copy, Drop)]
-pub(crate) struct Damage<'a> {
+pub struct Damage<'a> {
     /// Its parameters.
     pub set: &'a Wide,
     /// The image sector after the last that may belong to it.
@@ -59,7 +59,7 @@ pub(crate) fn damaged(set: &Wide, rescue: &Rescue, sector: u64) -> Geometry
 }
 
 /// Whether `count` member sectors from number `first` on of all slots that hold an image are good.
-pub(crate) fn are_all_good(set: &Wide, rescue: &Rescue, first: u64, count: u64) -> bool
+pub fn are_all_good(set: &Wide, rescue: &Rescue, first: u64, count: u64) -> bool
     requires some { 0 < count }
     requires near { set.now.geo.head.offset + (first + count) < 2 ^ 55 }
     ensures { result ≡ true → (t : ℕ) → first ≤ t → t < first + count → AreAllGood rescue.now set.now t }

@@ -31,7 +31,7 @@ pub(crate) struct Threading<'a, R, G> {
 
 /// Finishes a sector of the volume, `to`: it stays where it was read itself, is found by `row`, a sector of each member, where
 /// its home is not known, and is zeros where it is lost.
-fn fill_sector(damage: &Damage, sector: u64, row: &[u8], to: &mut [u8])
+pub(crate) fn fill_sector(damage: &Damage, sector: u64, row: &[u8], to: &mut [u8])
     requires set { IsMendable damage.now.set.now damage.now.end }
     requires sector { HasSector damage.now.set.now damage.now.end sector row.now to.old }
     ensures long { length to.new ≡ 512 }

@@ -62,7 +62,7 @@ fn read_row<I: Images>(
 
 /// Reads what is needed for a sector of the volume: itself into `to` where its home is known, the known cells of its row into
 /// `row` where it is found by these, and nothing where it is lost.
-fn read_sector<I: Images>(
+pub(crate) fn read_sector<I: Images>(
     images: &mut I,
     damage: &Damage,
     sector: u64,
@@ -92,7 +92,7 @@ fn read_sector<I: Images>(
 }
 
 /// Reads sectors of the volume from number `sector` on, which are known and lie in one chunk, by one call.
-fn read_run<I: Images>(
+pub(crate) fn read_run<I: Images>(
     images: &mut I,
     damage: &Damage,
     sector: u64,

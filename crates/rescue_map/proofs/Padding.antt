@@ -23,6 +23,7 @@ use Rattle.raid_params.specs.declared.wide.WideFault.TheVariants.{Bases}
 use Rattle.rescue_map.specs.Salvaged.{IsSalvaged}
 use Rattle.rescue_map.specs.Damaged.{IsDamaged, IsMendable, IsReadable}
 use Rattle.rescue_map.proofs.Known.{all_below}
+use Rattle.virtual_volume.specs.Served.{IsServed}
 use Rattle.rescue_map.proofs.Passed.{damage_of}
 
 pub no_fault : (wide : Wide) (images : ℕ) (fault : Option GeoFault) → bases_fault wide images fault ≡ None → fault ≡ None
@@ -136,3 +137,20 @@ same_within reference other bases others old new same =
 pub ruled_damaged : (set : Wide) (end n : ℕ) → wide_fault set n end ≡ None → end < 2 ^ 55 → IsDamaged set end
 ruled_damaged set end n ruled near =
     damage_of set end (record { images = n; shaped = ruled_shape (shape_fault set.geo n) set.geo end (no_fault set n (first_fault set.geo n end) ruled) }) near
+
+-- a set that breaks no rule is served, also over padded images
+pub salvaged_served : (set : Wide) (end : ℕ) (attached : List Image) → IsSalvaged set end attached → IsServed set.geo end attached
+salvaged_served set end attached s = record {
+  ruled = no_fault set (length attached) (first_fault set.geo (length attached) end) s.ruled;
+  offset = (let before = offset_before set end attached s in let near = s.near in omega arith);
+  near = s.near;
+  long = s.long;
+}
+
+pub padded_served : (set : Wide) (end : ℕ) (attached : List Image) → IsSalvaged set end attached → IsServed set.geo end (padded_images set.bases.items attached)
+padded_served set end attached s = record {
+  ruled = subst (λ (n : ℕ). first_fault set.geo n end ≡ None) (sym (padded_length (greatest_base set.bases.items) set.bases.items attached)) (no_fault set (length attached) (first_fault set.geo (length attached) end) s.ruled);
+  offset = (let before = offset_before set end attached s in let near = s.near in omega arith);
+  near = s.near;
+  long = longer end (greatest_base set.bases.items) set.bases.items attached s.long;
+}

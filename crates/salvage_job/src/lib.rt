@@ -6,4 +6,4 @@
 
 mod salvaging;
 
-pub use salvaging::salvage;
+pub use salvaging::{Ready, prepare, salvage};

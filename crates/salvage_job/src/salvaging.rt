@@ -116,7 +116,7 @@ fn stop_of(fault: VolumeFault) -> Stop
 }
 
 /// What the work begins with: the images are looked at, the rescue text is read, and the set is tested.
-fn prepare<S: Source, I: Images>(
+pub fn prepare<S: Source, I: Images>(
     alloc: Global,
     source: &mut S,
     images: &I,

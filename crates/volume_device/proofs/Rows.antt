@@ -1,5 +1,5 @@
 -- Whole rows, and what is kept of the members.
-use Rattle.std.proofs.Common.{◌≡◌, ℕ, ◌+◌, ◌-◌, ◌*◌, ◌/◌, ◌%◌, ◌^◌, ◌<◌, ◌≤◌, inl, inr, Bool, true, false, refl, ap, ◌∙◌, arith}
+use Rattle.std.proofs.Common.{◌≡◌, ℕ, ◌+◌, ◌-◌, ◌*◌, ◌/◌, ◌%◌, ◌^◌, ◌<◌, ◌≤◌, inl, inr, Bool, true, false, refl, ap, subst, ◌∙◌, arith}
 use Rattle.std.specs.Prelude.{IsTrue, nat_le, ◌&&◌, max}
 use Rattle.std.proofs.lemmas.Bool.{cases_lt}
 use Rattle.std.proofs.lemmas.Bool.Decides.{nat_tests}
@@ -148,3 +148,8 @@ step_short n m row r most chunk e f few short =
     let same : n / row ≡ m / r = ap (λ (t : ℕ). t / row) e ∙ ap (λ (t : ℕ). m / t) f in
     let most : n / row * chunk ≤ most * chunk = mul-le (n / row) chunk most chunk (omega arith) (omega arith) in
     omega arith
+
+-- a step, by rows and a most that are told otherwise
+pub step_same : (row r most m sector left n : ℕ) → r ≡ row → m ≡ most → IsStep r m sector left n → IsStep row most sector left n
+step_same row r most m sector left n same also step =
+    subst (λ (k : ℕ). IsStep k most sector left n) same (subst (λ (k : ℕ). IsStep r k sector left n) also step)

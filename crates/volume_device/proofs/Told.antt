@@ -17,11 +17,11 @@ use Rattle.volume_device.specs.Sectors.{run_of, sectors_of}
 use Rattle.volume_device.proofs.Blocks.{all_blocks, flat_on, flat_slice}
 use Rattle.volume_device.proofs.Chunks.{chunk_run}
 
-told_start : (told : Option (List (List ℕ))) (f : List (List ℕ) → ℕ → List ℕ) (first : ℕ) (to : List ℕ) → IfSome told (λ bytes. take (512 * 0) to ≡ flat_map (f bytes) (range_with_len first 0))
+pub told_start : (told : Option (List (List ℕ))) (f : List (List ℕ) → ℕ → List ℕ) (first : ℕ) (to : List ℕ) → IfSome told (λ bytes. take (512 * 0) to ≡ flat_map (f bytes) (range_with_len first 0))
 told_start None f first to = tt
 told_start (Some images) f first to = refl
 
-told_on : (told : Option (List (List ℕ))) (f : List (List ℕ) → ℕ → List ℕ) (first at next n k : ℕ) (to run : List ℕ) → at ≤ next → n ≡ next - at → length run ≡ 512 * n → 512 * at ≤ length to →
+pub told_on : (told : Option (List (List ℕ))) (f : List (List ℕ) → ℕ → List ℕ) (first at next n k : ℕ) (to run : List ℕ) → at ≤ next → n ≡ next - at → length run ≡ 512 * n → 512 * at ≤ length to →
     IfSome told (λ bytes. take (512 * at) to ≡ flat_map (f bytes) (range_with_len first at)) → IfSome told (λ bytes. run ≡ flat_map (f bytes) (range_with_len (first + at) n)) →
     IfSome told (λ bytes. take (512 * next) (put_mid (512 * at) k to run) ≡ flat_map (f bytes) (range_with_len first next))
 told_on told f first at next n k to run le is long within before here =
@@ -30,7 +30,7 @@ told_on told f first at next n k to run le is long within before here =
     (λ bytes p q. flat_on (f bytes) first at next k to run le (omega arith) within p (q ∙ ap (λ (m : ℕ). flat_map (f bytes) (range_with_len (first + at) m)) is))
     before here
 
-told_all_of : (told : Option (List (List ℕ))) (f : List (List ℕ) → ℕ → List ℕ) (first at n : ℕ) (to : List ℕ) → at ≡ n → length to ≡ 512 * n →
+pub told_all_of : (told : Option (List (List ℕ))) (f : List (List ℕ) → ℕ → List ℕ) (first at n : ℕ) (to : List ℕ) → at ≡ n → length to ≡ 512 * n →
     IfSome told (λ bytes. take (512 * at) to ≡ flat_map (f bytes) (range_with_len first at)) → IfSome told (λ bytes. to ≡ flat_map (f bytes) (range_with_len first n))
 told_all_of told f first at n to e long before =
     if_told told (λ bytes. take (512 * at) to ≡ flat_map (f bytes) (range_with_len first at)) (λ bytes. to ≡ flat_map (f bytes) (range_with_len first n))

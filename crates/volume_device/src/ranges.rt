@@ -24,7 +24,7 @@ fn is_full(geo: &Geometry) -> bool
 }
 
 /// The sectors of the volume in a row of chunks.
-fn row_sectors(head: &Head) -> u64
+pub fn row_sectors(head: &Head) -> u64
     requires { IsTrue (is_valid_head head.now) }
     ensures { result ≡ row_sectors_of head.now }
 {
@@ -106,8 +106,18 @@ fn read_step<I: Images>(
     read_rows(images, kept, geo, end, first / row, count / row, to)
 }
 
-/// Reads sectors of the volume from number `first` on.
-pub(crate) fn read_range<I: Images>(
+/// How many of the `left` sectors of the volume from number `first` on are read by one step of [`read_range`].
+pub fn step_of(head: &Head, first: u64, left: u64) -> u64
+    requires head { IsTrue (is_valid_head head.now) }
+    requires some { 1 ≤ left }
+    ensures { IsStep (row_sectors_of head.now) (most_kept head.now / head.now.chunk) first left result }
+{
+    let most = head.chunk.max(BLOCK as u64) / head.chunk;
+    step_sectors(row_sectors(head), most, first, left)
+}
+
+/// Reads sectors of the volume from number `first` on, by steps: whole rows, and parts of rows.
+pub fn read_range<I: Images>(
     images: &mut I,
     kept: &mut Kept,
     geo: &Geometry,

@@ -1,0 +1,3 @@
+pub mod GoodRows
+pub mod Told
+pub mod Again

@@ -15,7 +15,7 @@ use Rattle.command_words.specs.declared.operands.Operand.{Operand}
 use Rattle.command_words.specs.declared.table.Name.TheVariants.{Set as SetName, End as EndName}
 use Rattle.near_mirror.specs.declared.types.NearSet.{NearSet}
 use Rattle.raid_params.specs.declared.wide.Wide.{Wide}
-use Rattle.reraid_nbd_cli.specs.Words.{AreNamed, PutsVolume}
+use Rattle.reraid_nbd_cli.specs.Words.{AreNamed, PutsSet, PutsVolume}
 
 -- the first word of a line names its command
 first_word : (a b : List ℕ) (words others : List (List ℕ)) → a ∷ words ≡ b ∷ others → a ≡ b
@@ -24,15 +24,15 @@ first_word a b words others e = cc
 differ : (a b : List ℕ) → bytes_eq a b ≡ false → a ≡ b → ⊥
 differ a b other same = false≢true (sym other ∙ (bytes_eq-Decides a b).1 same)
 
-puts_set : (set : Option Wide) (end : Option ℕ) (names : ℕ) (command : Command) → option_map (λ s. WriteCommand s end names) set ≡ Some command → PutsVolume command
+puts_set : (set : Option Wide) (end : Option ℕ) (names : ℕ) (command : Command) → option_map (λ s. WriteCommand s end names) set ≡ Some command → PutsSet command
 puts_set None end names command e = absurd (cc)
-puts_set (Some set) end names command e = let is : WriteCommand set end names ≡ command = cc in subst PutsVolume is tt
+puts_set (Some set) end names command e = let is : WriteCommand set end names ≡ command = cc in subst PutsSet is tt
 
 puts_mirror : (set : Option NearSet) (end : Option ℕ) (names : ℕ) (command : Command) → option_map (λ s. MirrorWriteCommand s end names) set ≡ Some command → PutsVolume command
 puts_mirror None end names command e = absurd (cc)
 puts_mirror (Some set) end names command e = let is : MirrorWriteCommand set end names ≡ command = cc in subst PutsVolume is tt
 
-by_write : (verb : Verb) (operands : List Operand) (names : ℕ) (command : Command) → codes "write" ≡ verb_word verb → command_of verb operands names ≡ Some command → PutsVolume command
+by_write : (verb : Verb) (operands : List Operand) (names : ℕ) (command : Command) → codes "write" ≡ verb_word verb → command_of verb operands names ≡ Some command → PutsSet command
 by_write Write operands names command same says = puts_set (set_in (value_of SetName operands)) (number_in (value_of EndName operands)) names command says
 by_write Survey operands names command same says = absurd (differ (codes "write") (codes "survey") refl same)
 by_write ListVerb operands names command same says = absurd (differ (codes "write") (codes "list") refl same)
@@ -61,11 +61,31 @@ by_mirrorwrite Salvage operands names command same says = absurd (differ (codes 
 by_mirrorwrite Relations operands names command same says = absurd (differ (codes "mirrorwrite") (codes "relations") refl same)
 
 -- words of `write` and of `mirrorwrite` ask for a volume
-pub write_puts : (words : List (List ℕ)) (command : Command) → IsCommandLine (codes "write" ∷ words) command → PutsVolume command
-write_puts words command line = elim line [
+pub write_sets : (words : List (List ℕ)) (command : Command) → IsCommandLine (codes "write" ∷ words) command → PutsSet command
+write_sets words command line = elim line [
   | inl has ↦ by_write has.verb has.operands (length has.operands + 2) command (first_word (codes "write") (verb_word has.verb) words _ has.spelled) has.says
   | inr alone ↦ absurd (not_alone Write command (subst (λ (w : List ℕ). SaysAlone w command) (sym (first_word (codes "write") alone.0 words [] alone.1)) alone.2))
 ]
+
+-- that of a set is one
+pub set_volume : (command : Command) → PutsSet command → PutsVolume command
+set_volume (WriteCommand set end names) puts = tt
+set_volume (MirrorWriteCommand set end names) puts = absurd puts
+set_volume (SurveyCommand asked) puts = absurd puts
+set_volume (ListCommand from size span pages form names) puts = absurd puts
+set_volume (CheckCommand set names) puts = absurd puts
+set_volume (MapCommand set sector end names) puts = absurd puts
+set_volume (RebuildCommand set slot end names) puts = absurd puts
+set_volume (SampleCommand number set rows xfs) puts = absurd puts
+set_volume (ClassesCommand images end) puts = absurd puts
+set_volume (MirrorsCommand members chunks offsets missing foreign badrows window end from size span names) puts = absurd puts
+set_volume (SalvageCommand set lost end names) puts = absurd puts
+set_volume (RelationsCommand asked) puts = absurd puts
+set_volume Help puts = absurd puts
+set_volume Version puts = absurd puts
+
+pub write_puts : (words : List (List ℕ)) (command : Command) → IsCommandLine (codes "write" ∷ words) command → PutsVolume command
+write_puts words command line = set_volume command (write_sets words command line)
 
 pub mirrorwrite_puts : (words : List (List ℕ)) (command : Command) → IsCommandLine (codes "mirrorwrite" ∷ words) command → PutsVolume command
 mirrorwrite_puts words command line = elim line [

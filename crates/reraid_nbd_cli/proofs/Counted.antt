@@ -1,6 +1,6 @@
 -- What was read of a device, by what its images count.
-use Rattle.std.proofs.Common.{ℕ, Bool, List, [], ◌∷◌, Result, Ok, Err, ap}
-use Rattle.block_device.specs.Reading.{Asked, Costs, Counts, asked_for}
+use Rattle.std.proofs.Common.{ℕ, Bool, Option, List, [], ◌∷◌, Result, Ok, Err, ap}
+use Rattle.block_device.specs.Reading.{Answers, Asked, Counts, asked_for}
 use Rattle.nbd_server.specs.Served.{Serves}
 use Rattle.nbd_server.specs.Turns.{ReadInTurn, Wire, wire}
 use Rattle.nbd_server.specs.declared.stop.NbdStop.{NbdStop}
@@ -10,8 +10,8 @@ use Rattle.nbd_text.specs.Requests.{Reading}
 use Rattle.reraid_nbd_cli.specs.Runs.{costing}
 
 -- the readings of a device that stays what it is, `Stays`, and of which each costs so many sectors
-counted : {D : Type 0} (reads : D → Asked → Bool → D → Type 0) (counts : D → Counts) (Stays : D → Type 0) (cost : Asked → ℕ) →
-    ((before after : D) (asked : Asked) (failed : Bool) → Stays before → reads before asked failed after → Costs (cost asked) failed (counts before) (counts after) × Stays after) →
+counted : {D : Type 0} (reads : D → Asked → Bool → D → Type 0) (counts : D → Counts) (Stays : D → Type 0) (cost : Asked → Option ℕ) →
+    ((before after : D) (asked : Asked) (failed : Bool) → Stays before → reads before asked failed after → Answers (cost asked) failed (counts before) (counts after) × Stays after) →
     (readings : List Reading) (before after : D) → Stays before → ReadInTurn reads before readings after → ReadInTurn (costing cost) (counts before) readings (counts after)
 counted reads counts Stays cost each [] before after stays are = ap counts are
 counted reads counts Stays cost each (reading ∷ others) before after stays are =
@@ -19,8 +19,8 @@ counted reads counts Stays cost each (reading ∷ others) before after stays are
     let one = each before mid (asked_for reading.request.offset reading.request.length) reading.failed stays are.1 in
     (counts mid, one.0, counted reads counts Stays cost each others mid after one.1 are.2)
 
-pub serves_counted : {D : Type 0} {reads : D → Asked → Bool → D → Type 0} (say : List Bool → List ℕ → Said) (old new : Wire D) (result : Result (Unit {0}) NbdStop) → Serves reads say old new result → (counts : D → Counts) (Stays : D → Type 0) (cost : Asked → ℕ) →
-    ((before after : D) (asked : Asked) (failed : Bool) → Stays before → reads before asked failed after → Costs (cost asked) failed (counts before) (counts after) × Stays after) → Stays old.device →
+pub serves_counted : {D : Type 0} {reads : D → Asked → Bool → D → Type 0} (say : List Bool → List ℕ → Said) (old new : Wire D) (result : Result (Unit {0}) NbdStop) → Serves reads say old new result → (counts : D → Counts) (Stays : D → Type 0) (cost : Asked → Option ℕ) →
+    ((before after : D) (asked : Asked) (failed : Bool) → Stays before → reads before asked failed after → Answers (cost asked) failed (counts before) (counts after) × Stays after) → Stays old.device →
     Serves (costing cost) say (wire old.left old.gained (counts old.device)) (wire new.left new.gained (counts new.device)) result
 serves_counted {reads = reads} say old new (Ok done) talks counts Stays cost each stays = record {
   taken = talks.taken;

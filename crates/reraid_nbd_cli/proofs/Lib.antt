@@ -4,3 +4,5 @@ pub mod Shown
 pub mod Ran
 pub mod Served
 pub mod OneWord
+pub mod Mapped
+pub mod Behind

@@ -17,13 +17,13 @@ use Rattle.run_ends.specs.declared.stop.Refusal.{Refusal}
 use Rattle.run_ends.specs.declared.stop.Refusal.TheVariants.{Word}
 use Rattle.reraid_nbd_cli.specs.Runs.{Ends, HasImages, Runs, Shows, cost as cost_of, costing, place, refusal, sectors, volume}
 use Rattle.reraid_nbd_cli.specs.declared.ends.NbdEnd.{NbdEnd}
-use Rattle.reraid_nbd_cli.specs.declared.ends.NbdEnd.TheVariants.{Refused, ImageFault, Long, Stopped}
+use Rattle.reraid_nbd_cli.specs.declared.ends.NbdEnd.TheVariants.{Refused, ImageFault, MapsFault, Long, Stopped}
 
 -- attaching comes before, reads nothing and meets no fault
-same_counts : (a b : Seen) → a.faults ≡ b.faults → a.sectors_read ≡ b.sectors_read → counts_of a ≡ counts_of b
+pub same_counts : (a b : Seen) → a.faults ≡ b.faults → a.sectors_read ≡ b.sectors_read → counts_of a ≡ counts_of b
 same_counts a b faults read = rw (faults, read) refl
 
-ends_before : (refused : Option Refusal) (size : ℕ) (content : Option (List ℕ)) (cost : Asked → ℕ) (seen mid new : Seen) (source left out put : Stream) (r : Result (Unit {0}) NbdEnd) → mid.faults ≡ seen.faults → mid.sectors_read ≡ seen.sectors_read →
+pub ends_before : (refused : Option Refusal) (size : ℕ) (content : Option (List ℕ)) (cost : Asked → Option ℕ) (seen mid new : Seen) (source left out put : Stream) (r : Result (Unit {0}) NbdEnd) → mid.faults ≡ seen.faults → mid.sectors_read ≡ seen.sectors_read →
     Ends refused size content cost (place mid source out) (place new left put) r → Ends refused size content cost (place seen source out) (place new left put) r
 ends_before refused size content cost seen mid new source left out put (Ok done) faults read ends =
     let P : Counts → Type 0 = λ c. IfSome content (λ bytes. Serves (costing cost) (dialogue bytes) (wire source.known out.known c) (wire left.known put.known (counts_of new)) (Ok done)) in
@@ -37,12 +37,14 @@ ends_before refused size content cost seen mid new source left out put (Err (Ref
     (ends.0, record { source = ends.1.source; out = ends.1.out; unread = ends.1.unread ∙ read }, ends.2 ∙ faults)
 ends_before refused size content cost seen mid new source left out put (Err ImageFault) faults read ends =
     (record { source = ends.0.source; out = ends.0.out; unread = ends.0.unread ∙ read }, subst (λ (n : ℕ). Rose n new.faults) faults ends.1)
+ends_before refused size content cost seen mid new source left out put (Err MapsFault) faults read ends = absurd ends
 
-has_images : (names : ℕ) (attached : List Image) (r : Result (Unit {0}) NbdEnd) → (IsErrOf r ImageFault → ⊥) → length attached ≡ min names 65536 → HasImages (named names attached) r
+pub has_images : (names : ℕ) (attached : List Image) (r : Result (Unit {0}) NbdEnd) → (IsErrOf r ImageFault → ⊥) → length attached ≡ min names 65536 → HasImages (named names attached) r
 has_images names attached (Ok done) none all = all
 has_images names attached (Err (Refused why)) none all = all
 has_images names attached (Err (Long n)) none all = all
 has_images names attached (Err (Stopped stop)) none all = all
+has_images names attached (Err MapsFault) none all = all
 has_images names attached (Err ImageFault) none all = absurd (none refl)
 
 pub ran : (command : Command) (names : ℕ) (seen mid new : Seen) (source left out put : Stream) (r : Result (Unit {0}) NbdEnd) → mid.faults ≡ seen.faults → mid.sectors_read ≡ seen.sectors_read → mid.world ≡ seen.world → length mid.attached ≡ min names 65536 →

@@ -34,7 +34,7 @@ raised fault before after result raises = record {
   later = raises.later;
 }
 
-pub shown_served : (size : ℕ) (content : Option (List ℕ)) (cost : Asked → ℕ) (old new : Seen) (source left out put : Stream) (result : Result (Unit {0}) NbdStop) → size < 2 ^ 54 →
+pub shown_served : (size : ℕ) (content : Option (List ℕ)) (cost : Asked → Option ℕ) (old new : Seen) (source left out put : Stream) (result : Result (Unit {0}) NbdStop) → size < 2 ^ 54 →
     IfSome content (λ bytes. Serves (costing cost) (dialogue bytes) (wire source.known out.known (counts_of old)) (wire left.known put.known (counts_of new)) result) → new.world ≡ old.world → new.attached ≡ old.attached → old.faults ≤ new.faults →
     Raised SourceFault source.faults left.faults result → Raised OutFault out.faults put.faults result → Shows None size content cost (place old source out) (place new left put) (ended result)
 shown_served size content cost old new source left out put (Ok done) short serves world attached later taken given = record {

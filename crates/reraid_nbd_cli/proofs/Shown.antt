@@ -10,14 +10,14 @@ use Rattle.run_ends.specs.Counts.{Raises}
 use Rattle.run_ends.specs.declared.stop.Refusal.{Refusal}
 use Rattle.reraid_nbd_cli.specs.Runs.{Ends, IsUntouched, Leaves, Place, Shows, place}
 use Rattle.reraid_nbd_cli.specs.declared.ends.NbdEnd.{NbdEnd}
-use Rattle.reraid_nbd_cli.specs.declared.ends.NbdEnd.TheVariants.{Refused, ImageFault, Long, Stopped}
+use Rattle.reraid_nbd_cli.specs.declared.ends.NbdEnd.TheVariants.{Refused, ImageFault, MapsFault, Long, Stopped}
 
 -- a count that stayed at an end that is no fault of its object
 calm : (fault end : NbdEnd) (count : ℕ) → (end ≡ fault → ⊥) → Raises {T = Unit {0}} fault count count (Err end)
 calm fault end count other = record { rose = λ e. absurd (other (cc)); stays = λ none. refl; later = omega arith }
 
 -- over the end of the members, of a set that is not refused
-pub allowed_shown : (refused : Option Refusal) (size : ℕ → ℕ) (content : ℕ → Option (List ℕ)) (cost : Asked → ℕ) (last end : ℕ) (old new : Place) (r : Result (Unit {0}) NbdEnd) → refused ≡ None → last ≡ end →
+pub allowed_shown : (refused : Option Refusal) (size : ℕ → ℕ) (content : ℕ → Option (List ℕ)) (cost : Asked → Option ℕ) (last end : ℕ) (old new : Place) (r : Result (Unit {0}) NbdEnd) → refused ≡ None → last ≡ end →
     Shows None (size last) (content last) cost old new r → Shows refused (size end) (content end) cost old new r
 allowed_shown refused size content cost last end old new r none is shows =
     let P : ℕ → Type 0 = λ n. Shows None (size n) (content n) cost old new r in
@@ -25,7 +25,7 @@ allowed_shown refused size content cost last end old new r none is shows =
     subst Q (sym none) (subst P is shows)
 
 -- nothing was done
-still : (old : Place) (end : NbdEnd) → (end ≡ Stopped SourceFault → ⊥) → (end ≡ Stopped OutFault → ⊥) → Leaves old old (Err end)
+pub still : (old : Place) (end : NbdEnd) → (end ≡ Stopped SourceFault → ⊥) → (end ≡ Stopped OutFault → ⊥) → Leaves old old (Err end)
 still old end source out = record {
   source = calm (Stopped SourceFault) end old.source.faults source;
   out = calm (Stopped OutFault) end old.out.faults out;
@@ -33,11 +33,11 @@ still old end source out = record {
   world = refl;
 }
 
-untouched : (old : Place) → IsUntouched old old
+pub untouched : (old : Place) → IsUntouched old old
 untouched old = record { source = refl; out = refl; unread = refl }
 
 -- what is refused
-pub shown_refused : (refused : Option Refusal) (refusal : Refusal) (size : ℕ) (content : Option (List ℕ)) (cost : Asked → ℕ) (old : Place) → refused ≡ Some refusal → Shows refused size content cost old old (Err (Refused refusal))
+pub shown_refused : (refused : Option Refusal) (refusal : Refusal) (size : ℕ) (content : Option (List ℕ)) (cost : Asked → Option ℕ) (old : Place) → refused ≡ Some refusal → Shows refused size content cost old old (Err (Refused refusal))
 shown_refused refused refusal size content cost old is = record {
   ends = (is, untouched old, refl);
   attaches = λ e. absurd (cc);
@@ -49,7 +49,7 @@ shown_refused refused refusal size content cost old is = record {
 calmed : Seen → Seen
 calmed seen = record seen { faults = 0; sectors_read = 0 }
 
-ends_within : (reference other : ℕ) (bases others : List ℕ) (size : ℕ) (content : Option (List ℕ)) (cost : Asked → ℕ) (old new : Seen) (source left out put : Stream) (r : Result (Unit {0}) NbdEnd) →
+ends_within : (reference other : ℕ) (bases others : List ℕ) (size : ℕ) (content : Option (List ℕ)) (cost : Asked → Option ℕ) (old new : Seen) (source left out put : Stream) (r : Result (Unit {0}) NbdEnd) →
     Ends None size content cost (place (seen_padded reference bases old) source out) (place (seen_padded other others new) left put) r → Ends None size content cost (place old source out) (place new left put) r
 ends_within reference other bases others size content cost old new source left out put (Ok done) ends = record { allowed = ends.allowed; short = ends.short; serves = ends.serves }
 ends_within reference other bases others size content cost old new source left out put (Err (Stopped stop)) ends = record { allowed = ends.allowed; short = ends.short; serves = ends.serves }
@@ -59,8 +59,9 @@ ends_within reference other bases others size content cost old new source left o
     (ends.0, record { source = ends.1.source; out = ends.1.out; unread = ends.1.unread }, ends.2)
 ends_within reference other bases others size content cost old new source left out put (Err ImageFault) ends =
     (record { source = ends.0.source; out = ends.0.out; unread = ends.0.unread }, ends.1)
+ends_within reference other bases others size content cost old new source left out put (Err MapsFault) ends = absurd ends
 
-pub shows_within : (reference other : ℕ) (bases others : List ℕ) (size : ℕ) (content : Option (List ℕ)) (cost : Asked → ℕ) (old new : Seen) (source left out put : Stream) (r : Result (Unit {0}) NbdEnd) →
+pub shows_within : (reference other : ℕ) (bases others : List ℕ) (size : ℕ) (content : Option (List ℕ)) (cost : Asked → Option ℕ) (old new : Seen) (source left out put : Stream) (r : Result (Unit {0}) NbdEnd) →
     Shows None size content cost (place (seen_padded reference bases old) source out) (place (seen_padded other others new) left put) r → (other ≡ reference) × Shows None size content cost (place old source out) (place new left put) r
 unfolding calmed
 shows_within reference other bases others size content cost old new source left out put r shows =

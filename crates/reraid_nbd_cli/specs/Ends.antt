@@ -6,9 +6,10 @@ use Rattle.outside.specs.Streams.{AppendsFront, Stream}
 use Rattle.nbd_server.specs.declared.stop.NbdStop.{NbdStop}
 use Rattle.nbd_server.specs.declared.stop.NbdStop.TheVariants.{SourceFault, OutFault, Malformed, OutOfMemory}
 use Rattle.run_ends.specs.Stops.{notice_of, refusal_notice}
-use Rattle.run_ends.specs.declared.stop.Stop.TheVariants.{ImageFault as ImageStop, OutFault as OutStop, OutOfMemory as MemoryStop}
+use Rattle.run_ends.specs.declared.stop.Stop.{Stop}
+use Rattle.run_ends.specs.declared.stop.Stop.TheVariants.{Refused as RefusedStop, SourceFault as SourceStop, ImageFault as ImageStop, OutFault as OutStop, OutOfMemory as MemoryStop}
 use Rattle.reraid_nbd_cli.specs.declared.ends.NbdEnd.{NbdEnd}
-use Rattle.reraid_nbd_cli.specs.declared.ends.NbdEnd.TheVariants.{Refused, ImageFault, Long, Stopped}
+use Rattle.reraid_nbd_cli.specs.declared.ends.NbdEnd.TheVariants.{Refused, ImageFault, MapsFault, Long, Stopped}
 
 -- the line of a volume that is too long
 abbrev pub long_line : ℕ → List ℕ
@@ -25,8 +26,15 @@ stop_notice OutOfMemory = notice_of MemoryStop
 abbrev pub end_notice : NbdEnd → ℕ × List ℕ
 end_notice (Refused refusal) = refusal_notice refusal
 end_notice ImageFault = notice_of ImageStop
+end_notice MapsFault = (16, codes "reraid: maps read fault\n")
 end_notice (Long sectors) = (15, long_line sectors)
 end_notice (Stopped stop) = stop_notice stop
+
+-- how a run ends where `salvage` would stop before it writes
+abbrev pub end_of_stop : Stop → NbdEnd
+end_of_stop (RefusedStop refusal) = Refused refusal
+end_of_stop SourceStop = MapsFault
+end_of_stop _ = Stopped OutOfMemory
 
 -- the status says how a run ended, and the notes gained its line, or a front of it where their count of faults rose
 abbrev pub IsTold : Result (Unit {0}) NbdEnd → ℕ → Stream → Stream → Type 0

@@ -3,7 +3,7 @@ use Rattle.std.specs.Prelude.{ℕ, ◌≡◌, ◌<◌, ◌≤◌, ◌^◌, min, 
 use Rattle.std.specs.declared.option.Option.{Option}
 use Rattle.std.specs.declared.option.Option.TheVariants.{None, Some}
 use Rattle.std.specs.Io.KnownBytes.{Appends}
-use Rattle.block_device.specs.Reading.{Asked, Costs, Counts, counts_of}
+use Rattle.block_device.specs.Reading.{Answers, Asked, Counts, counts_of}
 use Rattle.command_words.specs.declared.command.Command.{Command}
 use Rattle.command_words.specs.declared.command.Command.TheVariants.{Write, MirrorWrite}
 use Rattle.near_jobs.specs.MirrorWriting.{mirror_output, mirror_reads, mirror_refusal}
@@ -26,7 +26,7 @@ use Rattle.set_jobs.specs.Mapping.{set_refusal}
 use Rattle.set_jobs.specs.Writing.{told_for, volume_reads, write_output}
 use Rattle.volume_device.specs.Cost.{range_cost}
 use Rattle.reraid_nbd_cli.specs.declared.ends.NbdEnd.{NbdEnd}
-use Rattle.reraid_nbd_cli.specs.declared.ends.NbdEnd.TheVariants.{Refused, ImageFault, Long, Stopped}
+use Rattle.reraid_nbd_cli.specs.declared.ends.NbdEnd.TheVariants.{Refused, ImageFault, MapsFault, Long, Stopped}
 use Rattle.reraid_nbd_cli.specs.declared.telling.Alone.{Alone}
 use Rattle.reraid_nbd_cli.specs.declared.telling.Alone.TheVariants.{Help, Version}
 use Rattle.reraid_nbd_cli.specs.Words.{Asks, alone_in}
@@ -48,9 +48,10 @@ place_of seen left taken gained put images source out = place (seen images) (str
 abbrev pub wire_of : Place → Wire Counts
 wire_of place = wire place.source.known place.out.known (counts_of place.images)
 
--- what a reading of sectors does to the counts of the images, where these sectors cost so many of the images'
-abbrev pub costing : (Asked → ℕ) → Counts → Asked → Bool → Counts → Type 0
-costing cost before asked failed after = Costs (cost asked) failed before after
+-- what a reading of sectors does to the counts of the images, where these sectors cost so many of the images', or one of them is lost: then it
+-- fails, and nothing is read
+abbrev pub costing : (Asked → Option ℕ) → Counts → Asked → Bool → Counts → Type 0
+costing cost before asked failed after = Answers (cost asked) failed before after
 
 -- the first refusal: the word, or what the command refuses
 abbrev pub refusal : Result Command ℕ → Named → Option Refusal
@@ -72,13 +73,16 @@ sectors (Ok (MirrorWrite set end names)) given = mirror_reads set end given.atta
 sectors _ given = 0
 
 -- how many sectors of the images may be read for sectors of it
-abbrev pub costs_of : Geometry → Asked → ℕ
-costs_of geo asked = range_cost geo asked.first asked.count
+abbrev pub costs_of : Geometry → Asked → Option ℕ
+costs_of geo asked = Some (range_cost geo asked.first asked.count)
 
-abbrev pub cost : Result Command ℕ → Asked → ℕ
+abbrev pub mirror_cost : Asked → Option ℕ
+mirror_cost asked = Some asked.count
+
+abbrev pub cost : Result Command ℕ → Asked → Option ℕ
 cost (Ok (Write set end names)) = costs_of set.geo
-cost (Ok (MirrorWrite set end names)) = λ asked. asked.count
-cost _ = λ asked. 0
+cost (Ok (MirrorWrite set end names)) = mirror_cost
+cost _ = λ asked. Some 0
 
 -- nothing was taken, put or read
 pub record IsUntouched (old new : Place) : Type 0 where
@@ -88,18 +92,19 @@ pub record IsUntouched (old new : Place) : Type 0 where
 
 -- nothing is refused, the length of the volume can be told, what was put is what the dialogue over its bytes says for what was taken, and
 -- images were read for the requests alone, no more of them than these cost
-pub record IsServed (refused : Option Refusal) (size : ℕ) (content : Option (List ℕ)) (cost : Asked → ℕ) (old new : Place) (result : Result (Unit {0}) NbdStop) : Type 0 where
+pub record IsServed (refused : Option Refusal) (size : ℕ) (content : Option (List ℕ)) (cost : Asked → Option ℕ) (old new : Place) (result : Result (Unit {0}) NbdStop) : Type 0 where
   pub allowed : refused ≡ None
   pub short : size < 2 ^ 54
   pub serves : IfSome content (λ bytes. Serves (costing cost) (dialogue bytes) (wire_of old) (wire_of new) result)
 
 -- how a run ends, by its first refusal, and by the sectors and the bytes of the volume, and what its sectors cost
-abbrev pub Ends : Option Refusal → ℕ → Option (List ℕ) → (Asked → ℕ) → Place → Place → Result (Unit {0}) NbdEnd → Type 0
+abbrev pub Ends : Option Refusal → ℕ → Option (List ℕ) → (Asked → Option ℕ) → Place → Place → Result (Unit {0}) NbdEnd → Type 0
 Ends refused size content cost old new (Ok done) = IsServed refused size content cost old new (Ok done)
 Ends refused size content cost old new (Err (Stopped stop)) = IsServed refused size content cost old new (Err stop)
 Ends refused size content cost old new (Err (Long n)) = (refused ≡ None) × (n ≡ size) × (2 ^ 54 ≤ size) × IsUntouched old new × (new.images.faults ≡ old.images.faults)
 Ends refused size content cost old new (Err (Refused refusal)) = (refused ≡ Some refusal) × IsUntouched old new × (new.images.faults ≡ old.images.faults)
 Ends refused size content cost old new (Err ImageFault) = IsUntouched old new × Rose old.images.faults new.images.faults
+Ends refused size content cost old new (Err MapsFault) = ⊥
 
 -- each count of faults rose where that fault is the end, and stayed elsewhere; that of the images may rise while they are read. Nothing outside is changed
 pub record Leaves (old new : Place) (result : Result (Unit {0}) NbdEnd) : Type 0 where
@@ -114,7 +119,7 @@ pub record AreImages (names : ℕ) (images : List Image) : Type 0 where
   pub small : All (λ image. image.sectors < 2 ^ 55) images
 
 -- the volume is shown over images that are attached, and stay so
-pub record Shows (refused : Option Refusal) (size : ℕ) (content : Option (List ℕ)) (cost : Asked → ℕ) (old new : Place) (result : Result (Unit {0}) NbdEnd) : Type 0 where
+pub record Shows (refused : Option Refusal) (size : ℕ) (content : Option (List ℕ)) (cost : Asked → Option ℕ) (old new : Place) (result : Result (Unit {0}) NbdEnd) : Type 0 where
   pub ends : Ends refused size content cost old new result
   pub attaches : IsErrOf result ImageFault → ⊥
   pub leaves : Leaves old new result
@@ -150,10 +155,3 @@ pub record Tells (alone : Alone) (old new : Place) (result : Result (Unit {0}) N
   pub source : new.source ≡ old.source
   pub images : new.images ≡ old.images
 
--- a run by what one word asks for alone, or else by the volume that the words ask for
-abbrev pub RunsBy : Option Alone → List (List ℕ) → Named → Place → Place → Result (Unit {0}) NbdEnd → Type 0
-RunsBy (Some alone) words given old new result = Tells alone old new result
-RunsBy None words given old new result = (asked : Result Command ℕ) × Asks words asked × Runs asked given old new result
-
-abbrev pub RunsWords : List (List ℕ) → Named → Place → Place → Result (Unit {0}) NbdEnd → Type 0
-RunsWords words given old new result = RunsBy (alone_in words) words given old new result

@@ -13,10 +13,12 @@ use run_ends::{Notice, Refusal, Stop};
 /// Why a run ends without the dialogue's end.
 #[derive(Clone, Copy)]
 pub enum NbdEnd {
-    /// The words, the images or the set are refused, as `write` and `mirrorwrite` refuse them.
+    /// The words, the images or the set are refused, as `write` and `mirrorwrite` refuse them, or as `salvage` does, with the text of its maps.
     Refused(Refusal),
     /// An image could not be attached.
     ImageFault,
+    /// The text of the maps could not be read.
+    MapsFault,
     /// The volume has so many sectors, 2^54 or more. The protocol's clients cannot take so many bytes.
     Long(u64),
     /// The server stopped.
@@ -56,6 +58,10 @@ impl NbdEnd {
         match self {
             NbdEnd::Refused(refusal) => Stop::Refused(*refusal).notice(),
             NbdEnd::ImageFault => Stop::ImageFault.notice(),
+            NbdEnd::MapsFault => Notice {
+                status: 16,
+                line: text("reraid: maps read fault\n"),
+            },
             NbdEnd::Long(sectors) => Notice {
                 status: 15,
                 line: long_line(*sectors),

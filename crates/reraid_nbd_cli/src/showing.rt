@@ -11,7 +11,7 @@ ghost use Rattle.value_text.specs.SetText.{HasWord};
 ghost use Rattle.virtual_volume.specs.Served.{IsServed};
 ghost use Rattle.volume_device.specs.Kept.{IsNew};
 ghost use Rattle.volume_device.specs.Lengths.{mirror_told, volume_told};
-ghost use Rattle.reraid_nbd_cli.specs.Runs.{AreImages, Shows, costs_of, place_of};
+ghost use Rattle.reraid_nbd_cli.specs.Runs.{AreImages, Shows, costs_of, mirror_cost, place_of};
 
 use crate::ends::NbdEnd;
 use address_map::volume_sectors;
@@ -27,7 +27,7 @@ use std::alloc::Global;
 use volume_device::{Kept, MirrorDevice, ParityDevice};
 
 /// A volume of so many sectors has 2^63 bytes.
-const SECTORS_END: u64 = 1 << 54;
+pub(crate) const SECTORS_END: u64 = 1 << 54;
 
 /// Serves the volume of a set over attached images. `names` is the number of images; `end` is the image sector after the last one of
 /// the members, or None for the shortest image's.
@@ -131,7 +131,7 @@ pub(crate) fn show_mirror<I: Images, S: Source, K: Sink>(
     requires given { AreImages names (I.seen images.old).attached }
     requires end { IfSome end (λ sector. sector < 2 ^ 55) }
     ensures { Shows (mirror_refusal set.now end names (I.seen images.old).attached) (mirror_reads set.now end (I.seen images.old).attached)
-        (mirror_output set.now end (I.seen images.old).attached (told_all (I.seen images.old).attached)) (λ asked. asked.count)
+        (mirror_output set.now end (I.seen images.old).attached (told_all (I.seen images.old).attached)) mirror_cost
         (place_of I.seen S.left S.faults K.gained K.faults images.old source.old out.old)
         (place_of I.seen S.left S.faults K.gained K.faults images.new source.new out.new) result }
 {
@@ -149,7 +149,7 @@ fn show_copies<I: Images, S: Source, K: Sink>(
     out: &mut K,
 ) -> Result<(), NbdEnd>
     requires { IsMirrored set.now end (I.seen images.old).attached }
-    ensures { Shows None (near_sectors set.now.head end) (mirror_told (told_all (I.seen images.old).attached) set.now end) (λ asked. asked.count)
+    ensures { Shows None (near_sectors set.now.head end) (mirror_told (told_all (I.seen images.old).attached) set.now end) mirror_cost
         (place_of I.seen S.left S.faults K.gained K.faults images.old source.old out.old)
         (place_of I.seen S.left S.faults K.gained K.faults images.new source.new out.new) result }
 {

@@ -9,7 +9,7 @@ use Rattle.outside.specs.Attached.{told_all}
 use Rattle.run_ends.specs.Jobs.{stream}
 use Rattle.near_mirror.specs.Copies.{near_sectors}
 use Rattle.volume_device.specs.Lengths.{mirror_told}
-use Rattle.reraid_nbd_cli.specs.Runs.{costing}
+use Rattle.reraid_nbd_cli.specs.Runs.{costing, mirror_cost}
 use Rattle.reraid_nbd_cli.proofs.Counted.{serves_counted}
 use Rattle.reraid_nbd_cli.proofs.Served.{shown_served}
 use Rattle.reraid_nbd_cli.proofs.showing.show_copies.Goals as goal
@@ -30,13 +30,13 @@ returns g c =
     let fixed = c.serve.ensures.fixed in
     let kept : served.images.ghost_name ≡ device.images.ghost_name = ap (λ f. f.reference) fixed in
     let counted = IfSome_then (mirror_told (told_all (g.I.Images.seen device.images.now).attached) device.set.now device.end) c.in_ok-serve.ensures.serves (λ bytes serves.
-    serves_counted (dialogue bytes) (wire source.known out.known device) (wire taken.known put.known served) (Ok c.in_ok-serve.field-0) serves (λ d. counts_of (g.I.Images.seen d.images.now)) (λ d. Unit {0}) (λ asked. asked.count)
+    serves_counted (dialogue bytes) (wire source.known out.known device) (wire taken.known put.known served) (Ok c.in_ok-serve.field-0) serves (λ d. counts_of (g.I.Images.seen d.images.now)) (λ d. Unit {0}) mirror_cost
     (λ before after asked failed stays read. (read, tt)) tt) in
-    let here = subst (λ v. IfSome (mirror_told (told_all (g.I.Images.seen v).attached) set c.args.end) (λ bytes. Serves (costing (λ asked. asked.count)) (dialogue bytes) (wire source.known out.known (counts_of (g.I.Images.seen v))) (wire taken.known put.known (counts_of new)) (Ok c.in_ok-serve.field-0))) within
-    (subst (λ (e : ℕ). IfSome (mirror_told (told_all (g.I.Images.seen device.images.now).attached) set e) (λ bytes. Serves (costing (λ asked. asked.count)) (dialogue bytes) (wire source.known out.known (counts_of (g.I.Images.seen device.images.now))) (wire taken.known put.known (counts_of new)) (Ok c.in_ok-serve.field-0))) volume.1
-    (subst (λ q. IfSome (mirror_told (told_all (g.I.Images.seen device.images.now).attached) q device.end) (λ bytes. Serves (costing (λ asked. asked.count)) (dialogue bytes) (wire source.known out.known (counts_of (g.I.Images.seen device.images.now))) (wire taken.known put.known (counts_of new)) (Ok c.in_ok-serve.field-0))) volume.0 counted)) in
+    let here = subst (λ v. IfSome (mirror_told (told_all (g.I.Images.seen v).attached) set c.args.end) (λ bytes. Serves (costing mirror_cost) (dialogue bytes) (wire source.known out.known (counts_of (g.I.Images.seen v))) (wire taken.known put.known (counts_of new)) (Ok c.in_ok-serve.field-0))) within
+    (subst (λ (e : ℕ). IfSome (mirror_told (told_all (g.I.Images.seen device.images.now).attached) set e) (λ bytes. Serves (costing mirror_cost) (dialogue bytes) (wire source.known out.known (counts_of (g.I.Images.seen device.images.now))) (wire taken.known put.known (counts_of new)) (Ok c.in_ok-serve.field-0))) volume.1
+    (subst (λ q. IfSome (mirror_told (told_all (g.I.Images.seen device.images.now).attached) q device.end) (λ bytes. Serves (costing mirror_cost) (dialogue bytes) (wire source.known out.known (counts_of (g.I.Images.seen device.images.now))) (wire taken.known put.known (counts_of new)) (Ok c.in_ok-serve.field-0))) volume.0 counted)) in
     let later : old.faults ≤ new.faults = subst (λ v. (g.I.Images.seen v).faults ≤ new.faults) within c.in_ok-serve.ensures.later in
-    let done = shown_served (near_sectors set.head c.args.end) (mirror_told (told_all old.attached) set c.args.end) (λ asked. asked.count) old new source taken out put (Ok c.in_ok-serve.field-0) (omega (arith, c.sectors-sectors.ensures, ap (λ s. near_sectors s.head c.args.end) volume.0, ap (λ (e : ℕ). near_sectors device.set.now.head e) volume.1)) here
+    let done = shown_served (near_sectors set.head c.args.end) (mirror_told (told_all old.attached) set c.args.end) mirror_cost old new source taken out put (Ok c.in_ok-serve.field-0) (omega (arith, c.sectors-sectors.ensures, ap (λ s. near_sectors s.head c.args.end) volume.0, ap (λ (e : ℕ). near_sectors device.set.now.head e) volume.1)) here
     (ap (λ f. f.world) fixed ∙ ap (λ v. (g.I.Images.seen v).world) within) (ap (λ f. f.attached) fixed ∙ ap (λ v. (g.I.Images.seen v).attached) within) later c.in_ok-serve.ensures.source c.in_ok-serve.ensures.sink in
     search rules
 
@@ -56,13 +56,13 @@ returns-in_err-serve g c =
     let fixed = c.serve.ensures.fixed in
     let kept : served.images.ghost_name ≡ device.images.ghost_name = ap (λ f. f.reference) fixed in
     let counted = IfSome_then (mirror_told (told_all (g.I.Images.seen device.images.now).attached) device.set.now device.end) c.in_err-serve.ensures.serves (λ bytes serves.
-    serves_counted (dialogue bytes) (wire source.known out.known device) (wire taken.known put.known served) (Err c.in_err-serve.field-0.0) serves (λ d. counts_of (g.I.Images.seen d.images.now)) (λ d. Unit {0}) (λ asked. asked.count)
+    serves_counted (dialogue bytes) (wire source.known out.known device) (wire taken.known put.known served) (Err c.in_err-serve.field-0.0) serves (λ d. counts_of (g.I.Images.seen d.images.now)) (λ d. Unit {0}) mirror_cost
     (λ before after asked failed stays read. (read, tt)) tt) in
-    let here = subst (λ v. IfSome (mirror_told (told_all (g.I.Images.seen v).attached) set c.args.end) (λ bytes. Serves (costing (λ asked. asked.count)) (dialogue bytes) (wire source.known out.known (counts_of (g.I.Images.seen v))) (wire taken.known put.known (counts_of new)) (Err c.in_err-serve.field-0.0))) within
-    (subst (λ (e : ℕ). IfSome (mirror_told (told_all (g.I.Images.seen device.images.now).attached) set e) (λ bytes. Serves (costing (λ asked. asked.count)) (dialogue bytes) (wire source.known out.known (counts_of (g.I.Images.seen device.images.now))) (wire taken.known put.known (counts_of new)) (Err c.in_err-serve.field-0.0))) volume.1
-    (subst (λ q. IfSome (mirror_told (told_all (g.I.Images.seen device.images.now).attached) q device.end) (λ bytes. Serves (costing (λ asked. asked.count)) (dialogue bytes) (wire source.known out.known (counts_of (g.I.Images.seen device.images.now))) (wire taken.known put.known (counts_of new)) (Err c.in_err-serve.field-0.0))) volume.0 counted)) in
+    let here = subst (λ v. IfSome (mirror_told (told_all (g.I.Images.seen v).attached) set c.args.end) (λ bytes. Serves (costing mirror_cost) (dialogue bytes) (wire source.known out.known (counts_of (g.I.Images.seen v))) (wire taken.known put.known (counts_of new)) (Err c.in_err-serve.field-0.0))) within
+    (subst (λ (e : ℕ). IfSome (mirror_told (told_all (g.I.Images.seen device.images.now).attached) set e) (λ bytes. Serves (costing mirror_cost) (dialogue bytes) (wire source.known out.known (counts_of (g.I.Images.seen device.images.now))) (wire taken.known put.known (counts_of new)) (Err c.in_err-serve.field-0.0))) volume.1
+    (subst (λ q. IfSome (mirror_told (told_all (g.I.Images.seen device.images.now).attached) q device.end) (λ bytes. Serves (costing mirror_cost) (dialogue bytes) (wire source.known out.known (counts_of (g.I.Images.seen device.images.now))) (wire taken.known put.known (counts_of new)) (Err c.in_err-serve.field-0.0))) volume.0 counted)) in
     let later : old.faults ≤ new.faults = subst (λ v. (g.I.Images.seen v).faults ≤ new.faults) within c.in_err-serve.ensures.later in
-    let done = shown_served (near_sectors set.head c.args.end) (mirror_told (told_all old.attached) set c.args.end) (λ asked. asked.count) old new source taken out put (Err c.in_err-serve.field-0.0) (omega (arith, c.sectors-sectors.ensures, ap (λ s. near_sectors s.head c.args.end) volume.0, ap (λ (e : ℕ). near_sectors device.set.now.head e) volume.1)) here
+    let done = shown_served (near_sectors set.head c.args.end) (mirror_told (told_all old.attached) set c.args.end) mirror_cost old new source taken out put (Err c.in_err-serve.field-0.0) (omega (arith, c.sectors-sectors.ensures, ap (λ s. near_sectors s.head c.args.end) volume.0, ap (λ (e : ℕ). near_sectors device.set.now.head e) volume.1)) here
     (ap (λ f. f.world) fixed ∙ ap (λ v. (g.I.Images.seen v).world) within) (ap (λ f. f.attached) fixed ∙ ap (λ v. (g.I.Images.seen v).attached) within) later c.in_err-serve.ensures.source c.in_err-serve.ensures.sink in
     let p = err_from_is_err_and c.from_residual.result c.from_residual.ensures.1 in
     rw (p.1, p.2) (search rules)

@@ -108,7 +108,12 @@ def error_of(flags, command, offset, length, size):
     return 0 if command == READ and not flags and length <= GREATEST and offset + length <= size else NOT_VALID
 
 
-def serve(taken, put, content):
+def is_lost(offset, length, lost):
+    """One of the sectors in which these bytes lie is lost."""
+    return length > 0 and not lost.isdisjoint(range(offset // 512, (offset + length - 1) // 512 + 1))
+
+
+def serve(taken, put, content, lost):
     """The requests."""
     while taken.begins():
         magic, flags, command, handle, offset, length = REQUEST.unpack(taken.take(28))
@@ -119,18 +124,20 @@ def serve(taken, put, content):
         if command == DISCONNECT:
             raise Over
         error = error_of(flags, command, offset, length, len(content))
+        if command == READ and not error and is_lost(offset, length, lost):
+            error = INPUT_OUTPUT
         put.append(REPLY.pack(REPLY_MAGIC, error, handle))
         if command == READ and not error:
             put.append(content[offset : offset + length])
 
 
-def said(content, data):
-    """What is put for these bytes, which end there, and the status."""
+def said(content, data, lost=frozenset()):
+    """What is put for these bytes, which end there, and the status, where these sectors of the volume are lost."""
     taken, put = Input(data), [GREETING]
     try:
         if taken.begins():
             haggle(taken, put, len(content))
-            serve(taken, put, content)
+            serve(taken, put, content, lost)
         return b"".join(put), DONE
     except Over:
         return b"".join(put), DONE

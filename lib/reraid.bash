@@ -207,6 +207,10 @@ _reraid_nbd() {
         _reraid_offer --help --version
         return
     fi
+    if ((${#words[@]} == 2)) && [[ $word == maps=* ]]; then
+        _reraid_files
+        return
+    fi
     _reraid_operands nbd set end
 }
 

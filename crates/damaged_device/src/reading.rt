@@ -26,7 +26,12 @@ fn rows_are_good(damage: &Damage, first: u64, count: u64) -> bool
     let row = row_sectors(head);
     let start = first / row;
     let rows = (first + count - 1) / row + 1 - start;
-    are_all_good(damage.set, damage.rescue, start * head.chunk, rows * head.chunk)
+    are_all_good(
+        damage.set,
+        damage.rescue,
+        start * head.chunk,
+        rows * head.chunk,
+    )
 }
 
 /// Reads sectors of the volume from number `first` on, which are one step: as those of undamaged images where all is good beside them, and

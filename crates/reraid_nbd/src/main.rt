@@ -1,14 +1,17 @@
 //! The program: it makes the real files, streams and words, and calls the top call.
 //!
 //! What it does is promised by `reraid_nbd_cli::reraid_nbd`. Before that call only two things end a run: a word that is not text, and
-//! running out of memory. The client speaks on standard input and is answered on standard output.
+//! running out of memory. The client speaks on standard input and is answered on standard output. The text of maps is the file that the
+//! first word names by `maps=`; one that cannot be opened is a source that fails.
 //!
 //! A run may be started with a standard descriptor closed. A file that is opened takes the lowest free one, so an image would then be
 //! taken for the client. `hold_descriptors` takes these places before.
 #![tactic(auto)]
 
+ghost use Rattle.std.specs.Prelude.{None};
+
 use image_source::{FileImages, StdSink, StdSource};
-use outside::Sink;
+use outside::{Failed, Sink, Source};
 use reraid_nbd_cli::{NbdEnd, NbdStop, Refusal, Word, reraid_nbd};
 use std::alloc::Global;
 use std::fs::File;
@@ -30,14 +33,50 @@ fn main(rt: HostRuntime) -> ExitCode {
     };
     let mut source = StdSource::new(rt.stdin());
     let mut out = StdSink::new(rt.stdout());
-    ExitCode::from(reraid_nbd(
-        alloc,
-        &words,
-        &mut source,
-        &mut images,
-        &mut out,
-        &mut notes,
-    ))
+    ExitCode::from(match open_maps(&rt, &words) {
+        Some(file) => reraid_nbd(
+            alloc,
+            &words,
+            &mut StdSource::new(file),
+            &mut source,
+            &mut images,
+            &mut out,
+            &mut notes,
+        ),
+        None => reraid_nbd(
+            alloc,
+            &words,
+            &mut Unopened { faults: 0 },
+            &mut source,
+            &mut images,
+            &mut out,
+            &mut notes,
+        ),
+    })
+}
+
+/// The file that the first word names by `maps=`, if it names one that can be opened.
+fn open_maps<R: Files>(rt: &R, words: &[Word]) -> Option<R::File> {
+    let name = words.first()?.as_str().strip_prefix("maps=")?;
+    File::open(rt, name).ok()
+}
+
+/// A source that fails whenever something is taken of it: what stands for a file that cannot be opened.
+#[derive(Drop)]
+struct Unopened {
+    /// How often it failed.
+    faults: u64,
+}
+
+impl Source for Unopened {
+    ghost left = { λ _. None };
+
+    ghost faults = { λ s. s.faults };
+
+    fn take(&mut self, _to: &mut [u8]) -> Result<usize, Failed> {
+        self.faults = self.faults.saturating_add(1);
+        Err(Failed)
+    }
 }
 
 /// Opens `/dev/null` three times. So each of the descriptors 0 to 2 that was closed is taken as long as the answer lives. What is read

@@ -154,4 +154,3 @@ pub record Tells (alone : Alone) (old new : Place) (result : Result (Unit {0}) N
   pub puts : PutsText (alone_text alone) old.out new.out result
   pub source : new.source ≡ old.source
   pub images : new.images ≡ old.images
-

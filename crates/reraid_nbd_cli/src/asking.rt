@@ -28,10 +28,7 @@ pub(crate) fn read_asked(words: &[Word]) -> Result<Command, u64>
 fn is_maps(word: &Word) -> bool
     ensures { result ≡ is_maps_word word.now }
 {
-    matches!(
-        word.as_str().as_bytes(),
-        [b'm', b'a', b'p', b's', b'=', ..]
-    )
+    matches!(word.as_str().as_bytes(), [b'm', b'a', b'p', b's', b'=', ..])
 }
 
 /// The words behind the first one, where that names the text of maps.

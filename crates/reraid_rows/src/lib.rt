@@ -34,6 +34,8 @@ mod long_texts;
 #[cfg(test)]
 mod many_images;
 #[cfg(test)]
+mod mapped;
+#[cfg(test)]
 mod marked_bases;
 #[cfg(test)]
 mod mirror_searches;

@@ -15,25 +15,25 @@ use std::process::Abort;
 use std::test::Fail;
 
 /// What a server says first.
-const GREETING: &[u8] = b"NBDMAGICIHAVEOPT\x00\x03";
+pub const GREETING: &[u8] = b"NBDMAGICIHAVEOPT\x00\x03";
 /// A client's flags, and `EXPORT_NAME` of the empty name.
-const ENTER: &[u8] = b"\x00\x00\x00\x03IHAVEOPT\x00\x00\x00\x01\x00\x00\x00\x00";
+pub const ENTER: &[u8] = b"\x00\x00\x00\x03IHAVEOPT\x00\x00\x00\x01\x00\x00\x00\x00";
 /// Its reply for a volume of four sectors.
-const FOUR: &[u8] = b"\x00\x00\x00\x00\x00\x00\x08\x00\x01\x03";
+pub const FOUR: &[u8] = b"\x00\x00\x00\x00\x00\x00\x08\x00\x01\x03";
 /// A read of four bytes from byte 510 on, and one of two from byte 1,535 on.
-const READS: &[u8] =
+pub const READS: &[u8] =
     b"\x25\x60\x95\x13\x00\x00\x00\x00abcdefgh\x00\x00\x00\x00\x00\x00\x01\xfe\x00\x00\x00\x04\x25\x60\x95\x13\x00\x00\x00\x00ijklmnop\x00\x00\x00\x00\x00\x00\x05\xff\x00\x00\x00\x02";
 /// The end.
-const DISC: &[u8] =
+pub const DISC: &[u8] =
     b"\x25\x60\x95\x13\x00\x00\x00\x02abcdefgh\x00\x00\x00\x00\x00\x00\x00\x00\x00\x00\x00\x00";
 /// The head of the reply to the first read.
-const FIRST: &[u8] = b"\x67\x44\x66\x98\x00\x00\x00\x00abcdefgh";
+pub const FIRST: &[u8] = b"\x67\x44\x66\x98\x00\x00\x00\x00abcdefgh";
 /// The head of that to the second.
-const SECOND: &[u8] = b"\x67\x44\x66\x98\x00\x00\x00\x00ijklmnop";
+pub const SECOND: &[u8] = b"\x67\x44\x66\x98\x00\x00\x00\x00ijklmnop";
 /// The first five bytes of a reply.
 const FRONT: &[u8] = b"\x67\x44\x66\x98\x00";
 /// The reply to the first where the images failed.
-const EIO: &[u8] = b"\x67\x44\x66\x98\x00\x00\x00\x05abcdefgh";
+pub const EIO: &[u8] = b"\x67\x44\x66\x98\x00\x00\x00\x05abcdefgh";
 
 /// One run: the line of its words, the sectors of its images, what the client sends, and what the run must leave.
 #[derive(Clone, Copy)]
@@ -47,7 +47,7 @@ struct Dialogue<'a> {
 }
 
 /// All parts, one after the other.
-fn joined(alloc: Global, parts: &[&[u8]]) -> Result<Vec<u8>, Memory> {
+pub fn joined(alloc: Global, parts: &[&[u8]]) -> Result<Vec<u8>, Memory> {
     let mut all = Vec::new(alloc);
     for part in parts {
         all.extend_from_slice(part).map_err(|_| Memory)?;
@@ -55,13 +55,14 @@ fn joined(alloc: Global, parts: &[&[u8]]) -> Result<Vec<u8>, Memory> {
     Ok(all)
 }
 
-/// Serves these words to the client whose bytes stand for a plan, and gives the status.
-pub fn serve_words(alloc: Global, words: &[Word], objects: &mut Objects) -> u8
+/// Serves these words to the client whose bytes stand for a plan, with this text of maps, and gives the status.
+pub fn serve_words(alloc: Global, words: &[Word], maps: &mut MemSource, objects: &mut Objects) -> u8
     requires { AreReady words.now objects.old.images objects.old.plan objects.old.out objects.old.notes }
 {
     reraid_nbd(
         alloc,
         words,
+        maps,
         &mut objects.plan,
         &mut objects.images,
         &mut objects.out,
@@ -75,7 +76,8 @@ fn check<R: Abort>(rt: &R, alloc: Global, row: &Dialogue) -> Result<(), Fail> {
     let contents = images_of(alloc, row.images)?;
     let asked = joined(alloc, row.asked)?;
     let mut met = ready(alloc, &words, &contents, &asked)?;
-    let status = serve_words(alloc, &words, &mut met);
+    let mut maps = MemSource::new(alloc, b"")?;
+    let status = serve_words(alloc, &words, &mut maps, &mut met);
     leaves(rt, alloc, row, status, &met)
 }
 
@@ -90,7 +92,8 @@ fn check_failing<R: Abort>(
     let contents = images_of(alloc, row.images)?;
     let asked = joined(alloc, row.asked)?;
     let mut met = ready_to_fail(alloc, &words, &contents, &asked, fault)?;
-    let status = serve_words(alloc, &words, &mut met);
+    let mut maps = MemSource::new(alloc, b"")?;
+    let status = serve_words(alloc, &words, &mut maps, &mut met);
     leaves(rt, alloc, row, status, &met)
 }
 
@@ -285,6 +288,7 @@ fn what_is_too_long(rt: HostRuntime) -> Result<(), Fail> {
         ("set=near2:1:0:0,1 -- a b", 0, ""),
     ] {
         let words = words_of(alloc, line)?;
+        let mut maps = MemSource::new(alloc, b"")?;
         let mut source = MemSource::new(alloc, b"")?;
         let mut images = Long::new(alloc)?;
         let mut out = MemSink::new(alloc, 1000)?;
@@ -292,6 +296,7 @@ fn what_is_too_long(rt: HostRuntime) -> Result<(), Fail> {
         let ended = reraid_nbd(
             alloc,
             &words,
+            &mut maps,
             &mut source,
             &mut images,
             &mut out,

@@ -2,6 +2,7 @@
 use crate::objects::{Objects, ready, words_of};
 use crate::rows::{End, compare, run, same_bytes, same_status};
 use crate::served::serve_words;
+use image_source::MemSource;
 use outside::Memory;
 use std::alloc::Global;
 use std::process::Abort;
@@ -60,7 +61,8 @@ fn the_help_has_each_command(rt: HostRuntime) -> Result<(), Fail> {
 fn serve(alloc: Global, line: &str) -> Result<(u8, Objects), Memory> {
     let words = words_of(alloc, line)?;
     let mut met = ready(alloc, &words, &[], b"")?;
-    let status = serve_words(alloc, &words, &mut met);
+    let mut maps = MemSource::new(alloc, b"")?;
+    let status = serve_words(alloc, &words, &mut maps, &mut met);
     Ok((status, met))
 }
 

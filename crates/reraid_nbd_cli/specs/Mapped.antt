@@ -1,5 +1,5 @@
 -- What a run over damaged images does, by the text of their maps.
-use Rattle.std.specs.Prelude.{ℕ, ◌≡◌, Bool, true, false, List, drop, IfSome, IsErrOf, Result, Ok, Err}
+use Rattle.std.specs.Prelude.{ℕ, ◌≡◌, ◌⊎◌, false, List, IfSome, IsErrOf, Result, Ok, Err}
 use Rattle.std.specs.declared.option.Option.{Option}
 use Rattle.std.specs.declared.option.Option.TheVariants.{None, Some}
 use Rattle.block_device.specs.Reading.{Asked}
@@ -21,7 +21,7 @@ use Rattle.run_ends.specs.declared.stop.Refusal.TheVariants.{Word}
 use Rattle.salvage_job.specs.Salvaging.{images_refusal, salvage_output, salvage_refusal}
 use Rattle.set_jobs.specs.Writing.{volume_reads}
 use Rattle.reraid_nbd_cli.specs.Runs.{Ends, HasImages, IsUntouched, Leaves, Place, Runs, Tells, wire_of}
-use Rattle.reraid_nbd_cli.specs.Words.{Asks, AsksSet, alone_in, has_maps}
+use Rattle.reraid_nbd_cli.specs.Words.{Asks, AsksSet, alone_in, maps_at}
 use Rattle.reraid_nbd_cli.specs.declared.ends.NbdEnd.{NbdEnd}
 use Rattle.reraid_nbd_cli.specs.declared.ends.NbdEnd.TheVariants.{Refused, ImageFault, MapsFault, Stopped}
 use Rattle.reraid_nbd_cli.specs.declared.telling.Alone.{Alone}
@@ -77,12 +77,17 @@ RunsMapped (Ok (Write set end names)) given old new left gone result = RunsSet s
 RunsMapped (Ok _) given old new left gone result = ⊥
 RunsMapped (Err number) given old new left gone result = (result ≡ Err (Refused (Word number))) × (new ≡ old) × (gone ≡ left)
 
--- A run by its words: what one word asks for alone; the damaged volume that they ask for behind the word of the maps; or the volume that they
--- ask for. Only for the second anything is taken of the maps.
-abbrev pub RunsBy : Option Alone → Bool → List (List ℕ) → Named → Place → Place → Stream → Stream → Result (Unit {0}) NbdEnd → Type 0
+-- memory ran out before the words without that of the maps were read, and nothing was touched
+abbrev pub IsUnasked : Place → Place → Stream → Stream → Result (Unit {0}) NbdEnd → Type 0
+IsUnasked old new left gone result = (result ≡ Err (Stopped OutOfMemory)) × (new ≡ old) × (gone ≡ left)
+
+-- A run by its words: what one word asks for alone; the damaged volume that they ask for beside the word of the maps, which stands at a place; or
+-- the volume that they ask for. Only for the second anything is taken of the maps.
+abbrev pub RunsBy : Option Alone → Option ℕ → List (List ℕ) → Named → Place → Place → Stream → Stream → Result (Unit {0}) NbdEnd → Type 0
 RunsBy (Some alone) maps words given old new left gone result = Tells alone old new result × (gone ≡ left)
-RunsBy None true words given old new left gone result = (asked : Result Command ℕ) × AsksSet (drop 1 words) asked × RunsMapped asked given old new left gone result
-RunsBy None false words given old new left gone result = (asked : Result Command ℕ) × Asks words asked × Runs asked given old new result × (gone ≡ left)
+RunsBy None (Some at) words given old new left gone result =
+    IsUnasked old new left gone result ⊎ ((asked : Result Command ℕ) × AsksSet at words asked × RunsMapped asked given old new left gone result)
+RunsBy None None words given old new left gone result = (asked : Result Command ℕ) × Asks words asked × Runs asked given old new result × (gone ≡ left)
 
 abbrev pub RunsWords : List (List ℕ) → Named → Place → Place → Stream → Stream → Result (Unit {0}) NbdEnd → Type 0
-RunsWords words given old new left gone result = RunsBy (alone_in words) (has_maps words) words given old new left gone result
+RunsWords words given old new left gone result = RunsBy (alone_in words) (maps_at words) words given old new left gone result

@@ -1,5 +1,5 @@
 -- What the words ask for.
-use Rattle.std.specs.Prelude.{ℕ, ◌≡◌, ◌≤◌, ◌+◌, ◌-◌, ◌⊎◌, ◌==◌, ◌&&◌, Bool, false, max, slice_index, if◌then◌else◌, IfSome, List, [], ◌∷◌, codes, length, drop, Result, Ok, Err}
+use Rattle.std.specs.Prelude.{ℕ, ◌≡◌, ◌≤◌, ◌+◌, ◌-◌, ◌⊎◌, ◌==◌, ◌&&◌, ◌++◌, suc, nat_lt, Bool, max, slice_index, if◌then◌else◌, IfSome, List, [], ◌∷◌, codes, length, take, drop, Result, Ok, Err}
 use Rattle.std.specs.declared.option.Option.{Option}
 use Rattle.std.specs.declared.option.Option.TheVariants.{None, Some}
 use Rattle.std.specs.Str.{bytes_eq}
@@ -19,10 +19,23 @@ alone_in _ = None
 abbrev pub is_maps_word : List ℕ → Bool
 is_maps_word word = slice_index word 0 == 109 && slice_index word 1 == 97 && slice_index word 2 == 112 && slice_index word 3 == 115 && slice_index word 4 == 61
 
--- the first word names the text of maps
-abbrev pub has_maps : List (List ℕ) → Bool
-has_maps [] = false
-has_maps (word ∷ words) = is_maps_word word
+-- the place of the first word before '--' that begins with 'maps=', counted on from a number
+abbrev pub maps_from : ℕ → List (List ℕ) → Option ℕ
+maps_from at [] = None
+maps_from at (word ∷ words) = if bytes_eq word (codes "--") then None else if is_maps_word word then Some at else maps_from (at + 1) words
+
+-- the place, from 0, of the word that names the text of maps
+abbrev pub maps_at : List (List ℕ) → Option ℕ
+maps_at words = maps_from 0 words
+
+-- the words without the one at a place
+abbrev pub without : ℕ → List (List ℕ) → List (List ℕ)
+without at words = take at words ++ drop (suc at) words
+
+-- the number, counted from 1, of a word as it was typed, where the one at a place was taken out: of the others it is this one, counted with the
+-- word of their command
+abbrev pub as_typed : ℕ → ℕ → ℕ
+as_typed at number = if nat_lt number (at + 2) then number - 1 else number
 
 -- The command of `reraid` whose volume is served: `write` where these are its words, else `mirrorwrite`. Or the refused word, counted from 1: the
 -- first with which the words of neither go on, or the one after the last.
@@ -33,11 +46,11 @@ Asks words (Ok command) =
 Asks words (Err number) =
     (one : ℕ) × (other : ℕ) × IsRefusedWord (verb_word Write ∷ words) one × IsRefusedWord (verb_word MirrorWrite ∷ words) other × (number ≡ max one other - 1)
 
--- The command of `reraid` whose damaged volume is served: `write`, where these are its words behind the one of the maps. Or the refused word,
--- counted from 1 with that one.
-abbrev pub AsksSet : List (List ℕ) → Result Command ℕ → Type 0
-AsksSet words (Ok command) = IsCommandLine (verb_word Write ∷ words) command
-AsksSet words (Err number) = IsRefusedWord (verb_word Write ∷ words) number
+-- The command of `reraid` whose damaged volume is served: `write`, where these are its words without the one at a place, which names the text of
+-- maps. Or the refused word, counted from 1.
+abbrev pub AsksSet : ℕ → List (List ℕ) → Result Command ℕ → Type 0
+AsksSet at words (Ok command) = IsCommandLine (verb_word Write ∷ without at words) command
+AsksSet at words (Err number) = (other : ℕ) × IsRefusedWord (verb_word Write ∷ without at words) other × (number ≡ as_typed at other)
 
 -- the command is `write`
 abbrev pub PutsSet : Command → Type 0

@@ -1,9 +1,11 @@
 //! What the words ask for.
-ghost use Rattle.std.specs.Prelude.{◌≡◌, IfOk, MatchOption, drop, false, true};
+ghost use Rattle.std.specs.Prelude.{ℕ, List, ◌≡◌, ◌<◌, ◌^◌, ◌++◌, IfOk, OnOk, length};
 ghost use Rattle.command_words.specs.Commands.{IsWithin};
-ghost use Rattle.reraid_nbd_cli.specs.Words.{AreNamed, Asks, AsksSet, PutsSet, PutsVolume, has_maps, is_maps_word};
+ghost use Rattle.reraid_nbd_cli.specs.Words.{AreNamed, Asks, AsksSet, PutsSet, PutsVolume, is_maps_word, maps_at, without};
 
 use command_words::{Command, Verb, Word, read_words_after};
+use outside::Memory;
+use std::alloc::Global;
 
 /// The command of `reraid` whose volume the words ask for: they are its words without the first. It is `write`, or `mirrorwrite` where
 /// they are not those of `write`. The names of the images begin a word earlier than the command says.
@@ -31,24 +33,58 @@ fn is_maps(word: &Word) -> bool
     matches!(word.as_str().as_bytes(), [b'm', b'a', b'p', b's', b'=', ..])
 }
 
-/// The words behind the first one, where that names the text of maps.
-pub(crate) fn behind_maps(words: &[Word]) -> Option<&[Word]>
-    ensures { MatchOption result (has_maps words.now ≡ false) (λ rest. (has_maps words.now ≡ true) × (rest.now ≡ drop 1 words.now)) }
+/// The place of the word that names the text of maps, if one before `--` does.
+pub(crate) fn maps_place(words: &[Word]) -> Option<usize>
+    ensures { result ≡ maps_at words.now }
 {
-    let (first, rest) = words.split_first()?;
-    if is_maps(first) {
-        return Some(rest);
+    for (place, word) in words.iter().enumerate() {
+        if word.as_str() == "--" {
+            return None;
+        }
+        if is_maps(word) {
+            return Some(place);
+        }
     }
     None
 }
 
-/// The command whose damaged volume the words ask for: they are the words of `write` without the first. Else the number of the refused word,
-/// counted from 1 with the word of the maps before them.
-pub(crate) fn read_damaged(words: &[Word]) -> Result<Command, u64>
-    ensures asks { AsksSet words.now result }
+/// Adds copies of words.
+fn add_words(alloc: Global, words: &[Word], to: &mut Vec<Word>) -> Result<(), Memory>
+    ensures { OnOk result (to.new.items ≡ to.old.items ++ words.now) }
+{
+    for word in words {
+        let word = Word::new(alloc, word.as_str())?;
+        to.push(word).map_err(|_| Memory)?;
+    }
+    Ok(())
+}
+
+/// Copies of the words without the one at a place.
+pub(crate) fn words_without(alloc: Global, words: &[Word], place: usize) -> Result<Vec<Word>, Memory>
+    requires { place < length words.now }
+    ensures { IfOk result (λ others. others.items ≡ without place words.now) }
+{
+    let mut others = Vec::new(alloc);
+    add_words(alloc, &words[..place], &mut others)?;
+    add_words(alloc, &words[place + 1..], &mut others)?;
+    Ok(others)
+}
+
+/// The command whose damaged volume the words ask for: without the one that names the text of maps, which stood at this place, they are those
+/// of `write`. Else the number of the refused word as it was typed, counted from 1.
+pub(crate) fn read_damaged(others: &[Word], place: usize) -> Result<Command, u64>
+    requires { place < 2 ^ 63 }
+    ensures asks { (words : List (List ℕ)) → others.now ≡ without place words → AsksSet place words result }
     ensures set { IfOk result PutsSet }
     ensures within { IfOk result IsWithin }
-    ensures named { IfOk result (AreNamed words.now) }
+    ensures named { IfOk result (AreNamed others.now) }
 {
-    read_words_after(Verb::Write, words)
+    match read_words_after(Verb::Write, others) {
+        Ok(command) => Ok(command),
+        Err(number) => Err(if number < place as u64 + 2 {
+            number - 1
+        } else {
+            number
+        }),
+    }
 }

@@ -1,14 +1,14 @@
 //! A run, up to why it ends.
-ghost use Rattle.std.specs.Prelude.{◌≡◌, [], All, IsTrue, Ok, Result, length, ℕ};
+ghost use Rattle.std.specs.Prelude.{◌≡◌, ◌<◌, ◌^◌, ◌⊎◌, [], All, IsTrue, List, Ok, Result, Some, length, ℕ};
 ghost use Rattle.outside.specs.Attached.{AreImagesOf};
 ghost use Rattle.run_ends.specs.Jobs.{named, stream};
 ghost use Rattle.command_words.specs.Commands.{IsWithin, names_after};
 ghost use Rattle.command_words.specs.declared.command.Command.{Command as CommandOf};
-ghost use Rattle.reraid_nbd_cli.specs.Mapped.{RunsMapped, RunsWords, ShowsMapped};
+ghost use Rattle.reraid_nbd_cli.specs.Mapped.{IsUnasked, RunsMapped, RunsWords};
 ghost use Rattle.reraid_nbd_cli.specs.Runs.{AreImages, Runs, Shows, cost, place_of, refusal, sectors, volume};
-ghost use Rattle.reraid_nbd_cli.specs.Words.{AreNamed, Asks, AsksSet, PutsSet, PutsVolume};
+ghost use Rattle.reraid_nbd_cli.specs.Words.{AreNamed, Asks, AsksSet, PutsVolume, maps_at, without};
 
-use crate::asking::{behind_maps, read_asked, read_damaged};
+use crate::asking::{maps_place, read_asked, read_damaged, words_without};
 use crate::ends::NbdEnd;
 use crate::mapping::show_damaged;
 use crate::showing::{show_mirror, show_set};
@@ -18,7 +18,7 @@ use outside::{Images, Sink, Source};
 use run_ends::{Refusal, attach_front};
 use std::alloc::Global;
 
-/// Puts what one word asks for alone, or else does the work for a volume, or, behind a word that names the text of maps, for a damaged one.
+/// Puts what one word asks for alone, or else does the work for a volume, or, beside a word that names the text of maps, for a damaged one.
 pub(crate) fn run<M: Source, S: Source, I: Images, K: Sink>(
     alloc: Global,
     words: &[Word],
@@ -37,8 +37,8 @@ pub(crate) fn run<M: Source, S: Source, I: Images, K: Sink>(
 {
     match read_alone(words) {
         Some(alone) => tell(alone, out),
-        None => match behind_maps(words) {
-            Some(rest) => run_damaged(alloc, rest, maps, source, images, out),
+        None => match maps_place(words) {
+            Some(place) => run_mapped(alloc, words, place, maps, source, images, out),
             None => run_volume(alloc, words, source, images, out),
         },
     }
@@ -112,11 +112,11 @@ fn show<S: Source, I: Images, K: Sink>(
     }
 }
 
-/// Does the work for a damaged volume in its order: words, images, the text of the maps, and the dialogue. The words are those behind the one
-/// that names the text.
-fn run_damaged<M: Source, S: Source, I: Images, K: Sink>(
+/// Does the work for a damaged volume. The word that names the text of maps stands at this place.
+fn run_mapped<M: Source, S: Source, I: Images, K: Sink>(
     alloc: Global,
     words: &[Word],
+    place: usize,
     maps: &mut M,
     source: &mut S,
     images: &mut I,
@@ -124,17 +124,46 @@ fn run_damaged<M: Source, S: Source, I: Images, K: Sink>(
 ) -> Result<(), NbdEnd>
     requires fresh { (I.seen images.old).attached ≡ [] }
     requires named { All (λ name. IsTrue ((I.seen images.old).world.may_attach name)) (names_after words.now) }
-    ensures runs { (asked : Result CommandOf ℕ) × AsksSet words.now asked ×
+    requires place { maps_at words.now ≡ Some place }
+    ensures runs { IsUnasked (place_of I.seen S.left S.faults K.gained K.faults images.old source.old out.old)
+        (place_of I.seen S.left S.faults K.gained K.faults images.new source.new out.new)
+        (stream (M.left maps.old) (M.faults maps.old)) (stream (M.left maps.new) (M.faults maps.new)) result
+        ⊎ ((asked : Result CommandOf ℕ) × AsksSet place words.now asked ×
         RunsMapped asked (named (length (names_after words.now)) (I.seen images.new).attached)
         (place_of I.seen S.left S.faults K.gained K.faults images.old source.old out.old)
         (place_of I.seen S.left S.faults K.gained K.faults images.new source.new out.new)
-        (stream (M.left maps.old) (M.faults maps.old)) (stream (M.left maps.new) (M.faults maps.new)) result }
+        (stream (M.left maps.old) (M.faults maps.old)) (stream (M.left maps.new) (M.faults maps.new)) result) }
     ensures attached { AreImagesOf (I.seen images.old).world (names_after words.now) (I.seen images.new).attached }
 {
-    match read_damaged(words) {
+    let others = words_without(alloc, words, place)?;
+    run_damaged(alloc, &others, place, maps, source, images, out)
+}
+
+/// Does the work for a damaged volume in its order: words, images, the text of the maps, and the dialogue. The words are those without the
+/// one that names the text, which stood at this place.
+fn run_damaged<M: Source, S: Source, I: Images, K: Sink>(
+    alloc: Global,
+    others: &[Word],
+    place: usize,
+    maps: &mut M,
+    source: &mut S,
+    images: &mut I,
+    out: &mut K,
+) -> Result<(), NbdEnd>
+    requires fresh { (I.seen images.old).attached ≡ [] }
+    requires named { All (λ name. IsTrue ((I.seen images.old).world.may_attach name)) (names_after others.now) }
+    requires short { place < 2 ^ 63 }
+    ensures runs { (asked : Result CommandOf ℕ) × ((words : List (List ℕ)) → others.now ≡ without place words → AsksSet place words asked) ×
+        RunsMapped asked (named (length (names_after others.now)) (I.seen images.new).attached)
+        (place_of I.seen S.left S.faults K.gained K.faults images.old source.old out.old)
+        (place_of I.seen S.left S.faults K.gained K.faults images.new source.new out.new)
+        (stream (M.left maps.old) (M.faults maps.old)) (stream (M.left maps.new) (M.faults maps.new)) result }
+    ensures attached { AreImagesOf (I.seen images.old).world (names_after others.now) (I.seen images.new).attached }
+{
+    match read_damaged(others, place) {
         Err(number) => Err(NbdEnd::Refused(Refusal::Word(number))),
         Ok(Command::Write { set, end, names }) => {
-            let names = &words[names - 1..];
+            let names = &others[names - 1..];
             match attach_front(images, names) {
                 Ok(()) => show_damaged(alloc, images, names.len(), &set, end, maps, source, out),
                 Err(_) => Err(NbdEnd::ImageFault),

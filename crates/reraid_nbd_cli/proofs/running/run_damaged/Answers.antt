@@ -25,7 +25,7 @@ show_damaged-requires-clause-given g c =
 
 pub returns-in-Ok-attach_front-clause-runs : goal.returns-in-Ok-attach_front-clause-runs
 returns-in-Ok-attach_front-clause-runs g c =
-    let words = c.args.words.now in
+    let words = c.args.others.now in
     let at = c.in-Ok-Write.names - 1 in
     let seen = g.I.Images.seen c.args.images.now in
     let mid = g.I.Images.seen c.attach_front.new.images in
@@ -41,7 +41,7 @@ returns-in-Ok-attach_front-clause-runs g c =
     let count : length (take (length words - at) (drop at words)) ≡ length (names_after words) = omega (arith, after, length-take (length words - at) (drop at words), length-drop at words) in
     let Q : ℕ → Type 0 = λ names. ShowsMapped c.in-Ok-Write.set c.in-Ok-Write.end (named names mid.attached) (place mid source out) (place new taken put) left gone c.show_damaged.result in (
       Ok (Write c.in-Ok-Write.set c.in-Ok-Write.end c.in-Ok-Write.names),
-      subst (λ (k : Command). AsksSet words (Ok k)) c.in-Ok-Write.field-0-is c.in-Ok-Write.ensures.asks,
+      λ typed is. subst (λ (k : Command). AsksSet c.args.place typed (Ok k)) c.in-Ok-Write.field-0-is (c.in-Ok-Write.ensures.asks typed is),
       ran_mapped c.in-Ok-Write.set c.in-Ok-Write.end (length (names_after words)) seen mid new source taken out put left gone c.show_damaged.result c.in-Ok-attach_front.ensures.cause.stays c.attach_front.ensures.some.unread c.attach_front.ensures.some.world
           (omega (arith, c.in-Ok-attach_front.ensures.all, count)) (subst Q count c.show_damaged.ensures),
     )

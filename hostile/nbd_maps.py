@@ -56,7 +56,8 @@ class Array:
                 lines += [f"map {number}"] + damaged.map_of(bad[slot], chance)
         pathlib.Path("maps").write_text("".join(line + "\n" for line in lines), encoding="ascii")
         word = ",".join(str(left.index(slot)) if slot in left else "-" for slot in range(MEMBERS))
-        self.words = ["maps=maps", f"set={level}:{pattern}:{order}:{CHUNK}:{OFFSET}:{word}", "--", *(f"image{number}" for number in range(len(left)))]
+        self.set, self.images = f"set={level}:{pattern}:{order}:{CHUNK}:{OFFSET}:{word}", [f"image{number}" for number in range(len(left))]
+        self.words = [*chance.choice([("maps=maps", self.set), (self.set, "maps=maps")]), "--", *self.images]
         self.content = b"".join(sector or bytes(SECTOR) for sector in self.sectors)
         self.lost = frozenset(place for place, sector in enumerate(self.sectors) if sector is None)
 
@@ -86,7 +87,7 @@ def compare(cases, server, array, data, what):
 
 def try_dialogues(cases, server, array, count, chance):
     """Reads at random, reads beside what is lost, the whole volume, and clients that talk nonsense."""
-    name = f"{array.words[1]}, {len(array.lost)} sectors lost"
+    name = f"{array.set}, {len(array.lost)} sectors lost"
     size = len(array.content)
     for number in range(count):
         if number % 4 == 3:
@@ -102,19 +103,22 @@ def try_refusals(cases, server, array):
     """Maps that are refused or cannot be read, and words that do not go with them: nothing is put."""
     pathlib.Path("wrong").write_text("map 0\n0 + 1\n0 512\n", encoding="ascii")
     pathlib.Path("long").write_bytes(b"#\n" * (2 << 20) + b"#")
-    rest = array.words[1:]
-    for words, status, line in ((["maps=wrong", *rest], 9, "rescue line 3 is not understood\n"),
-                                (["maps=long", *rest], 3, "rescue text is longer than 4194304 bytes\n"),
-                                (["maps=nothing", *rest], 16, "maps read fault\n"),
-                                (["maps=.", *rest], 16, "maps read fault\n"),
-                                (["maps=", *rest], 16, "maps read fault\n"),
+    word, images = array.set, array.images
+    for words, status, line in (([word, "maps=wrong", "--", *images], 9, "rescue line 3 is not understood\n"),
+                                ([word, "maps=long", "--", *images], 3, "rescue text is longer than 4194304 bytes\n"),
+                                ([word, "maps=nothing", "--", *images], 16, "maps read fault\n"),
+                                (["maps=.", word, "--", *images], 16, "maps read fault\n"),
+                                (["maps=", word, "--", *images], 16, "maps read fault\n"),
                                 (["maps=maps"], 1, "word 2 is not understood\n"),
-                                ([rest[0], "maps=maps", *rest[1:]], 1, "word 2 is not understood\n"),
+                                ([word, "maps=maps", "maps=maps", "--", *images], 1, "word 3 is not understood\n"),
+                                ([word, "maps=maps", "end=x", "--", *images], 1, "word 3 is not understood\n"),
+                                (["end=x", "maps=maps", word, "--", *images], 1, "word 1 is not understood\n"),
                                 (["maps=maps", "set=near2:128:0:0,1", "--", "image0", "image1"], 1, "word 2 is not understood\n"),
-                                (["maps=nothing", *rest[:2], "nothing"], 10, "image read fault\n"),
-                                (["maps=nothing", *rest[:2]], 4, "images: count given 0 planned 1\n")):
+                                ([word, "--", "maps=nothing"], 10, "image read fault\n"),
+                                ([word, "maps=nothing", "--", "nothing"], 10, "image read fault\n"),
+                                ([word, "maps=nothing", "--"], 4, "images: count given 0 planned 1\n")):
         out, got, said = served(server, words, model.hello())
-        cases.add((out, got, said) == (b"", status, LINE + line), f"refusal of {words[:2]}: status {got}, {said!r}, {len(out)} bytes put")
+        cases.add((out, got, said) == (b"", status, LINE + line), f"refusal of {words[:3]}: status {got}, {said!r}, {len(out)} bytes put")
 
 
 def main(words):

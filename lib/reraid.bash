@@ -135,6 +135,7 @@ _reraid_value() {
             *) _reraid_set "$before" "$3" 0 5 6 ;;
         esac ;;
         form) [[ $1 == salvage ]] && _reraid_offer form=data form=lost || _reraid_offer form=text form=json ;;
+        maps) _reraid_files ;;
         marks) _reraid_offer marks=none marks=xfs ;;
         mode) _reraid_offer mode=common mode=each ;;
         logical) _reraid_offer logical=512 logical=4096 ;;
@@ -207,11 +208,7 @@ _reraid_nbd() {
         _reraid_offer --help --version
         return
     fi
-    if ((${#words[@]} == 2)) && [[ $word == maps=* ]]; then
-        _reraid_files
-        return
-    fi
-    _reraid_operands nbd set end
+    _reraid_operands nbd set maps end
 }
 
 # The set, without the name of an operand, a folder, and images.

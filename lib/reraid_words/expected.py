@@ -103,7 +103,7 @@ def operand(command: str, name: str, value: str) -> list[str]:
         return places(value)
     if name in NAMES or name in NUMBERS:
         return listed(name, value)
-    return [] if name == "drop" else number(name, value)
+    return [] if name in ("drop", "maps") else number(name, value)
 
 
 def expected(command: str, words: Sequence[str], place: int) -> list[str]:
@@ -123,6 +123,8 @@ def expected(command: str, words: Sequence[str], place: int) -> list[str]:
         return [f"{words[place]}: an operand is NAME=VALUE; before the images stands --"]
     if name in [word.partition("=")[0] for word in words[:place]]:
         return [f"{name} stands twice"]
+    if (command, name) == ("nbd", "set") and value.startswith("near") and any(word.startswith("maps=") for word in words):
+        return ["maps= goes with a set of level 0, 5 or 6, not with that of a mirror"]
     return operand(command, name, value)
 
 

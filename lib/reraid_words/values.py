@@ -11,7 +11,7 @@ OPERANDS = {
     "write": ("set", "end"), "rebuild": ("set", "slot", "end"), "sample": ("number", "set", "rows", "marks"), "classes": ("images", "end"),
     "mirrors": ("members", "chunks", "offsets", "missing", "foreign", "badrows", "window", "end", "from", "size", "span"),
     "mirrorwrite": ("set", "end"), "salvage": ("set", "form", "end"), "relations": ("from", "end", "step", "offsets", "form"),
-    "nbd": ("set", "end")}
+    "nbd": ("set", "maps", "end")}
 PATTERNS = ("plain", "la", "ra", "ls", "rs", "parity-first", "parity-last", "n-restart", "n-continue", "la-6", "ra-6", "ls-6", "rs-6",
             "parity-first-6")
 SYNDROMES = ("none", "after-q", "by-data", "by-slot")

@@ -47,6 +47,12 @@ class Expected(unittest.TestCase):
         self.assertIn("numbers of images", said("nbd", "set=5:ls:none:128:2048:a,b,c"))
         self.assertEqual(said("nbd", "set=5:ls:none:128:2048:0,1,-"), "")
 
+    def test_maps(self) -> None:
+        self.assertEqual(said("nbd", "set=5:ls:none:128:2048:0,1,-", "maps=a.map", place=1), "")
+        self.assertIn("stands twice", said("nbd", "maps=a.map", "maps=a.map", place=1))
+        self.assertIn("not with that of a mirror", said("nbd", "set=near2:128:2048:0,1", "maps=a.map"))
+        self.assertIn("the operands are set= end= and", said("write", "maps=a.map"))
+
     def test_relations(self) -> None:
         self.assertIn("with + between: 2048+0+2048", said("relations", "offsets=1,2"))
         self.assertEqual(said("relations", "offsets=2048+0"), "")

@@ -95,7 +95,7 @@ pub fn nbd_help_text() -> &'static str
     ensures { result.now ≡ nbd_help_text_of }
 {
     "\
-usage: reraid-nbd set=SET [end=END] -- IMAGE..
+usage: reraid-nbd set=SET [maps=FILE] [end=END] -- IMAGE..
        reraid-nbd --help
        reraid-nbd --version
 
@@ -107,6 +107,9 @@ client hands to it (LISTEN_FDS). It only reads the images.
              or of reraid mirrors, near2:CHUNK:OFFSET:SLOTS; chunk and offset in
              sectors of 512 bytes; in each slot the number of its image, from 0
              in the order of the names, or - for a lost disk
+  maps=FILE  the maps of ddrescue as one text, as reraid salvage takes them:
+             what they call bad is found by parity, and what parity has not
+             cannot be read
   end=END    the image sector after the last that may belong to the array; the
              shortest length, if not given
   --         what follows are images
@@ -117,13 +120,16 @@ A copy of the volume:
 Exit status; each but 0 comes with a line on standard error:
    0  the client ended the dialogue
    1  a word is refused
+   3  the maps are too long
    4  the images are not those that the set takes
    7  the set breaks a rule
+   9  the maps are no such text from a line on
   10  an image could not be opened
   11  standard input could not be read
   12  standard output could not be written
   14  the client sent what the protocol does not allow
   15  the volume has 2^63 bytes or more
+  16  the maps could not be opened or read
   20  out of memory
 
 The manual: reraid-nbd(1), and USING.md and more in share/doc/reraid.

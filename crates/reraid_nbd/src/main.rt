@@ -1,8 +1,8 @@
 //! The program: it makes the real files, streams and words, and calls the top call.
 //!
 //! What it does is promised by `reraid_nbd_cli::reraid_nbd`. Before that call only two things end a run: a word that is not text, and
-//! running out of memory. The client speaks on standard input and is answered on standard output. The text of maps is the file that the
-//! first word names by `maps=`; one that cannot be opened is a source that fails.
+//! running out of memory. The client speaks on standard input and is answered on standard output. The text of maps is the file that a
+//! word `maps=FILE` names; one that cannot be opened is a source that fails.
 //!
 //! A run may be started with a standard descriptor closed. A file that is opened takes the lowest free one, so an image would then be
 //! taken for the client. `hold_descriptors` takes these places before.
@@ -55,10 +55,18 @@ fn main(rt: HostRuntime) -> ExitCode {
     })
 }
 
-/// The file that the first word names by `maps=`, if it names one that can be opened.
+/// The file that the first word before `--` with `maps=` names, if there is one that can be opened.
 fn open_maps<R: Files>(rt: &R, words: &[Word]) -> Option<R::File> {
-    let name = words.first()?.as_str().strip_prefix("maps=")?;
-    File::open(rt, name).ok()
+    for word in words {
+        let text = word.as_str();
+        if text == "--" {
+            return None;
+        }
+        if let Some(name) = text.strip_prefix("maps=") {
+            return File::open(rt, name).ok();
+        }
+    }
+    None
 }
 
 /// A source that fails whenever something is taken of it: what stands for a file that cannot be opened.

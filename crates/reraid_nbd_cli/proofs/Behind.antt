@@ -40,8 +40,7 @@ names_without (word ∷ words) at place is =
         (omega arith, omega arith, ap (λ (n : ℕ). names_after (without n (word ∷ words))) none ∙ sym (names_on word words e))
     by more false false e f =
         let later = more e f in
-        let step : place - at ≡ suc (place - (at + 1)) = omega (arith, later.0) in
-        (
+        let step : place - at ≡ suc (place - (at + 1)) = omega (arith, later.0) in (
           omega (arith, later.0),
           omega (arith, later.0, later.1),
           ap (λ (n : ℕ). names_after (without n (word ∷ words))) step ∙ names_on word (without (place - (at + 1)) words) e ∙ later.2 ∙ sym (names_on word words e),

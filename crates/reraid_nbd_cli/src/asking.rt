@@ -60,7 +60,11 @@ fn add_words(alloc: Global, words: &[Word], to: &mut Vec<Word>) -> Result<(), Me
 }
 
 /// Copies of the words without the one at a place.
-pub(crate) fn words_without(alloc: Global, words: &[Word], place: usize) -> Result<Vec<Word>, Memory>
+pub(crate) fn words_without(
+    alloc: Global,
+    words: &[Word],
+    place: usize,
+) -> Result<Vec<Word>, Memory>
     requires { place < length words.now }
     ensures { IfOk result (λ others. others.items ≡ without place words.now) }
 {

@@ -21,7 +21,7 @@ use std::alloc::Global;
 /// client sent what the protocol does not allow, or the input ended inside a message. 15: the volume has 2^63 bytes or more. 20: out of
 /// memory.
 ///
-/// Where the first word is `maps=FILE`, the others are those for the volume of a set, and the text of `maps` says what was read of its
+/// Where a word before `--` is `maps=FILE`, the others are those for the volume of a set, and the text of `maps` says what was read of its
 /// images, as that of `salvage` does. A sector that an image's map calls good, or that parity has, is answered. `EIO` is told for a request
 /// of which a sector is lost, or in whose reading an image failed, and for no other. Without such a word nothing is taken of `maps`.
 ///
@@ -39,7 +39,7 @@ pub fn reraid_nbd<M: Source, S: Source, I: Images, K: Sink, N: Sink>(
     requires fresh { (I.seen images.old).attached ≡ [] }
     requires named { All (λ name. IsTrue ((I.seen images.old).world.may_attach name)) (names_after words.now) }
 
-    // The words ask for one volume, or behind the word of the maps for a damaged one, are refused at one word, or are `--help` or `--version`
+    // The words ask for one volume, or beside the word of the maps for a damaged one, are refused at one word, or are `--help` or `--version`
     // alone, whose text is put. What is done for that,
     // and why it ended, is told by the status and, where the dialogue did not end or the text was not put, by a line on the notes.
     ensures runs { (end : Result (Unit {0}) NbdEnd) ×

@@ -17,7 +17,7 @@ const TWO: &[u8] = b"map 0\n0 + 1\n0 512 -\n512 512 +\nmap 2\n0 + 1\n0 511 +\n51
 const LATER: &[u8] = b"map 0\n0 + 1\n0 512 +\n512 512 /\n1024 512 +\n";
 
 /// The words for a level 5 without bases.
-const LINE: &str = "maps=m set=5:ls:none:1:0:0,1,2 -- a b c";
+const LINE: &str = "set=5:ls:none:1:0:0,1,2 maps=m -- a b c";
 
 /// One run: the line of its words, the text of its maps and the call of it that fails, the sectors of its images, and what it must leave.
 #[derive(Clone, Copy)]
@@ -76,7 +76,7 @@ const SERVED: [Mapped; 4] = [
         notes: "",
     },
     Mapped {
-        line: "maps=m end=3 set=5:ls:none:1:1+0+0:0,1,2 -- a b c",
+        line: "end=3 maps=m set=5:ls:none:1:1+0+0:0,1,2 -- a b c",
         maps: LATER,
         failing: None,
         images: &[&[7, 9, 2], &[3, 4, 7], &[2, 6, 7]],
@@ -118,17 +118,26 @@ fn refused<'a>(line: &'a str, maps: &'a [u8], status: u8, notes: &'a str) -> Map
 
 #[test]
 fn what_is_refused_of_maps(rt: HostRuntime) -> Result<(), Fail> {
+    let first = "reraid: word 1 is not understood\n";
     let second = "reraid: word 2 is not understood\n";
+    let third = "reraid: word 3 is not understood\n";
     for row in &[
         refused("maps=m", ONE, 1, second),
         refused("maps=m set=near2:1:0:0,1 -- a b", ONE, 1, second),
-        refused("set=5:ls:none:1:0:0,1,2 maps=m -- a b c", ONE, 1, second),
+        refused("set=near2:1:0:0,1 maps=m -- a b", ONE, 1, first),
         refused(
-            "maps=m maps=m set=5:ls:none:1:0:0,1,2 -- a b c",
+            "set=5:ls:none:1:0:0,1,2 maps=m maps=m -- a b c",
             ONE,
             1,
-            second,
+            third,
         ),
+        refused(
+            "set=5:ls:none:1:0:0,1,2 maps=m end=x -- a b c",
+            ONE,
+            1,
+            third,
+        ),
+        refused("end=2 sector=1 maps=m -- a b c", ONE, 1, second),
         refused(
             LINE,
             b"map 0\nmap 0\n0 1 x\n",

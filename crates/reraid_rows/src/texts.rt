@@ -95,7 +95,7 @@ fn the_server_has_a_version(rt: HostRuntime) -> Result<(), Fail> {
 fn the_server_has_a_help(rt: HostRuntime) -> Result<(), Fail> {
     let (status, met) = serve(rt.alloc(), "--help")?;
     same_status(&rt, status, 0, "--help");
-    let use_line = b"usage: reraid-nbd set=SET [end=END] -- IMAGE..\n".as_slice();
+    let use_line = b"usage: reraid-nbd set=SET [maps=FILE] [end=END] -- IMAGE..\n".as_slice();
     assert!(rt; met.out.bytes().starts_with(use_line));
     same_bytes(&rt, met.notes.bytes(), b"", "--help");
     Ok(())

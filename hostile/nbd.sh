@@ -1,10 +1,12 @@
 #!/bin/bash
-# Tries reraid-nbd: by nbd_dialogues.py, and with real clients over arrays of ext4, XFS and btrfs with members lost: nbdinfo, nbdcopy, nbdsh,
-# nbdfuse with a loop mount, qemu-img by a socket and through nbdkit, and reraid-mount. All that they read is compared with what `write` and
-# `mirrorwrite` put, and all files with those that were put into the file systems. Its last line says how many cases were as stated; status 1
+# Tries reraid-nbd: by nbd_dialogues.py, by nbd_maps.py over damaged images, and with real clients over arrays of ext4, XFS and btrfs with
+# members lost: nbdinfo, nbdcopy, nbdsh, nbdfuse with a loop mount, qemu-img by a socket and through nbdkit, and reraid-mount; and over an
+# ext4 of damaged disks by their maps, mounted and copied by ddrescue. All that they read is compared with what `write`, `mirrorwrite` and
+# `salvage` put, and all files with those that were put into the file systems. Its last line says how many cases were as stated; status 1
 # where one was not.
 # It is to be run as root, and takes loop devices, FUSE and the Debian packages libnbd-bin, python3-libnbd, nbdkit, qemu-utils, e2fsprogs,
-# xfsprogs and btrfs-progs. What is said after SERVER goes to nbd_dialogues.py: seed=, reads=, dialogues=.
+# xfsprogs, btrfs-progs and gddrescue. What is said after SERVER goes to nbd_dialogues.py: seed=, reads=, dialogues=; seed= and dialogues= to
+# nbd_maps.py too.
 # Usage: hostile/nbd.sh PROGRAM SERVER [WORD..]
 set -u
 [ $# -ge 2 ] || { sed -n 's/^# \(Usage.*\)/\1/p' "$0"; exit 2; }
@@ -15,7 +17,7 @@ shift 2
 export PATH=$PATH:/usr/sbin:/sbin
 missing=
 for tool in nbdinfo:libnbd-bin nbdcopy:libnbd-bin nbdfuse:libnbd-bin nbdkit:nbdkit qemu-img:qemu-utils mke2fs:e2fsprogs mkfs.xfs:xfsprogs \
-    mkfs.btrfs:btrfs-progs; do
+    mkfs.btrfs:btrfs-progs ddrescue:gddrescue; do
     command -v "${tool%:*}" >/dev/null || missing="$missing ${tool%:*} (${tool#*:})"
 done
 [ -z "$missing" ] || { echo "nbd.sh: nothing was tried, since these are not installed:$missing" >&2; exit 2; }
@@ -36,6 +38,12 @@ trap ended EXIT
 talked=$(python3 "$here/nbd_dialogues.py" "$program" "$server" "$@")
 echo "$talked"
 read -r cases _ _ reads _ failed _ <<<"$(tail -n 1 <<<"$talked")"
+of_maps=()
+for word; do case $word in reads=*) ;; *) of_maps+=("$word") ;; esac; done
+talked=$(python3 "$here/nbd_maps.py" "$server" "${of_maps[@]}")
+echo "$talked"
+read -r more _ wrong _ <<<"$(tail -n 1 <<<"$talked")"
+cases=$((cases + more)) failed=$((failed + wrong))
 
 cd "$folder" || exit 2
 uri=nbd+unix:///?socket=$folder/socket
@@ -184,6 +192,52 @@ array() {
     rm -f volume ?.img
 }
 
+# bad IMAGE FIRST COUNT..: sectors of an image could not be read. They hold noise, and its map says so
+bad() {
+    local image=$1 length first count end=0
+    length=$(stat -c %s "$image")
+    echo "0x0 + 1"
+    shift
+    while [ $# -gt 0 ]; do
+        first=$(($1 * 512)) count=$(($2 * 512))
+        shift 2
+        dd if=/dev/urandom of="$image" bs=512 seek=$((first / 512)) count=$((count / 512)) conv=notrunc status=none
+        echo "$end $((first - end)) +"
+        echo "$first $count -"
+        end=$((first + count))
+    done
+    echo "$end $((length - end)) +"
+}
+
+# damaged NAME SET LOST IMAGE..: the volume of ext4 by the text `maps`, of which so many sectors are lost, each of them in tree/large. It is
+# mounted, and copied by ddrescue
+damaged() {
+    local name=$1 lost=$3 file fails=
+    words=("set=$2" maps=maps -- "${@:4}")
+    reraid salvage "set=$2" -- "${@:4}" <maps >volume || exit 2
+    size=$(stat -c %s volume)
+    as "$name: what is lost" test "$(reraid salvage "set=$2" form=lost -- "${@:4}" <maps | tail -n 1)" = "good $((size / 512 - lost)) of $((size / 512))"
+    as "$name: nbdfuse" shown
+    as "$name: a mount" mount -o ro,noload,loop shown/volume files
+    for file in $(cd tree && find . -type f); do cmp -s "tree/$file" "files/$file" || fails=$fails$file; done
+    as "$name: its files" test "$fails" = "$([ "$lost" = 0 ] || echo ./large)"
+    as "$name: its end" umount files
+    as "$name: ddrescue" ddrescue -q -d shown/volume copy copy.map
+    as "$name: what it copied" cmp copy volume
+    as "$name: what it could not read" test "$(ddrescuelog --list-blocks=- copy.map | wc -l)" = "$lost"
+    as "$name: nbdfuse ends" umount shown
+    rm -f volume copy copy.map
+}
+
+# meeting SET IMAGE..: the image and its sector in which a chunk of tree/large begins, and the image that has its parity
+meeting() {
+    local first
+    mount -o ro,noload,loop made files
+    first=$(filefrag -v -b512 files/large | awk '$1 == "1:" || $1 == "0:" { sub(/\.\..*/, "", $4); print $4; exit }')
+    umount files
+    reraid map "set=$1" sector=$(((first / 128 + 3) * 128)) -- "${@:2}" | awk '$1 == "row" { print $8, $10, $12 }'
+}
+
 # ends STATUS TEXT COMMAND..: it ends with that status, and says the text
 ends() {
     local status=$1 text=$2
@@ -226,6 +280,24 @@ refused
 mke2fs -q -t ext4 -d tree made 32M >/dev/null
 "$bench/making/disks.py" offsets=2048,0,16,4096 5 128 made a.img b.img c.img d.img
 array "ext4, level 5, an offset of each image, one lost" ro,noload,loop write 5:ls:none:128:16+4096+2048:2,-,0,1 c.img d.img a.img
+
+names=(a.img b.img c.img d.img e.img)
+"$bench/making/disks.py" 6 128 made "${names[@]}"
+{ echo map 1 && bad b.img 2048 3000 9000 5000 && echo map 3 && bad d.img 2500 4000 9100 1; } >maps
+damaged "ext4, level 6, two damaged disks" 6:ls:after-q:128:2048:0,1,2,3,4 0 "${names[@]}"
+rm -f ?.img
+names=(a.img b.img c.img d.img)
+"$bench/making/disks.py" 5 128 made "${names[@]}"
+{ echo map 0 && bad a.img 2048 3000 9000 5000 && echo map 2 && bad c.img 6000 2999 14000 7; } >maps
+damaged "ext4, level 5, areas that do not meet" 5:ls:none:128:2048:0,1,2,3 0 "${names[@]}"
+rm -f ?.img
+"$bench/making/disks.py" 5 128 made "${names[@]}"
+read -r image sector other <<<"$(meeting 5:ls:none:128:2048:0,1,2,3 "${names[@]}")"
+for number in 0 1 2 3; do
+    case $number in "$image" | "$other") echo "map $number" && bad "${names[$number]}" "$sector" 5 ;; esac
+done >maps
+damaged "ext4, level 5, areas that meet" 5:ls:none:128:2048:0,1,2,3 5 "${names[@]}"
+rm -f ?.img maps
 
 truncate -s 320M made
 mkfs.xfs -q -f made

@@ -85,7 +85,7 @@ const SERVED: [Mapped; 4] = [
         notes: "",
     },
     Mapped {
-        line: "maps=m set=5:ls:none:1:0:-,0,1 -- b c",
+        line: "maps=m set=5:ls:none:1:0:-,0,1 -- a b",
         maps: b"map 1\n0 + 1\n0 512 -\n512 512 +\n",
         failing: None,
         images: &[&[3, 4], &[8, 6]],

@@ -42,7 +42,9 @@ use Rattle.run_ends.specs.declared.stop.Refusal.{Refusal}
 use Rattle.run_ends.specs.declared.stop.Refusal.TheVariants.{Cursor, Images, Many}
 use Rattle.run_ends.specs.declared.stop.Stop.{Stop}
 use Rattle.run_ends.specs.declared.stop.Stop.TheVariants.{ImageFault, OutFault, OutOfMemory, Refused, SourceFault}
-use Rattle.near_jobs.specs.Mirroring.{AreMirrorWords, EndsMirrors, ask_of, members_for, mirrors_job, mirrors_output, mirrors_reads, mirrors_refusal, mirrors_text, page_reads, product_refusal, rank_line}
+use Rattle.asked_values.proofs.Asked.{as_asked}
+use Rattle.asked_values.specs.Asked.{members_for}
+use Rattle.near_jobs.specs.Mirroring.{AreMirrorWords, EndsMirrors, ask_of, mirrors_job, mirrors_output, mirrors_reads, mirrors_refusal, mirrors_text, page_reads, product_refusal, rank_line}
 use Rattle.near_jobs.specs.declared.mirroring.MirrorWords.{MirrorWords}
 
 -- the lines of sets by their ranks
@@ -123,10 +125,7 @@ two_at_least n low high = grind (arith, nat_tests)
 
 members_are : (asked : List ℕ) (names : ℕ) → names ≤ MOST → All (λ n. IsTrue (has_members n)) asked → All (λ n. IsTrue (has_members n)) (members_for asked names)
 members_are [] names most all = All-cons (λ n. IsTrue (has_members n)) (max names 2) [] (two_at_least (max names 2) (omega arith) (omega arith)) (All-nil (λ n. IsTrue (has_members n)))
-members_are (n ∷ ns) names most all = subst (λ (b : Bool). All (λ n. IsTrue (has_members n)) (cond b (max names 2 ∷ []) (n ∷ ns))) (sym (not_none ns)) all
-  where
-    not_none : (ns : List ℕ) → nat_eq (suc (length ns)) 0 ≡ false
-    not_none ns = grind (arith, nat_tests)
+members_are (n ∷ ns) names most all = subst (All (λ m. IsTrue (has_members m))) (sym (as_asked n ns names)) all
 
 pub near_ask : (asked : MirrorWords) (names last : ℕ) (attached : List Image) → limits_fault asked.end names attached ≡ None → AreMirrorWords asked → All (λ image. image.sectors < 2 ^ 55) attached → last ≡ end_of asked.end attached →
     IsNearAsk (ask_of asked names last)

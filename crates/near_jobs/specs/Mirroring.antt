@@ -1,5 +1,5 @@
 -- What `mirrors` refuses and prints.
-use Rattle.std.specs.Prelude.{ℕ, ◌≡◌, ◌≤◌, ◌<◌, ◌+◌, ◌*◌, ◌^◌, Bool, false, max, nat_eq, nat_le, nat_lt, if◌then◌else◌, IfSome, IsTrue, List, [], ◌∷◌, ◌++◌, length, codes, unwrap_or, slice_get, All}
+use Rattle.std.specs.Prelude.{ℕ, ◌≡◌, ◌≤◌, ◌<◌, ◌+◌, ◌*◌, ◌^◌, Bool, false, nat_le, nat_lt, if◌then◌else◌, IfSome, IsTrue, List, [], ◌∷◌, ◌++◌, length, codes, slice_get, All}
 use Rattle.std.specs.List.{flat_map}
 use Rattle.std.specs.Option.{option_map, option_map_or}
 use Rattle.std.specs.declared.option.Option.{Option}
@@ -24,6 +24,7 @@ use Rattle.run_ends.specs.declared.stop.Refusal.{Refusal}
 use Rattle.run_ends.specs.declared.stop.Refusal.TheVariants.{Cursor, Images, Many}
 use Rattle.run_ends.specs.declared.stop.Stop.{Stop}
 use Rattle.run_ends.specs.declared.stop.Stop.TheVariants.{ImageFault, OutOfMemory, Refused}
+use Rattle.asked_values.specs.Asked.{members_for, window_for}
 use Rattle.near_jobs.specs.declared.mirroring.MirrorWords.{MirrorWords}
 
 -- what the words of `mirrors` may ask
@@ -36,10 +37,6 @@ pub record AreMirrorWords (asked : MirrorWords) : Type 0 where
   pub end : IfSome asked.end (λ sector. sector < 2 ^ 55)
   pub size : 1 ≤ asked.size
 
--- the numbers of members to try: those that are asked for, or as many as there are images, and at least 2
-abbrev pub members_for : List ℕ → ℕ → List ℕ
-members_for asked names = if nat_eq (length asked) 0 then max names 2 ∷ [] else asked
-
 -- what the words ask of a search over `names` images, whose members end before the image sector `end`
 abbrev pub ask_of : MirrorWords → ℕ → ℕ → NearAsk
 ask_of asked names end = record {
@@ -49,7 +46,7 @@ ask_of asked names end = record {
   missing = asked.missing;
   foreign = asked.foreign;
   badrows = asked.badrows;
-  window = unwrap_or asked.window (max end 1);
+  window = window_for asked.window end;
   end = end;
 }
 

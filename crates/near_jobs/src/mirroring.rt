@@ -8,9 +8,10 @@ ghost use Rattle.near_mirror.specs.Words.{near_line as near_line_of};
 ghost use Rattle.near_search.specs.Asks.{HasImages, IsNearAsk};
 ghost use Rattle.run_ends.specs.Jobs.{Answers, Does, Orders, Refuses, around, is_cut, named, stream};
 ghost use Rattle.run_ends.specs.Printing.{share_line};
-ghost use Rattle.near_jobs.specs.Mirroring.{AreMirrorWords, EndsMirrors, ask_of as ask_of_words, members_for, mirrors_job, mirrors_text, page_reads, product_refusal};
+ghost use Rattle.near_jobs.specs.Mirroring.{AreMirrorWords, EndsMirrors, ask_of as ask_of_words, mirrors_job, mirrors_text, page_reads, product_refusal};
 
 use arrayvec::ArrayVec;
+use asked_values::{members_for, window_for};
 use near_mirror::near_line;
 use near_search::{NearAsk, NearFault, NearLine, NearPage, near_page};
 use outside::{Images, MOST_ATTACHED, Memory, Sink};
@@ -148,41 +149,14 @@ fn ask_of(asked: MirrorWords, names: usize, end: u64) -> NearAsk
     requires names { names ≤ MOST }
     ensures { result ≡ ask_of_words asked names end }
 {
-    let members = members_of(asked.members.as_slice(), names);
     NearAsk {
-        members,
+        members: members_for(asked.members.as_slice(), names),
         chunks: asked.chunks,
         offsets: asked.offsets,
         missing: asked.missing,
         foreign: asked.foreign,
         badrows: asked.badrows,
-        window: asked.window.unwrap_or(end.max(1)),
+        window: window_for(asked.window, end),
         end,
     }
-}
-
-/// The numbers of members to try.
-fn members_of(asked: &[u8], names: usize) -> ArrayVec<u8, MOST_LESS_ONE>
-    requires names { names ≤ MOST }
-    requires few { length asked.now ≤ MOST_LESS_ONE }
-    ensures { result.items ≡ members_for asked.now names }
-{
-    if asked.is_empty() {
-        let mut members = ArrayVec::new();
-        members.push(names.max(2) as u8);
-        return members;
-    }
-    copied(asked)
-}
-
-/// A copy of the numbers.
-fn copied(numbers: &[u8]) -> ArrayVec<u8, MOST_LESS_ONE>
-    requires few { length numbers.now ≤ MOST_LESS_ONE }
-    ensures { result.items ≡ numbers.now }
-{
-    let mut copy = ArrayVec::new();
-    for number in numbers {
-        copy.push(*number);
-    }
-    copy
 }

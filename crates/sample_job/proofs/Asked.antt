@@ -21,7 +21,7 @@ use Rattle.sample_arrays.specs.Arrays.{end_of, sampled, IsFile}
 use Rattle.search_plan.specs.Places.{level_place}
 use Rattle.search_plan.specs.Plans.{AreBounds, AreRising}
 use Rattle.survey_engine.specs.Surveys.{IsAsk, IsSurveyable}
-use Rattle.survey_job.specs.Surveying.{window_for}
+use Rattle.asked_values.proofs.Asked.{window_is}
 use Rattle.sample_job.proofs.Attached.{all_long, image_count}
 use Rattle.sample_job.specs.Sampling.{sample_ask, sample_plan, sampled_images}
 
@@ -81,10 +81,6 @@ bounds_are asked level members missing some most few = record {
 
 two_are : AreMembers (2 ∷ [])
 two_are = (one_rises 2, All-cons (λ n. (2 ≤ n) × (n ≤ 24)) 2 [] (omega arith, omega arith) (All-nil (λ n. (2 ≤ n) × (n ≤ 24))))
-
-window_is : (window : Option ℕ) (end : ℕ) → end < 2 ^ 55 → IfSome window (λ n. (1 ≤ n) × (n < 2 ^ 55)) → (1 ≤ window_for window end) × (window_for window end < 2 ^ 55)
-window_is None end near given = (omega arith, omega arith)
-window_is (Some n) end near given = given
 
 -- the images have a common offset
 plain_common : plain_survey.each ≡ false

@@ -27,7 +27,9 @@ use Rattle.plan_text.specs.Parts.{AreMembers}
 use Rattle.plan_text.specs.PlanText.{plan_text}
 use Rattle.survey_engine.specs.Surveys.{survey_reads as reads_of, IsSurveyable}
 use Rattle.survey_engine.specs.declared.ask.Ask.{Ask}
-use Rattle.survey_job.specs.Surveying.{ask_of, members_for, survey_fault, survey_job, survey_output, survey_plan, survey_reads, survey_refusal, window_for}
+use Rattle.asked_values.proofs.Asked.{as_asked, window_is}
+use Rattle.asked_values.specs.Asked.{members_for}
+use Rattle.survey_job.specs.Surveying.{ask_of, survey_fault, survey_job, survey_output, survey_plan, survey_reads, survey_refusal}
 
 -- the images are refused, or not
 pub images_refused : (asked : SurveyWords) (names : ℕ) (attached : List Image) (fault : Disagreement) → survey_fault asked names attached ≡ Some fault → survey_refusal asked names attached ≡ Some (Images fault)
@@ -45,17 +47,10 @@ one_number names some most = (
   All-cons (λ n. (2 ≤ n) × (n ≤ MOST)) (max names 2) [] (omega arith, omega arith) (All-nil (λ n. (2 ≤ n) × (n ≤ MOST))),
 )
 
-not_none : (ns : List ℕ) → nat_eq (suc (length ns)) 0 ≡ false
-not_none ns = grind (arith, nat_tests)
-
 members_are : (asked : List ℕ) (names : ℕ) → 1 ≤ names → names ≤ MOST → (asked ≡ []) ⊎ AreMembers asked → AreMembers (members_for asked names)
 members_are [] names some most given = one_number names some most
 members_are (n ∷ ns) names some most (inl e) = absurd (cc)
-members_are (n ∷ ns) names some most (inr are) = subst (λ (b : Bool). AreMembers (cond b (max names 2 ∷ []) (n ∷ ns))) (sym (not_none ns)) are
-
-window_is : (window : Option ℕ) (end : ℕ) → end < 2 ^ 55 → IfSome window (λ n. (1 ≤ n) × (n < 2 ^ 55)) → (1 ≤ window_for window end) × (window_for window end < 2 ^ 55)
-window_is None end near given = (omega arith, omega arith)
-window_is (Some n) end near given = given
+members_are (n ∷ ns) names some most (inr are) = subst AreMembers (sym (as_asked n ns names)) are
 
 -- where no image is refused none is for either cause
 first_none : (first last : Option Disagreement) → option_or first last ≡ None → (first ≡ None) × (last ≡ None)

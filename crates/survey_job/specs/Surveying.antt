@@ -1,8 +1,9 @@
 -- What `survey` refuses and prints.
-use Rattle.std.specs.Prelude.{ℕ, false, max, nat_eq, if◌then◌else◌, List, [], ◌∷◌, length, unwrap_or}
+use Rattle.std.specs.Prelude.{ℕ, false, if◌then◌else◌, List, length}
 use Rattle.std.specs.Option.{option_map, option_or}
 use Rattle.std.specs.declared.option.Option.{Option}
 use Rattle.std.specs.declared.option.Option.TheVariants.{None}
+use Rattle.asked_values.specs.Asked.{members_for, window_for}
 use Rattle.outside.specs.Seen.{Image, lengths_of}
 use Rattle.search_plan.specs.declared.plan.Plan.{Plan}
 use Rattle.survey_engine.specs.Origins.{origins_of}
@@ -17,14 +18,6 @@ use Rattle.run_ends.specs.declared.agreement.Disagreement.{Disagreement}
 use Rattle.run_ends.specs.Jobs.{Job, textless}
 use Rattle.run_ends.specs.declared.stop.Refusal.{Refusal}
 use Rattle.run_ends.specs.declared.stop.Refusal.TheVariants.{Images}
-
--- the numbers of members to try: those that are asked for, or as many as there are images, and at least 2
-abbrev pub members_for : List ℕ → ℕ → List ℕ
-members_for asked names = if nat_eq (length asked) 0 then max names 2 ∷ [] else asked
-
--- the window: what is asked for, or else the end, and 1 where the end is 0
-abbrev pub window_for : Option ℕ → ℕ → ℕ
-window_for window end = unwrap_or window (max end 1)
 
 -- what the words ask of a survey of `names` images, whose members end before the image sector `end`
 abbrev pub ask_of : SurveyWords → ℕ → ℕ → Ask

@@ -8,13 +8,13 @@ ghost use Rattle.plan_text.specs.PlanText.{plan_text};
 ghost use Rattle.run_ends.specs.Cuts.{CutsShort};
 ghost use Rattle.run_ends.specs.Jobs.{Answers, Does, around, named, stream};
 ghost use Rattle.survey_engine.specs.Surveys.{survey_reads as reads_of, IsSurveyable};
-ghost use Rattle.survey_job.specs.Surveying.{ask_of as ask_of_words, members_for, survey_fault, survey_job, survey_plan};
+ghost use Rattle.survey_job.specs.Surveying.{ask_of as ask_of_words, survey_fault, survey_job, survey_plan};
 
-use arrayvec::ArrayVec;
+use asked_values::{members_for, window_for};
 use command_words::SurveyWords;
 use outside::{Images, MOST_ATTACHED, Sink};
 use plan_text::{Text, write_plan};
-use raid_params::{Bounds, MOST, MOST_LESS_ONE};
+use raid_params::{Bounds, MOST};
 use run_ends::{Disagreement, Refusal, Stop, end_of, limits_fault, long_fault, print};
 use search_plan::Limits;
 use std::alloc::Global;
@@ -97,7 +97,7 @@ pub fn ask_of(asked: SurveyWords, names: usize, end: u64) -> Ask
     requires names { names ≤ MOST }
     ensures { result ≡ ask_of_words asked names end }
 {
-    let members = members_of(asked.bounds.members.as_slice(), names);
+    let members = members_for(asked.bounds.members.as_slice(), names);
     Ask {
         bounds: Bounds {
             members,
@@ -106,7 +106,7 @@ pub fn ask_of(asked: SurveyWords, names: usize, end: u64) -> Ask
         end,
         limits: Limits {
             badrows: asked.badrows,
-            window: asked.window.unwrap_or(end.max(1)),
+            window: window_for(asked.window, end),
         },
         tests: asked.tests,
         kinds: asked.kinds,
@@ -114,30 +114,4 @@ pub fn ask_of(asked: SurveyWords, names: usize, end: u64) -> Ask
         each: asked.each,
         unit: asked.unit,
     }
-}
-
-/// The numbers of members to try.
-fn members_of(asked: &[u8], names: usize) -> ArrayVec<u8, MOST_LESS_ONE>
-    requires names { names ≤ MOST }
-    requires few { length asked.now ≤ MOST_LESS_ONE }
-    ensures { result.items ≡ members_for asked.now names }
-{
-    if asked.is_empty() {
-        let mut members = ArrayVec::new();
-        members.push(names.max(2) as u8);
-        return members;
-    }
-    copied(asked)
-}
-
-/// A copy of the numbers.
-fn copied(numbers: &[u8]) -> ArrayVec<u8, MOST_LESS_ONE>
-    requires few { length numbers.now ≤ MOST_LESS_ONE }
-    ensures { result.items ≡ numbers.now }
-{
-    let mut copy = ArrayVec::new();
-    for number in numbers {
-        copy.push(*number);
-    }
-    copy
 }

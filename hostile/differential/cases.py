@@ -5,6 +5,7 @@ of the formats. `make(command, rng)` gives one.
 import math
 
 from class_cases import classes_case
+from generated import array_images
 from making import (NAMES, Case, an_end, changed_set, files_of, finished, long_plan, shuffled, some_array, some_bytes, some_plan, torn)
 from mirror_cases import goes_far, mirrors_case, mirrorwrite_case
 from product import Product
@@ -12,7 +13,7 @@ from relation_cases import relations_case
 from salvage_cases import salvage_case
 from sample_cases import sample_case
 from survey_cases import survey_case
-from texts import FAR, FIVE, MOST, PATTERNS, RANKS, REDUNDANCY, SECTOR, SIX, SYNDROMES, Plan
+from texts import FAR, FIVE, MOST, PATTERNS, RANKS, REDUNDANCY, SECTOR, SIX, SYNDROMES, Plan, Set
 
 
 def some_own(rng):
@@ -117,6 +118,62 @@ def scan_case(rng):
     return Case(["list", *shuffled(rng, operands), "--", *NAMES[:count]], plan.text().encode(), files_of(images), True)
 
 
+def weak_volume(rng, sectors):
+    """A volume whose sectors are random, but for some that are zeros, equal, or zeros in most columns."""
+    alike, places = rng.randbytes(SECTOR), sorted(rng.sample(range(SECTOR), rng.choice([1, 2, 3])))
+    shares = rng.choice([(1, 0, 0, 0), (1, 0, 0, 0), (3, 1, 0, 0), (1, 3, 0, 0), (1, 0, 2, 0), (1, 0, 0, 2), (1, 1, 1, 1), (0, 1, 2, 0), (0, 1, 0, 1)])
+    kinds = rng.choices(range(4), shares, k=sectors)
+    return b"".join([rng.randbytes(SECTOR), bytes(SECTOR), alike, columns(rng.randrange(1, 256), places)][kind] for kind in kinds)
+
+
+def order_case(rng):
+    """A listing of all orders of the disks of an array, of which none, one or two may be lost, with foreign images, old or damaged rows,
+    and rows of zeros, of equal sectors and of few columns, over heads of which one is that of the array, mostly."""
+    level, own = rng.choice([5, 6, 6, 6]), rng.random() < 0.2
+    lost = rng.choice([0, 0, 1] if level == 5 else [0, 0, 1, 1, 1, 2])
+    foreign = 0 if own else rng.choice([0, 0, 0, 1, 1, 2])
+    members = rng.randint(REDUNDANCY[level] + (2 if level == 5 else 1), {0: 6, 1: 5, 2: 5}[foreign] - own)
+    members = max(members, 3 if level == 5 else 4)
+    pattern, syndrome = rng.choice(SIX if level == 6 else FIVE), rng.choice(SYNDROMES[1:]) if level == 6 else SYNDROMES[0]
+    slots = list(range(members - lost)) + [None] * lost
+    rng.shuffle(slots)
+    chunk, rows = rng.choice([1, 1, 2, 4]), rng.randint(2, 6)
+    found = Set(level, pattern, syndrome, chunk, 0 if own else rng.choice([0, 0, 1, 3]), slots)
+    images = [bytearray(image) for image in array_images(found, rows, weak_volume(rng, rows * chunk * found.data))]
+    offsets = {found.offset}
+    if own:
+        bases = [rng.choice([0, 1]) for _ in images]
+        images, offsets = [bytearray(rng.randbytes(base * SECTOR)) + image for base, image in zip(bases, images)], {0, 1}
+    sectors = min(len(image) for image in images) // SECTOR
+    damaged = rng.choice([0, 0, 0, 1, 1, 2, sectors // 2])
+    for _ in range(damaged):
+        image, at = rng.choice(images[:1] if rng.random() < 0.7 else images), rng.randrange(sectors) * SECTOR
+        image[at:at + SECTOR] = rng.choice([bytes(SECTOR), rng.randbytes(SECTOR), image[:SECTOR]])
+    for _ in range(foreign):
+        images.append(rng.choice([bytearray(rng.randbytes(sectors * SECTOR)), bytearray(images[0]), bytearray(sectors * SECTOR)]))
+    rng.shuffle(images)
+    given = {"levels": [level], "members": [members], "patterns": {pattern, *rng.sample(SIX if level == 6 else FIVE, rng.choice([0, 1, 2]))},
+             "syndromes": {syndrome, *(rng.sample(SYNDROMES[1:], rng.choice([0, 1])) if level == 6 else [])},
+             "chunks": {chunk, *rng.sample([1, 2, 4], rng.choice([0, 0, 1]))}, "offsets": offsets | {rng.choice([0, 1, 2])},
+             "missing": min(2, lost + rng.choice([0, 0, 0, 1])), "foreign": 0 if own else foreign + rng.choice([0, 0, 0, 1]),
+             "badrows": rng.choice([0, 0, damaged, damaged, max(0, damaged - 1), damaged + 1, 64]),
+             "window": rng.choice([1, 2, rows, sectors, FAR - 1, FAR - 1]), "misfits": 0, "least": 1, "origins": [0]}
+    for name, known in (("patterns", PATTERNS), ("syndromes", SYNDROMES), ("chunks", [1, 2, 4]), ("offsets", [0, 1, 2, 3])):
+        given[name] = sorted(given[name], key=known.index)
+    while True:
+        plan = Plan([len(image) // SECTOR for image in images], sectors, given, [], own)
+        longer = [name for name in ("patterns", "syndromes", "chunks", "offsets") if len(given[name]) > (2 if own and name == "offsets" else 1)]
+        if Product(plan).total <= 5000 or not longer:
+            break
+        given[rng.choice(longer)].pop()
+    total = Product(plan).total
+    operands = [f"size={rng.choice([1, 7, 100, 1000, 1000000])}", f"span={min(max(1, total), 5000)}",
+                f"from={rng.choice([0, 0, 0, rng.randint(0, max(0, total - 5000))])}"]
+    if rng.random() < 0.5:
+        operands.append(f"pages={rng.choice([2, 3])}")
+    return Case(["list", *shuffled(rng, operands), "--", *NAMES[:len(images)]], plan.text().encode(), files_of(map(bytes, images)), total > 5000)
+
+
 def check_case(rng):
     found, images, size = some_array(rng, some_own(rng))
     plan = some_plan(rng, found, images, size)
@@ -170,7 +227,7 @@ def rebuild_case(rng):
 
 
 MAKERS = {"survey": survey_case, "list": list_case, "check": check_case, "map": map_case, "write": write_case, "rebuild": rebuild_case,
-          "sample": sample_case, "scan": scan_case, "classes": classes_case, "salvage": salvage_case, "mirrors": mirrors_case,
+          "sample": sample_case, "scan": scan_case, "order": order_case, "classes": classes_case, "salvage": salvage_case, "mirrors": mirrors_case,
           "mirrorwrite": mirrorwrite_case, "relations": relations_case}
 
 

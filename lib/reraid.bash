@@ -213,11 +213,12 @@ _reraid_nbd() {
 
 # The set, without the name of an operand, a folder, and images.
 _reraid_mount() {
-    local words word
+    local words word options=0
     _reraid_words
     COMPREPLY=()
-    case ${#words[@]} in
-        2) if [[ $word == -* ]]; then _reraid_offer --help --version; else _reraid_set "" "$word" 0 5 6 near2; fi ;;
+    [[ ${#words[@]} == 2 || ${words[1]} != --no-maps ]] || options=1
+    case $((${#words[@]} - options)) in
+        2) if [[ $word == -* ]]; then _reraid_offer --no-maps --help --version; else _reraid_set "" "$word" 0 5 6 near2; fi ;;
         *) _reraid_files ;;
     esac
 }

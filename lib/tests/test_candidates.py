@@ -21,8 +21,10 @@ from reraid_try.checks.tests import Tests, in_classes
 from reraid_try.checks.verdicts import Finding, Score, Verdict
 from reraid_try.checks.volumes import Room
 from reraid_try.checks.wholes import Wholes
+from reraid_try.containers import Container
 from reraid_try.evidence.images import Image
 from reraid_try.evidence.maps import Map
+from reraid_try.opening import Opened
 from reraid_try.options import Options
 from reraid_try.policy import cures
 from reraid_try.policy.hunt import Hunt
@@ -533,8 +535,12 @@ class Printed(unittest.TestCase):
 
     def test_maps_are_named(self) -> None:
         images = [dataclasses.replace(image, map=Map("m", "", ())) for image in self.images]
-        self.assertIn("(this shows zeros where a map says unread; reraid salvage", self.shown(candidate(verdict=whole()), images=images).text)
-        self.assertNotIn("(this shows zeros", self.shown(candidate(verdict=whole())).text)
+        closed = Opened(Container("E01", ("d.E01",)), "/x/opened", (), "opened/d")
+        self.assertIn("call unread is found by parity there, and what is lost cannot", self.shown(candidate(verdict=whole()), images=images).text)
+        self.assertIn("(this shows zeros where the map of a container says unread; reraid salvage",
+                      self.shown(candidate(verdict=whole()), images=[dataclasses.replace(images[0], opened=closed), *images[1:]]).text)
+        self.assertIn("(this shows what an image has where its map says", self.shown(candidate("near2:8:0:0,1", verdict=whole()), images=images).text)
+        self.assertNotIn("unread", self.shown(candidate(verdict=whole())).text)
 
 
 class Faulty(unittest.TestCase):

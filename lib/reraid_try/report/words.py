@@ -152,9 +152,19 @@ def lines_of(number: int, it: Candidate, images: Sequence[Image], said: str, typ
     lines += [f"  {it.alike_said}"] if it.alike_said else []
     lines += [f"  {text}" for text in (*it.old, *twins(it.word, images), kin.text(it)) if text]
     lines += ["  to look into it, as root:", *("    " + line for line in typed)]
-    if any(images[slot].map for slot in it.word.images):
-        lines.append("  (this shows zeros where a map says unread; reraid salvage finds what parity has of it)")
-    return lines
+    return lines + of_maps(it.word, [images[slot] for slot in it.word.images])
+
+
+def of_maps(word: Word, images: Sequence[Image]) -> list[str]:
+    """What a mount of the set shows where a map of its images says unread. It takes the maps that lie beside the names that are typed."""
+    damaged = [image for image in images if image.map]
+    if not damaged:
+        return []
+    if word.is_mirrored:
+        return ["  (this shows what an image has where its map says unread)"]
+    if any(image.opened for image in damaged):
+        return ["  (this shows zeros where the map of a container says unread; reraid salvage finds what parity has of it)"]
+    return ["  (what the maps beside the images call unread is found by parity there, and what is lost cannot be read)"]
 
 
 def say_class(report: Report, number: int, it: Candidate, images: Sequence[Image], end: int) -> None:

@@ -260,7 +260,7 @@ class OfRows(unittest.TestCase):
         hunt = hunt_of(self.unsound(600, 601, 700))
         found = Rows(hunt).old(candidate("6:ls:by-data:128:2048:0,-,1,2"))
         self.assertEqual([it.text(["a", "b", "c", "d.img"]) for it in found],
-                         ["d.img is old: as slot 1 parity holds with it in all rows but 3 of 1000, the first of them row 600"])
+                         ["d.img is old or damaged: as slot 1 parity holds with it in all rows but 3 of 1000, the first of them row 600"])
         asked = cast(OfPlan, hunt).standin.asked[0][0]
         self.assertIn("set=6:ls:by-data:128:2048:0,3,1,2", asked)
         self.assertEqual(Rows(hunt).old(candidate("6:ls:by-data:128:2048:0,3,1,2")), [])
@@ -493,12 +493,12 @@ class Printed(unittest.TestCase):
         self.assertEqual(words.best([dataclasses.replace(two, same=1)]), [])
 
     def test_table(self) -> None:
-        it = candidate(verdict=whole(), unsound=3, groups=(Held("xfs", 0, 3, 1),), alike=["6:x"], old=("d.img is old",), rows="parity holds")
+        it = candidate(verdict=whole(), unsound=3, groups=(Held("xfs", 0, 3, 1),), alike=["6:x"], old=("d.img is old or damaged",), rows="parity holds")
         text = self.shown(it, candidate("5:la:none:128:2048:0,1,2", whole(False))).text
         self.assertIn(f"++  0      {SET}  nothing   3 unsound xfs 3-1  xfs: said; 1 of 1 files whole\n           6:x", text)
         self.assertIn("    1      5:la:none:128:2048:0,1,2", text)
         self.assertIn("class 0: RAID 5 of 3 disks", text)
-        self.assertIn("\n  loosened: nothing; parity holds\n  the same volume, so not told apart: 6:x\n  d.img is old\n"
+        self.assertIn("\n  loosened: nothing; parity holds\n  the same volume, so not told apart: 6:x\n  d.img is old or damaged\n"
                       "  to look into it, as root:\n    reraid-mount", text)
         self.assertEqual(self.shown().lines[-1], "no candidates")
 

@@ -158,8 +158,8 @@ class Families(unittest.TestCase):
         assert found.reshape
         self.assertEqual((found.reshape.last, found.reshape.sector, sorted(found.reshape.before), sorted(found.reshape.after)),
                          (2207, 2208, [0, 1, 2, 3, 4], [0, 1, 2, 3]))
-        self.assertEqual(found.reshape.line(), "a reshape stopped between sector 2207 and sector 2208: up to the first 5 images are tied, "
-                         "from the second on 4")
+        self.assertEqual(found.reshape.line(), "perhaps a reshape that stopped between sector 2207 and sector 2208: up to the first 5 images are "
+                         "tied, from the second on 4")
 
     def test_reshape_in_what_is_empty(self) -> None:
         """Where the rows around it are zeros, it lies somewhere between those that are not."""

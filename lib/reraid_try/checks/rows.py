@@ -13,7 +13,7 @@ from .candidates import Candidate
 
 # The rows of a set that takes longer to test, in seconds, are not looked for.
 SLOW = 3
-# A set with more than one in so many filled rows unsound has no image that is but old.
+# A set with more than one in so many filled rows unsound has no image that is but old or damaged.
 MOST_OLD = 2
 # So many marks fit before a row, and so many do not behind it, where an array was reshaped up to there.
 LEAST_TURNED = 3
@@ -104,7 +104,7 @@ def halved(low: int, high: int, holds: Callable[[int], bool | None]) -> int | No
 
 @dataclasses.dataclass(frozen=True)
 class Old:
-    """An image in no slot that belongs into an empty one, where parity holds with it but in some rows: it is old there."""
+    """An image in no slot that belongs into an empty one, where parity holds with it but in some rows: there it is old, or damaged."""
 
     image: int
     slot: int
@@ -114,7 +114,8 @@ class Old:
     def text(self, names: Sequence[str]) -> str:
         """What is said of it."""
         where = f", the first of them row {self.bounds.first}" if self.bounds.first is not None else ""
-        return f"{names[self.image]} is old: as slot {self.slot} parity holds with it in all rows but {self.told.unsound} of {self.told.rows}{where}"
+        return (f"{names[self.image]} is old or damaged: as slot {self.slot} parity holds with it in all rows but {self.told.unsound} of "
+                f"{self.told.rows}{where}")
 
 
 @dataclasses.dataclass(frozen=True)
@@ -174,7 +175,7 @@ class Rows:
         return dataclasses.replace(plan, end=self.hunt.evidence.end)
 
     def old(self, candidate: Candidate) -> list[Old]:
-        """The images in no slot of a candidate that belong into one that is empty, and are old."""
+        """The images in no slot of a candidate that belong into one that is empty, and are old or damaged."""
         word, request = candidate.listed, candidate.trial.request
         if word is None or request is None or candidate.word.is_mirrored or not word.lost or len(word.offsets) > 1:
             return []

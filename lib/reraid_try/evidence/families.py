@@ -1,4 +1,4 @@
-"""What relations of rows say of arrays: which images belong together, how much of parity is left, which image is old, where a reshape stopped."""
+"""What relations of rows say of arrays: which images belong together, how much of parity is left, which may be old, where a reshape may have stopped."""
 
 import collections
 import dataclasses
@@ -43,7 +43,7 @@ class Old:
 
 @dataclasses.dataclass(frozen=True)
 class Reshape:
-    """Where ties change for good: the last row with a tie of all images and the first with one of the rest alone, and which images are tied up to
+    """Where ties change for good, as where a reshape stopped: the last row with a tie of all images and the first with one of the rest alone, and which images are tied up to
     the one and from the other on. Of the rows between them nothing is known, as where they are zeros."""
 
     last: int
@@ -53,8 +53,8 @@ class Reshape:
 
     def line(self) -> str:
         """What is said of it."""
-        return (f"a reshape stopped between sector {self.last} and sector {self.sector}: up to the first {len(self.before)} images are tied, from "
-                f"the second on {len(self.after)}")
+        return (f"perhaps a reshape that stopped between sector {self.last} and sector {self.sector}: up to the first {len(self.before)} images are "
+                f"tied, from the second on {len(self.after)}")
 
     def closer(self, relations: Relations) -> "Reshape":
         """The same by rows between the two, which lie closer to each other."""

@@ -73,7 +73,7 @@ class Search:
         self.say_rows()
 
     def say_rows(self) -> None:
-        """Asks of the candidates that are said in words in which rows parity holds, and which images in no slot are but old."""
+        """Asks of the candidates that are said in words in which rows parity holds, and which images in no slot are but old or damaged."""
         names = words.short([image.called for image in self.images])
         for _, it in self.best_told():
             rows = Rows(it.hunt)

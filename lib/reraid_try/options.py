@@ -10,6 +10,7 @@ from . import containers, units
 from .casefile import host
 from .evidence import images
 from .opening import Opened
+from .report.report import MINUTE
 
 UNITS = {"K": units.KIB, "M": units.MIB, "G": units.GIB, "T": units.TIB}
 LEVELS = ("0", "5", "6", "10")
@@ -29,7 +30,7 @@ STATUSES = "status: 0 where a candidate has + or ++, 1 where none has, 2 where t
 class Options:
     """What is asked for. `first` is how many bytes of each image are read, `seconds` how long a trial may take, `members` the numbers of members
     that are tried, None where hints say them, `report` the file of the page, `hashes` whether digests are taken, `raw` whether images in
-    containers are searched as they are, `opened` those that were opened."""
+    containers are searched as they are, `opened` those that were opened, `every` after how many seconds a line says what is at work."""
 
     images: tuple[str, ...]
     as_json: bool = False
@@ -45,6 +46,7 @@ class Options:
     hashes: bool = False
     raw: bool = False
     opened: tuple[Opened, ...] = ()
+    every: int = MINUTE
 
     def wants(self, level: str) -> bool:
         """This level is to be tried."""
@@ -102,6 +104,8 @@ def parser() -> argparse.ArgumentParser:
     it.add_argument("--first", type=size, default=USUAL_FIRST, metavar="SIZE", help="read so much of each image (default: 16G)")
     it.add_argument("--all", action="store_true", help="read the images wholly")
     it.add_argument("--time", type=positive, default=USUAL_SECONDS, metavar="SECONDS", help="the most seconds of a trial (default: 60)")
+    it.add_argument("--every", type=positive, default=MINUTE, metavar="SECONDS",
+                    help="where standard error is no terminal, say after so many seconds what is at work (default: 60)")
     it.add_argument("--room", metavar="DIR", help="where volumes are written and mounted (default: the folder of temporary files)")
     it.add_argument("--log", metavar="FILE", help="keep every command there, with its status and its seconds, behind what it has already")
     it.add_argument("--report", metavar="FILE", help="write a page of all of it there, for a case file: HTML with pictures of the disks")
@@ -127,4 +131,4 @@ def read_words(words: Sequence[str]) -> Options:
     if not shutil.which("reraid"):
         asking.error("there is no reraid on the PATH")
     return Options(tuple(it.images), it.json, it.x, it.jobs, it.members, it.levels, units.ALL if it.all else it.first, it.time, it.room, it.log,
-                   it.report, it.hashes, it.raw)
+                   it.report, it.hashes, it.raw, every=it.every)

@@ -493,7 +493,8 @@ class Printed(unittest.TestCase):
         self.assertEqual(words.best([dataclasses.replace(two, same=1)]), [])
 
     def test_table(self) -> None:
-        it = candidate(verdict=whole(), unsound=3, groups=(Held("xfs", 0, 3, 1),), alike=["6:x"], old=("d.img is old or damaged",), rows="parity holds")
+        it = candidate(verdict=whole(), unsound=3, groups=(Held("xfs", 0, 3, 1),), alike=["6:x"], old=("d.img is old or damaged",),
+                       rows="parity holds")
         text = self.shown(it, candidate("5:la:none:128:2048:0,1,2", whole(False))).text
         self.assertIn(f"++  0      {SET}  nothing   3 unsound xfs 3-1  xfs: said; 1 of 1 files whole\n           6:x", text)
         self.assertIn("    1      5:la:none:128:2048:0,1,2", text)

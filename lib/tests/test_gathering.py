@@ -122,6 +122,23 @@ class Progress(unittest.TestCase):
             bar.tell()
         self.assertEqual(said.getvalue(), "0:00 trial 3: goes on\n")
 
+    def test_another_time(self) -> None:
+        """What is asked for in place of a minute is waited for, and a third of it for what is counted."""
+        said = io.StringIO()
+        bar = Bar(9)
+        bar.there = False
+        with redirect_stderr(said):
+            bar.show("trial 3", 1, 4)
+            bar.until, bar.said = bar.until - 2, bar.said - 8
+            bar.show("trial 3", 2, 4)
+            bar.tell()
+            self.assertEqual(said.getvalue(), "")
+            bar.until -= 1.5
+            bar.show("trial 3", 3, 4)
+            bar.said -= 9
+            bar.tell()
+        self.assertEqual(said.getvalue(), "0:00 trial 3: 3 of 4\n0:00 trial 3: goes on\n")
+
 
 if __name__ == "__main__":
     unittest.main()

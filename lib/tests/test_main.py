@@ -158,6 +158,7 @@ class Words(Runs):
         nothing = os.path.join(self.folder, "nothing")
         for words, said in [(["--members", "x"], "members are numbers"), (["--members", "1"], "members are 2 to 24"),
                             (["--members", "25"], "members are 2 to 24"), (["--levels", "1"], "levels are of"), (["--time", "0"], "not above 0"),
+                            (["--every", "0"], "not above 0"),
                             (["--first", "5"], "less than 1M"), (["--first", "xG"], "a size is a number"), (["-j", "-1"], "not above 0"),
                             (["--room", nothing], "is no folder"), ([nothing], "is no file and no block device"),
                             ([self.folder], "is no file and no block device"), (["--no-such-word"], "unrecognized"),
@@ -172,11 +173,12 @@ class Words(Runs):
         self.assertEqual((status, "there is no reraid" in line), (2, True))
 
     def test_words_that_are_right(self) -> None:
-        it = options.read_words(["--json", "--members", "4,5", "--levels", "5,6", "--first", "3g", "--time", "7", "-j", "2", "--hash", *self.images])
-        self.assertEqual(it, Options(tuple(self.images), True, False, 2, (4, 5), ("5", "6"), 3 * GIB, 7, hashes=True))
+        it = options.read_words(["--json", "--members", "4,5", "--levels", "5,6", "--first", "3g", "--time", "7", "-j", "2", "--hash",
+                                 "--every", "5", *self.images])
+        self.assertEqual(it, Options(tuple(self.images), True, False, 2, (4, 5), ("5", "6"), 3 * GIB, 7, hashes=True, every=5))
         self.assertEqual((it.wants("5"), it.wants("10")), (True, False))
         usual = options.read_words(self.images)
-        self.assertEqual((usual.members, usual.levels, usual.first, usual.seconds), (None, ("0", "5", "6", "10"), 16 * GIB, 60))
+        self.assertEqual((usual.members, usual.levels, usual.first, usual.seconds, usual.every), (None, ("0", "5", "6", "10"), 16 * GIB, 60, 60))
         self.assertEqual(options.read_words(["--members", "2,24", *self.images]).members, (2, 24))
         self.assertEqual(options.read_words(["--all", *self.images]).first, ALL)
         self.assertEqual(options.read_words(["--first", "1M", *self.images]).first, MIB)

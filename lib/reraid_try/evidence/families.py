@@ -1,4 +1,4 @@
-"""What relations of rows say of arrays: which images belong together, how much of parity is left, which may be old, where a reshape may have stopped."""
+"""What relations of rows say of arrays: which images belong together, how much of parity is left, which may be old, where a reshape may be."""
 
 import collections
 import dataclasses
@@ -43,8 +43,8 @@ class Old:
 
 @dataclasses.dataclass(frozen=True)
 class Reshape:
-    """Where ties change for good, as where a reshape stopped: the last row with a tie of all images and the first with one of the rest alone, and which images are tied up to
-    the one and from the other on. Of the rows between them nothing is known, as where they are zeros."""
+    """Where ties change for good, as where a reshape stopped: the last row with a tie of all images, the first with one of the rest alone, and which
+    images are tied up to the one and from the other on. Of the rows between them nothing is known, as where they are zeros."""
 
     last: int
     sector: int

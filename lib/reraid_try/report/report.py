@@ -11,8 +11,9 @@ from ..casefile.record import Record
 from ..errors import OutsideError, said
 from ..units import MIB
 
-# Seconds after which a line says what is done, where standard error is no terminal: how far it is, where that is known, or that it still goes on.
-SELDOM, MINUTE = 20, 60
+# Where standard error is no terminal: the seconds after which a line says that what is done still goes on, if nothing else is asked for, and in how
+# many parts of these one says how far it is, where that is known.
+MINUTE, PARTS = 60, 3
 # A step that takes so many seconds says how long the rest of it may take.
 LONG = 5
 # The width of the bar, and what takes a line of a terminal away.
@@ -24,9 +25,9 @@ SURVEY = "reraid survey"
 class Report:
     """Prints what is seen, tried and found, in order, and keeps a record of it. `doing` is what is done, `total` the bytes that a survey reads."""
 
-    def __init__(self, as_json: bool = False) -> None:
+    def __init__(self, as_json: bool = False, every: int = MINUTE) -> None:
         self.as_json = as_json
-        self.bar = Bar()
+        self.bar = Bar(every)
         self.record = Record()
         self.doing, self.total = "", 0
 
@@ -65,13 +66,14 @@ class Report:
 
 class Bar:
     """A line on a terminal: what is done, how far it is, and how long the rest of that may take. Where standard error is no terminal, a line of its
-    own now and then for what takes long, and each minute what is done."""
+    own now and then for what takes long, and each minute what is done, or each `every` seconds."""
 
-    def __init__(self) -> None:
+    def __init__(self, every: int = MINUTE) -> None:
+        self.every, self.seldom = every, every / PARTS
         self.shown = False
         self.there = sys.stderr.isatty()
         self.began = time.monotonic()
-        self.until = self.began + SELDOM
+        self.until = self.began + self.seldom
         self.lock = threading.Lock()
         self.doing, self.since, self.said = "", self.began, self.began
         self.ended = threading.Event()
@@ -106,7 +108,7 @@ class Bar:
             if not self.there:
                 if total and now > self.until:
                     self.line(f"{text}: {done} of {total}{left}")
-                    self.until = now + SELDOM
+                    self.until = now + self.seldom
                 return
             full = BAR * done // total if total else 0
             part = f" [{'#' * full}{' ' * (BAR - full)}] {done}/{total}{left}" if total else ""
@@ -124,19 +126,19 @@ class Bar:
 
     def each_minute(self) -> None:
         """Says each minute what is done."""
-        while not self.ended.wait(max(1.0, self.said + MINUTE - time.monotonic())):
+        while not self.ended.wait(max(1.0, self.said + self.every - time.monotonic())):
             self.tell()
 
     def tell(self) -> None:
         """Says what is done, where nothing else was said for a minute."""
         with self.lock:
-            if self.doing and time.monotonic() >= self.said + MINUTE:
+            if self.doing and time.monotonic() >= self.said + self.every:
                 self.line(f"{self.doing.rstrip(': ')}: goes on")
 
     def clear(self) -> None:
         """Takes the line away. What follows is new, and takes no long time yet."""
         self.said = time.monotonic()
-        self.until = self.said + SELDOM
+        self.until = self.said + self.seldom
         if self.shown:
             sys.stderr.write(CLEAR)
             sys.stderr.flush()

@@ -1,5 +1,6 @@
 #!/bin/bash
-# Runs all of this folder over the built programs, one script after another, each with its log in a folder, and prints the last line of each.
+# Runs all of this folder over the built programs, one script after another, each with its log in a folder, and prints the last line of each, and of
+# one that was not as stated the lines that say what failed, ten at most.
 # Status 1 where one was not as stated. What a script needs stands at its top; as root, nbd.sh needs it.
 # Usage: hostile/all.sh [CASES [LOGS]]: so many cases of each command beside the reference, 2000 if not given; a folder for the logs
 set -u
@@ -21,6 +22,7 @@ run() {
     status=$?
     [ $status = 0 ] || failed=$((failed + 1))
     echo "$([ $status = 0 ] && echo ok || echo FAILED) $name, $((SECONDS - from)) s: $(tail -n 1 "$logs/$name")"
+    [ $status = 0 ] || grep -E -m 10 '^(FAILED|Traceback)| differs: see | DIFFERS' "$logs/$name" | cut -c 1-300 | sed 's/^/    /'
 }
 
 run surroundings "$here/surroundings.sh" "$program"
@@ -31,6 +33,8 @@ run damaged python3 "$top/hostile/damaged.py"
 run long_images "$here/long_images.py" "$program"
 run nbd "$here/nbd.sh" "$program" "$server"
 run sockets "$here/sockets.sh" "$program" "$server"
+run progress "$here/progress.sh" "$program" "$server"
+run copies "$here/copies.sh" "$program" "$server"
 run containers "$here/containers.py"
 run casefile "$here/casefile.py"
 run package "$here/package.py" --all

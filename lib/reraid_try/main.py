@@ -7,8 +7,9 @@ import sys
 from collections.abc import Sequence
 from types import FrameType
 
-from . import containers
-from .calls.commands import Commands, Log
+from . import containers, resuming
+from .calls.commands import Commands, Log, Runner
+from .calls.memory import Memory, Remembering
 from .casefile.gathering import Casefile
 from .checks.verdicts import Score
 from .checks.volumes import Room
@@ -76,13 +77,15 @@ def run_once(options: Options, words: Sequence[str], report: Report, log: Log | 
         raise Stopped
     for number in (signal.SIGINT, signal.SIGTERM):
         signal.signal(number, stop)
-    casefile = room = opener = None
+    casefile = room = opener = memory = None
     report.bar.watch()
     try:
         casefile = Casefile(options, words, report, commands)
         room = Room(commands, options.room)
         opener = Opener(room.base, commands.note)
-        search = Search(with_containers(options, report, opener), commands, report, room)
+        options = with_containers(options, report, opener)
+        memory = resuming.begin(options, words, report)
+        search = Search(options, remembering(commands, memory, options), report, room, memory)
         return searched(search, report, casefile)
     except Stopped:
         report.say("interrupted", NOT_TESTED, interrupted=True)
@@ -95,7 +98,16 @@ def run_once(options: Options, words: Sequence[str], report: Report, log: Log | 
             room.close()
         if casefile:
             casefile.close()
+        if memory:
+            memory.close()
         report.bar.end()
+
+
+def remembering(commands: Commands, memory: Memory | None, options: Options) -> Runner:
+    """Who runs the commands of a search: with a memory, what was answered before is not asked again."""
+    if memory is None:
+        return commands
+    return Remembering(commands, memory, {it.path: it.name for it in options.opened})
 
 
 def with_containers(options: Options, report: Report, opener: Opener) -> Options:
@@ -112,11 +124,13 @@ def searched(search: Search, report: Report, casefile: Casefile) -> int:
     try:
         casefile.begin(search.options.images)
         search.run()
+        resuming.end(search.memory, report)
         table.show(report, search.tested, search.images)
         status = SIGNED if search.best() >= Score.CHECKED else NONE
         casefile.end(search, status)
         return status
     except Stopped:
+        resuming.end(search.memory, report, ended=True)
         table.show(report, [it for it in search.tested if it.verdict], search.images)
         said = "interrupted" if search.best() else NONE_GOOD if search.tested else NOT_TESTED
         report.say("interrupted", said, interrupted=True)

@@ -30,7 +30,7 @@ STATUSES = "status: 0 where a candidate has + or ++, 1 where none has, 2 where t
 class Options:
     """What is asked for. `first` is how many bytes of each image are read, `seconds` how long a trial may take, `members` the numbers of members
     that are tried, None where hints say them, `report` the file of the page, `hashes` whether digests are taken, `raw` whether images in
-    containers are searched as they are, `opened` those that were opened, `every` after how many seconds a line says what is at work."""
+    containers are searched as they are, `resume` the file that keeps what was answered, `opened` the containers that were opened."""
 
     images: tuple[str, ...]
     as_json: bool = False
@@ -45,6 +45,7 @@ class Options:
     report: str | None = None
     hashes: bool = False
     raw: bool = False
+    resume: str | None = None
     opened: tuple[Opened, ...] = ()
     every: int = MINUTE
 
@@ -108,6 +109,7 @@ def parser() -> argparse.ArgumentParser:
                     help="where standard error is no terminal, say after so many seconds what is at work (default: 60)")
     it.add_argument("--room", metavar="DIR", help="where volumes are written and mounted (default: the folder of temporary files)")
     it.add_argument("--log", metavar="FILE", help="keep every command there, with its status and its seconds, behind what it has already")
+    it.add_argument("--resume", metavar="FILE", help="keep there what was asked and answered, and go on with what a run that was ended kept")
     it.add_argument("--report", metavar="FILE", help="write a page of all of it there, for a case file: HTML with pictures of the disks")
     it.add_argument("--hash", dest="hashes", action="store_true", help="take the SHA-256 of each image beside the search")
     it.add_argument("--raw", action="store_true", help="search images in containers (E01, .001, qcow2, VMDK, VHD) as they are")
@@ -131,4 +133,4 @@ def read_words(words: Sequence[str]) -> Options:
     if not shutil.which("reraid"):
         asking.error("there is no reraid on the PATH")
     return Options(tuple(it.images), it.json, it.x, it.jobs, it.members, it.levels, units.ALL if it.all else it.first, it.time, it.room, it.log,
-                   it.report, it.hashes, it.raw, every=it.every)
+                   it.report, it.hashes, it.raw, it.resume)

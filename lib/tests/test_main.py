@@ -13,7 +13,8 @@ from collections.abc import Callable
 from unittest import mock
 
 from reraid_try import main, options
-from reraid_try.calls.commands import Commands
+from reraid_try.calls.commands import Runner
+from reraid_try.calls.memory import Memory
 from reraid_try.checks.verdicts import Score
 from reraid_try.checks.volumes import Room
 from reraid_try.errors import OutsideError, Stopped
@@ -31,8 +32,8 @@ class Fake:
     happens: Callable[[], object] = staticmethod(lambda: None)
     found = Score.NOTHING
 
-    def __init__(self, asked: Options, _commands: Commands, _report: Report, _room: Room) -> None:
-        self.options = asked
+    def __init__(self, asked: Options, _commands: Runner, _report: Report, _room: Room, memory: Memory | None) -> None:
+        self.options, self.memory = asked, memory
         self.tested: list[object] = []
         self.images: tuple[object, ...] = ()
 
@@ -135,6 +136,20 @@ class Files(Runs):
         for words in (["--log", nowhere], ["--report", nowhere], ["--log", "/dev/full"]):
             status, _, line = self.run_with(*words)
             self.assertEqual((status, line.count("\n"), line.startswith(LINE), "cannot be written" in line), (3, 1, True, True), line)
+
+    def test_resume(self) -> None:
+        name = os.path.join(self.folder, "kept")
+        status, out, _ = self.run_with("--resume", name, happens=raising(Stopped()))
+        self.assertEqual((status, "kept is new" in out, "the same words go on with it" in out, "taken over" in out), (130, True, True, False))
+        status, out, _ = self.run_with("--resume", name)
+        self.assertEqual((status, "of 1 run over these images" in out, "taken over from" in out), (1, True, True))
+        with open(name, "rb") as file:
+            before = file.read()
+        self.images.reverse()
+        status, _, line = self.run_with("--resume", name)
+        self.assertEqual((status, line.startswith(LINE), "is of another search" in line), (3, True, True))
+        with open(name, "rb") as file:
+            self.assertEqual(file.read(), before)
 
     def test_report(self) -> None:
         name = os.path.join(self.folder, "page.html")

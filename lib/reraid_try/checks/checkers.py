@@ -110,9 +110,9 @@ class Checkers:
                 put_at(path, length - SECTOR, read_at(volume.path, region.first, SECTOR))
             return self.commands.run(system.command(path), seconds=seconds)
 
-    def checked(self, volume: Volume, region: Region, kind: str) -> tuple[Finding, list[Region]]:
+    def checked(self, it: Looked, region: Region, kind: str) -> tuple[Finding, list[Region]]:
         """What the checker of a region says, and the regions that were found in it."""
-        system = system_of(kind)
+        system, volume = system_of(kind), it.volume
         told = system.length_of(read_at(volume.path, region.first, LENGTH_BYTES))
         there = region.there(volume.length)
         finding = Finding(region.name, kind, pieces=region.up_to(min(told or there, there)), lacks=lacking(told or region.length, there))
@@ -122,6 +122,7 @@ class Checkers:
         answer = self.ask(system, volume, region, seen_length(system, told, there, finding.lacks))
         if answer is None or answer.status is None:
             finding.said = f"{system.tool} took too long" if answer else "no room to check it"
+            it.verdict.lacked_room |= answer is None
             return finding, []
         finding.clean = None if answer.good and system.holds else answer.good
         finding.said = f"{system.tool} clean" if answer.good else f"{system.tool} status {answer.status}"
@@ -141,7 +142,7 @@ class Checkers:
         its file systems, and the files that are whole, where these are asked for."""
         kind, todo = self.regions(volume)
         notes = ["only its first bytes were looked at"] if volume.cut else []
-        it = Looked(volume, Verdict(notes=notes, length=volume.length, chunk=chunk, row=row), todo)
+        it = Looked(volume, Verdict(notes=notes, length=volume.length, chunk=chunk, row=row, lacked_room=volume.cut), todo)
         if kind:
             it.verdict.findings.append(Finding("", kind, table=True))
         self.look_into(it)
@@ -160,7 +161,7 @@ class Checkers:
         while it.todo:
             region = it.todo.pop(0)
             if region.first not in it.seen and len(region.pieces) == 1 and (kind := self.kind_of(it.volume.path, region)):
-                finding, inner = self.checked(it.volume, region, kind)
+                finding, inner = self.checked(it, region, kind)
                 it.verdict.findings.append(finding)
                 it.todo += inner
             it.seen.add(region.first)

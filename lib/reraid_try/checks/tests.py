@@ -5,6 +5,7 @@ from collections.abc import Callable, Hashable, Iterable, Sequence
 from typing import TypeVar
 
 from ..calls.commands import Runner
+from ..calls.memory import Memory
 from ..calls.program import Program
 from ..calls.sets import Word
 from ..errors import said
@@ -16,6 +17,7 @@ from ..units import SECTOR, counted, percent
 from . import damage
 from .candidates import Candidate, left_most
 from .checkers import Checkers
+from .looks import Looks
 from .verdicts import Score, Verdict
 from .volumes import Room, Source
 
@@ -56,13 +58,14 @@ def simplest_of(alike: Sequence[Candidate]) -> Candidate:
 class Tests:
     """Tests the candidates of a run over some images. Those that are put off are kept for its end."""
 
-    def __init__(self, options: Options, commands: Runner, report: Report, room: Room, images: Sequence[Image]) -> None:
+    def __init__(self, options: Options, commands: Runner, report: Report, room: Room, images: Sequence[Image], memory: Memory | None = None) -> None:
         self.options, self.commands, self.report, self.room = options, commands, report, room
         self.names = tuple(image.name for image in images)
         self.program = Program(commands, self.names, options.seconds, options.jobs)
         self.end = min(image.sectors for image in images)
         self.checks = Checkers(commands, room, options.seconds, options.first)
         self.maps = maps.maps_text([image.map for image in images])
+        self.looks = Looks(memory, self.maps, self.checks.there, options.seconds, options.first)
         self.put_off: list[Candidate] = []
         self.told: set[str] = set()
         self.late = False
@@ -126,6 +129,9 @@ class Tests:
         """Looks at the volume of a candidate, for files that are whole too where these are asked for."""
         self.ask(candidate)
         word = candidate.word
+        candidate.verdict = self.looks.known(word, candidate.origins, files)
+        if candidate.verdict:
+            return candidate
         source = Source(word, self.names, self.end, self.maps)
         most = self.options.first * max(1, int(word.data))
         try:
@@ -135,6 +141,7 @@ class Tests:
                 else:
                     candidate.verdict = self.checks.look(volume, candidate.origins, word.chunk * SECTOR, word.row * SECTOR, files)
                     candidate.verdict.notes += self.lost(word)
+                    self.looks.keep(word, candidate.origins, files, candidate.verdict)
         except OSError as error:
             candidate.verdict = Verdict(notes=[f"its volume could not be looked at: {said(error)}"])
         return candidate

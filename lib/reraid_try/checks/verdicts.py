@@ -80,7 +80,8 @@ def covered(pieces: Sequence[Piece], length: int) -> int:
 @dataclasses.dataclass
 class Verdict:
     """What was found in a volume of so many bytes: regions, files, the bytes of a chunk and of a row of chunks, and what else is said of it. `empty`
-    says that nothing lies in what was found, `counted` that files were looked for."""
+    says that nothing lies in what was found, `counted` that files were looked for, `lacked_room` that something was not looked at for want of
+    room."""
 
     findings: list[Finding] = dataclasses.field(default_factory=list)
     files: Wholes = dataclasses.field(default_factory=Wholes)
@@ -90,6 +91,7 @@ class Verdict:
     row: int = 0
     empty: bool = False
     counted: bool = True
+    lacked_room: bool = False
 
     @property
     def inner(self) -> list[Finding]:

@@ -5,6 +5,7 @@ from collections.abc import Callable, Iterable, Sequence
 
 from ..calls.commands import Runner
 from ..calls.formats import Ranked
+from ..calls.memory import Memory
 from ..calls.program import Listing
 from ..calls.sets import Word, read_word, simplest
 from ..calls.surveys import Request
@@ -43,13 +44,13 @@ MOST_THRICE = 2
 class Search:
     """One run: what is seen, what is tried, and the candidates. `hunt` is that over all images, `hunts` are all that were begun, `shapes_tried` of
     which shapes there were trials, `why` for what reason the next ones are; `solved` says that a candidate says enough of what evidence gave a
-    reason for, so that there is no hunt over all images."""
+    reason for, so that there is no hunt over all images; `memory` keeps what is found in volumes, where another run may go on with it."""
 
     tests: Tests
     hunt: Hunt
 
-    def __init__(self, options: Options, commands: Runner, report: Report, room: Room) -> None:
-        self.options, self.commands, self.report, self.room = options, commands, report, room
+    def __init__(self, options: Options, commands: Runner, report: Report, room: Room, memory: Memory | None = None) -> None:
+        self.options, self.commands, self.report, self.room, self.memory = options, commands, report, room, memory
         self.images: tuple[Image, ...] = ()
         self.tested: list[Candidate] = []
         self.known: set[str] = set()
@@ -101,7 +102,7 @@ class Search:
         """Looks, tries what the images themselves give a reason for, and then surveys and tries all else, in as much of the images as is to be read;
         without landmarks all is read at once, where it may be."""
         self.look()
-        self.tests = Tests(self.options, self.commands, self.report, self.room, self.images)
+        self.tests = Tests(self.options, self.commands, self.report, self.room, self.images, self.memory)
         evident = Evident(self)
         self.solved = evident.run()
         if self.solved:

@@ -3,6 +3,7 @@
 import dataclasses
 import json
 import time
+import types
 import unittest
 from collections.abc import Sequence
 from typing import cast
@@ -43,7 +44,7 @@ SET = "5:ls:none:128:2048:0,1,2"
 class Known:
     """What stands for the evidence of a hunt."""
 
-    filled, window, end, unread = 1000, 8000, 8000, 0
+    filled, window, start, end, unread = 1000, 8000, 0, 8000, 0
     images = tuple(Image(f"i{k}", k, 8000) for k in range(4))
 
 
@@ -192,6 +193,31 @@ class Kin(unittest.TestCase):
         self.assertEqual(self.inside("6:ls-6:after-q:8:0:0,1,2,3", "6:ls-6:after-q:8:24:0,1,2,3"), [None, Inside(0, 3)])
         self.assertEqual(self.inside("0:plain:none:8:0:0,1", "0:plain:none:8:7:0,1"), [None, None])
         self.assertEqual(self.inside("near2:8:0:0,1,2", "near2:8:8:0,1,2"), [None, None])
+
+    def signs(self, good: str, *texts: str, start: int = 0) -> list[str]:
+        """Of sets with a content checker what sign each has beside one with long whole files, whose part of the disks begins at some sector."""
+        other = hunt_of()
+        setattr(other, "evidence", types.SimpleNamespace(start=start, end=9000, filled=1000))
+        first = candidate(good, whole(), hunt=other)
+        content = [candidate(text, Verdict([Finding("", "xfs", True, "said", (Piece(0, 1000),))], length=1000)) for text in texts]
+        order = kin.in_order([*content, first], self.images)
+        self.assertEqual((order[0], first.score), (first, Score.WHOLE))
+        return [it.score.sign for it in content]
+
+    def test_contradicted_by_one_with_long_whole_files(self) -> None:
+        others = ("5:rs:none:128:2048:0,1,2", "5:ls:none:64:2048:0,1,2", "5:ls:none:128:2048:1,0,2", "0:plain:none:128:2048:5,3",
+                  "5:ls:none:128:0:0,1,2")
+        self.assertEqual(self.signs(SET, *others), [""] * 5)
+        # The same volume, one that begins inside the other, either way, the same with a disk left out, and other images.
+        related = (SET, "5:ls:none:128:2048:5,1,2", "5:ls:none:128:2176:2,0,1", "5:ls:none:128:1920:1,2,0", "5:ls:none:128:2048:0,-,2",
+                   "0:plain:none:128:2048:3,4")
+        self.assertEqual(self.signs(SET, *related), ["+"] * 6)
+        self.assertEqual(self.signs(SET, *others, start=8000), ["+"] * 5)
+        doubted = candidate("5:rs:none:128:2048:0,1,2", whole())
+        kin.in_order([doubted, candidate(SET, whole())], self.images)
+        self.assertEqual((doubted.score, doubted.doubts), (Score.WHOLE, []))
+        doubted.rivalled = True
+        self.assertEqual((doubted.score, doubted.doubts), (Score.KNOWN, ["another set of these images, which contradicts it, has long whole files"]))
 
     def test_text(self) -> None:
         self.assertEqual(kin.text(candidate(same=3)), "the same volume as class 3")

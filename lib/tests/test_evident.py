@@ -9,6 +9,7 @@ from typing import Any, cast
 from reraid_try.calls.commands import Answer, Words
 from reraid_try.checks.verdicts import Score
 from reraid_try.evidence.images import Image
+from reraid_try.evidence.maps import Map
 from reraid_try.evidence.tables import Partition, Table
 from reraid_try.options import Options
 from reraid_try.policy.evident import Evident, Part
@@ -86,8 +87,8 @@ class Zeros(Evident):
 class Attempts(unittest.TestCase):
     """In which order the shapes of an aim are tried."""
 
-    def order(self, shape: Shape, groups: bool, *found: Any) -> list[str]:
-        """What is asked of a shape, with marks or without, where each listing gives these candidates."""
+    def order(self, shape: Shape, groups: bool, *found: Any, late: bool = False) -> list[str]:
+        """What is asked of a shape, with marks or without, where each listing gives these candidates, or runs out of its time."""
         asked: list[str] = []
         tested: list[Any] = []
         self.times: list[int] = []
@@ -95,6 +96,7 @@ class Attempts(unittest.TestCase):
         def step(it: Step, _hunt: Any) -> bool:
             """A listing with so much loosened."""
             asked.append(f"list {it.count}")
+            hunt.cut_short |= {"a plan"} if late else set()
             self.times.append(hunt.program.seconds)
             tested.extend(found)
             return False
@@ -105,30 +107,48 @@ class Attempts(unittest.TestCase):
             return False
         it = Zeros(cast(Any, types.SimpleNamespace(options=Options(("a",)), take_step=step, attempt_bare=bare, tested=tested)))
         it.order = asked
-        hunt = types.SimpleNamespace(plan=types.SimpleNamespace(groups=["a group"] if groups else []), program=types.SimpleNamespace(seconds=0))
+        hunt = types.SimpleNamespace(plan=types.SimpleNamespace(groups=["a group"] if groups else []), program=types.SimpleNamespace(seconds=0),
+                                     cut_short=set(), ask_again=lambda: asked.append("again"))
         it.attempt(cast(Any, hunt), Aim((0, 1, 2), Span(0, 9), "why", (shape,), tied=True), 0)
         return asked
 
     def test_marks_and_parity(self) -> None:
-        """Where Q tells something and there are marks a plain listing comes before what zeros allow, and has the whole time of a trial."""
-        self.assertEqual(self.order(Shape("6", 6, 1), True), ["list 0", "zeros", "list 1", "list 2"])
-        self.assertEqual(self.times, [60, 10, 10])
-        self.assertEqual(self.order(Shape("5", 6), True), ["zeros", "list 0", "list 1", "list 2"])
+        """With marks a plain listing comes before what zeros allow. It has the whole time of a trial where Q tells something; else a sixth, and the
+        whole only where that was up and zeros did not help."""
+        self.assertEqual((self.order(Shape("6", 6, 1), True), self.times), (["list 0", "zeros", "list 1", "list 2"], [60, 10, 10]))
+        self.assertEqual((self.order(Shape("5", 6), True), self.times), (["list 0", "zeros", "list 1", "list 2"], [10, 10, 10]))
+        self.assertEqual((self.order(Shape("5", 6), True, late=True), self.times),
+                         (["list 0", "zeros", "again", "list 0", "list 1", "list 2"], [10, 60, 10, 10]))
 
     def test_encrypted(self) -> None:
         """A volume that is encrypted ends it where parity speaks for it, since nothing more is to be seen."""
         def candidate(parity: bool, encrypted: list[str]) -> Any:
             found = types.SimpleNamespace(encrypted=encrypted)
             return types.SimpleNamespace(found=found, trial=types.SimpleNamespace(shape=types.SimpleNamespace(parity=parity)), score=Score.KNOWN)
-        self.assertEqual(self.order(Shape("6", 6), False, candidate(True, ["LUKS"])), ["zeros", "list 0"])
+        self.assertEqual(self.order(Shape("6", 6), False, candidate(True, ["LUKS"])), ["list 0"])
+        self.assertEqual(self.order(Shape("5", 6), False, candidate(True, ["LUKS"])), ["zeros", "list 0"])
         for other in (candidate(False, ["LUKS"]), candidate(True, [])):
-            self.assertEqual(self.order(Shape("6", 6), False, other), ["zeros", "list 0", "list 1", "list 2"])
+            self.assertEqual(self.order(Shape("6", 6), False, other), ["list 0", "zeros", "list 1", "list 2"])
 
     def test_no_parity_or_no_marks(self) -> None:
-        """Where no parity is left, or without marks, zeros come first; without both all sets are listed too."""
-        self.assertEqual(self.order(Shape("5", 6, 1), True), ["zeros", "list 0", "list 1", "list 2"])
-        self.assertEqual(self.order(Shape("6", 6), False), ["zeros", "list 0", "list 1", "list 2"])
+        """Without marks zeros come first where Q tells nothing; where no parity is left either, all sets are listed too."""
+        self.assertEqual(self.order(Shape("5", 6, 1), True), ["list 0", "zeros", "list 1", "list 2"])
+        self.assertEqual(self.order(Shape("5", 6), False), ["zeros", "list 0", "list 1", "list 2"])
+        self.assertEqual(self.order(Shape("6", 6), False), ["list 0", "zeros", "list 1", "list 2"])
         self.assertEqual(self.order(Shape("0", 3), False), ["zeros", "list 0", "bare", "list 1", "list 2"])
+
+
+class Unread(unittest.TestCase):
+    """Rows that maps call unread."""
+
+    def test_rows(self) -> None:
+        """Those of the images of an aim, each moved by its offset."""
+        maps = [None, Map("b.map", "", ((0, 5120, "+"), (5120, 512, "-"))), Map("c.map", "", ((0, 1024, "*"), (1024, 90000, "+")))]
+        images = [Image(name, number, 100, map=it) for number, (name, it) in enumerate(zip("abc", maps))]
+        found, _ = evident(images, NoTools({}), Options(("a",)))
+        for numbers, moved, gaps in (((0, 1, 2), (), [range(10, 11), range(0, 2)]), ((0, 1), (), [range(10, 11)]), ((2, 0), (), [range(0, 2)]),
+                                     ((0, 1, 2), (5, 4, 1), [range(6, 7), range(0, 1)])):
+            self.assertEqual(list(found.unread(Aim(numbers, Span(0, 9), "why", moved=moved))), gaps)
 
 
 class Evidence(unittest.TestCase):

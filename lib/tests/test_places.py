@@ -12,9 +12,9 @@ from reraid_try.evidence.places import Places
 from . import rows
 
 
-def told(made_rows: Sequence[rows.Row], level: str, members: int, first: int = 64) -> Places:
+def told(made_rows: Sequence[rows.Row], level: str, members: int, first: int = 64, unread: Sequence[range] = ()) -> Places:
     """The places of all images of some rows, of which the first is that of a sector."""
-    return Places(relations.read(rows.text(list(made_rows), first, 1), 1), range(len(made_rows[0])), level, members)
+    return Places(relations.read(rows.text(list(made_rows), first, 1), 1), range(len(made_rows[0])), level, members, unread)
 
 
 def shuffled(made_rows: Sequence[rows.Row], order: Sequence[int]) -> list[rows.Row]:
@@ -62,6 +62,37 @@ class Best(unittest.TestCase):
 def made_word(slots: tuple[int | None, ...], pattern: str = "ls", chunk: int = 16) -> Word:
     """A set of level 5 from sector 64 on."""
     return made("5", pattern, "none", chunk, (64,), slots)
+
+
+class Unread(unittest.TestCase):
+    """Areas that were not read, which are zeros in the image, say nothing of where parity lies."""
+
+    def setUp(self) -> None:
+        rnd = random.Random(7)
+        self.true, self.other = made_word((0, 1, 2, 3)), made_word((0, 1, 2, 3), "rs")
+        # Half of the rows are full, and in as many an image that has parity there was not read.
+        self.rows = [list(row) for row in rows.striped(rnd, 4, 5, 640, chunk=16, sparse=0.1)]
+        self.gaps = [range(64 + 16 * turn, 64 + 16 * turn + 16) for turn in range(40) if turn % 2]
+        for gap in self.gaps:
+            for row in self.rows[gap.start - 64:gap.stop - 64]:
+                row[3 - (gap.start - 64) // 16 % 4] = bytes(rows.COLUMNS)
+
+    def test_parity_is_left(self) -> None:
+        """All disks are there, so a row in which not all others are tied is no row of the array; no map has to say so."""
+        it = told(self.rows, "5", 4)
+        self.assertEqual((it.told, it.against(self.true)), (True, 0))
+        self.assertEqual(it.allowed([self.true, self.other]), [True, False])
+
+    def test_no_parity_is_left(self) -> None:
+        """A disk is lost: zeros that were not read speak against the true set, but where maps name them."""
+        made_rows, word = rows.without(self.rows, 2), made_word((0, 1, None, 2))
+        self.assertGreater(told(made_rows, "5", 4).against(word) or 0, Fraction(1, 8))
+        self.assertEqual(told(made_rows, "5", 4, unread=self.gaps).against(word), 0)
+        # In no order, one within another, and one that begins before the first row.
+        mixed = [range(0, 70), *reversed(self.gaps), range(81, 90)]
+        seen = {it.sector for it in told(made_rows, "5", 4, unread=mixed).seen}
+        self.assertEqual(seen & {row for gap in mixed for row in gap}, set())
+        self.assertLessEqual({it.sector for it in told(made_rows, "5", 4).seen}, seen | {row for gap in mixed for row in gap})
 
 
 class Allowed(unittest.TestCase):

@@ -2,6 +2,7 @@
 
 import dataclasses
 import unittest
+from unittest import mock
 
 from reraid_try.calls.commands import Answer
 from reraid_try.calls.plans import Plan
@@ -392,6 +393,20 @@ class Hunts(InFolder):
         assert plan
         self.assertEqual(hunt.listing(Shape("6", 3), request, plan).total, 0)
         self.assertRegex(standin.told[0], r"^reraid survey .* \| awk .*n==2.* \| reraid list size=20000 -- ")
+
+    def test_listed_again_where_its_time_was_up(self) -> None:
+        def answer(words: list[str], _: str) -> Answer:
+            return put("", 6, "reraid: cursor 1 is past 9") if f"from={LAST}" in words else put("1 5:la:none:8:0:0,1,2\n", None)
+        for most, again in ((20000, True), (1, False)):
+            hunt, _ = self.hunt(answer)
+            shape, request = Shape("5", 3), hunt.asking.request(Shape("5", 3))
+            plan = hunt.to_list(shape, request)
+            assert plan
+            with mock.patch("reraid_try.policy.hunt.MOST_LINES", most):
+                self.assertFalse(hunt.listing(shape, request, plan).whole)
+            self.assertEqual((hunt.cut_short, hunt.to_list(shape, request)), ({plan.text()} if again else set(), None))
+            hunt.ask_again()
+            self.assertEqual((hunt.cut_short, hunt.to_list(shape, request)), (set(), plan if again else None))
 
     def test_words(self) -> None:
         hunt, _ = self.hunt(lambda *_: put(""))

@@ -10,7 +10,7 @@ from typing import Any
 from ..calls.commands import Runner
 from ..errors import OutsideError, said
 from ..evidence.images import Image
-from ..evidence.maps import READ, Map
+from ..evidence.maps import Map
 from ..evidence.relations import Relations
 from ..evidence.ties import MOST_ROWS, Ties
 from ..options import LEVELS, Options
@@ -37,16 +37,7 @@ def length_of(name: str) -> int:
 
 def unread(it: Map | None, sectors: int) -> list[list[int]]:
     """The runs of sectors that a map calls unread, each as its first sector and how many they are."""
-    found: list[list[int]] = []
-    for first, length, status in it.blocks if it else ():
-        begin, end = first // SECTOR, min(-(-(first + length) // SECTOR), sectors)
-        if status == READ or begin >= end:
-            continue
-        if found and found[-1][0] + found[-1][1] >= begin:
-            found[-1][1] = end - found[-1][0]
-        else:
-            found.append([begin, end - begin])
-    return found
+    return [[gap.start, len(gap)] for gap in it.gaps(sectors)] if it else []
 
 
 def thinned(places: Collection[int]) -> list[int]:

@@ -30,8 +30,9 @@ class Candidate:
     """A set that passed a trial of a hunt. `word` is the simplest set of its volume; `listed` that which was listed, by the images of the hunt, None
     for RAID 10 by its copies. `alike` has the other sets of its class, `groups` what `check` says of each group, `unsound` how many rows are
     unsound, None where that was not asked; `doubted` says that as much speaks against it for another reason, `left_most` that a group with most of
-    the marks was left out, and does not hold. `rows` says in which rows parity holds, `old` which belong to it and are old or damaged, `same`
-    and `inside` which other candidates have its volume, `whole` is the candidate with the images that are left out of it for their bad rows."""
+    the marks was left out, and does not hold, `rivalled` that a candidate with long whole files contradicts it. `rows` says in which rows parity
+    holds, `old` which images in no slot belong to it and are old, `same` and `inside` which other candidates have its volume, `whole` is the
+    candidate with the images that are left out of it for their bad rows."""
 
     word: Word
     rank: int
@@ -43,6 +44,7 @@ class Candidate:
     unsound: int | None = None
     doubted: bool = False
     left_most: bool = False
+    rivalled: bool = False
     verdict: Verdict | None = None
     rows: str = ""
     old: tuple[str, ...] = ()
@@ -58,8 +60,8 @@ class Candidate:
     @property
     def score(self) -> Score:
         """How much speaks for its volume."""
-        score = self.found.score
-        return Score(score - 1) if self.lessened else score
+        score = Score(self.found.score - 1) if self.lessened else self.found.score
+        return min(score, Score.KNOWN) if self.rivalled else score
 
     @property
     def lessened(self) -> bool:
@@ -70,7 +72,8 @@ class Candidate:
     def doubts(self) -> list[str]:
         """Why it has no sign, or one less."""
         kept = self.left_most and self.found.in_order
-        return self.found.doubts + ["a group with most of the marks was left out"] * (self.left_most and not kept)
+        left = ["a group with most of the marks was left out"] * (self.left_most and not kept)
+        return self.found.doubts + left + ["another set of these images, which contradicts it, has long whole files"] * self.rivalled
 
     @property
     def alike_said(self) -> str:

@@ -1,4 +1,4 @@
-"""Which candidates give the same volume as another one, or one that begins inside another's."""
+"""Which candidates give the same volume as another one, or one that begins inside another's, and which contradict each other."""
 
 import collections
 import dataclasses
@@ -7,6 +7,7 @@ from collections.abc import Hashable, Mapping, Sequence
 from ..calls.sets import LAST_Q, Word, simplest
 from ..evidence.images import Image
 from .candidates import Candidate, Inside
+from .verdicts import Score
 
 # By how many slots the order of the disks is turned from one row to the next.
 TURNS = {"ls": -1, "rs": 1}
@@ -33,9 +34,12 @@ class Key:
 
 def in_order(tested: Sequence[Candidate], images: Sequence[Image]) -> list[Candidate]:
     """The candidates as they are printed: those with the most to say for them first, of one volume the simplest; each with the number of the first
-    one that has the same volume, and of one in which its volume begins."""
-    order = sorted(tested, key=lambda it: it.place)
+    one that has the same volume, and of one in which its volume begins. Those have no sign that one with long whole files contradicts."""
     same = {image.number: image.number if image.like is None else image.like for image in images}
+    whole = [it for it in tested if it.score is Score.WHOLE]
+    for it in tested:
+        it.rivalled = it.score is Score.CHECKED and any(contradict(it, one, same) for one in whole)
+    order = sorted(tested, key=lambda it: it.place)
     keys = [key(it.word, same) for it in order]
     firsts: dict[Key, int] = {}
     families: dict[Hashable, list[int]] = collections.defaultdict(list)
@@ -72,6 +76,23 @@ def rows_behind(inner: Key, outer: Key) -> int:
         return 0
     turn = turns.get(pattern, 0) * rows % count
     return rows if inner.slots == outer.slots[turn:] + outer.slots[:turn] else 0
+
+
+def contradict(one: Candidate, other: Candidate, same: Mapping[int, int]) -> bool:
+    """Two sets have some images in common, in parts of the disks that overlap, and neither has the volume of the other, nor one that begins inside
+    it, nor is but without some disks what the other is: at most one of them is right."""
+    keys = key(one.word, same), key(other.word, same)
+    parts = one.hunt.evidence, other.hunt.evidence
+    apart = parts[0].end <= parts[1].start or parts[1].end <= parts[0].start
+    shared = set(keys[0].slots) & set(keys[1].slots) - {None}
+    related = keys[0].family == keys[1].family and (keys[0] == keys[1] or rows_behind(*keys) or rows_behind(*keys[::-1]))
+    return bool(shared) and not (apart or related or is_lesser(*keys))
+
+
+def is_lesser(one: Key, other: Key) -> bool:
+    """Two sets are the same but for slots that are empty in one of them."""
+    alike = (one.layout, one.chunk, one.offsets, len(one.slots)) == (other.layout, other.chunk, other.offsets, len(other.slots))
+    return alike and all(left == right or left is None or right is None for left, right in zip(one.slots, other.slots))
 
 
 def text(it: Candidate) -> str:

@@ -25,6 +25,18 @@ class Map:
         bounds = [(first, min(length, end * SECTOR - first)) for first, length, status in self.blocks if status != READ and first < end * SECTOR]
         return sum(-(-length // SECTOR) + 1 for _, length in bounds)
 
+    def gaps(self, end: int) -> list[range]:
+        """The runs of sectors before an end of which it calls some byte unread, in order."""
+        found: list[range] = []
+        for first, length, status in self.blocks:
+            begin, behind = first // SECTOR, min(-(-(first + length) // SECTOR), end)
+            if status == READ or begin >= behind:
+                continue
+            if found and found[-1].stop >= begin:
+                begin = found.pop().start
+            found.append(range(begin, behind))
+        return found
+
 
 def is_status_line(words: Sequence[str]) -> bool:
     """It is what a map begins with: a place, what was done last there, and in newer ones the number of the pass."""

@@ -1,13 +1,17 @@
 """Where parity lies, by rows of which a part is zeros: an image whose sector is zeros holds no parity of data that are not, and where all that is not
 zeros is tied, the parity that ties it is there and not on a lost disk. So each such row says on which images P (and Q) may lie, at whatever level and
-however many disks are lost; the rows together mostly tell the order of the disks, which way parity moves, and the chunk."""
+however many disks are lost; the rows together mostly tell the order of the disks, which way parity moves, and the chunk.
 
+Where a map calls a sector unread its zeros say nothing. Nor do any where fewer disks are lost than the level bears, and yet not all that is not zeros
+is tied: each image is a sum of the others there, or one of them is old or was not read, and it is not known which."""
+
+import bisect
 import dataclasses
 import functools
 from collections.abc import Callable, Iterable, Iterator, Mapping, Sequence
 from fractions import Fraction
 
-from ..calls.sets import Word, made
+from ..calls.sets import LEVELS, Word, made
 from .families import LEVEL_5, ties_among
 from .relations import Relations
 
@@ -110,22 +114,42 @@ class Placement:
             yield made(level, pattern, order, self.chunk, offsets or (self.offset,), slots).text
 
 
-def seen_in(relations: Relations, images: frozenset[int]) -> Iterator[Seen]:
-    """The rows that say something of these images: some are zeros there and others are not."""
+def joined(gaps: Iterable[range]) -> list[range]:
+    """Runs of rows as such that do not touch, in order."""
+    found: list[range] = []
+    for gap in sorted(gaps, key=lambda it: it.start):
+        if found and found[-1].stop >= gap.start:
+            gap = range(found[-1].start, max(found.pop().stop, gap.stop))
+        found.append(gap)
+    return found
+
+
+def is_in(gaps: Sequence[range], row: int) -> bool:
+    """A row is in one of these runs, which are in order."""
+    place = bisect.bisect_right(gaps, row, key=lambda gap: gap.start)
+    return place > 0 and row in gaps[place - 1]
+
+
+def seen_in(relations: Relations, images: frozenset[int], spare: int, unread: Sequence[range]) -> Iterator[Seen]:
+    """The rows that say something of these images: some are zeros there and others are not. `spare` is how many disks more may be lost, `unread` has
+    runs of rows in which some image was not read, in order."""
     for rows in relations.rows:
         zero, there = images & rows.zero, images - rows.zero
-        if zero and there:
-            tied = frozenset[int]().union(*(tie.images for tie in ties_among(rows, images)))
+        tied = frozenset[int]().union(*(tie.images for tie in ties_among(rows, images)))
+        if zero and there and (tied == there or not spare):
             for sector in range(rows.first, rows.last + 1, relations.step):
-                yield Seen(sector, 1, zero, tied == there)
+                if not is_in(unread, sector):
+                    yield Seen(sector, 1, zero, tied == there)
 
 
 class Places:
-    """Where parity may lie on images, by their numbers, of an array of a level with so many members."""
+    """Where parity may lie on images, by their numbers, of an array of a level with so many members. `unread` has runs of rows in which some image
+    was not read."""
 
-    def __init__(self, relations: Relations, images: Sequence[int], level: str, members: int) -> None:
+    def __init__(self, relations: Relations, images: Sequence[int], level: str, members: int, unread: Iterable[range] = ()) -> None:
         self.images, self.level, self.members = tuple(images), level, members
-        self.seen = tuple(seen_in(relations, frozenset(images)))
+        spare = max(0, LEVELS[level].parity - (members - len(self.images)))
+        self.seen = tuple(seen_in(relations, frozenset(images), spare, joined(unread)))
         self.turns = TURNS_5 if level == LEVEL_5 else TURNS_6
 
     @property

@@ -2,6 +2,7 @@
 
 import dataclasses
 import functools
+import itertools
 from collections.abc import Iterable, Iterator
 from typing import TYPE_CHECKING
 
@@ -183,7 +184,14 @@ class Evident:
         end = min(aim.span.end, *(self.search.images[image].sectors for image in aim.images)) - max(aim.moved, default=0)
         step = max(1, (end - aim.span.first) // places.MOST_ROWS)
         found = self.asked().relations(aim.images, aim.span.first, end, step, aim.moved)
-        return Places(found, aim.images, shape.levels, shape.members) if found else None
+        return Places(found, aim.images, shape.levels, shape.members, self.unread(aim)) if found else None
+
+    def unread(self, aim: Aim) -> Iterator[range]:
+        """The runs of rows in which maps call a sector of the images of an aim unread."""
+        for number, moved in itertools.zip_longest(aim.images, aim.moved, fillvalue=0):
+            image = self.search.images[number]
+            for gap in image.map.gaps(image.sectors) if image.map else ():
+                yield range(max(0, gap.start - moved), max(0, gap.stop - moved))
 
     def by_places(self, hunt: Hunt, aim: Aim) -> bool:
         """The sets that rows of which a part is zeros allow, by where parity lies in them; it says whether a candidate is whole."""
@@ -206,20 +214,42 @@ class Evident:
 
     def attempt(self, hunt: Hunt, aim: Aim, before: int) -> None:
         """The trials of the shapes of an aim, with ever more loosened, until a candidate is whole or encrypted, or content where something is
-        loosened. What is listed comes before what zeros allow where Q tells the order of the disks and there are marks, since few sets pass then:
-        P is the same in any order. `before` is how many candidates were tested before them."""
-        listed = bool(hunt.plan.groups) and any(LEVEL_6 in shape.telling for shape in aim.shapes)
-        if not listed and self.by_places(hunt, aim):
+        loosened. `before` is how many candidates were tested before them."""
+        if self.plainly(hunt, aim, before):
             return
-        for count in range(MOST_LOOSENED + 1):
-            # What the images are tied for is worth the whole time of a trial.
-            hunt.program.seconds = self.search.options.seconds if aim.tied and not count else self.options.seconds
-            if self.search.take_step(Step(aim.shapes, count), hunt) or count and self.is_content(before) or any(map(is_closed, self.since(before))):
+        hunt.program.seconds = self.options.seconds
+        for count in range(1, MOST_LOOSENED + 1):
+            if self.take_step(aim, count, hunt, before) or self.is_content(before):
                 return
-            if count == 0 and listed and not self.is_content(before) and self.by_places(hunt, aim):
-                return
-            if count == 0 and not hunt.plan.groups and any(self.search.attempt_bare(hunt, shape) for shape in aim.shapes if not shape.parity):
-                return
+
+    def plainly(self, hunt: Hunt, aim: Aim, before: int) -> bool:
+        """The trials with nothing loosened; it says whether the search is at its end. What is listed comes before what zeros allow, but where it is
+        known to say nothing: P is the same in any order of the disks, so without landmarks it is Q alone that tells one. Where zeros may tell the
+        order too a listing is asked for again, in the whole time of a trial, only if they do not."""
+        by_q = any(LEVEL_6 in shape.telling for shape in aim.shapes)
+        silent = not by_q and not hunt.plan.groups
+        if silent and self.by_places(hunt, aim):
+            return True
+        # What the images are tied for is worth the whole time of a trial.
+        hunt.program.seconds = self.search.options.seconds if aim.tied and by_q else self.options.seconds
+        if self.take_step(aim, 0, hunt, before):
+            return True
+        if not silent and not self.is_content(before) and (self.by_places(hunt, aim) or self.is_closed(before)):
+            return True
+        if aim.tied and hunt.cut_short and not self.is_content(before):
+            hunt.program.seconds = self.search.options.seconds
+            hunt.ask_again()
+            if self.take_step(aim, 0, hunt, before):
+                return True
+        return not hunt.plan.groups and any(self.search.attempt_bare(hunt, shape) for shape in aim.shapes if not shape.parity)
+
+    def take_step(self, aim: Aim, count: int, hunt: Hunt, before: int) -> bool:
+        """The trials of the shapes of an aim with so many things loosened; it says whether nothing more is to be seen."""
+        return self.search.take_step(Step(aim.shapes, count), hunt) or self.is_closed(before)
+
+    def is_closed(self, before: int) -> bool:
+        """A candidate that was tested since is encrypted, and parity speaks for it."""
+        return any(map(is_closed, self.since(before)))
 
     def is_content(self, before: int) -> bool:
         """A candidate that was tested since has a sign."""

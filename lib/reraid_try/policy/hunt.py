@@ -28,7 +28,8 @@ FEW_SETS = 8
 
 class Hunt:
     """A search over these images, behind a start on each. With `pairs` its sets are those of a RAID 0 of one image of each pair; `asked` is asked for
-    in each trial; `tied` says that parity ties the images. `late` is told of each question that ran out of its time."""
+    in each trial; `tied` says that parity ties the images. `late` is told of each question that ran out of its time; `cut_short` has the plans of
+    which the listing did."""
 
     def __init__(self, options: Options, commands: Runner, images: Sequence[Image], late: Late, pairs: Pairs | None = None,
                  start: int = 0, asked: Mapping[str, str | int] | None = None, tied: bool = False) -> None:
@@ -41,6 +42,7 @@ class Hunt:
         self.asking = Asking(self.evidence, options)
         self.questions = Questions(self.program, self.surveys, self.asking, late, tied)
         self.tried: set[str] = set()
+        self.cut_short: set[str] = set()
         self.passed_over = 0
         self.places: Places | None = None
         self.ask_places: Callable[[], Places | None] | None = None
@@ -90,6 +92,8 @@ class Hunt:
         """What a trial lists, without the sets that rows speak against whose zeros tell where parity lies. Zeros are asked where it lists many."""
         self.tell(request)
         found = self.questions.climb(plan) if self.questions.has_bad_rows(plan, shape) else self.program.listing(plan)
+        if not found.whole and len(found.sets) < MOST_LINES:
+            self.cut_short.add(plan.text())
         if self.places is None and self.ask_places and len(found.sets) > FEW_SETS:
             self.places, self.ask_places = self.ask_places(), None
         if self.places is None or not found.sets:
@@ -97,6 +101,11 @@ class Hunt:
         kept = tuple(itertools.compress(found.sets, self.places.allowed([self.word(it.text) for it in found.sets])))
         told = f"{len(found.sets) - len(kept)} more have parity where zeros are" if len(kept) < len(found.sets) else ""
         return dataclasses.replace(found, sets=kept, note="; ".join(filter(None, [found.note, told])))
+
+    def ask_again(self) -> None:
+        """What was listed in too short a time may be listed once more."""
+        self.tried -= self.cut_short
+        self.cut_short.clear()
 
     def tell(self, request: Request) -> None:
         """Shows the commands of a trial."""

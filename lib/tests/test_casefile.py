@@ -187,7 +187,7 @@ class Pages(unittest.TestCase):
 
     def test_relations(self) -> None:
         told = {"step": 10, "rows": [{"first": 0, "last": 40, "zero": [], "tied": [[0, 1]]}, {"first": 50, "last": 90, "zero": [1], "tied": []}],
-                "together": [{"images": [0, 1], "rows": 5}], "alone": [2], "free": 5, "total": 10}
+                "together": [{"images": [0, 1], "rows": 5}, {"images": [1, 2], "rows": 1}], "alone": [], "free": 5, "total": 10}
         record = Record()
         for number in range(3):
             record.add("image", "", image(number, 100))
@@ -198,7 +198,9 @@ class Pages(unittest.TestCase):
             lane = made.tied(number)
             assert lane
             self.assertEqual(lane.told, wanted)
-        self.assertIn("images 0, 1 stand together in 5 rows", read(page.page(record)))
+        text = read(page.page(record))
+        self.assertIn("images 0, 1 stand together in 5 rows", text)
+        self.assertTrue("images 1, 2 stand together in 1 row" in text and "1 rows" not in text)
 
 
 if __name__ == "__main__":

@@ -119,7 +119,7 @@ class Told(unittest.TestCase):
             row[3] = rows.sector(rnd)
         runner, images = disks(made)
         said = ties.lines(Ties(runner, images, 9).told(range(5), 0, 400))
-        self.assertIn(", with one that is old or damaged", said[0])
+        self.assertIn("1 disk of 5 is lost, counting one that is old or damaged", said[0])
         self.assertEqual(said[1][:26], "image 3 is old or damaged:")
         made = rows.striped(rnd, 4, 5, 400)
         for row in made[50:60]:

@@ -2,7 +2,7 @@
 
 from collections.abc import Iterable
 
-from ..units import SECTOR
+from ..units import SECTOR, counted
 from . import drawing
 from .drawing import HEIGHT, Bar, Lane
 from .parts import box, bullets, code, legend, section, size, soft, text
@@ -137,7 +137,7 @@ class Disks:
         if not told:
             return ""
         together = told["together"]
-        rows = [f"images {', '.join(map(str, it['images']))} stand together in {it['rows']} rows" for it in together[:MOST_TOGETHER]]
+        rows = [f"images {', '.join(map(str, it['images']))} stand together in {counted(it['rows'], 'row')}" for it in together[:MOST_TOGETHER]]
         rows += [f"{len(together) - MOST_TOGETHER} more sets of images stand together in fewer rows"] if len(together) > MOST_TOGETHER else []
         rows += [f"in no tie of any row: images {', '.join(map(str, told['alone']))}"] if told["alone"] else []
         rows += [f"{told['free']} of {told['total']} rows that were looked at have no tie; rows of zeros count as such"] if told["total"] else []

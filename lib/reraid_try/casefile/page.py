@@ -3,12 +3,14 @@
 from collections.abc import Sequence
 
 from . import drawing
-from .disks import LEAST, UPPER, Disks, scale
+from .disks import UPPER, Disks, scale
 from .drawing import HEIGHT, Bar, Lane
 from .parts import box, bullets, code, legend, listed, runs, section, soft, table, text
 from .record import Event, Record
 from .style import STYLE
 
+# How high unsound rows are drawn at least, of HEIGHT, so that they are seen.
+LEAST_UNSOUND = 20
 ABOUT = """This page says what one run of reraid-try looked at, tried and found. It only reads images. It does not choose: what is listed passed
 the tests that are named beside it."""
 SIGNS = """+ stands where a checker of file systems is content and none found fault, ++ where long files are whole besides, or the sums of all
@@ -154,7 +156,7 @@ class Page:
         tested, unsound = (sum(region[name] for region in regions) for name in ("tested", "unsound"))
         told = f"{unsound:,} of {tested:,} rows that were tested are unsound, in {len(regions)} parts of the members. {it.get('how', '')}"
         shown = legend([(box("sound", WHOLE), "sound: parity holds, as it also does of zeros"),
-                        (box("unsound", UPPER), "unsound, as high as their part")])
+                        (box("unsound", UPPER), "unsound, as high as their part, and a fifth at least")])
         lane = Lane("parity", f"parity: {unsound} of {tested} tested rows are unsound", bars)
         title = f"class {it['class']}: where parity holds, by sectors of the members"
         return (f'<div class="disk"><h3>{text(title)}</h3>{soft(text(told))}{shown}{drawing.lane(lane, end, end)}{drawing.axis(scale(end))}</div>')
@@ -162,7 +164,7 @@ class Page:
     def region(self, it: Event) -> list[Bar]:
         """The bars of a region: its unsound rows above, the others below."""
         first, last = it["first"], it["first"] + it["rows"]
-        bad = max(LEAST, HEIGHT * it["unsound"] // it["tested"]) if it["unsound"] else 0
+        bad = max(LEAST_UNSOUND, HEIGHT * it["unsound"] // it["tested"]) if it["unsound"] else 0
         return ([Bar(first, last, "sound", HEIGHT - bad)] if bad < HEIGHT else []) + ([Bar(first, last, "unsound", bad, HEIGHT - bad)] if bad else [])
 
     def nearest(self) -> str:

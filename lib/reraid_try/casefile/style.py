@@ -39,7 +39,8 @@ table { border-collapse: collapse; width: 100%; font-size: .87rem; margin: .5rem
 th { text-align: left; font-weight: 600; color: var(--soft); white-space: nowrap; }
 th, td { padding: .3rem .7rem .3rem 0; vertical-align: top; border-bottom: 1px solid var(--line); }
 td { overflow-wrap: anywhere; min-width: 5em; }
-td[data-name="what"], td[data-name="set"] { min-width: 13em; } td[data-name="why"] { min-width: 16em; } td[data-name="loosened"] { min-width: 8em; }
+td[data-name="what"] { min-width: 11em; } td[data-name="set"] { min-width: 18em; } td[data-name="why"] { min-width: 15em; }
+td[data-name="loosened"] { min-width: 8em; } td[data-name="outcome"] { min-width: 7em; }
 td.n { min-width: 0; }
 td.n, th.n { text-align: right; white-space: nowrap; }
 tr { break-inside: avoid; }
@@ -68,6 +69,7 @@ ul.plain { padding-left: 1.2em; margin: .4rem 0; } ul.plain li { margin: .15rem 
   * { print-color-adjust: exact; -webkit-print-color-adjust: exact; }
   body { max-width: none; padding: 0; font-size: 10.5pt; }
   h2, h3 { break-after: avoid; }
+  table { font-size: 9pt; }
   @page { margin: 16mm 14mm; }
 }
 """

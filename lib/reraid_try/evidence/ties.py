@@ -103,7 +103,7 @@ def lost_line(family: Family) -> str:
     lost = family.lost or 0
     spare = "all its disks are there" if not lost else f"{counted(lost, 'disk')} of {family.members} {'is' if lost == 1 else 'are'} lost"
     if family.old:
-        spare += f", with {'one that is' if len(family.old) == 1 else 'those that are'} old or damaged"
+        spare += f", counting {'one that is' if len(family.old) == 1 else 'those that are'} old or damaged"
     return f"tied as by parity of level {family.level}, {spare}"
 
 

@@ -1,0 +1,102 @@
+//! Inodes of XFS and their places, and what makes none.
+
+use crate::xfs_sectors::{
+    INODE, LARGE_INODE, LARGE_REST, LARGE_SUPER, SUPER, WIDE_INODE, WIDE_SUPER,
+};
+use uuid::Uuid;
+use xfs5::{XfsInode, read_inode, read_inodes};
+
+// The identifier with which all of them were made.
+fn made() -> Uuid {
+    Uuid::from_bytes([
+        0x01, 0x23, 0x45, 0x67, 0x89, 0xab, 0xcd, 0xef, 0x01, 0x23, 0x45, 0x67, 0x89, 0xab, 0xcd,
+        0xef,
+    ])
+}
+
+// What an inode is read as.
+fn numbered(number: u64) -> Option<XfsInode> {
+    Some(XfsInode {
+        number,
+        uuid: made(),
+    })
+}
+
+// A sector with the bits of a byte turned.
+fn turned(mut sector: [u8; 512], at: usize) -> [u8; 512]
+    requires { at < 512 }
+{
+    sector[at] ^= 0xFF;
+    sector
+}
+
+#[test]
+fn numbers_of_xfs_db(rt: HostRuntime) {
+    assert!(rt; read_inode(&INODE, &[]) == numbered(655_488));
+    assert!(rt; read_inode(&WIDE_INODE, &[]) == numbered(263_424));
+    assert!(rt; read_inode(&LARGE_INODE, &LARGE_REST) == numbered(328_064));
+}
+
+#[test]
+fn no_inodes(rt: HostRuntime) {
+    assert!(rt; read_inode(&LARGE_INODE, &[]).is_none());
+    assert!(rt; read_inode(&LARGE_INODE, &turned(LARGE_REST, 511)).is_none());
+    assert!(rt; read_inode(&INODE, &LARGE_REST).is_none());
+    assert!(rt; read_inode(&turned(INODE, 159), &[]).is_none());
+    assert!(rt; read_inode(&turned(INODE, 103), &[]).is_none());
+    assert!(rt; read_inode(&turned(INODE, 511), &[]).is_none());
+    assert!(rt; read_inode(&SUPER, &[]).is_none() && read_inode(&[0; 512], &[]).is_none());
+}
+
+#[test]
+fn places_of_xfs_db(rt: HostRuntime) {
+    match read_inodes(&SUPER) {
+        Some(inodes) => {
+            assert!(rt; inodes.uuid == made() && inodes.inode == 512);
+            assert!(rt; inodes.inode_sector(655_488) == Some(540_800));
+            assert!(rt; inodes.inode_sector(655_489) == Some(540_801));
+            assert!(rt; inodes.inode_sector(128) == Some(128));
+            assert!(rt; inodes.is_mark(655_488) && !inodes.is_mark(655_552));
+        }
+        None => assert!(rt; false, "no superblock"),
+    }
+}
+
+#[test]
+fn places_in_wide_sectors_and_of_large_inodes(rt: HostRuntime) {
+    match read_inodes(&WIDE_SUPER) {
+        Some(inodes) => {
+            assert!(rt; inodes.uuid == made());
+            assert!(rt; inodes.inode_sector(263_424) == Some(206_080));
+        }
+        None => assert!(rt; false, "no superblock"),
+    }
+    match read_inodes(&LARGE_SUPER) {
+        Some(inodes) => {
+            assert!(rt; inodes.inode == 1024 && inodes.inode_sector(328_064) == Some(541_440));
+            assert!(rt; inodes.is_mark(328_064) && !inodes.is_mark(328_096));
+        }
+        None => assert!(rt; false, "no superblock"),
+    }
+}
+
+// Four groups of 25,600 blocks, of which numbers have room for 32,768.
+#[test]
+fn no_places(rt: HostRuntime) {
+    match read_inodes(&SUPER) {
+        Some(inodes) => {
+            assert!(rt; inodes.inode_sector((4 << 15) * 8).is_none());
+            assert!(rt; inodes.inode_sector(25_600 * 8).is_none());
+            assert!(rt; inodes.inode_sector(25_599 * 8 + 7) == Some(204_799));
+            assert!(rt; inodes.inode_sector(u64::MAX).is_none());
+        }
+        None => assert!(rt; false, "no superblock"),
+    }
+    assert!(rt;
+        read_inodes(&turned(SUPER, 101)).is_none() && read_inodes(&turned(SUPER, 123)).is_none()
+    );
+    assert!(rt;
+        read_inodes(&turned(SUPER, 124)).is_none() && read_inodes(&turned(SUPER, 105)).is_none()
+    );
+    assert!(rt; read_inodes(&INODE).is_none());
+}

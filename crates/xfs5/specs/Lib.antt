@@ -1,0 +1,2 @@
+pub mod Inode
+pub mod Places

@@ -1,0 +1,14 @@
+//! Inodes of XFS of version 5, and where they lie.
+//!
+//! [`read_inode`] says of bytes that an inode with a right checksum begins, and which; [`read_inodes`] what a superblock
+//! says of where inodes lie: so [`XfsInodes::inode_sector`] is the place of an inode. The definitions stand in
+//! `specs/Inode` and `Places`. Nothing in a program calls this yet.
+#![tactic(auto)]
+
+mod inode;
+mod places;
+
+// The tests stand in `inode_rows`.
+
+pub use inode::{XfsInode, read_inode};
+pub use places::{XfsInodes, read_inodes};

@@ -16,9 +16,11 @@ from reraid_try.policy.evident import Evident, Part
 from reraid_try.policy.plain import Aim, Span
 from reraid_try.policy.shapes import Shape
 from reraid_try.policy.steps import Step
+from reraid_try.policy.trials import Trial
 
 from . import rows
-from .standin import Told
+from .standin import Told, plan_of
+from .test_policy import BASE, NTFS
 from .test_ties import Standin, disks
 
 
@@ -136,6 +138,28 @@ class Attempts(unittest.TestCase):
         self.assertEqual(self.order(Shape("5", 6), False), ["zeros", "list 0", "list 1", "list 2"])
         self.assertEqual(self.order(Shape("6", 6), False), ["list 0", "zeros", "list 1", "list 2"])
         self.assertEqual(self.order(Shape("0", 3), False), ["zeros", "list 0", "bare", "list 1", "list 2"])
+
+
+class ByPlaces(unittest.TestCase):
+    """What zeros allow is tested."""
+
+    def test_records_of_number_0(self) -> None:
+        """A set that zeros allow is checked without the file records that a fresh NTFS numbers 0, so that its other marks may speak for it."""
+        taken: list[Trial] = []
+
+        def take(_hunt: Any, trial: Trial, sets: Any, _words: Any) -> bool:
+            """The sets are tested."""
+            self.assertEqual([it.text for it in sets], ["5:ls:none:16:64:0,1,2"])
+            taken.append(trial)
+            return True
+        placement = types.SimpleNamespace(words=lambda *_: ["5:ls:none:16:64:0,1,2"])
+        hunt = types.SimpleNamespace(places=types.SimpleNamespace(best=lambda _: [placement]), plan=plan_of(NTFS),
+                                     evidence=types.SimpleNamespace(tried=(0, 64), end=900),
+                                     asking=types.SimpleNamespace(request=lambda _: BASE))
+        search = types.SimpleNamespace(options=Options(("a",)), say_trial=lambda _, trial, __: trial, take=take)
+        aim = Aim((0, 1, 2), Span(0, 900), "why", (Shape("5", 3),), tied=True)
+        self.assertTrue(Evident(cast(Any, search)).by_places(cast(Any, hunt), aim))
+        self.assertEqual([(it.request and it.request.records, it.out) for it in taken], [(True, {0})])
 
 
 class Unread(unittest.TestCase):

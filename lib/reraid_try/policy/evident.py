@@ -209,7 +209,9 @@ class Evident:
             return False
         listing = Listing(tuple(Ranked(rank, word) for rank, word in enumerate(words)), len(words), True, "of those that zeros allow")
         bare = cures.told("all landmarks, in place of which zeros tell where parity lies", Family.BARE, [group.place for group in hunt.plan.groups])
-        trial = self.search.say_trial(hunt, Trial(shape, (bare,), hunt.asking.request(shape)), listing)
+        # What a fresh NTFS numbers 0 is no reason to call its group one that does not hold.
+        request = dataclasses.replace(hunt.asking.request(shape), records=True)
+        trial = self.search.say_trial(hunt, Trial(shape, (bare,), request), listing)
         return self.search.take(hunt, trial, listing.sets, lambda it: (read_word(it.text), hunt.word(it.text)))
 
     def attempt(self, hunt: Hunt, aim: Aim, before: int) -> None:

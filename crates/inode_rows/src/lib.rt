@@ -1,7 +1,11 @@
-//! Tests of the readers of inodes: checksums of RFC 3720, and sectors that `mke2fs` and `mkfs.xfs` wrote, with numbers
-//! and places that `dumpe2fs`, `debugfs` and `xfs_db` print.
+//! Tests of the readers of inodes and tree blocks: checksums of RFC 3720, and sectors that `mke2fs`, `mkfs.xfs` and
+//! `mkfs.btrfs` wrote, with numbers and places that `dumpe2fs`, `debugfs`, `xfs_db` and `btrfs inspect-internal` print.
 #![tactic(auto)]
 
+#[cfg(test)]
+mod btrfs;
+#[cfg(test)]
+mod btrfs_parts;
 #[cfg(test)]
 mod checksums;
 #[cfg(test)]

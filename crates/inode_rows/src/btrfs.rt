@@ -1,0 +1,190 @@
+//! Tree blocks of btrfs, and where their addresses lie.
+ghost use Rattle.std.specs.Prelude.{◌≤◌, length};
+
+use crate::btrfs_parts::{
+    ARRAY, FRONT, LEAF, LEAF_AGAIN, LEAF_ITEMS, RENAMED_FRONT, RENAMED_LEAF, RENAMED_ROOTS, ROOTS,
+    SINGLE_ARRAY,
+};
+use btrfstree::{
+    Chunk, TreeHeader, TreeSuper, read_array_chunk, read_chunk, read_header, read_leaf_chunk,
+    read_super,
+};
+use uuid::Uuid;
+
+// The identifier with which all of them were made.
+const MADE: [u8; 16] = [
+    0x01, 0x23, 0x45, 0x67, 0x89, 0xab, 0xcd, 0xef, 0x01, 0x23, 0x45, 0x67, 0x89, 0xab, 0xcd, 0xef,
+];
+
+// The leaf of the chunk tree, as it is printed.
+const CHUNK_LEAF: TreeHeader = TreeHeader {
+    address: 22_036_480,
+    generation: 6,
+    owner: 3,
+    items: 4,
+    level: 0,
+};
+
+// The chunk of metadata, as it is printed.
+const METADATA: Chunk = Chunk {
+    logical: 30_408_704,
+    bytes: 33_554_432,
+    first: 38_797_312,
+    second: Some(72_351_744),
+};
+
+// A sector with the bits of a byte turned.
+fn turned(mut sector: [u8; 512], at: usize) -> [u8; 512]
+    requires { at < 512 }
+{
+    sector[at] ^= 0xFF;
+    sector
+}
+
+// A superblock with these bytes at its beginning, from its array on and from its backup roots on.
+fn superblock(front: &[u8], array: &[u8], roots: &[u8]) -> [u8; 4096]
+    requires front { length front.now ≤ 811 }
+    requires array { length array.now ≤ 2048 }
+    requires roots { length roots.now ≤ 1237 }
+{
+    let mut block = [0; 4096];
+    block[..front.len()].copy_from_slice(front);
+    block[811..811 + array.len()].copy_from_slice(array);
+    block[2859..2859 + roots.len()].copy_from_slice(roots);
+    block
+}
+
+// The first sector of that superblock.
+fn first_sector() -> [u8; 512] {
+    let mut sector = [0; 512];
+    sector[..304].copy_from_slice(&FRONT);
+    sector
+}
+
+// The leaf with what is kept of it, which is all but zeros and the parts of item 0.
+fn leaf() -> [u8; 16_384] {
+    let mut leaf = [0; 16_384];
+    leaf[..512].copy_from_slice(&LEAF);
+    leaf[15_982..].copy_from_slice(&LEAF_ITEMS);
+    leaf
+}
+
+// What a superblock is read as.
+fn system() -> Option<TreeSuper> {
+    Some(TreeSuper {
+        uuid: Uuid::from_bytes(MADE),
+        device: 1,
+        node: 16_384,
+        chunk_root: 22_036_480,
+        array: 129,
+    })
+}
+
+#[test]
+fn superblocks_of_dump_super(rt: HostRuntime) {
+    assert!(rt; read_super(&superblock(&FRONT, &ARRAY, &ROOTS)) == system());
+    assert!(rt; read_super(&superblock(&RENAMED_FRONT, &ARRAY, &RENAMED_ROOTS)) == system());
+    assert!(rt; read_super(&superblock(&FRONT, &ARRAY, &RENAMED_ROOTS)).is_none());
+    assert!(rt; read_super(&superblock(&RENAMED_FRONT, &ARRAY, &ROOTS)).is_none());
+    assert!(rt; read_super(&[0; 4096]).is_none());
+}
+
+#[test]
+fn chunks_of_a_leaf(rt: HostRuntime) {
+    let leaf = leaf();
+    assert!(rt; read_leaf_chunk(1, &leaf, 3) == Some(METADATA));
+    match read_leaf_chunk(1, &leaf, 1) {
+        Some(chunk) => {
+            assert!(rt; chunk.logical == 13_631_488 && chunk.bytes == 8_388_608);
+            assert!(rt; chunk.first == 13_631_488 && chunk.second.is_none());
+        }
+        None => assert!(rt; false, "no chunk"),
+    }
+    assert!(rt; read_leaf_chunk(1, &leaf, 0).is_none() && read_leaf_chunk(1, &leaf, 4).is_none());
+    assert!(rt;
+        read_leaf_chunk(2, &leaf, 3).is_none() && read_leaf_chunk(1, &leaf, u16::MAX).is_none()
+    );
+    assert!(rt;
+        read_leaf_chunk(1, &leaf[..512], 3).is_none() && read_leaf_chunk(1, &[], 0).is_none()
+    );
+}
+
+#[test]
+fn headers_of_dump_tree(rt: HostRuntime) {
+    assert!(rt; read_header(&MADE, &LEAF) == Some(CHUNK_LEAF));
+    assert!(rt; read_header(&MADE, &LEAF_AGAIN) == Some(CHUNK_LEAF));
+    assert!(rt; read_header(&MADE, &RENAMED_LEAF) == Some(CHUNK_LEAF));
+    assert!(rt; CHUNK_LEAF.is_mark());
+}
+
+#[test]
+fn no_headers(rt: HostRuntime) {
+    assert!(rt; read_header(&MADE, &first_sector()).is_none());
+    assert!(rt; read_header(&[0x11; 16], &LEAF).is_none());
+    assert!(rt; read_header(&[0; 16], &[0; 512]).is_none());
+    assert!(rt; read_header(&MADE, &turned(LEAF, 47)).is_none());
+    assert!(rt; read_header(&MADE, &turned(LEAF, 48)).is_none());
+    assert!(rt; read_header(&MADE, &turned(LEAF, 100)).is_none());
+}
+
+// `btrfs-map-logical -l 30900224` prints mirror 1 at physical 39288832 and mirror 2 at 72843264.
+#[test]
+fn places_of_a_chunk_that_lies_twice(rt: HostRuntime) {
+    assert!(rt; read_chunk(1, 30_408_704, &LEAF_ITEMS[..112]) == Some(METADATA));
+    match read_chunk(1, 30_408_704, &LEAF_ITEMS[..112]) {
+        Some(chunk) => {
+            assert!(rt; chunk.first_place(30_900_224) == Some(39_288_832));
+            assert!(rt; chunk.second_place(30_900_224) == Some(72_843_264));
+            assert!(rt;
+                chunk.first_place(30_408_703).is_none() && chunk.second_place(30_408_703).is_none()
+            );
+            assert!(rt;
+                chunk.second_place(30_408_704 + 33_554_431) == Some(72_351_744 + 33_554_431)
+            );
+            assert!(rt; chunk.second_place(30_408_704 + 33_554_432).is_none());
+        }
+        None => assert!(rt; false, "no chunk"),
+    }
+}
+
+#[test]
+fn places_of_a_chunk_that_lies_once(rt: HostRuntime) {
+    match read_chunk(1, 13_631_488, &LEAF_ITEMS[224..304]) {
+        Some(chunk) => {
+            assert!(rt; chunk.bytes == 8_388_608 && chunk.second.is_none());
+            assert!(rt; chunk.first_place(13_631_488 + 8_388_607) == Some(13_631_488 + 8_388_607));
+            assert!(rt; chunk.second_place(13_631_488).is_none());
+        }
+        None => assert!(rt; false, "no chunk"),
+    }
+}
+
+// `btrfs-map-logical -l 22036480` prints mirror 1 at physical 22036480 and mirror 2 at 30425088.
+#[test]
+fn chunks_of_the_superblock(rt: HostRuntime) {
+    match read_array_chunk(1, &ARRAY, 0) {
+        Some(chunk) => {
+            assert!(rt; chunk.logical == 22_020_096 && chunk.bytes == 8_388_608);
+            assert!(rt; chunk.first_place(22_036_480) == Some(22_036_480));
+            assert!(rt; chunk.second_place(22_036_480) == Some(30_425_088));
+        }
+        None => assert!(rt; false, "no chunk"),
+    }
+    match read_array_chunk(1, &SINGLE_ARRAY, 0) {
+        Some(chunk) => {
+            assert!(rt; chunk.logical == 1_048_576 && chunk.bytes == 4_194_304);
+            assert!(rt; chunk.first == 1_048_576 && chunk.second.is_none());
+        }
+        None => assert!(rt; false, "no chunk"),
+    }
+}
+
+#[test]
+fn no_chunks(rt: HostRuntime) {
+    assert!(rt; read_chunk(2, 30_408_704, &LEAF_ITEMS[..112]).is_none());
+    assert!(rt; read_chunk(1, 30_408_704, &LEAF_ITEMS[..111]).is_none());
+    assert!(rt; read_chunk(1, 13_631_488, &LEAF_ITEMS[224..303]).is_none());
+    assert!(rt; read_chunk(1, u64::MAX - 8_388_607, &LEAF_ITEMS[224..304]).is_none());
+    assert!(rt; read_chunk(1, u64::MAX - 8_388_608, &LEAF_ITEMS[224..304]).is_some());
+    assert!(rt; read_array_chunk(1, &ARRAY, 1).is_none());
+}

@@ -14,7 +14,7 @@ use Rattle.outside.specs.Seen.{OnlyReads, Seen}
 use Rattle.raid_params.specs.declared.types.Head.{Head}
 use Rattle.search_terms.specs.Product.{heads}
 use Rattle.search_plan.specs.declared.plan.Plan.{Plan}
-use Rattle.column_screen.specs.declared.samples.TheConstants.{SAMPLES}
+use Rattle.row_samples.specs.Rows.{most_kept}
 use Rattle.prune_filters.specs.Rows.{needs_samples, needs_table}
 use Rattle.prune_filters.specs.Early.{AreEarlyTables, HasEarlyTable, IsEarlyTable}
 use Rattle.prune_filters.specs.Xors.{most_tested, RowTable}
@@ -191,18 +191,18 @@ pub reads_tables : (plan : Plan) (offset : ℕ) (chunks : List ℕ) (old new : S
 unfolding offset_reads
 reads_tables plan offset chunks old new asks is read =
     let P : Bool → Type 0 = λ b. OnlyReads old new (if b then (length plan.lengths.items * most_tested plan plan.bounds.chunks.items offset)
-    else (if asks_samples plan then (length plan.lengths.items * min SAMPLES (most_tested plan plan.bounds.chunks.items offset)) else 0)) in
+    else (if asks_samples plan then (length plan.lengths.items * min (8 * most_kept plan.limits.badrows) (most_tested plan plan.bounds.chunks.items offset)) else 0)) in
     let Q : List ℕ → Type 0 = λ l. OnlyReads old new (length plan.lengths.items * most_tested plan l offset) in
     subst P (sym asks) (subst Q is read)
 
 pub reads_samples : (plan : Plan) (offset rows : ℕ) (chunks : List ℕ) (old new : Seen) → asks_tables plan ≡ false → asks_samples plan ≡ true → chunks ≡ plan.bounds.chunks.items → rows ≡ most_tested plan chunks offset →
-    OnlyReads old new (length plan.lengths.items * min SAMPLES rows) → OnlyReads old new (offset_reads plan offset)
+    OnlyReads old new (length plan.lengths.items * min (8 * most_kept plan.limits.badrows) rows) → OnlyReads old new (offset_reads plan offset)
 unfolding offset_reads
 reads_samples plan offset rows chunks old new unasked asks is count read =
     let P : Bool → Bool → Type 0 = λ b c. OnlyReads old new (if b then (length plan.lengths.items * most_tested plan plan.bounds.chunks.items offset)
-    else (if c then (length plan.lengths.items * min SAMPLES (most_tested plan plan.bounds.chunks.items offset)) else 0)) in
-    let Q : ℕ → Type 0 = λ n. OnlyReads old new (length plan.lengths.items * min SAMPLES n) in
-    let there : OnlyReads old new (length plan.lengths.items * min SAMPLES (most_tested plan plan.bounds.chunks.items offset)) = subst Q (count ∙ ap (λ (l : List ℕ). most_tested plan l offset) is) read in
+    else (if c then (length plan.lengths.items * min (8 * most_kept plan.limits.badrows) (most_tested plan plan.bounds.chunks.items offset)) else 0)) in
+    let Q : ℕ → Type 0 = λ n. OnlyReads old new (length plan.lengths.items * min (8 * most_kept plan.limits.badrows) n) in
+    let there : OnlyReads old new (length plan.lengths.items * min (8 * most_kept plan.limits.badrows) (most_tested plan plan.bounds.chunks.items offset)) = subst Q (count ∙ ap (λ (l : List ℕ). most_tested plan l offset) is) read in
     subst (λ (b : Bool). P b (asks_samples plan)) (sym unasked) (subst (P false) (sym asks) there)
 
 -- what is spent where tables are made

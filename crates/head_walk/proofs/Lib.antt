@@ -14,3 +14,5 @@ pub mod Admitted
 pub mod Kept
 pub mod Shapes
 pub mod Screening
+pub mod SetShapes
+pub mod Relating

@@ -17,7 +17,7 @@ use Rattle.search_plan.specs.Plans.{IsPlan, scope_of}
 use Rattle.plan_sets.specs.Sets.{passes, passes_at, sets_of}
 use Rattle.search_plan.specs.declared.plan.Plan.{Plan}
 use Rattle.set_product.specs.declared.heads.HeadSets.{HeadSets}
-use Rattle.set_product.proofs.Shaped.{set_at, shaped_set}
+use Rattle.set_product.proofs.Shaped.{set_at}
 use Rattle.slot_math.specs.Space.{begins, lists_of, same_place}
 use Rattle.slot_math.specs.Ways.{AllImages}
 use Rattle.slot_math.specs.declared.space.Space.{Space}
@@ -36,7 +36,11 @@ use Rattle.prune_filters.specs.Early.{HasEarlyTable}
 use Rattle.prune_filters.specs.Hopeful.{is_hopeful_by}
 use Rattle.prune_filters.specs.Rows.{needs_table}
 use Rattle.prune_filters.specs.Xors.{RowTable}
-use Rattle.head_walk.specs.Walk.{AdmitsHopeful, AreShaped, Asked, is_admitted, IsAmong, IsHeadOf, IsKept, IsPart, IsScreenOf, LeavesOutNone, NonePass, samples_of, Screened}
+use Rattle.head_walk.specs.Walk.{AdmitsHopeful, AreShaped, Asked, is_admitted, IsAmong, IsHeadOf, IsKept, IsPart, IsScreenOf, LeavesOutNone, NonePass, rows_admit, samples_of, Screened}
+use Rattle.row_samples.specs.Rows.{AreImageRows}
+use Rattle.relation_prefix.specs.declared.sampled.SampledRow.{SampledRow}
+use Rattle.head_walk.proofs.Relating.{none_lie, rows_admit_front}
+use Rattle.head_walk.proofs.SetShapes.{set_shaped}
 use Rattle.head_walk.proofs.Admitted.{admits_hopeful, each_prefix}
 use Rattle.head_walk.specs.declared.row_tables.OffsetTables.{OffsetTables}
 use Rattle.head_walk.proofs.Kept.{no_table}
@@ -74,10 +78,6 @@ front_whole zero (x ∷ slots) e = absurd (omega arith)
 front_whole (suc k) [] e = refl
 front_whole (suc k) (x ∷ slots) e = ap (λ (l : List (Option ℕ)). x ∷ l) (front_whole k slots (omega arith))
 
--- a set of the plan has a sensible shape
-pub set_shaped : (plan : Plan) (rank : ℕ) (geo : Geometry) → IsPlan plan → slice_get (sets_of plan) rank ≡ Some geo → is_shaped geo (length plan.lengths.items) ≡ true
-set_shaped plan rank geo is_plan stands = shaped_set plan geo (set_at plan rank geo is_plan stands)
-
 -- one that passes is settled by no samples of its offset
 pub never_screened : (bytes : List (List ℕ)) (plan : Plan) (rank rows : ℕ) (geo : Geometry) (samples : List Sample) → IsPlan plan → slice_get (sets_of plan) rank ≡ Some geo → passes bytes plan geo ≡ true →
     AreSamples bytes (length plan.lengths.items) geo.head.offset rows samples → is_screened samples (scope_of plan) geo ≡ false
@@ -108,27 +108,31 @@ unsettled_front s slots k long left =
 -- a walk that asks a screen too leaves out none that passes, and gives hopeful sets
 pub admits_screened : (told : Option (List (List ℕ))) (plan : Plan) (head : Head) (space : Space) (xors : Option RowTable) (samples : List Sample) (count : ℕ) → IsPlan plan → is_valid_head head ≡ true → IsAmong plan.bounds head →
     IfSome told (λ bytes. HasEarlyTable bytes plan head xors) → IfSome told (λ bytes. AreSamples bytes (length plan.lengths.items) head.offset count samples) →
-    AdmitsHopeful told plan head (is_admitted (record { asked = record { plan = plan; head = head; space = space; xors = xors }; samples = samples }))
-admits_screened told plan head space xors samples count is_plan valid among tables are =
+    (rows : Option (List SampledRow)) → IfSome told (λ bytes. IfSome rows (AreImageRows bytes (length plan.lengths.items) head.offset)) →
+    AdmitsHopeful told plan head (is_admitted (record { asked = record { plan = plan; head = head; space = space; xors = xors }; samples = samples; rows = rows }))
+admits_screened told plan head space xors samples count is_plan valid among tables are rows lie =
     let hopeful = admits_hopeful told plan head xors is_plan valid among tables in
     record {
-      leaves_out_none = left told hopeful.leaves_out_none are;
-      hopeful = λ rank slots stands all. hopeful.hopeful rank slots stands (first_admitted (is_hopeful_by xors plan head) (unsettled s) slots all);
+      leaves_out_none = left told hopeful.leaves_out_none are lie;
+      hopeful = λ rank slots stands all. hopeful.hopeful rank slots stands
+          (first_admitted (is_hopeful_by xors plan head) (unsettled s) slots (first_admitted (λ p. is_hopeful_by xors plan head p && unsettled s p) (rows_admit s.asked s.rows) slots all));
     }
   where
     s : Screened
-    s = record { asked = record { plan = plan; head = head; space = space; xors = xors }; samples = samples }
+    s = record { asked = record { plan = plan; head = head; space = space; xors = xors }; samples = samples; rows = rows }
 
     left : (told : Option (List (List ℕ))) → LeavesOutNone told plan head (is_hopeful_by xors plan head) → IfSome told (λ bytes. AreSamples bytes (length plan.lengths.items) head.offset count samples) →
-        LeavesOutNone told plan head (is_admitted s)
-    left None none are = tt
-    left (Some bytes) none are = λ rank slots stands passing.
+        IfSome told (λ bytes. IfSome rows (AreImageRows bytes (length plan.lengths.items) head.offset)) → LeavesOutNone told plan head (is_admitted s)
+    left None none are lie = tt
+    left (Some bytes) none are lie = λ rank slots stands passing.
         let geo : Geometry = record { head = head; slots = record { items = slots } } in
         let holds = sym (passes_as bytes plan rank (record { head = head; slots = record { items = slots } }) stands) ∙ passing in
         let unscreened = never_screened bytes plan rank count (record { head = head; slots = record { items = slots } }) samples is_plan stands holds are in
         let set = set_at plan rank (record { head = head; slots = record { items = slots } }) is_plan stands in
-        both_admitted (is_hopeful_by xors plan head) (unsettled s) slots (none rank slots stands passing)
-        (each_prefix (unsettled s) slots (λ k. unsettled_front s slots k set.long unscreened))
+        both_admitted (λ p. is_hopeful_by xors plan head p && unsettled s p) (rows_admit s.asked s.rows) slots
+        (both_admitted (is_hopeful_by xors plan head) (unsettled s) slots (none rank slots stands passing)
+        (each_prefix (unsettled s) slots (λ k. unsettled_front s slots k set.long unscreened)))
+        (each_prefix (rows_admit s.asked s.rows) slots (λ k. rows_admit_front bytes plan head rank k slots s.asked rows is_plan refl refl stands holds lie))
 
 -- where no slot list is admitted, no set passes
 pub none_admitted : (told : Option (List (List ℕ))) (plan : Plan) (sets : HeadSets) (admits : List (Option ℕ) → Bool) (from stop : ℕ) → IsHeadOf plan sets → IsPart sets from stop → LeavesOutNone told plan sets.head admits →
@@ -276,23 +280,26 @@ told_table None asks A B f are = tt
 told_table (Some bytes) asks A B f are = f bytes are
 
 -- what a family of a head admits
-pub family_admits : {E : Type 0} (plan : Plan) (head : Head) (kept : List OffsetTables) (asked : Asked) (samples : List Sample) (r : Result Screened E) →
-    IfOk r (λ family. family.asked ≡ asked) → IfOk r (λ family. family.samples ≡ samples) →
-    ((told : Option (List (List ℕ))) → All (IsKept told plan) kept → AdmitsHopeful told plan head (is_admitted (record { asked = asked; samples = samples }))) →
+pub family_admits : {E : Type 0} (plan : Plan) (head : Head) (kept : List OffsetTables) (asked : Asked) (samples : List Sample) (rows : Option (List SampledRow)) (r : Result Screened E) →
+    IfOk r (λ family. family.asked ≡ asked) → IfOk r (λ family. family.samples ≡ samples) → IfOk r (λ family. family.rows ≡ rows) →
+    ((told : Option (List (List ℕ))) → All (IsKept told plan) kept → AdmitsHopeful told plan head (is_admitted (record { asked = asked; samples = samples; rows = rows }))) →
     IfOk r (λ family. (told : Option (List (List ℕ))) → All (IsKept told plan) kept → AdmitsHopeful told plan head (is_admitted family))
-family_admits plan head kept asked samples (Err fault) is are admits = tt
-family_admits plan head kept asked samples (Ok family) is are admits = λ told all.
-    let P : Asked → List Sample → Type 0 = λ a l. AdmitsHopeful told plan head (is_admitted (record { asked = a; samples = l })) in
-    subst (λ (a : Asked). P a family.samples) (sym is) (subst (P asked) (sym are) (admits told all))
+family_admits plan head kept asked samples rows (Err fault) is are lie admits = tt
+family_admits plan head kept asked samples rows (Ok family) is are lie admits = λ told all.
+    let P : Asked → List Sample → Option (List SampledRow) → Type 0 = λ a l o. AdmitsHopeful told plan head (is_admitted (record { asked = a; samples = l; rows = o })) in
+    subst (λ (a : Asked). P a family.samples family.rows) (sym is) (subst (λ (l : List Sample). P asked l family.rows) (sym are) (subst (P asked samples) (sym lie) (admits told all)))
 
 -- where the family of a head without samples gives no leaf, no set passes
 pub none_given : (told : Option (List (List ℕ))) (plan : Plan) (sets : HeadSets) (family : Screened) (from stop : ℕ) → IsPlan plan → IsHeadOf plan sets → IsPart sets from stop → needs_table plan sets.head ≡ false →
-    family.asked ≡ record { plan = plan; head = sets.head; space = sets.space; xors = None } → family.samples ≡ [] →
+    family.asked ≡ record { plan = plan; head = sets.head; space = sets.space; xors = None } → family.samples ≡ [] → family.rows ≡ None →
     admitted_leaves (question sets.space (is_admitted family) (from - sets.first) (stop - sets.first)) (from - sets.first) (stop - sets.first) ≡ [] → NonePass told plan from stop
-none_given told plan sets family from stop is_plan is_head part needless is are none =
-    let base = admits_screened told plan sets.head sets.space None [] 0 is_plan is_head.head is_head.among (no_table told plan sets.head needless) (none_taken told (length plan.lengths.items) sets.head.offset 0) in
-    let P : Asked → List Sample → Type 0 = λ a l. LeavesOutNone told plan sets.head (is_admitted (record { asked = a; samples = l })) in
-    let left : LeavesOutNone told plan sets.head (is_admitted family) = subst (λ (a : Asked). P a family.samples) (sym is) (subst (P (record { plan = plan; head = sets.head; space = sets.space; xors = None })) (sym are) base.leaves_out_none) in
+none_given told plan sets family from stop is_plan is_head part needless is are lie none =
+    let base = admits_screened told plan sets.head sets.space None [] 0 is_plan is_head.head is_head.among (no_table told plan sets.head needless) (none_taken told (length plan.lengths.items) sets.head.offset 0)
+    None (none_lie told (length plan.lengths.items) sets.head.offset) in
+    let P : Asked → List Sample → Option (List SampledRow) → Type 0 = λ a l o. LeavesOutNone told plan sets.head (is_admitted (record { asked = a; samples = l; rows = o })) in
+    let left : LeavesOutNone told plan sets.head (is_admitted family) = subst (λ (a : Asked). P a family.samples family.rows) (sym is)
+    (subst (λ (l : List Sample). P (record { plan = plan; head = sets.head; space = sets.space; xors = None }) l family.rows) (sym are)
+    (subst (P (record { plan = plan; head = sets.head; space = sets.space; xors = None }) []) (sym lie) base.leaves_out_none)) in
     none_admitted told plan sets (is_admitted family) from stop is_head part left none
 
 -- a walk that gives no leaf has none left

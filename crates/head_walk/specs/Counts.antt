@@ -17,6 +17,7 @@ use Rattle.prune_filters.specs.Hopeful.{is_hopeful}
 use Rattle.prune_filters.specs.Rows.{needs_samples, needs_table, rows_decide}
 use Rattle.prune_filters.specs.Xors.{most_tested}
 use Rattle.plan_sets.specs.Sets.{sets_of}
+use Rattle.row_samples.specs.Rows.{most_kept}
 use Rattle.search_plan.specs.declared.plan.Plan.{Plan}
 
 -- a set of the plan is hopeful: each prefix of its slots is, over the bytes of the images. Where some are not known, any is
@@ -58,10 +59,10 @@ shape_asks plan level members pattern syndrome =
 unfoldable pub asks_samples : Plan → Bool
 asks_samples plan = list_any (needs_samples plan) (heads plan.bounds)
 
--- for an offset: the tested rows of the chunk that has most, of each image, where some head needs a table, and otherwise as many
--- of them as there may be samples, where samples are asked for some head
+-- for an offset: the tested rows of the chunk that has most, of each image, where some head needs a table, and otherwise eight of
+-- them for each row that is kept at most, where samples are asked for some head
 unfoldable pub offset_reads : Plan → ℕ → ℕ
 offset_reads plan offset =
     if asks_tables plan then length plan.lengths.items * most_tested plan plan.bounds.chunks.items offset
-    else if asks_samples plan then length plan.lengths.items * min 64 (most_tested plan plan.bounds.chunks.items offset)
+    else if asks_samples plan then length plan.lengths.items * min (8 * most_kept plan.limits.badrows) (most_tested plan plan.bounds.chunks.items offset)
     else 0

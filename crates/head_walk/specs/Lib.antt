@@ -1,3 +1,4 @@
 pub mod Faults
 pub mod Counts
+pub mod Relations
 pub mod Walk

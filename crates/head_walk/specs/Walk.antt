@@ -28,6 +28,9 @@ use Rattle.prune_filters.specs.Xors.{most_tested, RowTable}
 use Rattle.column_screen.specs.Samples.{AreSamples}
 use Rattle.column_screen.specs.Screens.{is_screened, screening_of, set_of, Screening}
 use Rattle.column_screen.specs.declared.samples.Sample.{Sample}
+use Rattle.relation_prefix.specs.declared.sampled.SampledRow.{SampledRow}
+use Rattle.row_samples.specs.Rows.{AreImageRows}
+use Rattle.head_walk.specs.Relations.{lets_begin, test_of}
 use Rattle.parity_scan.specs.Tallies.{has_passed}
 use Rattle.parity_scan.specs.Verdicts.{verdicts_of}
 use Rattle.parity_scan.specs.declared.tally.Tally.{Tally}
@@ -76,15 +79,22 @@ pub record Asked : Type 0 where
   pub space : Space
   pub xors : Option RowTable
 
--- and of one that asks samples of its offset too
+-- and of one that asks samples of its offset too, and rows where some are kept
 pub record Screened : Type 0 where
   pub asked : Asked
   pub samples : List Sample
+  pub rows : Option (List SampledRow)
 
--- a prefix is admitted: it is hopeful by the tables, and no whole slot list of which the samples settle that it fails
+-- rows, where some are kept, let the slots of a set of the head begin so
+abbrev pub rows_admit : Asked → Option (List SampledRow) → List (Option ℕ) → Bool
+rows_admit asked rows prefix = option_map_or (λ list. lets_begin list (test_of asked.plan asked.head) prefix) rows true
+
+-- a prefix is admitted: it is hopeful by the tables, no whole slot list of which the samples settle that it fails, and rows let the
+-- slots of a set begin so
 abbrev pub is_admitted : Screened → List (Option ℕ) → Bool
-is_admitted s prefix = is_hopeful_by s.asked.xors s.asked.plan s.asked.head prefix
-    && not ((length prefix == s.asked.head.members) && is_screened s.samples (scope_of s.asked.plan) (set_of s.asked.head prefix))
+is_admitted s prefix = (is_hopeful_by s.asked.xors s.asked.plan s.asked.head prefix
+    && not ((length prefix == s.asked.head.members) && is_screened s.samples (scope_of s.asked.plan) (set_of s.asked.head prefix)))
+    && rows_admit s.asked s.rows prefix
 
 -- the samples of a screen, which has none where there is no screen
 abbrev pub samples_of : Option Screening → List Sample
@@ -111,12 +121,13 @@ abbrev pub HasTables : Plan → OffsetTables → Type 0
 HasTables plan kept = asks_tables plan ≡ true → length kept.tables.items ≡ length plan.bounds.chunks.items
 
 -- what is kept of an offset, over the bytes of the images where they are known: a table of rows for each chunk of the plan, where
--- some head needs one, and samples
 pub record IsKept (told : Option (List (List ℕ))) (plan : Plan) (kept : OffsetTables) : Type 0 where
   pub long : HasTables plan kept
   pub tables : asks_tables plan ≡ true → IfSome told (λ bytes. AreEarlyTables bytes plan plan.bounds.chunks.items kept.offset kept.tables.items)
   pub images : kept.samples.images ≡ length plan.lengths.items
   pub samples : IfSome told (λ bytes. AreSamples bytes (length plan.lengths.items) kept.offset (most_tested plan plan.bounds.chunks.items kept.offset) kept.samples.list)
+  pub row_images : kept.rows.images ≡ length plan.lengths.items
+  pub rows : IfSome told (λ bytes. AreImageRows bytes (length plan.lengths.items) kept.offset kept.rows.list)
 
 -- a head needs what is kept of an offset: a table, or samples
 abbrev pub needs_entry : Plan → Head → Bool

@@ -5,7 +5,7 @@ ghost use Rattle.outside.specs.Attached.{told_all};
 ghost use Rattle.outside.specs.Seen.{OnlyReads};
 ghost use Rattle.column_screen.specs.Reading.{EndsSamples};
 ghost use Rattle.column_screen.specs.Samples.{AreSamples};
-ghost use Rattle.column_screen.specs.declared.samples.TheConstants.{SAMPLES};
+ghost use Rattle.row_samples.specs.Rows.{most_kept as most_rows_kept, AreImageRows};
 ghost use Rattle.prune_filters.specs.Early.{AreEarlyTables, HasEarlyTable};
 ghost use Rattle.prune_filters.specs.Rows.{needs_samples as head_needs_samples, needs_table as head_needs_table};
 ghost use Rattle.search_plan.specs.Plans.{IsPlan, AgreeWith};
@@ -19,6 +19,8 @@ use column_screen::{SampleFault, Samples};
 use outside::{Images, ListOf};
 use prune_filters::{EarlyTable, most_rows, needs_samples, needs_table};
 use raid_params::Head;
+use relation_prefix::SampledRows;
+use row_samples::{OffsetSamples, RowSampler, most_kept, read_both};
 use search_plan::Plan;
 use set_product::HeadSets;
 use std::alloc::Global;
@@ -30,8 +32,10 @@ pub struct OffsetTables {
     pub offset: u64,
     /// The tables of rows, one for each chunk of the plan, in their order; none where no head of the plan needs one.
     pub tables: Vec<EarlyTable>,
-    /// Samples of the rows.
+    /// Samples of the rows: some columns.
     pub samples: Samples,
+    /// Some whole rows, with what they say of how the images depend on one another.
+    pub rows: SampledRows,
 }
 
 /// What is kept so far.
@@ -117,19 +121,55 @@ fn entry_of<I: Images>(
     let chunks = plan.bounds.chunks.as_slice();
     if !asks_tables(plan) {
         let rows = most_rows(plan, chunks, offset);
-        let samples = read_samples(alloc, images, plan, rows, offset)?;
+        let OffsetSamples { columns, rows } = read_samples(alloc, images, plan, rows, offset)?;
         return Ok(OffsetTables {
             offset,
             tables: Vec::new(alloc),
-            samples,
+            samples: columns,
+            rows,
         });
     }
-    let mut samples = Samples::new(alloc, plan.lengths.len())?;
-    let tables = EarlyTable::build_each(alloc, images, plan, chunks, offset, &mut samples)?;
+    tables_of(alloc, images, plan, offset)
+}
+
+/// What is to be kept of an offset where some head of the plan needs a table of rows.
+fn tables_of<I: Images>(
+    alloc: Global,
+    images: &mut I,
+    plan: &Plan,
+    offset: u64,
+) -> Result<OffsetTables, WalkFault>
+    requires plan { IsPlan plan.now }
+    requires lengths { AgreeWith plan.now (I.seen images.old).attached }
+    requires asks { plan_asks_tables plan.now ≡ true }
+    requires near { offset < 2 ^ 55 }
+    requires begins { offset ≤ plan.now.end }
+    ensures offset { IfOk result (λ entry. entry.offset ≡ offset) }
+    ensures kept { IfOk result (IsKept (told_all (I.seen images.old).attached) plan.now) }
+    ensures quiet { IfOk result (λ entry. (I.seen images.new).faults ≡ (I.seen images.old).faults) }
+    ensures ends { IfErr result (EndsTest (I.seen images.old) (I.seen images.new)) }
+    ensures reads { OnlyReads (I.seen images.old) (I.seen images.new) (offset_reads plan.now offset) }
+{
+    let chunks = plan.bounds.chunks.as_slice();
+    let count = plan.lengths.len();
+    let most = most_kept(plan.limits.badrows);
+    let rows = most_rows(plan, chunks, offset);
+    let mut samples = Samples::new(alloc, count)?;
+    let mut sampler = RowSampler::new(alloc, count, rows, most)?;
+    let tables = EarlyTable::build_each(
+        alloc,
+        images,
+        plan,
+        chunks,
+        offset,
+        &mut samples,
+        &mut sampler,
+    )?;
     Ok(OffsetTables {
         offset,
         tables,
         samples,
+        rows: sampler.finish(),
     })
 }
 
@@ -140,19 +180,23 @@ fn read_samples<I: Images>(
     plan: &Plan,
     rows: u64,
     offset: u64,
-) -> Result<Samples, SampleFault>
+) -> Result<OffsetSamples, SampleFault>
     requires plan { IsPlan plan.now }
     requires images { AgreeWith plan.now (I.seen images.old).attached }
     requires within { offset + rows ≤ plan.now.end }
-    ensures images { IfOk result (λ samples. samples.images ≡ length plan.now.lengths.items) }
+    ensures images { IfOk result (λ samples. samples.columns.images ≡ length plan.now.lengths.items) }
+    ensures row_images { IfOk result (λ samples. samples.rows.images ≡ length plan.now.lengths.items) }
     ensures told { IfOk result (λ samples. IfSome (told_all (I.seen images.old).attached)
-        (λ bytes. AreSamples bytes (length plan.now.lengths.items) offset rows samples.list)) }
-    ensures reads { OnlyReads (I.seen images.old) (I.seen images.new) (length plan.now.lengths.items * min SAMPLES rows) }
+        (λ bytes. AreSamples bytes (length plan.now.lengths.items) offset rows samples.columns.list)) }
+    ensures rows { IfOk result (λ samples. IfSome (told_all (I.seen images.old).attached)
+        (λ bytes. AreImageRows bytes (length plan.now.lengths.items) offset samples.rows.list)) }
+    ensures reads { OnlyReads (I.seen images.old) (I.seen images.new)
+        (length plan.now.lengths.items * min (8 * most_rows_kept plan.now.limits.badrows) rows) }
     ensures ends { IfErr result (EndsSamples (I.seen images.old) (I.seen images.new)) }
     ensures stays { OnOk result ((I.seen images.new).faults ≡ (I.seen images.old).faults) }
 {
     let scope = plan.scope();
-    Samples::read(alloc, images, &scope, rows, offset)
+    read_both(alloc, images, &scope, rows, offset)
 }
 
 /// What is kept of an offset.
@@ -199,6 +243,21 @@ pub(crate) fn samples_for<'a>(
 {
     if needs_samples(plan, head) {
         Some(&entry.samples)
+    } else {
+        None
+    }
+}
+
+/// The rows for a head, if samples are asked for it.
+pub(crate) fn rows_for<'a>(
+    entry: &'a OffsetTables,
+    plan: &Plan,
+    head: &Head,
+) -> Option<&'a SampledRows>
+    ensures { IfSome result (λ rows. rows.now ≡ entry.now.rows) }
+{
+    if needs_samples(plan, head) {
+        Some(&entry.rows)
     } else {
         None
     }

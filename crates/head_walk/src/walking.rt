@@ -8,7 +8,9 @@ ghost use Rattle.head_walk.specs.Walk.{AdmitsHopeful, CanPage, Gathers, has_entr
 use crate::gathering::{Gathered, gather_admitted};
 use crate::hopeful::Hopeful;
 use crate::parts::{Paging, WalkFault};
-use crate::row_tables::{KeptTables, entry_at, is_kept, keep_needed, samples_for, table_for};
+use crate::row_tables::{
+    KeptTables, entry_at, is_kept, keep_needed, rows_for, samples_for, table_for,
+};
 use address_map::rows;
 use candidate_enum::Survivors;
 use outside::{Images, Memory};
@@ -74,7 +76,7 @@ fn is_ruled_out(
     if needs_table(plan, &sets.head) || !needs_samples(plan, &sets.head) {
         return Ok(false);
     }
-    let family = Hopeful::new(alloc, plan, sets, None, None)?;
+    let family = Hopeful::new(alloc, plan, sets, None, None, None)?;
     let mut walk = Survivors::start(&family, from - sets.first, stop - sets.first);
     Ok(walk.next().is_none())
 }
@@ -95,10 +97,11 @@ fn family_of<'a>(
         AdmitsHopeful told plan.now sets.now.head (is_admitted family)) }
 {
     if !needs_table(plan, &sets.head) && !needs_samples(plan, &sets.head) {
-        return Hopeful::new(alloc, plan, sets, None, None);
+        return Hopeful::new(alloc, plan, sets, None, None, None);
     }
     let entry = entry_at(kept, sets.head.offset);
     let table = table_for(entry, plan, sets);
     let samples = samples_for(entry, plan, &sets.head);
-    Hopeful::new(alloc, plan, sets, table, samples)
+    let rows = rows_for(entry, plan, &sets.head);
+    Hopeful::new(alloc, plan, sets, table, samples, rows)
 }

@@ -1,5 +1,5 @@
 //! What rows say of the slot lists of a head.
-ghost use Rattle.std.specs.Prelude.{◌≡◌, ◌≤◌, All, IfOk, IsTrue, length};
+ghost use Rattle.std.specs.Prelude.{◌≡◌, ◌≤◌, ◌+◌, All, IfOk, IsTrue, drop, length, take};
 ghost use Rattle.raid_params.specs.Validity.{is_valid_head};
 ghost use Rattle.relation_prefix.specs.Sampled.{may_begin as set_may_begin, CanTest};
 ghost use Rattle.relation_prefix.specs.Ties.{AreThere, FitTies};
@@ -69,6 +69,14 @@ impl<'a> HeadRelations<'a> {
         })
     }
 
+    /// What is asked of the rows.
+    #[inline]
+    pub fn test(&self) -> &PrefixTest
+        ensures { result.now ≡ self.now.test }
+    {
+        &self.test
+    }
+
     /// Whether the slots of a set may begin so. It takes no memory.
     pub fn may_begin(&self, slots: &[Option<u8>]) -> bool
         requires short { length slots.now ≤ self.now.test.head.members }
@@ -78,6 +86,29 @@ impl<'a> HeadRelations<'a> {
         may_begin(
             self.rows.as_slice(),
             self.weights.as_slice(),
+            &self.test,
+            slots,
+        )
+    }
+
+    /// How many rows are asked.
+    #[inline]
+    pub fn count(&self) -> usize
+        ensures { result ≡ length self.now.rows.list }
+    {
+        self.rows.count()
+    }
+
+    /// Whether they may by `count` of the rows alone, from one of them on. It takes no memory.
+    pub fn may_begin_by(&self, first: usize, count: usize, slots: &[Option<u8>]) -> bool
+        requires short { length slots.now ≤ self.now.test.head.members }
+        requires images { AreThere self.now.rows.images slots.now }
+        requires within { first + count ≤ length self.now.rows.list }
+        ensures { result ≡ set_may_begin (take count (drop first self.now.rows.list)) self.now.test slots.now }
+    {
+        may_begin(
+            &self.rows.as_slice()[first..first + count],
+            &self.weights[first..first + count],
             &self.test,
             slots,
         )

@@ -10,8 +10,8 @@
 //!
 //! [`SampledRows`] keeps the ties of some rows, and [`HeadRelations`] asks them of the slot lists of a head: a prefix may begin a set where no
 //! more of the tested rows refuse it than may be unsound, with no slot lost or with some one that may still be. What it says stands in
-//! `specs/Sampled`. The law: where a set passes the parity test, each prefix of its slots may begin a set, whichever its rows are. No crate
-//! above goes by it yet.
+//! `specs/Sampled`. The law: where a set passes the parity test, each prefix of its slots may begin a set, whichever its rows are. The walk
+//! of `head_walk` goes by it.
 #![tactic(auto)]
 
 mod beginning;

@@ -1,5 +1,5 @@
 //! The rows by which the prefixes of slot lists are tested.
-ghost use Rattle.std.specs.Prelude.{ℕ, List, ◌≡◌, ◌+◌, [], All, OnOk, length};
+ghost use Rattle.std.specs.Prelude.{ℕ, List, ◌≡◌, ◌+◌, [], All, IfErr, IfOk, OnOk, length};
 ghost use Rattle.row_relations.specs.Rows.{AreBytes};
 ghost use Rattle.row_relations.specs.Tables.{IsTable};
 ghost use Rattle.relation_prefix.specs.Laws.{AreRowsOf, AreSectorsAt};
@@ -43,6 +43,14 @@ impl SampledRows {
         }
     }
 
+    /// None yet, with room for `most` rows. That many are kept with no more memory.
+    pub fn with_room(alloc: Global, images: usize, most: usize) -> Result<SampledRows, Memory>
+        ensures { IfOk result (λ rows. rows ≡ record { images = images; list = [] }) }
+    {
+        let list = Vec::with_capacity(alloc, most).map_err(|_| Memory)?;
+        Ok(SampledRows { images, list })
+    }
+
     /// Keeps the row of a table, which comes after those that are kept. One that has more than [`MOST_TIES`](crate::MOST_TIES)
     /// ties is not kept: it would refuse little.
     pub fn keep(&mut self, row: u64, table: &RowTable) -> Result<(), Memory>
@@ -54,6 +62,7 @@ impl SampledRows {
             AreSectorsAt images (offset + row) sectors → IsTable (length images) sectors table.now → AreRowsOf images offset self.old.list →
             AreRowsOf images offset self.new.list) }
         ensures later { OnOk result (AreBelow (row + 1) self.new.list) }
+        ensures same { IfErr result (λ fault. self.new ≡ self.old) }
     {
         let Some(ties) = RowTies::of(table) else {
             return Ok(());

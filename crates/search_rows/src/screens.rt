@@ -6,7 +6,8 @@ ghost use Rattle.column_screen.specs.Screens.{set_of, settles as samples_settle}
 use crate::objects::{agree, three_images};
 use crate::plans::two_levels;
 use crate::row_counts::three_members;
-use column_screen::{Samples, Screen, no_sums};
+use column_screen::{Screen, no_sums};
+use row_samples::read_both;
 use std::process::Abort;
 use std::test::Fail;
 
@@ -35,10 +36,10 @@ fn settled<R: Abort + AllocGlobal>(rt: &R, bytes: [u8; 3]) -> Result<Option<bool
     assert!(rt; geo.is_shaped(plan.lengths.len() as u8));
     assert!(rt; geo.head.is_valid());
     let scope = plan.scope();
-    let Ok(samples) = Samples::read(rt.alloc(), &mut images, &scope, 2, 0) else {
+    let Ok(samples) = read_both(rt.alloc(), &mut images, &scope, 2, 0) else {
         return Ok(None);
     };
-    let screen = Screen::new(&samples, &scope, &geo.head);
+    let screen = Screen::new(&samples.columns, &scope, &geo.head);
     Ok(Some(settles_by_slot(&screen, geo.slots.as_slice())))
 }
 

@@ -5,6 +5,7 @@ ghost use Rattle.outside.specs.Causes.{HasCause};
 ghost use Rattle.outside.specs.Seen.{OnlyReads};
 ghost use Rattle.column_screen.specs.Samples.{AreSamples};
 ghost use Rattle.raid_params.specs.Validity.{is_chunk};
+ghost use Rattle.row_samples.specs.Rows.{AreImageRows};
 ghost use Rattle.member_regions.specs.Regions.{IsRoomFor};
 ghost use Rattle.member_regions.specs.declared.regions.TheConstants.{BLOCK};
 ghost use Rattle.search_plan.specs.Plans.{IsPlan, AgreeWith};
@@ -17,12 +18,13 @@ ghost use Rattle.xor_tables.specs.declared.xor_table.TableFault.TheVariants.{Mem
 use crate::most_tested::most_rows;
 use crate::row_sums::row_sums;
 use crate::row_tally::RowTally;
-use crate::sampling::take_samples;
+use crate::sampling::{offer_rows, take_samples};
 use crate::settling::tables_suffice;
 use crate::xor_table::TableFault;
 use column_screen::Samples;
 use member_regions::{BLOCK, ImageSum, Regions};
 use outside::{Failed, Images};
+use row_samples::RowSampler;
 use search_plan::{Plan, tested_rows};
 use std::alloc::Global;
 use std::marker::Model;
@@ -53,7 +55,7 @@ impl EarlyTable {
     /// read at most once, in the order of its sectors, and memory is taken before the first reading. The reading ends
     /// where each table counts all rows that are tested, or settles what the others could tell: of a level of the
     /// plan, that more rows are broken than may be. From the rows that are read samples are taken, where none are kept yet:
-    /// they are spread over the rows that are tested. `ReadFault` comes only where the images failed.
+    /// they are spread over the rows that are tested. The rows are offered to a sampler, too. `ReadFault` comes only where the images failed.
     pub fn build_each<I: Images>(
         alloc: Global,
         images: &mut I,
@@ -61,18 +63,22 @@ impl EarlyTable {
         chunks: &[u64],
         offset: u64,
         samples: &mut Samples,
+        sampler: &mut RowSampler,
     ) -> Result<Vec<EarlyTable>, TableFault>
         requires plan { IsPlan plan.now }
         requires chunks { All (λ chunk. IsTrue (is_chunk chunk)) chunks.now }
         requires offset { offset < 2 ^ 55 }
         requires images { AgreeWith plan.now (I.seen images.old).attached }
         requires none { samples.old ≡ record { images = length plan.now.lengths.items; list = [] } }
+        requires none_offered { sampler.old ≡ record { images = length plan.now.lengths.items; list = [] } }
         ensures long { IfOk result (λ tables. length tables.items ≡ length chunks.now) }
         ensures told { IfOk result (λ tables. IfSome (told_all (I.seen images.old).attached)
             (λ bytes. AreEarlyTables bytes plan.now chunks.now offset tables.items)) }
         ensures images { samples.new.images ≡ length plan.now.lengths.items }
         ensures samples { OnOk result (IfSome (told_all (I.seen images.old).attached)
             (λ bytes. AreSamples bytes (length plan.now.lengths.items) offset (most_tested plan.now chunks.now offset) samples.new.list)) }
+        ensures row_images { sampler.new.images ≡ length plan.now.lengths.items }
+        ensures rows { OnOk result (IfSome (told_all (I.seen images.old).attached) (λ bytes. AreImageRows bytes (length plan.now.lengths.items) offset sampler.new.list)) }
         ensures reads { OnlyReads (I.seen images.old) (I.seen images.new)
             (length plan.now.lengths.items * most_tested plan.now chunks.now offset) }
         ensures ends { IfErr result (EndsTable (I.seen images.old) (I.seen images.new)) }
@@ -87,6 +93,7 @@ impl EarlyTable {
             &mut regions,
             &mut tables,
             samples,
+            sampler,
             plan,
             chunks,
             offset,
@@ -143,12 +150,13 @@ fn no_rows(alloc: Global, count: usize) -> Result<Vec<EarlyTable>, TableFault>
     Ok(tables)
 }
 
-/// Counts the rows of an offset for each of some chunks, with room for a block of each image, and takes samples of them.
+/// Counts the rows of an offset for each of some chunks, with room for a block of each image, takes samples of them and offers them to a sampler.
 fn read_rows<I: Images>(
     images: &mut I,
     regions: &mut Regions,
     tables: &mut Vec<EarlyTable>,
     samples: &mut Samples,
+    sampler: &mut RowSampler,
     plan: &Plan,
     chunks: &[u64],
     offset: u64,
@@ -163,12 +171,15 @@ fn read_rows<I: Images>(
         All (CountRows bytes members chunk offset 0) tables.old.items }
     requires few { AreAllFew 0 tables.old.items }
     requires none_kept { samples.old ≡ record { images = length plan.now.lengths.items; list = [] } }
+    requires none_offered { sampler.old ≡ record { images = length plan.now.lengths.items; list = [] } }
     ensures long { length tables.new.items ≡ length chunks.now }
     ensures images { samples.new.images ≡ length plan.now.lengths.items }
     ensures samples { OnOk result (IfSome (told_all (I.seen images.old).attached)
         (λ bytes. AreSamples bytes (length plan.now.lengths.items) offset (most_tested plan.now chunks.now offset) samples.new.list)) }
     ensures told { OnOk result (IfSome (told_all (I.seen images.old).attached)
         (λ bytes. AreEarlyTables bytes plan.now chunks.now offset tables.new.items)) }
+    ensures row_images { sampler.new.images ≡ length plan.now.lengths.items }
+    ensures rows { OnOk result (IfSome (told_all (I.seen images.old).attached) (λ bytes. AreImageRows bytes (length plan.now.lengths.items) offset sampler.new.list)) }
     ensures reads { OnlyReads (I.seen images.old) (I.seen images.new)
         (length plan.now.lengths.items * most_tested plan.now chunks.now offset) }
     ensures cause { HasCause (I.seen images.old).faults (I.seen images.new).faults result }
@@ -185,6 +196,7 @@ fn read_rows<I: Images>(
         let sums = row_sums(images, regions, plan, offset + first, count)?;
         add_block(tables, &sums, plan, chunks, offset, first, count);
         wanted = take_samples(samples, regions, &sums, rows, first, count, wanted);
+        offer_rows(sampler, regions, &sums, first, count);
         first += count as u64;
     }
     Ok(())

@@ -1,10 +1,10 @@
 use Rattle.std.proofs.Common.{◌≡◌, true, false, sym, ◌∙◌}
 use Rattle.head_walk.specs.Counts.{asks_samples, asks_tables}
-use Rattle.head_walk.proofs.Kept.{or_second, reads_samples, reads_tables}
+use Rattle.head_walk.proofs.Kept.{or_second, reads_samples}
 use Rattle.head_walk.proofs.row_tables.entry_of.Goals as goal
 
-pub returns-in_err-samples-clause-reads : goal.returns-in_err-samples-clause-reads
-returns-in_err-samples-clause-reads g c =
+pub returns-in_err-columns-clause-reads : goal.returns-in_err-columns-clause-reads
+returns-in_err-columns-clause-reads g c =
     let unasked : asks_tables c.args.plan.now ≡ false = sym c.asks_tables.ensures ∙ c.if-not-asks_tables.true in
     let asks : asks_samples c.args.plan.now ≡ true = or_second (asks_tables c.args.plan.now) (asks_samples c.args.plan.now) unasked c.requires.asks in
     reads_samples c.args.plan.now c.args.offset c.most_rows-rows.result c.as_slice-chunks.result.now _ _ unasked asks c.as_slice-chunks.ensures.value c.most_rows-rows.ensures.value c.read_samples.ensures.reads
@@ -15,10 +15,5 @@ returns-then-not-asks_tables-clause-reads g c =
     let asks : asks_samples c.args.plan.now ≡ true = or_second (asks_tables c.args.plan.now) (asks_samples c.args.plan.now) unasked c.requires.asks in
     reads_samples c.args.plan.now c.args.offset c.most_rows-rows.result c.as_slice-chunks.result.now _ _ unasked asks c.as_slice-chunks.ensures.value c.most_rows-rows.ensures.value c.read_samples.ensures.reads
 
-pub returns-in_err-tables-clause-reads : goal.returns-in_err-tables-clause-reads
-returns-in_err-tables-clause-reads g c =
-    reads_tables c.args.plan.now c.args.offset c.as_slice-chunks.result.now _ _ (sym c.asks_tables.ensures ∙ c.if-not-asks_tables.false) c.as_slice-chunks.ensures.value c.build_each.ensures.reads
-
-pub returns-clause-reads : goal.returns-clause-reads
-returns-clause-reads g c =
-    reads_tables c.args.plan.now c.args.offset c.as_slice-chunks.result.now _ _ (sym c.asks_tables.ensures ∙ c.if-not-asks_tables.false) c.as_slice-chunks.ensures.value c.build_each.ensures.reads
+pub tables_of-requires-clause-asks : goal.tables_of-requires-clause-asks
+tables_of-requires-clause-asks g c = sym c.asks_tables.ensures ∙ c.if-not-asks_tables.false

@@ -8,7 +8,9 @@ use Rattle.search_plan.specs.Plans.{AgreeWith}
 use Rattle.xor_tables.specs.Early.{AreEarlyTables, AreKnown, CountFirst}
 use Rattle.xor_tables.specs.Xors.{most_tested, AreSumsOf, HoldRows, RowTable}
 use Rattle.xor_tables.proofs.Ordered.{plan_near, reads_more, reads_within}
-use Rattle.xor_tables.proofs.Sampled.{begins_below, begins_sampled}
+use Rattle.row_samples.specs.Rows.{AreImageRows}
+use Rattle.relation_prefix.specs.Sampled.{KeptRows}
+use Rattle.xor_tables.proofs.Sampled.{begins_below, begins_lying, begins_offered, begins_sampled}
 use Rattle.xor_tables.proofs.Settled.{all_known, first_counts, known_tables}
 use Rattle.xor_tables.proofs.early_table.read_rows.Goals as goal
 
@@ -35,6 +37,9 @@ loop-first-init g c = record {
   images = ap (λ (k : Kept). k.images) c.requires.none_kept;
   below = begins_below 0 (length c.args.plan.now.lengths.items) c.args.samples.now c.requires.none_kept;
   samples = begins_sampled (told_all (g.I.Images.seen c.args.images.now).attached) (length c.args.plan.now.lengths.items) c.args.offset c.most_rows-rows.result c.args.samples.now c.requires.none_kept;
+  row_images = ap (λ (k : KeptRows). k.images) c.requires.none_offered;
+  lying = begins_lying 0 (length c.args.plan.now.lengths.items) c.args.sampler.now c.requires.none_offered;
+  rows = begins_offered (g.I.Images.seen c.args.images.now).attached c.args.plan.now c.args.offset c.args.sampler.now c.requires.images c.requires.none_offered;
 }
 
 pub returns-clause-told : goal.returns-clause-told
@@ -69,6 +74,9 @@ loop-first-preserved g c =
     let P : ℕ → Type 0 = λ n. (bytes : List (List ℕ)) (offset : ℕ) → HoldRows bytes n (offset + c.loop-first.first) c.min-count.result c.row_sums.new.regions →
     AreSamples bytes n offset c.most_rows-rows.result c.loop-first.samples.list → AreSamples bytes n offset c.most_rows-rows.result c.take_samples-wanted.new.samples.list in
     let grows : P (length c.args.plan.now.lengths.items) = subst P c.loop-first.invariant.images c.take_samples-wanted.ensures.kept in
+    let R : ℕ → Type 0 = λ n. (bytes : List (List ℕ)) (offset : ℕ) → HoldRows bytes n (offset + c.loop-first.first) c.min-count.result c.row_sums.new.regions →
+    AreImageRows bytes n offset c.loop-first.sampler.list → AreImageRows bytes n offset c.offer_rows.new.sampler.list in
+    let offers : R (length c.args.plan.now.lengths.items) = subst R c.loop-first.invariant.row_images c.offer_rows.ensures.kept in
     record {
       faults = search rules;
       reads = reads_more (g.I.Images.seen c.args.images.now) (g.I.Images.seen c.loop-first.images) (g.I.Images.seen c.row_sums.new.images)
@@ -93,7 +101,29 @@ loop-first-preserved g c =
           (λ bytes are hold. grows bytes c.args.offset hold are)
           c.loop-first.invariant.samples
           (rw (← c.loop-first.invariant.reads.attached) held);
+      row_images = c.offer_rows.ensures.images ∙ c.loop-first.invariant.row_images;
+      lying = c.offer_rows.ensures.below;
+      rows = if_both (told_all (g.I.Images.seen c.args.images.now).attached)
+          (λ bytes. AreImageRows bytes (length c.args.plan.now.lengths.items) c.args.offset c.loop-first.sampler.list)
+          (λ bytes. HoldRows bytes (length c.args.plan.now.lengths.items) (c.args.offset + c.loop-first.first) c.min-count.result c.row_sums.new.regions)
+          (λ bytes. AreImageRows bytes (length c.args.plan.now.lengths.items) c.args.offset c.offer_rows.new.sampler.list)
+          (λ bytes are hold. offers bytes c.args.offset hold are)
+          c.loop-first.invariant.rows
+          (rw (← c.loop-first.invariant.reads.attached) held);
     }
+
+pub offer_rows-requires-clause-room : goal.offer_rows-requires-clause-room
+offer_rows-requires-clause-room g c =
+    let many = c.row_sums.ensures.room.many in
+    let long = c.row_sums.ensures.room.long in
+    let same = c.loop-first.invariant.row_images in
+    record { many = omega arith; long = omega arith }
+
+pub offer_rows-requires-clause-rows : goal.offer_rows-requires-clause-rows
+offer_rows-requires-clause-rows g c =
+    let near = plan_near c.args.plan.now c.requires.plan in
+    let within = c.most_rows-rows.ensures.within in
+    omega arith
 
 pub overflow_add-offset : goal.overflow_add-offset
 overflow_add-offset g c =

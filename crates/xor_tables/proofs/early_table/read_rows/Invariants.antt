@@ -3,6 +3,8 @@ use Rattle.outside.specs.Attached.{told_all}
 use Rattle.outside.specs.Seen.{OnlyReads}
 use Rattle.column_screen.specs.Samples.{AreBelow, AreSamples}
 use Rattle.member_regions.specs.Regions.{IsRoomFor}
+use Rattle.row_samples.specs.Rows.{AreImageRows}
+use Rattle.relation_prefix.specs.Sampled.{AreBelow as LieBelow}
 use Rattle.member_regions.specs.declared.regions.TheConstants.{BLOCK}
 use Rattle.xor_tables.specs.Early.{AreAllFew, CountFirst}
 use Rattle.xor_tables.proofs.early_table.read_rows.Given as goal
@@ -19,6 +21,9 @@ invariant-loop-first g l = record {
   images : l.samples.images ≡ length l.plan.lengths.items;
   below : AreBelow l.first l.samples.list;
   samples : IfSome (told_all (g.I.Images.seen l.fn.images).attached) (λ bytes. AreSamples bytes (length l.plan.lengths.items) l.offset l.rows l.samples.list);
+  row_images : l.sampler.images ≡ length l.plan.lengths.items;
+  lying : LieBelow l.first l.sampler.list;
+  rows : IfSome (told_all (g.I.Images.seen l.fn.images).attached) (λ bytes. AreImageRows bytes (length l.plan.lengths.items) l.offset l.sampler.list);
 }
 
 abbrev pub decreases-loop-first : goal.decreases-loop-first

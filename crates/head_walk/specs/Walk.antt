@@ -121,6 +121,7 @@ abbrev pub HasTables : Plan → OffsetTables → Type 0
 HasTables plan kept = asks_tables plan ≡ true → length kept.tables.items ≡ length plan.bounds.chunks.items
 
 -- what is kept of an offset, over the bytes of the images where they are known: a table of rows for each chunk of the plan, where
+-- some head needs one, samples, and rows with their ties
 pub record IsKept (told : Option (List (List ℕ))) (plan : Plan) (kept : OffsetTables) : Type 0 where
   pub long : HasTables plan kept
   pub tables : asks_tables plan ≡ true → IfSome told (λ bytes. AreEarlyTables bytes plan plan.bounds.chunks.items kept.offset kept.tables.items)

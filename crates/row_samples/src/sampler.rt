@@ -113,7 +113,7 @@ impl RowSampler {
     }
 
     /// Whether a row would be kept if it tells much.
-    pub fn wants(&self, row: u64) -> bool {
+    pub(crate) fn wants(&self, row: u64) -> bool {
         self.wanted <= row && self.kept.count() < self.most
     }
 

@@ -56,7 +56,7 @@ pages:
 	bench/measuring/try.py --few
 
 # All of hostile/, over the built programs, one after another (docs/HOSTILE.md): hours, as root, with the Debian packages that the scripts name
-# at their tops. cases=N runs so many of each command beside the reference.
+# at their tops. cases=N runs so many of each command beside the reference; with fewer than 100 the whole takes minutes, as all.sh says.
 cases = 2000
 hostile:
 	hostile/all.sh $(cases)

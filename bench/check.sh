@@ -2,7 +2,7 @@
 # Runs what needs neither a proof nor much time, and ends at the first failure: that VERSION is the number everywhere, that scripts can be read,
 # the types and the tests of the Python modules, the answers worked out by hand (beside the reference, and beside crates that are built without
 # being proved), that DEFINITIONS is what its comments print, and the commands of README as they are printed. What is not installed is left
-# out, and a line says so.
+# out, and a line says so. Of each step it says how long it took, and how long a processor worked at it, which is less where others are at work.
 # Usage: bench/check.sh [CRATE..], crates of tests; some quick ones if none is named
 set -eu
 cd "$(dirname "$0")/.."
@@ -10,12 +10,26 @@ crates=("$@")
 [ $# -gt 0 ] || crates=(text_rows mark_rows image_rows layout_rows)
 began=$SECONDS
 
+# worked: sets `spent` to the seconds that processors worked until now at what this script has run
+worked() {
+    local name whole
+    spent=0
+    times >"$log"
+    for name in $(tail -n 1 "$log"); do
+        whole=${name#*m}
+        spent=$((spent + ${name%m*} * 60 + ${whole%.*}))
+    done
+}
+
 # step NAME COMMAND..: runs the command, and says how long it took
 step() {
-    local name=$1 from=$SECONDS
+    local name=$1 from=$SECONDS before
     shift
+    worked
+    before=$spent
     "$@" || { echo "FAILED $name"; exit 1; }
-    echo "ok $name, $((SECONDS - from)) s"
+    worked
+    echo "ok $name, $((SECONDS - from)) s, of a processor $((spent - before)) s"
 }
 
 # there COMMAND WHAT: it is installed; else a line says what is left out
@@ -63,4 +77,5 @@ if [ -x crates/reraid/out/reraid ]; then
 else
     echo "left out: README as printed (there is no crates/reraid/out/reraid: see make build)"
 fi
-echo "all that was run passed, in $((SECONDS - began)) s"
+worked
+echo "all that was run passed, in $((SECONDS - began)) s, of a processor $spent s"

@@ -2,7 +2,8 @@
 # Runs all of this folder over the built programs, one script after another, each with its log in a folder, and prints the last line of each, and of
 # one that was not as stated the lines that say what failed, ten at most.
 # Status 1 where one was not as stated. What a script needs stands at its top; as root, nbd.sh needs it.
-# Usage: hostile/all.sh [CASES [LOGS]]: so many cases of each command beside the reference, 2000 if not given; a folder for the logs
+# Usage: hostile/all.sh [CASES [LOGS]]: so many cases of each command beside the reference, 2000 if not given; a folder for the logs. With fewer than
+# 100 cases bad sectors are tried in two patterns alone, and a server by few clients: so the whole takes minutes, and shows that all can be run.
 set -u
 here=$(cd "$(dirname "$0")" && pwd)
 top=$here/..
@@ -12,6 +13,8 @@ for name in "$program" "$server"; do
     [ -x "$name" ] || { echo "all.sh: there is no $name: see make build" >&2; exit 2; }
 done
 logs=${2:-$(mktemp -d)} failed=0
+patterns=() clients=()
+[ "$cases" -ge 100 ] || { patterns=(1 la,n-restart) && clients=(reads=20 dialogues=20); }
 mkdir -p "$logs"
 
 # run NAME COMMAND..: its last line, after how long it took
@@ -29,9 +32,9 @@ run surroundings "$here/surroundings.sh" "$program"
 run fail_alloc "$here/fail_alloc.sh" "$program"
 run rows python3 "$here/differential/rows.py"
 run differential python3 "$here/differential/run.py" "$program" --cases "$cases" --keep "$logs/differences"
-run damaged python3 "$top/hostile/damaged.py"
+run damaged python3 "$top/hostile/damaged.py" "${patterns[@]}"
 run long_images "$here/long_images.py" "$program"
-run nbd "$here/nbd.sh" "$program" "$server"
+run nbd "$here/nbd.sh" "$program" "$server" "${clients[@]}"
 run sockets "$here/sockets.sh" "$program" "$server"
 run progress "$here/progress.sh" "$program" "$server"
 run copies "$here/copies.sh" "$program" "$server"

@@ -69,7 +69,7 @@ class Told(unittest.TestCase):
         self.assertEqual((known.family.images, known.family.level, known.family.lost, known.family.members), ((0, 1, 2, 3, 4), "6", 1, 6))
         self.assertEqual((known.begin, known.chunk), (24, 16))
         line = "images 0, 1, 2, 3, 4: tied as by parity of level 6, 1 disk of 6 is lost, chunks of 16 sectors, from sector 24 on"
-        self.assertEqual(ties.lines(told), [line, "image 5: tied to nothing; foreign, or too old to tell"])
+        self.assertEqual(ties.lines(told), [line, "image 5: tied to nothing; foreign, zeros, or too old or damaged to tell"])
 
     def test_some_images(self) -> None:
         """Of some images of a heap the numbers are those that they have among all."""
@@ -144,7 +144,7 @@ class Told(unittest.TestCase):
         made = [[one, one, other] for one, other in ((rows.sector(rnd), rows.sector(rnd)) for _ in range(100))]
         runner, images = disks(made)
         self.assertEqual(ties.lines(Ties(runner, images, 9).told(range(3), 0, 100)),
-                         ["images 0 and 1 hold the same", "image 2: tied to nothing; its copy is lost, or it is foreign"])
+                         ["images 0 and 1 hold the same", "image 2: tied to nothing; its copy is lost, or it is foreign, zeros or damaged"])
 
 
 class UnlikeOffsets(unittest.TestCase):

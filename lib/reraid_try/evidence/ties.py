@@ -126,6 +126,7 @@ def lines(told: Told) -> list[str]:
             said.append(f"{named(family.images)}: in {counted(family.loose, 'row')} of those that were looked at, the first at sector "
                         f"{family.loose_first}, nothing is tied: bad areas, or one of the disks is old")
     if told.alone and told.known:
-        lost = "its copy is lost, or it is foreign" if all(it.family.level == COPIES for it in told.known) else "foreign, or too old to tell"
+        copies = all(it.family.level == COPIES for it in told.known)
+        lost = "its copy is lost, or it is foreign, zeros or damaged" if copies else "foreign, zeros, or too old or damaged to tell"
         said.append(f"{named(told.alone)}: tied to nothing; {lost}")
     return said

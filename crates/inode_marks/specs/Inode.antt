@@ -30,8 +30,8 @@ is_inode seed s at number =
     && (register_after (register_after seed (to_le_bytes w32 number)) (after_number s at) == stored_checksum s at)
 
 -- a sector of two inodes: the first has an odd number, since tables begin with one, and the second the next, which is not past the
--- last of the file system's `inodes`. Those of another file system are told to have any numbers, with the difference of the seeds in
--- them: the bound leaves out nearly all of these.
+-- last of the file system's `inodes`. The bound matters: two inodes of another file system may be told to have numbers that follow
+-- each other too, those that they have there with the difference of the seeds added
 unfoldable pub is_pair : ℕ → ℕ → List ℕ → ℕ → Bool
 is_pair seed inodes s number =
     (number % 2 == 1) && nat_lt number inodes && is_inode seed s 0 number && is_inode seed s 256 (number + 1)

@@ -15,8 +15,8 @@ const INODE: usize = 256;
 /// multiple of four; numbers that do not follow each other, or of which the second is past the last inode; or a first
 /// number that is even, for tables begin with an odd one.
 ///
-/// Inodes of another file system are told to have the numbers that they have there, changed by the difference of the
-/// seeds: any of 2^32, so that nearly all are past the last inode here.
+/// Two inodes of another file system may be told to have numbers that follow each other too: those that they have there,
+/// with the difference of the seeds added. They count where these are not past the last inode here.
 #[tactic(auto, unfolding(crate::specs::Inode::inode_pair), using(crate::proofs::Numbers::only_pair, crate::proofs::Numbers::no_pair))]
 pub fn read_pair(seed: u32, inodes: u32, sector: &[u8; SECTOR]) -> Option<u32>
     ensures pair { result ≡ inode_pair seed inodes sector.now }

@@ -1,5 +1,5 @@
 //! Tree blocks of btrfs, and where their addresses lie.
-ghost use Rattle.std.specs.Prelude.{◌≤◌, length};
+ghost use Rattle.std.specs.Prelude.{◌<◌};
 
 use crate::btrfs_parts::{
     ARRAY, FRONT, LEAF, LEAF_AGAIN, LEAF_ITEMS, RENAMED_FRONT, RENAMED_LEAF, RENAMED_ROOTS, ROOTS,
@@ -41,16 +41,19 @@ fn turned(mut sector: [u8; 512], at: usize) -> [u8; 512]
     sector
 }
 
+// Puts bytes into a block from a place on, as far as there is room.
+fn put(block: &mut [u8; 4096], at: usize, bytes: &[u8]) {
+    for (to, from) in block.iter_mut().skip(at).zip(bytes) {
+        *to = *from;
+    }
+}
+
 // A superblock with these bytes at its beginning, from its array on and from its backup roots on.
-fn superblock(front: &[u8], array: &[u8], roots: &[u8]) -> [u8; 4096]
-    requires front { length front.now ≤ 811 }
-    requires array { length array.now ≤ 2048 }
-    requires roots { length roots.now ≤ 1237 }
-{
+fn superblock(front: &[u8], array: &[u8], roots: &[u8]) -> [u8; 4096] {
     let mut block = [0; 4096];
-    block[..front.len()].copy_from_slice(front);
-    block[811..811 + array.len()].copy_from_slice(array);
-    block[2859..2859 + roots.len()].copy_from_slice(roots);
+    put(&mut block, 0, front);
+    put(&mut block, 811, array);
+    put(&mut block, 2859, roots);
     block
 }
 
@@ -105,7 +108,7 @@ fn chunks_of_a_leaf(rt: HostRuntime) {
         read_leaf_chunk(2, &leaf, 3).is_none() && read_leaf_chunk(1, &leaf, u16::MAX).is_none()
     );
     assert!(rt;
-        read_leaf_chunk(1, &leaf[..512], 3).is_none() && read_leaf_chunk(1, &[], 0).is_none()
+        read_leaf_chunk(1, &LEAF, 3).is_none() && read_leaf_chunk(1, &[], 0).is_none()
     );
 }
 

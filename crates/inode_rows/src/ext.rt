@@ -1,4 +1,5 @@
 //! Inodes of ext4 and their tables, and what makes no pair of inodes.
+ghost use Rattle.std.specs.Prelude.{◌<◌};
 
 use crate::ext_sectors::{
     NARROW_DESCRIPTORS, NARROW_FIRST, NARROW_SECOND, SEEDED_DESCRIPTORS, SEEDED_FIRST,
@@ -35,7 +36,7 @@ fn halves(mut first: [u8; 512], second: &[u8; 512]) -> [u8; 512] {
 
 // The sector with its halves changed over.
 fn changed_over(sector: &[u8; 512]) -> [u8; 512] {
-    let mut other = *sector;
+    let mut other = [0; 512];
     other[..256].copy_from_slice(&sector[256..]);
     other[256..].copy_from_slice(&sector[..256]);
     other

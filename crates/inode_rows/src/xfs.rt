@@ -1,4 +1,5 @@
 //! Inodes of XFS and their places, and what makes none.
+ghost use Rattle.std.specs.Prelude.{◌<◌};
 
 use crate::xfs_sectors::{
     INODE, LARGE_INODE, LARGE_REST, LARGE_SUPER, SUPER, WIDE_INODE, WIDE_SUPER,

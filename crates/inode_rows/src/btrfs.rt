@@ -107,9 +107,7 @@ fn chunks_of_a_leaf(rt: HostRuntime) {
     assert!(rt;
         read_leaf_chunk(2, &leaf, 3).is_none() && read_leaf_chunk(1, &leaf, u16::MAX).is_none()
     );
-    assert!(rt;
-        read_leaf_chunk(1, &LEAF, 3).is_none() && read_leaf_chunk(1, &[], 0).is_none()
-    );
+    assert!(rt; read_leaf_chunk(1, &LEAF, 3).is_none() && read_leaf_chunk(1, &[], 0).is_none());
 }
 
 #[test]

@@ -13,7 +13,7 @@ head -c 96M /dev/urandom >other
 disks 6 128 random a b c d e f g h
 disks 6 128 random m n o p q r s t u v w y
 disks 6 128 random A B C D E F G H I J K L M N O P
-disks 6 128 other Q R S T U V W X Y
+disks 5 128 other Q R S T U V W X Y Z
 for name in x z; do head -c "$(stat -c %s m)" /dev/urandom >$name; done
 # An image of which 3% of the rows are wrong, and disks of which 1% of the rows are no zeros.
 cp m wrong
@@ -40,7 +40,7 @@ searched() {
     name=$1
     images=$2
     shift 2
-    "$program" survey levels=6 window=10240 "$@" -- $images >plan
+    "$program" survey levels=6 window=$window "$@" -- $images >plan
     taskset -c 0 "$program" list size=1000 -- $images <plan >listed
     ranks=$(sed -n 's/^next [0-9]* of //p' listed)
     nanoseconds=$(best 3 plan taskset -c 0 "$program" list size=1000 -- $images)
@@ -51,7 +51,7 @@ searched() {
 
 uname -srm
 sed -n 's/^model name[^:]*: //p' /proc/cpuinfo | head -n 1
-all="offsets=0,2048"
+all="offsets=0,2048" window=10240
 searched "eight images, 702 heads" "a b c d e f g h" $all
 searched "one of eight lost, one chunk and offset" "a b c d e f g" members=8 missing=1 offsets=2048 chunks=128
 searched "eight members among nine images, one foreign, one chunk and offset" "a b x c d e f g h" members=8 foreign=1 offsets=2048 chunks=128
@@ -61,6 +61,8 @@ searched "one of twelve lost, 702 heads" "m n o p q r s t u v w" members=12 miss
 searched "one of sixteen lost, 702 heads" "A B C D E F G H I J K L M N O" members=16 missing=1 $all
 searched "sixteen images, 702 heads" "A B C D E F G H I J K L M N O P" $all
 searched "twelve members, at most one lost, thirteen images, 702 heads" "m n o p q r x s t u z v w" members=12 missing=1 foreign=2 $all
-searched "eight members, at most one lost, and nine disks of another, 702 heads" "a Q b R c S d T e U f V g W X Y" members=8 missing=1 foreign=9 $all
-searched "one of twelve lost, 3% of the rows of one wrong, 702 heads" "wrong n o p q r s t u v w" members=12 missing=1 badrows=128 window=4096 $all
+searched "eight members, at most one lost, and nine of ten of a RAID 5, 702 heads" "a Q b R c S d T e U f V g W X Y" members=8 missing=1 foreign=9 $all
+window=4096
+searched "one of twelve lost, 3% of the rows of one wrong, 702 heads" "wrong n o p q r s t u v w" members=12 missing=1 badrows=128 $all
+window=10240
 searched "eight images, zeros but for 1% of the rows, 702 heads" "s1 s2 s3 s4 s5 s6 s7 s8" $all

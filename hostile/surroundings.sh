@@ -1,6 +1,7 @@
 #!/bin/bash
 # Runs the program in hostile surroundings, and compares status, line on standard error and bytes on standard output with what
-# docs/FORMATS.md says. Each run has twenty seconds; a signal is never right. At the end the images hold what they held, and a trace
+# docs/FORMATS.md says. Each run has twenty seconds; a signal is never right, but where the kernel lets the stack not grow for want of memory, as
+# the address of the fault shows, and nothing was put. At the end the images hold what they held, and a trace
 # of the system calls shows that they were opened for reading alone.
 #
 # Usage: hostile/surroundings.sh PROGRAM [FOLDER]
@@ -266,12 +267,16 @@ fi
 
 echo "== few open files and little memory"
 python3 - "$program" >limits <<'END'
+import re
 import resource
+import signal
 import subprocess
 import sys
 
 program = sys.argv[1]
 plan = open("plan", "rb").read()
+# Where the stack ends when addresses are not at random, and how long it may grow.
+TOP, LONGEST = 0x7ffffffff000, 8 << 20
 files = {name: open(name, "rb").read() for name in ("listing", "volume", "member", "related")}
 runs = [
     (["list", "--", "a", "b", "c"], files["listing"]),
@@ -295,6 +300,14 @@ def run(words, kind, limit):
     return None if ran.returncode == 127 else (ran.returncode, ran.stdout, ran.stderr)
 
 
+def stack_is_refused(words, limit):
+    """The run ends by a fault within its stack, which the kernel does not let grow under this limit on memory: so it ends any program."""
+    ended = subprocess.run(["setarch", "-R", "strace", "-o", "faults", "-e", "trace=none", "prlimit", f"--as={limit}", program, *words],
+                           input=plan, capture_output=True, timeout=60)
+    found = ended.returncode in (-signal.SIGSEGV, 128 + signal.SIGSEGV) and re.search(r"SIGSEGV .*si_addr=(0x[0-9a-f]+)", open("faults").read())
+    return bool(found) and TOP - LONGEST <= int(found[1], 16) < TOP
+
+
 def sweep(name, words, out, kind, limits, status, line):
     """A run under each limit, with the status that may come in place of its own."""
     counts, wrong = {}, 0
@@ -308,6 +321,8 @@ def sweep(name, words, out, kind, limits, status, line):
             counts[0] = counts.get(0, 0) + 1
         elif ended == (status, b"", line):
             counts[status] = counts.get(status, 0) + 1
+        elif kind == resource.RLIMIT_AS and ended and ended[:2] == (-signal.SIGSEGV, b"") and stack_is_refused(words, limit):
+            counts["its stack refused"] = counts.get("its stack refused", 0) + 1
         else:
             wrong += 1
             told = ended and (ended[0], len(ended[1]), ended[2][:80])

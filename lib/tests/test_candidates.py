@@ -202,6 +202,7 @@ class Kin(unittest.TestCase):
         content = [candidate(text, Verdict([Finding("", "xfs", True, "said", (Piece(0, 1000),))], length=1000)) for text in texts]
         order = kin.in_order([*content, first], self.images)
         self.assertEqual((order[0], first.score), (first, Score.WHOLE))
+        self.assertEqual([it.score for it in kin.in_order(order, self.images)], [it.score for it in order])
         return [it.score.sign for it in content]
 
     def test_contradicted_by_one_with_long_whole_files(self) -> None:
@@ -213,11 +214,39 @@ class Kin(unittest.TestCase):
                    "0:plain:none:128:2048:3,4")
         self.assertEqual(self.signs(SET, *related), ["+"] * 6)
         self.assertEqual(self.signs(SET, *others, start=8000), ["+"] * 5)
-        doubted = candidate("5:rs:none:128:2048:0,1,2", whole())
+        doubted = candidate("5:rs:none:128:2048:0,1,2", Verdict([Finding("", "xfs", True, "said", (Piece(0, 1000),))], length=1000))
         kin.in_order([doubted, candidate(SET, whole())], self.images)
-        self.assertEqual((doubted.score, doubted.doubts), (Score.WHOLE, []))
-        doubted.rivalled = True
         self.assertEqual((doubted.score, doubted.doubts), (Score.KNOWN, ["another set of these images, which contradicts it, has long whole files"]))
+
+    def test_rows_of_nothing_before_the_volume(self) -> None:
+        """Of sets of which one has rows before the volume of another, with nothing known in them, that has the sign whose volume begins with
+        something."""
+        row = 256 * SECTOR
+
+        def found(first: int, table: bool = False, clean: bool = True) -> Verdict:
+            """A file system at a byte of a volume, maybe in a partition, with a long whole file."""
+            findings = [Finding("", "gpt", table=True)] if table else []
+            findings.append(Finding(f"at {first // SECTOR}", "xfs", clean, "said", (Piece(first, 100 * row),)))
+            return Verdict(findings, Wholes(1, 1, 1 << 20), [], 110 * row, row // 2, row)
+        later, earlier = "5:ls:none:128:2048:0,1,2", "5:ls:none:128:1024:2,0,1"
+        for verdicts, signs in (((found(0), found(8 * row)), ("++", "")), ((found(0), found(8 * row, True)), ("++", "++")),
+                                ((found(0), found(0)), ("++", "++")), ((found(8 * row), found(16 * row)), ("++", "++")),
+                                ((found(0, clean=False), found(8 * row)), ("", "++"))):
+            some = [candidate(text, verdict) for text, verdict in zip((later, earlier), verdicts)]
+            for _ in range(2):
+                kin.in_order(some, self.images)
+                self.assertEqual(tuple(it.score.sign for it in some), signs)
+        some = [candidate(later, found(0)), candidate(earlier, found(8 * row))]
+        kin.in_order(some, self.images)
+        self.assertEqual(some[1].doubts, ["what is found in it begins behind its first 8 rows of chunks, where the volume of another set begins"])
+        self.assertEqual((Verdict().begins, found(512).begins, found(512, True).begins), (None, 512, 0))
+
+    def test_contradicted_by_parity(self) -> None:
+        """Of two sets with long whole files that has no sign with which parity breaks in more than a fourth of the 1,000 filled rows more."""
+        for unsound, score in ((None, Score.WHOLE), (260, Score.WHOLE), (261, Score.KNOWN)):
+            good, other = candidate(SET, whole(), unsound=10), candidate("5:rs:none:128:2048:0,1,2", whole(), unsound=unsound)
+            self.assertEqual(kin.in_order([other, good], self.images)[0].score, Score.WHOLE)
+            self.assertEqual((good.score, other.score, bool(other.doubts)), (Score.WHOLE, score, unsound == 261))
 
     def test_text(self) -> None:
         self.assertEqual(kin.text(candidate(same=3)), "the same volume as class 3")

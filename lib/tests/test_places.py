@@ -113,6 +113,12 @@ class Allowed(unittest.TestCase):
 
         self.assertEqual(it.allowed([made_word((0, 1, None, 2)), made_word((1, 0, None, 2)), made_word((0, 1, None, 9))]), [True, False, True])
 
+    def test_an_image_left_out(self) -> None:
+        """Of a set that leaves one of the images out nothing is said: that may be the damaged one, and hold parity in good rows."""
+        it = told(rows.striped(random.Random(5), 4, 5, 1600, chunk=16, sparse=0.5), "5", 4)
+        self.assertEqual((it.against(made_word((0, 1, 2, 3))), it.against(made_word((0, 1, None, 3)))), (0, None))
+        self.assertEqual(it.allowed([made_word((1, 0, 2, 3)), made_word((0, 1, None, 3))]), [False, True])
+
     def test_other_shapes(self) -> None:
         """Of sets of another level, or of other numbers of members, nothing is said."""
         it = told(rows.without(rows.striped(random.Random(5), 4, 5, 1600, chunk=16, sparse=0.5), 2), "5", 4)

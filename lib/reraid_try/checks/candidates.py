@@ -30,8 +30,8 @@ class Candidate:
     """A set that passed a trial of a hunt. `word` is the simplest set of its volume; `listed` that which was listed, by the images of the hunt, None
     for RAID 10 by its copies. `alike` has the other sets of its class, `groups` what `check` says of each group, `unsound` how many rows are
     unsound, None where that was not asked; `doubted` says that as much speaks against it for another reason, `left_most` that a group with most of
-    the marks was left out, and does not hold, `rivalled` that a candidate with long whole files contradicts it. `rows` says in which rows parity
-    holds, `old` which images in no slot belong to it and are old, `same` and `inside` which other candidates have its volume, `whole` is the
+    the marks was left out, and does not hold, `rivalled` how another candidate contradicts it that has more for itself. `rows` says in which rows
+    parity holds, `old` which images in no slot belong to it and are old, `same` and `inside` which other candidates have its volume, `whole` is the
     candidate with the images that are left out of it for their bad rows."""
 
     word: Word
@@ -44,7 +44,7 @@ class Candidate:
     unsound: int | None = None
     doubted: bool = False
     left_most: bool = False
-    rivalled: bool = False
+    rivalled: str = ""
     verdict: Verdict | None = None
     rows: str = ""
     old: tuple[str, ...] = ()
@@ -73,7 +73,7 @@ class Candidate:
         """Why it has no sign, or one less."""
         kept = self.left_most and self.found.in_order
         left = ["a group with most of the marks was left out"] * (self.left_most and not kept)
-        return self.found.doubts + left + ["another set of these images, which contradicts it, has long whole files"] * self.rivalled
+        return self.found.doubts + left + ([self.rivalled] if self.rivalled else [])
 
     @property
     def alike_said(self) -> str:

@@ -6,6 +6,8 @@ from collections.abc import Hashable, Mapping, Sequence
 
 from ..calls.sets import LAST_Q, Word, simplest
 from ..evidence.images import Image
+from ..policy.plans import LEAST_BAD, MOST_BAD
+from ..units import SECTOR
 from .candidates import Candidate, Inside
 from .verdicts import Score
 
@@ -15,6 +17,9 @@ FIXED = ("plain", "parity-first", "parity-last")
 BY_SLOT = "by-slot"
 MIRRORS = ("near2",)
 PLAIN = ("0", "plain", "none")
+# Why a set has no sign beside another one.
+CONTENT = "another set of these images, which contradicts it, has long whole files"
+UNSOUND = "parity holds in far fewer rows than with another set of these images, which has long whole files too"
 
 
 @dataclasses.dataclass(frozen=True)
@@ -34,11 +39,13 @@ class Key:
 
 def in_order(tested: Sequence[Candidate], images: Sequence[Image]) -> list[Candidate]:
     """The candidates as they are printed: those with the most to say for them first, of one volume the simplest; each with the number of the first
-    one that has the same volume, and of one in which its volume begins. Those have no sign that one with long whole files contradicts."""
+    one that has the same volume, and of one in which its volume begins. Those have no sign beside which another one has more for itself."""
     same = {image.number: image.number if image.like is None else image.like for image in images}
-    whole = [it for it in tested if it.score is Score.WHOLE]
-    for it in tested:
-        it.rivalled = it.score is Score.CHECKED and any(contradict(it, one, same) for one in whole)
+    # Once is for all: such a one has a lower score then.
+    signed = [it for it in tested if it.score >= Score.CHECKED]
+    rivals = [next((told for one in signed if (told := rivalled(it, one, same))), "") for it in signed]
+    for it, told in zip(signed, rivals):
+        it.rivalled = told
     order = sorted(tested, key=lambda it: it.place)
     keys = [key(it.word, same) for it in order]
     firsts: dict[Key, int] = {}
@@ -76,6 +83,29 @@ def rows_behind(inner: Key, outer: Key) -> int:
         return 0
     turn = turns.get(pattern, 0) * rows % count
     return rows if inner.slots == outer.slots[turn:] + outer.slots[:turn] else 0
+
+
+def rivalled(it: Candidate, other: Candidate, same: Mapping[int, int]) -> str:
+    """How a candidate with a sign is contradicted by another one that has more for itself; nothing where it is not."""
+    rows = rows_before(it, other, same)
+    if rows:
+        return f"what is found in it begins behind its first {rows} rows of chunks, where the volume of another set begins"
+    if it is other or other.score is not Score.WHOLE or not contradict(it, other, same):
+        return ""
+    if it.score is Score.CHECKED:
+        return CONTENT
+    bad = (it.unsound or 0) - (other.unsound or 0)
+    return UNSOUND if bad > max(LEAST_BAD, it.hunt.evidence.filled // MOST_BAD) else ""
+
+
+def rows_before(it: Candidate, other: Candidate, same: Mapping[int, int]) -> int:
+    """How many rows of chunks a candidate has before the volume of another one, which begins with something known, and with as much for itself, where
+    nothing is known in these rows; 0 where that is not so."""
+    inner, outer = key(other.word, same), key(it.word, same)
+    rows = rows_behind(inner, outer) if inner.family == outer.family else 0
+    begins = it.found.begins
+    known = begins is not None and begins < rows * it.word.row * SECTOR
+    return 0 if known or other.found.begins != 0 or other.score < it.score else rows
 
 
 def contradict(one: Candidate, other: Candidate, same: Mapping[int, int]) -> bool:

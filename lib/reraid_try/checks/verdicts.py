@@ -99,6 +99,11 @@ class Verdict:
         return [finding for finding in self.findings if not finding.is_outer]
 
     @property
+    def begins(self) -> int | None:
+        """The first byte of the volume at which something was found; None where nothing was."""
+        return min((0 if it.table else it.pieces[0].first for it in self.findings if it.table or it.pieces), default=None)
+
+    @property
     def clean(self) -> bool:
         """Some checker found nothing wrong, and none found fault."""
         told = [finding.clean for finding in self.findings if finding.clean is not None]

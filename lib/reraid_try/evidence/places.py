@@ -179,10 +179,11 @@ class Places:
         return next((turn for turn in self.turns if any(pattern == name for name, _ in turn.patterns)), None)
 
     def against(self, word: Word) -> Fraction | None:
-        """Which part of the rows speaks against a set; None where too little is known of it."""
+        """Which part of the rows speaks against a set; None where too little is known of it, as where it leaves out one of the images, which may
+        hold what ties the others."""
         turn = self.turn_of(word.pattern)
-        alike = (word.level, len(word.slots)) == (self.level, self.members)
-        if turn is None or word.is_each or not self.told or not alike or not set(word.images) <= set(self.images):
+        alike = (word.level, len(word.slots)) == (self.level, self.members) and set(word.images) == set(self.images)
+        if turn is None or word.is_each or not self.told or not alike:
             return None
         costs = self.costs(turn, word.chunk, word.offset)
         if costs.rows < LEAST_ROWS:

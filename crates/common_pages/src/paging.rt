@@ -23,9 +23,9 @@ use std::thread::Threads;
 /// The page of a plan of images with a common offset, from a rank on: the first `size` of the sets that pass and whose ranks are
 /// below `from + span`, and the rank from which the next page goes on. Where some head of the plan needs a table of
 /// rows, at most the tested rows of the chunk that has most are read, once for each offset and of each image; otherwise
-/// at most 64 of them, where samples are asked for some head. The sets
-/// that are still hopeful are scanned, up to 4,096 at a time, in one pass over the images; where none of their
-/// rows has to be tested, nothing is read for them. In a scan pieces of the sets may run side by side: each passes the gate.
+/// at most 512 of them and eight more for each that may be unsound, no more than 32,768, where samples are asked for some
+/// head. The sets that are still hopeful are scanned, up to 4,096 at a time, in one pass over the images; where none of
+/// their rows has to be tested, nothing is read for them. In a scan pieces of the sets may run side by side: each passes the gate.
 pub fn page<R: Threads + Sync, I: Images, G: Gate + Sync>(
     rt: &R,
     alloc: Global,

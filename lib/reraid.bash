@@ -231,9 +231,9 @@ _reraid_try() {
         --levels) expects="levels of 0,5,6,10" && _reraid_list "" "$word" 0 5 6 10 ;;
         --members) expects="numbers from 2 to 24, lost disks too" && _reraid_list "" "$word" {2..24} ;;
         --first) [[ $word =~ ^[0-9]+[KMGTkmgt]?$ ]] || COMPREPLY=("expected: a size with K, M, G or T behind it: 16G" " ") ;;
-        --time | -j) ;;
+        --time | --every | -j) ;;
         *) if [[ $word == -* && ${words[-2]} != --room && ${words[-2]} != --log && ${words[-2]} != --report && ${words[-2]} != --resume ]]; then
-            _reraid_offer --json -x -j --members --levels --first --all --time --room --log --resume --report --hash --raw --help --version
+            _reraid_offer --json -x -j --members --levels --first --all --time --every --room --log --resume --report --hash --raw --help --version
         else
             _reraid_files
         fi ;;

@@ -30,7 +30,8 @@ STATUSES = "status: 0 where a candidate has + or ++, 1 where none has, 2 where t
 class Options:
     """What is asked for. `first` is how many bytes of each image are read, `seconds` how long a trial may take, `members` the numbers of members
     that are tried, None where hints say them, `report` the file of the page, `hashes` whether digests are taken, `raw` whether images in
-    containers are searched as they are, `resume` the file that keeps what was answered, `opened` the containers that were opened."""
+    containers are searched as they are, `resume` the file that keeps what was answered, `opened` the containers that were opened, `every` after how
+    many seconds a line says what is at work."""
 
     images: tuple[str, ...]
     as_json: bool = False
@@ -133,4 +134,4 @@ def read_words(words: Sequence[str]) -> Options:
     if not shutil.which("reraid"):
         asking.error("there is no reraid on the PATH")
     return Options(tuple(it.images), it.json, it.x, it.jobs, it.members, it.levels, units.ALL if it.all else it.first, it.time, it.room, it.log,
-                   it.report, it.hashes, it.raw, it.resume)
+                   it.report, it.hashes, it.raw, it.resume, every=it.every)

@@ -31,8 +31,8 @@ class Candidate:
     for RAID 10 by its copies. `alike` has the other sets of its class, `groups` what `check` says of each group, `unsound` how many rows are
     unsound, None where that was not asked; `doubted` says that as much speaks against it for another reason, `left_most` that a group with most of
     the marks was left out, and does not hold, `rivalled` how another candidate contradicts it that has more for itself. `rows` says in which rows
-    parity holds, `old` which images in no slot belong to it and are old, `same` and `inside` which other candidates have its volume, `whole` is the
-    candidate with the images that are left out of it for their bad rows."""
+    parity holds, `old` which images in no slot belong to it and are old or damaged, `same` and `inside` which other candidates have its volume,
+    `whole` is the candidate with the images that are left out of it for their bad rows."""
 
     word: Word
     rank: int

@@ -1,7 +1,7 @@
 #!/usr/bin/env python3
 """Prints how heavy each crate is, and how much of the house stands above it.
 
-    bench/pages/house.py              the table of docs/ARCHITECTURE.md: the crates on which a fifth of the house or more stands
+    bench/pages/house.py              the crates on which a fifth of the house or more stands
     bench/pages/house.py --all        all crates
     bench/pages/house.py --chain      the longest chain of crates below the program, by what they weigh
 

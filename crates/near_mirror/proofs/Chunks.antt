@@ -2,9 +2,8 @@
 use Rattle.std.proofs.Common.{◌≡◌, ℕ, ◌≤◌, IsTrue, None, arith}
 use Rattle.std.proofs.lemmas.Bool.Decides.{nat_tests}
 use Rattle.raid_params.specs.Validity.{is_chunk}
-use Rattle.near_mirror.specs.Validity.{is_valid_near, shape_fault}
+use Rattle.near_mirror.specs.Heads.{is_valid_near}
 use Rattle.near_mirror.specs.declared.types.NearHead.{NearHead}
-use Rattle.near_mirror.specs.declared.types.NearSet.{NearSet}
 
 chunk_above : (chunk : ℕ) → IsTrue (is_chunk chunk) → 1 ≤ chunk
 unfolding is_chunk
@@ -14,11 +13,7 @@ chunk_short : (chunk : ℕ) → IsTrue (is_chunk chunk) → chunk ≤ 32768
 unfolding is_chunk
 chunk_short chunk h = grind (arith, nat_tests)
 
--- a set whose shape breaks no rule has a chunk that is not empty
-pub some_chunk : (set : NearSet) (images : ℕ) → shape_fault set images ≡ None → 1 ≤ set.head.chunk
-some_chunk set images h = grind (arith, nat_tests, chunk_above)
-
--- nor is that of a valid head
+-- the chunk of a valid head is not empty
 pub valid_chunk : (head : NearHead) → IsTrue (is_valid_near head) → 1 ≤ head.chunk
 valid_chunk head h = grind (arith, nat_tests, chunk_above)
 

@@ -1,4 +1,2 @@
 pub mod Chunks
 pub mod Heads
-pub mod Homes
-pub mod NearWords

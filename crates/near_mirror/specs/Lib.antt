@@ -1,5 +1,7 @@
+pub mod Heads
+pub mod Copies
+pub mod Volume
 pub mod Validity
 pub mod Words
-pub mod Copies
+pub mod NameLaws
 pub mod Laws
-pub mod Volume

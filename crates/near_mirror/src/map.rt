@@ -1,11 +1,11 @@
 //! The map from the sectors of the volume to those of the members.
-ghost use Rattle.std.specs.Prelude.{◌≡◌, ◌<◌, ◌^◌, IsTrue};
-ghost use Rattle.near_mirror.specs.Copies.{HasCopies, copy_sector, copy_slot, near_chunks, near_sectors};
-ghost use Rattle.near_mirror.specs.Validity.{is_valid_near};
-ghost use Rattle.near_mirror.specs.Volume.{HasHome, IsMirror};
+ghost use Rattle.std.specs.Prelude.{◌≡◌, ◌<◌, ◌≤◌, ◌^◌, IsTrue};
+ghost use Rattle.near_mirror.specs.Copies.{HasCopy, IsCopy, near_chunks, near_rows, near_sectors};
+ghost use Rattle.near_mirror.specs.Heads.{is_valid_near};
+ghost use Rattle.near_mirror.specs.Volume.{HasHome, IsMirror, held_copy as held_copy_of, is_held as is_held_of};
 
 use crate::types::{NearHead, NearSet};
-use crate::validity::has_members;
+use crate::validity::are_members;
 use raid_params::is_chunk;
 
 /// Where a copy of a sector of the volume lies.
@@ -17,33 +17,31 @@ pub struct CopyPlace {
     pub sector: u64,
 }
 
-/// Where the two copies of a sector of the volume lie.
-#[derive(Clone, Copy, Debug, PartialEq, Eq)]
-pub struct Copies {
-    /// The copy in the chunk's first cell.
-    pub first: CopyPlace,
-    /// The copy in the cell after it.
-    pub second: CopyPlace,
-}
-
 impl NearHead {
-    /// Whether the members and the chunk are those of a mirror: from `COPIES` to `MOST` members, and a
-    /// chunk that is a power of two from 1 to `LARGEST_CHUNK`.
+    /// Whether the layout, the members and the chunk are those of a mirror: from `FEWEST_COPIES` to `MOST_COPIES` copies,
+    /// no fewer members than copies and at most `MOST`, and a chunk that is a power of two from 1 to `LARGEST_CHUNK`.
     pub fn is_valid(&self) -> bool
         ensures { result ≡ is_valid_near self.now }
     {
-        has_members(self.members as usize) && is_chunk(self.chunk)
+        are_members(self.layout, self.members as usize) && is_chunk(self.chunk)
     }
 
-    /// How many chunks the volume has: one for each two cells of the rows before the image sector `end`.
-    #[tactic(auto, using(crate::proofs::Chunks::valid_chunk, crate::proofs::Heads::few_cells))]
+    /// How many whole rows of chunks lie before the image sector `end`.
+    pub fn rows(&self, end: u64) -> u64
+        requires { 1 ≤ self.now.chunk }
+        ensures { result ≡ near_rows self.now end }
+    {
+        end.saturating_sub(self.offset) / self.chunk
+    }
+
+    /// How many chunks the volume has: as many as there are copies of in the rows before the image sector `end`.
+    #[tactic(auto, using(crate::proofs::Chunks::valid_chunk, crate::proofs::Heads::few_cells, crate::proofs::Heads::some_copies))]
     pub fn volume_chunks(&self, end: u64) -> u64
         requires head { IsTrue (is_valid_near self.now) }
         requires end { end < 2 ^ 55 }
         ensures { result ≡ near_chunks self.now end }
     {
-        let rows = end.saturating_sub(self.offset) / self.chunk;
-        rows * self.members as u64 / 2
+        self.layout.chunks(self.members, self.rows(end))
     }
 
     /// How many sectors the volume has.
@@ -56,55 +54,69 @@ impl NearHead {
         self.volume_chunks(end) * self.chunk
     }
 
-    /// Where the two copies of a sector of the volume lie, None exactly from the end of the volume on.
-    /// Only whole rows before the image sector `end` count. The copies lie on different slots.
-    pub fn copies(&self, end: u64, volume_sector: u64) -> Option<Copies>
+    /// Where a copy of a sector of the volume lies, None exactly from the end of the volume on and from the last copy on.
+    /// Only whole rows before the image sector `end` count.
+    pub fn copy_place(&self, end: u64, copy: u8, volume_sector: u64) -> Option<CopyPlace>
         requires head { IsTrue (is_valid_near self.now) }
         requires end { end < 2 ^ 55 }
-        ensures { HasCopies self.now end volume_sector result }
+        ensures { HasCopy self.now end volume_sector copy result }
     {
-        if volume_sector >= self.volume_sectors(end) {
-            return None;
+        if volume_sector < self.volume_sectors(end) && copy < self.layout.copies {
+            Some(self.place(end, copy, volume_sector))
+        } else {
+            None
         }
-        Some(Copies {
-            first: self.copy_place(0, volume_sector),
-            second: self.copy_place(1, volume_sector),
-        })
     }
 
-    /// Where copy 0 or 1 of a sector of the volume lies.
-    #[tactic(auto, using(crate::proofs::Chunks::valid_chunk, crate::proofs::Heads::some_members))]
-    fn copy_place(&self, copy: u64, volume_sector: u64) -> CopyPlace
+    /// Where a copy of a sector of the volume lies.
+    fn place(&self, end: u64, copy: u8, volume_sector: u64) -> CopyPlace
         requires head { IsTrue (is_valid_near self.now) }
-        requires copy { copy < 2 }
-        requires volume { volume_sector < 2 ^ 60 }
-        requires sector { copy_sector self.now copy volume_sector < 2 ^ 55 }
-        ensures slot { result.slot ≡ copy_slot self.now copy volume_sector }
-        ensures sector { result.sector ≡ copy_sector self.now copy volume_sector }
+        requires end { end < 2 ^ 55 }
+        requires copy { copy < self.now.layout.copies }
+        requires within { volume_sector < near_sectors self.now end }
+        ensures { IsCopy self.now end volume_sector copy result }
     {
-        let cell = 2 * (volume_sector / self.chunk) + copy;
-        let members = self.members as u64;
+        let chunk = volume_sector / self.chunk;
+        let row = self.layout.row(self.members, self.rows(end), copy, chunk);
         CopyPlace {
-            slot: (cell % members) as u8,
-            sector: cell / members * self.chunk + volume_sector % self.chunk,
+            slot: self.layout.slot(self.members, copy, chunk),
+            sector: row * self.chunk + volume_sector % self.chunk,
         }
     }
 }
 
 impl NearSet {
-    /// Where a sector of the volume is read: its first copy where that slot holds an image, and else its
-    /// second. None exactly from the end of the volume on. Only whole rows before the image sector `end`
-    /// count.
+    /// Where a sector of the volume is read: its first copy whose slot holds an image. None exactly from the end of the
+    /// volume on. Only whole rows before the image sector `end` count.
     pub fn home(&self, end: u64, volume_sector: u64) -> Option<CopyPlace>
-        requires set { IsMirror self.now }
+        requires set { IsMirror self.now end }
         requires end { end < 2 ^ 55 }
         ensures { HasHome self.now end volume_sector result }
     {
-        let copies = self.head.copies(end, volume_sector)?;
-        if self.slots[copies.first.slot as usize].is_some() {
-            Some(copies.first)
+        if volume_sector < self.head.volume_sectors(end) {
+            let copy = self.held_copy(volume_sector / self.head.chunk)?;
+            Some(self.head.place(end, copy, volume_sector))
         } else {
-            Some(copies.second)
+            None
         }
+    }
+
+    /// The first copy of a chunk whose slot holds an image.
+    pub fn held_copy(&self, chunk: u64) -> Option<u8>
+        requires head { IsTrue (is_valid_near self.now.head) }
+        requires chunk { chunk < 2 ^ 60 }
+        ensures { result ≡ held_copy_of self.now chunk }
+    {
+        (0..self.head.layout.copies).find(|copy: &u8| self.is_held(chunk, *copy))
+    }
+
+    /// Whether the slot of a copy of a chunk holds an image.
+    fn is_held(&self, chunk: u64, copy: u8) -> bool
+        requires head { IsTrue (is_valid_near self.now.head) }
+        requires chunk { chunk < 2 ^ 60 }
+        ensures { result ≡ is_held_of self.now chunk copy }
+    {
+        let slot = usize::from(self.head.layout.slot(self.head.members, copy, chunk));
+        slot < self.slots.len() && self.slots[slot].is_some()
     }
 }

@@ -1,41 +1,37 @@
 //! The first rule that a parameter set breaks.
-ghost use Rattle.std.specs.Prelude.{◌≡◌, ◌≤◌, MatchResult, OnOk, Some, None, length, nat_eq};
+ghost use Rattle.std.specs.Prelude.{◌≡◌, ◌≤◌, ◌<◌, ◌^◌, MatchResult, OnOk, Some, None, IsTrue, length, min, nat_eq};
 ghost use Rattle.raid_params.specs.Validity.{first_absent as first_absent_of, first_repeat as first_repeat_of};
-ghost use Rattle.near_mirror.specs.Copies.{near_rows};
-ghost use Rattle.near_mirror.specs.Validity.{first_fault, has_members as has_members_of, shape_fault, slots_fault};
-ghost use Rattle.near_mirror.specs.Volume.{IsMirror};
+ghost use Rattle.near_mirror.specs.Copies.{chunks_of, near_chunks, near_rows};
+ghost use Rattle.near_mirror.specs.Heads.{are_copies as are_copies_of, are_members as are_members_of, has_members as has_members_of, is_near2 as is_near2_of, is_valid_near};
+ghost use Rattle.near_mirror.specs.Validity.{bare_rule as bare_rule_of, first_fault, rowless_rule as rowless_rule_of, shape_fault, slots_fault};
+ghost use Rattle.near_mirror.specs.Volume.{IsMirror, first_bare as first_bare_of, is_bare as is_bare_of};
 
-use crate::types::{NearRule, NearSet};
+use crate::types::{CopyLayout, Copying, NearRule, NearSet};
 use raid_params::{MOST, count_empty, first_absent, first_repeat, is_chunk};
 
-/// The copies of each chunk, and so the fewest members.
-pub const COPIES: usize = 2;
+/// The fewest copies of each chunk, and so the fewest members.
+pub const FEWEST_COPIES: u8 = 2;
 
-/// The most empty slots: with two of them next to each other both copies of a chunk are lost.
-const MOST_EMPTY: u8 = 1;
+/// The most copies of each chunk.
+pub const MOST_COPIES: u8 = 4;
 
 impl NearSet {
     /// The first broken rule of the set over `images` images, whose members end before the image sector
     /// `end`. The rules, in their order: the number of members, the chunk, the images that the slots name,
-    /// that no image stands twice, that at most one slot is empty, and that there is a whole row.
-    #[tactic(auto, using(crate::proofs::Chunks::some_chunk, crate::proofs::Homes::mirror_of))]
+    /// that no image stands twice, that each chunk has a copy, and that there is a chunk.
+    #[tactic(auto)]
     pub fn validate(&self, images: u8, end: u64) -> Result<(), NearRule>
         ensures rule { MatchResult result (λ _. first_fault self.now images end ≡ None) (λ rule. first_fault self.now images end ≡ Some rule) }
-        ensures mirror { OnOk result (IsMirror self.now) }
+        ensures mirror { OnOk result (IsMirror self.now end) }
     {
         match self.broken_shape(images) {
             Some(rule) => Err(rule),
-            None if self.has_no_row(end) => Err(NearRule::NoRow(self.head.offset)),
-            None => Ok(()),
+            None => match self.first_bare(end) {
+                Some(chunk) => Err(self.bare_rule(chunk)),
+                None if self.has_no_chunk(end) => Err(self.rowless_rule()),
+                None => Ok(()),
+            },
         }
-    }
-
-    /// Whether no whole row lies between the offset and the image sector `end`.
-    fn has_no_row(&self, end: u64) -> bool
-        requires { 1 ≤ self.now.head.chunk }
-        ensures { result ≡ nat_eq (near_rows self.now.head end) 0 }
-    {
-        end.saturating_sub(self.head.offset) / self.head.chunk == 0
     }
 
     /// The first broken rule on the shape.
@@ -44,7 +40,7 @@ impl NearSet {
     {
         let head = &self.head;
         let slots = self.slots.as_slice();
-        if !has_members(slots.len()) || head.members as usize != slots.len() {
+        if !are_members(head.layout, slots.len()) || head.members as usize != slots.len() {
             Some(NearRule::Members(head.members))
         } else if !is_chunk(head.chunk) {
             Some(NearRule::Chunk(head.chunk))
@@ -52,30 +48,110 @@ impl NearSet {
             broken_slots(slots, images)
         }
     }
+    /// How many chunks of the volume stand in the first rows, of which there are no more than copies. All others stand on the
+    /// slots of these.
+    #[tactic(auto, using(crate::proofs::Chunks::valid_chunk, crate::proofs::Heads::first_cells, crate::proofs::Heads::some_copies))]
+    fn first_chunks(&self, end: u64) -> u64
+        requires { IsTrue (is_valid_near self.now.head) }
+        ensures { result ≡ chunks_of self.now.head.layout.copying self.now.head.members self.now.head.layout.copies (min (near_rows self.now.head end) self.now.head.layout.copies) }
+    {
+        let head = &self.head;
+        let rows = head.rows(end).min(u64::from(head.layout.copies));
+        head.layout.chunks(head.members, rows)
+    }
+
+    /// The first chunk of the volume of which no slot holds an image.
+    fn first_bare(&self, end: u64) -> Option<u64>
+        requires { IsTrue (is_valid_near self.now.head) }
+        ensures { result ≡ first_bare_of self.now end }
+    {
+        (0..self.first_chunks(end)).find(|chunk: &u64| self.is_bare(*chunk))
+    }
+
+    /// Whether no slot of a chunk holds an image.
+    fn is_bare(&self, chunk: u64) -> bool
+        requires head { IsTrue (is_valid_near self.now.head) }
+        requires chunk { chunk < 2 ^ 60 }
+        ensures { result ≡ is_bare_of self.now chunk }
+    {
+        self.held_copy(chunk).is_none()
+    }
+
+    /// Whether the volume has no chunk.
+    fn has_no_chunk(&self, end: u64) -> bool
+        requires { IsTrue (is_valid_near self.now.head) }
+        ensures { result ≡ nat_eq (near_chunks self.now.head end) 0 }
+    {
+        self.first_chunks(end) == 0
+    }
+
+    /// The rule that a chunk without a copy breaks.
+    fn bare_rule(&self, chunk: u64) -> NearRule
+        requires { length self.now.slots.items ≤ MOST }
+        ensures { result ≡ bare_rule_of self.now chunk }
+    {
+        if is_near2(self.head.layout) {
+            NearRule::Missing(count_empty(&self.slots) as u8)
+        } else {
+            NearRule::NoCopy(chunk)
+        }
+    }
+
+    /// The rule that a volume without a chunk breaks.
+    fn rowless_rule(&self) -> NearRule
+        requires { length self.now.slots.items ≤ MOST }
+        ensures { result ≡ rowless_rule_of self.now }
+    {
+        let empty = count_empty(&self.slots) as u8;
+        if is_near2(self.head.layout) && empty >= 2 {
+            NearRule::Missing(empty)
+        } else {
+            NearRule::NoRow(self.head.offset)
+        }
+    }
 }
 
-/// Whether there are mirrors of so many members: at least `COPIES`, and at most `MOST`.
-pub(crate) fn has_members(members: usize) -> bool
+/// Whether the layout is that of two near copies.
+fn is_near2(layout: CopyLayout) -> bool
+    ensures { result ≡ is_near2_of layout }
+{
+    match layout.copying {
+        Copying::Near => layout.copies == 2,
+        _ => false,
+    }
+}
+
+/// Whether there are mirrors of this layout of so many members: from `FEWEST_COPIES` to `MOST_COPIES` copies, no fewer
+/// members than copies, and at most `MOST`.
+pub(crate) fn are_members(layout: CopyLayout, members: usize) -> bool
+    ensures { result ≡ are_members_of layout members }
+{
+    let copies = usize::from(layout.copies);
+    are_copies(layout.copies) && copies <= members && has_members(members)
+}
+
+/// Whether a chunk has so many copies: from `FEWEST_COPIES` to `MOST_COPIES`.
+pub(crate) fn are_copies(copies: u8) -> bool
+    ensures { result ≡ are_copies_of copies }
+{
+    FEWEST_COPIES <= copies && copies <= MOST_COPIES
+}
+
+/// Whether there are mirrors of so many members.
+fn has_members(members: usize) -> bool
     ensures { result ≡ has_members_of members }
 {
-    COPIES <= members && members <= MOST
+    usize::from(FEWEST_COPIES) <= members && members <= MOST
 }
 
 /// The first broken rule on what the slots hold.
 fn broken_slots(slots: &[Option<u8>], images: u8) -> Option<NearRule>
     requires { length slots.now ≤ MOST }
-    ensures { result ≡ slots_fault slots.now (first_absent_of images slots.now) (first_repeat_of slots.now) }
+    ensures { result ≡ slots_fault (first_absent_of images slots.now) (first_repeat_of slots.now) }
 {
     match (first_absent(slots, images), first_repeat(slots)) {
         (Some(image), _) => Some(NearRule::Image(image)),
         (None, Some(image)) => Some(NearRule::Repeat(image)),
-        (None, None) => {
-            let empty = count_empty(slots) as u8;
-            if empty <= MOST_EMPTY {
-                None
-            } else {
-                Some(NearRule::Missing(empty))
-            }
-        }
+        (None, None) => None,
     }
 }

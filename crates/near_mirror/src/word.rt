@@ -7,13 +7,10 @@ use crate::types::{NearHead, NearSet};
 use outside::Memory;
 use raid_params::{SECTORS_END, Slots};
 use std::alloc::Global;
-use value_text::{Text, add_list, add_number, after, list, value_until};
+use value_text::{Field, Text, add_list, add_number, after, list, value_until};
 
-/// How a near word begins.
-const NEAR: &[u8; 6] = b"near2:";
-
-/// Reads the word `near2:CHUNK:OFFSET:SLOTS`, to its last byte: the chunk and the offset in sectors,
-/// and of each slot the number of its image, or a dash. It takes no memory.
+/// Reads the word `LAYOUT:CHUNK:OFFSET:SLOTS`, to its last byte: the layout, as `near2`, `far3` or `offset4`, the chunk
+/// and the offset in sectors, and of each slot the number of its image, or a dash. It takes no memory.
 ///
 /// It answers `None` exactly where the text is no near word. Whether the set makes sense is not asked.
 pub fn read_near(text: &[u8]) -> Option<NearSet>
@@ -21,8 +18,8 @@ pub fn read_near(text: &[u8]) -> Option<NearSet>
         ((set : NearSetOf) → HasNearWord set → text.now ≢ near_word set)
         (λ set. HasNearWord set × (text.now ≡ near_word set)) }
 {
-    let after_name = after(text, NEAR)?;
-    let (chunk, after_chunk) = value_until(after_name, b':')?;
+    let (layout, after_layout) = value_until(text, b':')?;
+    let (chunk, after_chunk) = value_until(after_layout, b':')?;
     let (offset, after_offset) = value_until(after_chunk, b':')?;
     let slots: Slots = list(after_offset)?;
     if chunk <= u64::from(u32::MAX) && offset < SECTORS_END {
@@ -30,6 +27,7 @@ pub fn read_near(text: &[u8]) -> Option<NearSet>
             members: slots.len() as u8,
             chunk,
             offset,
+            layout,
         };
         Some(NearSet { head, slots })
     } else {
@@ -53,15 +51,16 @@ pub fn near_line(alloc: Global, rank: u64, set: &NearSet) -> Result<Text, Memory
 fn add_near(text: &mut Text, set: &NearSet) -> Result<(), Memory>
     ensures { OnOk result (text.new ≡ text.old ++ near_word set.now) }
 {
-    text.extend_from_slice(NEAR)?;
+    set.head.layout.add_to(text)?;
     add_sizes(text, &set.head)?;
     add_list(text, &set.slots)
 }
 
-/// Appends `CHUNK:OFFSET:`.
+/// Appends `:CHUNK:OFFSET:`.
 fn add_sizes(text: &mut Text, head: &NearHead) -> Result<(), Memory>
-    ensures { OnOk result (text.new ≡ text.old ++ (decimal head.now.chunk ++ 58 ∷ (decimal head.now.offset ++ 58 ∷ []))) }
+    ensures { OnOk result (text.new ≡ text.old ++ 58 ∷ (decimal head.now.chunk ++ 58 ∷ (decimal head.now.offset ++ 58 ∷ []))) }
 {
+    text.push(b':')?;
     add_number(text, head.chunk)?;
     text.push(b':')?;
     add_number(text, head.offset)?;

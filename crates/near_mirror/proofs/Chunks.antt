@@ -1,5 +1,5 @@
 -- Chunks are not empty.
-use Rattle.std.proofs.Common.{◌≡◌, ℕ, ◌≤◌, IsTrue, None, arith}
+use Rattle.std.proofs.Common.{ℕ, ◌≤◌, IsTrue, arith}
 use Rattle.std.proofs.lemmas.Bool.Decides.{nat_tests}
 use Rattle.raid_params.specs.Validity.{is_chunk}
 use Rattle.near_mirror.specs.Heads.{is_valid_near}

@@ -61,7 +61,7 @@ copy_sector head end copy v = copy_row head end copy v * head.chunk + v % head.c
 -- a copy of a volume sector lies here, on a slot of the members and in the whole rows
 pub record IsCopy (head : NearHead) (end v copy : ℕ) (place : CopyPlace) : Type 0 where
   pub within : v < near_sectors head end
-  pub copy : copy < head.layout.copies
+  pub among : copy < head.layout.copies
   pub slot : place.slot ≡ copy_slot head copy v
   pub sector : place.sector ≡ copy_sector head end copy v
   pub held : place.slot < head.members

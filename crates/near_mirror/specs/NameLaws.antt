@@ -1,5 +1,5 @@
 -- Each layout has a name of its own, without a separator. The implementations of `Spelled` and `Field` give it as their law.
-use Rattle.std.proofs.Common.{◌≡◌, ◌<◌, ◌≤◌, ◌^◌, ℕ, true, IsTrue, List, [], ◌∷◌, ◌++◌, get_or, codes, decimal, refl, sym, ap, ◌∙◌, arith, subst}
+use Rattle.std.proofs.Common.{◌≡◌, ◌≤◌, ℕ, true, IsTrue, List, ◌++◌, get_or, codes, decimal, refl, ap, ◌∙◌, arith}
 use Rattle.std.specs.List.{list_all}
 use Rattle.std.specs.Cmp.Derive.{both_true}
 use Rattle.std.proofs.lemmas.Bool.Decides.{nat_tests}
@@ -29,7 +29,7 @@ same_copying Far Offset xs ys e = absurd (let start = other_start _ _ e in omega
 same_copying Offset Near xs ys e = absurd (let start = other_start _ _ e in omega arith)
 same_copying Offset Far xs ys e = absurd (let start = other_start _ _ e in omega arith)
 
-few_copies : (copies : ℕ) → IsTrue (are_copies copies) → copies ≤ 4
+pub few_copies : (copies : ℕ) → IsTrue (are_copies copies) → copies ≤ 4
 few_copies copies h = grind (arith, nat_tests)
 
 layout_with : Copying → ℕ → CopyLayout

@@ -102,6 +102,7 @@ impl NearSet {
     }
 
     /// The first copy of a chunk whose slot holds an image.
+    #[tactic(auto, using(crate::proofs::Heads::some_members, crate::proofs::Heads::few_copies), unfolding(crate::specs::Volume::held_copy))]
     pub fn held_copy(&self, chunk: u64) -> Option<u8>
         requires head { IsTrue (is_valid_near self.now.head) }
         requires chunk { chunk < 2 ^ 60 }
@@ -111,6 +112,7 @@ impl NearSet {
     }
 
     /// Whether the slot of a copy of a chunk holds an image.
+    #[tactic(auto, using(crate::proofs::Heads::some_members, crate::proofs::Heads::few_copies))]
     fn is_held(&self, chunk: u64, copy: u8) -> bool
         requires head { IsTrue (is_valid_near self.now.head) }
         requires chunk { chunk < 2 ^ 60 }

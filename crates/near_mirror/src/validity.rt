@@ -1,5 +1,6 @@
 //! The first rule that a parameter set breaks.
 ghost use Rattle.std.specs.Prelude.{◌≡◌, ◌≤◌, ◌<◌, ◌^◌, MatchResult, OnOk, Some, None, IsTrue, length, min, nat_eq};
+ghost use Rattle.std.specs.List.{find, range_with_len};
 ghost use Rattle.raid_params.specs.Validity.{first_absent as first_absent_of, first_repeat as first_repeat_of};
 ghost use Rattle.near_mirror.specs.Copies.{chunks_of, near_chunks, near_rows};
 ghost use Rattle.near_mirror.specs.Heads.{are_copies as are_copies_of, are_members as are_members_of, has_members as has_members_of, is_near2 as is_near2_of, is_valid_near};
@@ -19,7 +20,7 @@ impl NearSet {
     /// The first broken rule of the set over `images` images, whose members end before the image sector
     /// `end`. The rules, in their order: the number of members, the chunk, the images that the slots name,
     /// that no image stands twice, that each chunk has a copy, and that there is a chunk.
-    #[tactic(auto)]
+    #[tactic(auto, using(crate::proofs::Homes::mirror_of, crate::proofs::Homes::shaped_head))]
     pub fn validate(&self, images: u8, end: u64) -> Result<(), NearRule>
         ensures rule { MatchResult result (λ _. first_fault self.now images end ≡ None) (λ rule. first_fault self.now images end ≡ Some rule) }
         ensures mirror { OnOk result (IsMirror self.now end) }
@@ -61,11 +62,21 @@ impl NearSet {
     }
 
     /// The first chunk of the volume of which no slot holds an image.
+    #[tactic(auto, using(crate::proofs::Homes::first_tell, crate::proofs::Heads::first_chunks_near))]
     fn first_bare(&self, end: u64) -> Option<u64>
         requires { IsTrue (is_valid_near self.now.head) }
         ensures { result ≡ first_bare_of self.now end }
     {
-        (0..self.first_chunks(end)).find(|chunk: &u64| self.is_bare(*chunk))
+        self.bare_before(self.first_chunks(end))
+    }
+
+    /// The first of so many chunks of which no slot holds an image.
+    fn bare_before(&self, chunks: u64) -> Option<u64>
+        requires head { IsTrue (is_valid_near self.now.head) }
+        requires chunks { chunks < 2 ^ 60 }
+        ensures { result ≡ find (is_bare_of self.now) (range_with_len 0 chunks) }
+    {
+        (0..chunks).find(|chunk: &u64| self.is_bare(*chunk))
     }
 
     /// Whether no slot of a chunk holds an image.
@@ -78,6 +89,7 @@ impl NearSet {
     }
 
     /// Whether the volume has no chunk.
+    #[tactic(auto, using(crate::proofs::Homes::none_told))]
     fn has_no_chunk(&self, end: u64) -> bool
         requires { IsTrue (is_valid_near self.now.head) }
         ensures { result ≡ nat_eq (near_chunks self.now.head end) 0 }

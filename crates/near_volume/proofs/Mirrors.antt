@@ -1,41 +1,44 @@
 -- What is known of mirrors whose volume is written.
-use Rattle.std.proofs.Common.{◌≡◌, ℕ, ◌/◌, ◌<◌, ◌≤◌, List, length, get_or, Option, None, Some, All, IfSome, IsSomeAnd, IsTrue, Bool, true, false, refl, sym, subst, arith, slice_get}
+use Rattle.std.proofs.Common.{◌≡◌, ℕ, ◌<◌, ◌≤◌, List, length, get_or, Option, None, Some, All, IfSome, IsSomeAnd, IsTrue, Bool, true, false, refl, sym, subst, arith, slice_get}
 use Rattle.std.specs.Prelude.{nat_eq, if◌then◌else◌, not, ◌&&◌}
-use Rattle.std.proofs.lemmas.Nat.{mod_below}
 use Rattle.std.proofs.lemmas.Option.{slice_get-get_or}
 use Rattle.outside.specs.Seen.{Image}
 use Rattle.raid_params.specs.Validity.{first_absent, first_repeat, is_chunk}
-use Rattle.near_mirror.specs.Copies.{copy_cell}
-use Rattle.near_mirror.specs.Validity.{has_members, is_valid_near, row_fault, shape_fault, slots_fault}
-use Rattle.near_mirror.specs.Volume.{IsHome, IsMirror, home_copy}
+use Rattle.near_mirror.specs.Heads.{are_members, is_valid_near}
+use Rattle.near_mirror.specs.Validity.{shape_fault, slots_fault, volume_fault}
+use Rattle.near_mirror.specs.Volume.{IsHome, IsMirror, first_bare, home_copy}
 use Rattle.near_mirror.specs.declared.map.CopyPlace.{CopyPlace}
 use Rattle.near_mirror.specs.declared.types.NearRule.{NearRule}
 use Rattle.near_mirror.specs.declared.types.NearRule.TheVariants.{Chunk, Members}
 use Rattle.near_mirror.specs.declared.types.NearSet.{NearSet}
 use Rattle.near_mirror.proofs.Chunks.{valid_chunk}
-use Rattle.near_mirror.proofs.Heads.{some_members}
+use Rattle.near_mirror.proofs.Heads.{copy_among}
 use Rattle.near_mirror.proofs.Homes.{mirror_of}
 use Rattle.member_regions.specs.Members.{Reaches}
 use Rattle.near_volume.specs.Mirrored.{IsMirrored}
 use Rattle.near_volume.proofs.Slots.{absent_below}
 
-ruled_shape : (r : Option NearRule) (set : NearSet) (end : ℕ) → row_fault set end r ≡ None → r ≡ None
-ruled_shape None set end h = refl
-ruled_shape (Some rule) set end h = absurd (cc)
+ruled_shape : (r : Option NearRule) (bare : Option ℕ) (set : NearSet) (end : ℕ) → volume_fault set end r bare ≡ None → (r ≡ None) × (bare ≡ None)
+ruled_shape None None set end h = (refl, refl)
+ruled_shape None (Some chunk) set end h = absurd (cc)
+ruled_shape (Some rule) bare set end h = absurd (cc)
+
+ruled : (set : NearSet) (end : ℕ) (attached : List Image) → IsMirrored set end attached → (shape_fault set (length attached) ≡ None) × (first_bare set end ≡ None)
+ruled set end attached s = ruled_shape (shape_fault set (length attached)) (first_bare set end) set end s.ruled
 
 -- it has the shape of a mirror
-pub mirrored_mirror : (set : NearSet) (end : ℕ) (attached : List Image) → IsMirrored set end attached → IsMirror set
-mirrored_mirror set end attached s = mirror_of set (length attached) (ruled_shape (shape_fault set (length attached)) set end s.ruled)
+pub mirrored_mirror : (set : NearSet) (end : ℕ) (attached : List Image) → IsMirrored set end attached → IsMirror set end
+mirrored_mirror set end attached s = let parts = ruled set end attached s in mirror_of set (length attached) end parts.0 parts.1
 
 pub mirrored_head : (set : NearSet) (end : ℕ) (attached : List Image) → IsMirrored set end attached → IsTrue (is_valid_near set.head)
 mirrored_head set end attached s = (mirrored_mirror set end attached s).head
 
-pub mirror_chunk : (set : NearSet) → IsMirror set → 1 ≤ set.head.chunk
-mirror_chunk set mirror = valid_chunk set.head mirror.head
+pub mirror_chunk : (set : NearSet) (end : ℕ) → IsMirror set end → 1 ≤ set.head.chunk
+mirror_chunk set end mirror = valid_chunk set.head mirror.head
 
-none_absent : (slots : List (Option ℕ)) (absent repeated : Option ℕ) → slots_fault slots absent repeated ≡ None → absent ≡ None
-none_absent slots None repeated h = refl
-none_absent slots (Some i) repeated h = absurd (cc)
+none_absent : (absent repeated : Option ℕ) → slots_fault absent repeated ≡ None → absent ≡ None
+none_absent None repeated h = refl
+none_absent (Some i) repeated h = absurd (cc)
 
 slots_pass : (a b : Bool) (x y : NearRule) (rest : Option NearRule) → (if a then Some x else if b then Some y else rest) ≡ None → rest ≡ None
 slots_pass true b x y rest h = absurd (cc)
@@ -54,11 +57,11 @@ reaches attached end (Some i) long there =
 -- its members reach to the end
 pub mirrored_held : (set : NearSet) (end : ℕ) (attached : List Image) → IsMirrored set end attached → All (Reaches attached end) set.slots.items
 mirrored_held set end attached s =
-    let shape : shape_fault set (length attached) ≡ None = ruled_shape (shape_fault set (length attached)) set end s.ruled in
+    let shape : shape_fault set (length attached) ≡ None = (ruled set end attached s).0 in
     let absent : first_absent (length attached) set.slots.items ≡ None =
-    none_absent set.slots.items (first_absent (length attached) set.slots.items) (first_repeat set.slots.items)
-    (slots_pass (not (has_members (length set.slots.items) && nat_eq set.head.members (length set.slots.items))) (not (is_chunk set.head.chunk)) (Members set.head.members) (Chunk set.head.chunk)
-    (slots_fault set.slots.items (first_absent (length attached) set.slots.items) (first_repeat set.slots.items)) shape) in
+    none_absent (first_absent (length attached) set.slots.items) (first_repeat set.slots.items)
+    (slots_pass (not (are_members set.head.layout (length set.slots.items) && nat_eq set.head.members (length set.slots.items))) (not (is_chunk set.head.chunk)) (Members set.head.members) (Chunk set.head.chunk)
+    (slots_fault (first_absent (length attached) set.slots.items) (first_repeat set.slots.items)) shape) in
     λ k d below. reaches attached end (get_or set.slots.items k d) s.long (absent_below (length attached) set.slots.items absent k d below)
 
 longer : (n m : ℕ) (image : Option Image) → m ≤ n → IsSomeAnd image (λ a. n ≤ a.sectors) → IsSomeAnd image (λ a. m ≤ a.sectors)
@@ -75,10 +78,9 @@ slot_held attached end m k slots held all below is le =
     subst (λ (o : Option ℕ). Reaches attached m o) (sym is) (nearer attached end m (get_or slots k None) le (all k None below))
 
 -- the place that a sector is read from is on a slot
-pub home_slot : (set : NearSet) (end v : ℕ) (place : CopyPlace) → IsMirror set → IsHome set end v place → place.slot < length set.slots.items
+pub home_slot : (set : NearSet) (end v : ℕ) (place : CopyPlace) → IsMirror set end → IsHome set end v place → place.slot < length set.slots.items
 home_slot set end v place mirror home =
-    let some = some_members set.head mirror.head in
-    let below = mod_below (copy_cell (v / set.head.chunk) (home_copy set v)) set.head.members (omega arith) in
+    let among = copy_among set.head v (home_copy set v) mirror.head in
     let slot = home.slot in
     let members = mirror.members in
     omega arith

@@ -1,15 +1,15 @@
 -- Sectors that lie in one chunk.
-use Rattle.std.proofs.Common.{◌≡◌, ℕ, zero, suc, ◌+◌, ◌-◌, ◌*◌, ◌/◌, ◌%◌, ◌<◌, ◌≤◌, List, [], ◌++◌, length, get_or, take, drop, Option, None, Some, IfSome, OnOk, Result, Ok, Err, inl, inr, true, false, cond, ◌∷◌, refl, sym, ap, ◌∙◌, arith, length-drop}
+use Rattle.std.proofs.Common.{◌≡◌, ℕ, zero, suc, ◌+◌, ◌-◌, ◌*◌, ◌/◌, ◌%◌, ◌<◌, ◌≤◌, List, [], ◌++◌, length, get_or, take, drop, Option, None, Some, IfSome, OnOk, Result, Ok, Err, inl, inr, true, false, ◌∷◌, refl, sym, ap, ◌∙◌, arith, length-drop}
 use Rattle.std.specs.List.{flat_map, range_with_len}
-use Rattle.std.specs.Option.{is_none, is_some}
+use Rattle.std.specs.Option.{is_none, is_some, unwrap_or}
 use Rattle.std.proofs.lemmas.List.{get_or-take, get_or-drop, length-take, take-append-drop}
 use Rattle.std.proofs.lemmas.List.FromFn.{get_or-map-range_with_len, length-map-range_with_len}
 use Rattle.std.proofs.lemmas.Grind.{same_number_lists}
 use Rattle.std.proofs.lemmas.Nat.{div-add-mod', div-mul-add, mod-mul-add, mul-le}
 use Rattle.std.proofs.lemmas.Bool.{cases_lt}
 use Rattle.raid_terms.specs.Parity.{member_byte}
-use Rattle.near_mirror.specs.Copies.{copy_cell, copy_sector, near_area, near_rows}
-use Rattle.near_mirror.specs.Volume.{copy_image, home_copy}
+use Rattle.near_mirror.specs.Copies.{copy_row, copy_sector, near_area, near_rows, row_of, slot_of}
+use Rattle.near_mirror.specs.Volume.{copy_image, held_copy, home_copy}
 use Rattle.near_mirror.specs.declared.types.NearHead.{NearHead}
 use Rattle.near_mirror.specs.declared.types.NearSet.{NearSet}
 use Rattle.virtual_volume.proofs.Ranges.{flat_more, flat_shift}
@@ -29,15 +29,15 @@ later_place chunk v j h =
     ap (λ (t : ℕ). t % chunk) place ∙ mod-mul-add (v / chunk) chunk (v % chunk + j) h
 
 same_image : (set : NearSet) (v j copy : ℕ) → v % set.head.chunk + j < set.head.chunk → copy_image set copy (v + j) ≡ copy_image set copy v
-same_image set v j copy h = ap (λ (k : ℕ). get_or set.slots.items (copy_cell k copy % set.head.members) None) (same_chunk set.head.chunk v j h)
+same_image set v j copy h = ap (λ (k : ℕ). get_or set.slots.items (slot_of set.head.layout.copying set.head.members set.head.layout.copies copy k) None) (same_chunk set.head.chunk v j h)
 
 same_home : (set : NearSet) (v j : ℕ) → v % set.head.chunk + j < set.head.chunk → home_copy set (v + j) ≡ home_copy set v
-same_home set v j h = ap (λ (o : Option ℕ). cond (is_some o) 0 1) (same_image set v j 0 h)
+same_home set v j h = ap (λ (k : ℕ). unwrap_or (held_copy set k) 0) (same_chunk set.head.chunk v j h)
 
-later_sector : (head : NearHead) (v j copy : ℕ) → v % head.chunk + j < head.chunk → copy_sector head copy (v + j) ≡ copy_sector head copy v + j
-later_sector head v j copy h =
-    let row : copy_cell ((v + j) / head.chunk) copy / head.members * head.chunk ≡ copy_cell (v / head.chunk) copy / head.members * head.chunk
-    = ap (λ (k : ℕ). copy_cell k copy / head.members * head.chunk) (same_chunk head.chunk v j h) in
+later_sector : (head : NearHead) (end v j copy : ℕ) → v % head.chunk + j < head.chunk → copy_sector head end copy (v + j) ≡ copy_sector head end copy v + j
+later_sector head end v j copy h =
+    let row : copy_row head end copy (v + j) * head.chunk ≡ copy_row head end copy v * head.chunk
+    = ap (λ (k : ℕ). row_of head.layout.copying head.members head.layout.copies (near_rows head end) copy k * head.chunk) (same_chunk head.chunk v j h) in
     let place = later_place head.chunk v j h in
     omega arith
 
@@ -48,14 +48,14 @@ later_byte images offset t j x (Some i) =
     let place : 512 * (offset + t) + (512 * j + x) ≡ 512 * (offset + (t + j)) + x = omega arith in
     ap (λ (k : ℕ). get_or (get_or images i []) k 0) place
 
-copy_byte : (images : List (List ℕ)) (set : NearSet) (v copy x : ℕ) → x < 512 →
-    get_or (copy_bytes images set v copy) x 0 ≡ member_byte images set.head.offset (copy_sector set.head copy v) x (copy_image set copy v)
+copy_byte : (images : List (List ℕ)) (set : NearSet) (end v copy x : ℕ) → x < 512 →
+    get_or (copy_bytes images set end v copy) x 0 ≡ member_byte images set.head.offset (copy_sector set.head end copy v) x (copy_image set copy v)
 unfolding copy_bytes
-copy_byte images set v copy x h = get_or-map-range_with_len (λ x. member_byte images set.head.offset (copy_sector set.head copy v) x (copy_image set copy v)) 0 512 x x 0 h (omega arith)
+copy_byte images set end v copy x h = get_or-map-range_with_len (λ x. member_byte images set.head.offset (copy_sector set.head end copy v) x (copy_image set copy v)) 0 512 x x 0 h (omega arith)
 
-pub copy_long : (images : List (List ℕ)) (set : NearSet) (v copy : ℕ) → length (copy_bytes images set v copy) ≡ 512
+pub copy_long : (images : List (List ℕ)) (set : NearSet) (end v copy : ℕ) → length (copy_bytes images set end v copy) ≡ 512
 unfolding copy_bytes
-copy_long images set v copy = length-map-range_with_len (λ x. member_byte images set.head.offset (copy_sector set.head copy v) x (copy_image set copy v)) 0 512
+copy_long images set end v copy = length-map-range_with_len (λ x. member_byte images set.head.offset (copy_sector set.head end copy v) x (copy_image set copy v)) 0 512
 
 -- a list is the sectors that it agrees with
 blocks_are : (xs : List ℕ) (f : ℕ → List ℕ) (n : ℕ) → length xs ≡ 512 * n → ((j : ℕ) → length (f j) ≡ 512) →
@@ -73,50 +73,49 @@ blocks_are xs f (suc n) long each same =
     ∙ ap (λ (l : List ℕ). flat_map f (range_with_len 0 n) ++ l) last ∙ sym (flat_more f 0 n (suc n) n (omega arith) (omega arith))
 
 -- a byte of a sector further on in the chunk
-run_byte : (images : List (List ℕ)) (set : NearSet) (v j x : ℕ) → v % set.head.chunk + j < set.head.chunk → x < 512 →
-    get_or (near_sector images set (v + j)) x 0 ≡ member_byte images set.head.offset (copy_sector set.head (home_copy set v) v) (512 * j + x) (copy_image set (home_copy set v) v)
-run_byte images set v j x inside below =
-    copy_byte images set (v + j) (home_copy set (v + j)) x below
-    ∙ ap (λ (copy : ℕ). member_byte images set.head.offset (copy_sector set.head copy (v + j)) x (copy_image set copy (v + j))) (same_home set v j inside)
-    ∙ ap (λ (t : ℕ). member_byte images set.head.offset t x (copy_image set (home_copy set v) (v + j))) (later_sector set.head v j (home_copy set v) inside)
-    ∙ ap (λ (o : Option ℕ). member_byte images set.head.offset (copy_sector set.head (home_copy set v) v + j) x o) (same_image set v j (home_copy set v) inside)
-    ∙ sym (later_byte images set.head.offset (copy_sector set.head (home_copy set v) v) j x (copy_image set (home_copy set v) v))
+run_byte : (images : List (List ℕ)) (set : NearSet) (end v j x : ℕ) → v % set.head.chunk + j < set.head.chunk → x < 512 →
+    get_or (near_sector images set end (v + j)) x 0 ≡ member_byte images set.head.offset (copy_sector set.head end (home_copy set v) v) (512 * j + x) (copy_image set (home_copy set v) v)
+run_byte images set end v j x inside below =
+    copy_byte images set end (v + j) (home_copy set (v + j)) x below
+    ∙ ap (λ (copy : ℕ). member_byte images set.head.offset (copy_sector set.head end copy (v + j)) x (copy_image set copy (v + j))) (same_home set v j inside)
+    ∙ ap (λ (t : ℕ). member_byte images set.head.offset t x (copy_image set (home_copy set v) (v + j))) (later_sector set.head end v j (home_copy set v) inside)
+    ∙ ap (λ (o : Option ℕ). member_byte images set.head.offset (copy_sector set.head end (home_copy set v) v + j) x o) (same_image set v j (home_copy set v) inside)
+    ∙ sym (later_byte images set.head.offset (copy_sector set.head end (home_copy set v) v) j x (copy_image set (home_copy set v) v))
 
 -- what was read of the copy that is there is the volume's
-run_is : (images : List (List ℕ)) (set : NearSet) (v n : ℕ) (to : List ℕ) → length to ≡ 512 * n → v % set.head.chunk + n ≤ set.head.chunk →
-    ((y : ℕ) → y < length to → get_or to y 0 ≡ member_byte images set.head.offset (copy_sector set.head (home_copy set v) v) y (copy_image set (home_copy set v) v)) →
-    to ≡ sectors_of images set v n
+run_is : (images : List (List ℕ)) (set : NearSet) (end v n : ℕ) (to : List ℕ) → length to ≡ 512 * n → v % set.head.chunk + n ≤ set.head.chunk →
+    ((y : ℕ) → y < length to → get_or to y 0 ≡ member_byte images set.head.offset (copy_sector set.head end (home_copy set v) v) y (copy_image set (home_copy set v) v)) →
+    to ≡ sectors_of images set end v n
 unfolding sectors_of
-run_is images set v n to long inside bytes =
-    blocks_are to (λ j. near_sector images set (v + j)) n long (λ j. copy_long images set (v + j) (home_copy set (v + j)))
-    (λ j x below small. bytes (512 * j + x) (omega arith) ∙ sym (run_byte images set v j x (omega arith) small))
-    ∙ sym (flat_shift (near_sector images set) v 0 n v (omega arith))
+run_is images set end v n to long inside bytes =
+    blocks_are to (λ j. near_sector images set end (v + j)) n long (λ j. copy_long images set end (v + j) (home_copy set (v + j)))
+    (λ j x below small. bytes (512 * j + x) (omega arith) ∙ sym (run_byte images set end v j x (omega arith) small))
+    ∙ sym (flat_shift (near_sector images set end) v 0 n v (omega arith))
 
 some_held : (held : Option ℕ) → is_some held ≡ true → is_none held ≡ false
 some_held None e = absurd (cc)
 some_held (Some i) e = refl
 
 -- where it is known
-pub run_told : {T E : Type 0} (told : Option (List (List ℕ))) (set : NearSet) (v n sector : ℕ) (held : Option ℕ) (result : Result T E) (to : List ℕ) →
-    held ≡ copy_image set (home_copy set v) v → sector ≡ copy_sector set.head (home_copy set v) v → is_some held ≡ true → length to ≡ 512 * n → v % set.head.chunk + n ≤ set.head.chunk →
+pub run_told : {T E : Type 0} (told : Option (List (List ℕ))) (set : NearSet) (end v n sector : ℕ) (held : Option ℕ) (result : Result T E) (to : List ℕ) →
+    held ≡ copy_image set (home_copy set v) v → sector ≡ copy_sector set.head end (home_copy set v) v → is_some held ≡ true → length to ≡ 512 * n → v % set.head.chunk + n ≤ set.head.chunk →
     OnOk result (IfSome told (λ bytes. (y : ℕ) → y < length to → is_none held ≡ false → get_or to y 0 ≡ member_byte bytes set.head.offset sector y held)) →
-    OnOk result (IfSome told (λ bytes. to ≡ sectors_of bytes set v n))
-run_told told set v n sector held (Err e) to is at there long inside bytes = tt
-run_told None set v n sector held (Ok r) to is at there long inside bytes = tt
-run_told (Some images) set v n sector held (Ok r) to is at there long inside bytes =
-    run_is images set v n to long inside
+    OnOk result (IfSome told (λ bytes. to ≡ sectors_of bytes set end v n))
+run_told told set end v n sector held (Err e) to is at there long inside bytes = tt
+run_told None set end v n sector held (Ok r) to is at there long inside bytes = tt
+run_told (Some images) set end v n sector held (Ok r) to is at there long inside bytes =
+    run_is images set end v n to long inside
     (λ y h. bytes y h (some_held held there) ∙ ap (λ (t : ℕ). member_byte images set.head.offset t y held) at
-    ∙ ap (λ (o : Option ℕ). member_byte images set.head.offset (copy_sector set.head (home_copy set v) v) y o) is)
+    ∙ ap (λ (o : Option ℕ). member_byte images set.head.offset (copy_sector set.head end (home_copy set v) v) y o) is)
 
 -- the rows end before the end, and so does what lies in one chunk of them
-pub run_inside : (head : NearHead) (end v n copy sector : ℕ) → 1 ≤ head.chunk → sector ≡ copy_sector head copy v → sector < near_area head end → v % head.chunk + n ≤ head.chunk →
+pub run_inside : (head : NearHead) (end v n copy sector : ℕ) → 1 ≤ head.chunk → sector ≡ copy_sector head end copy v → sector < near_area head end → v % head.chunk + n ≤ head.chunk →
     head.offset + (sector + n) ≤ end
 run_inside head end v n copy sector some at inside few =
     let split : near_rows head end * head.chunk + (end - head.offset) % head.chunk ≡ end - head.offset = div-add-mod' (end - head.offset) head.chunk in
-    let below : copy_cell (v / head.chunk) copy / head.members < near_rows head end = row_below (copy_cell (v / head.chunk) copy / head.members) (near_rows head end) head.chunk (omega arith) in
-    let most : (copy_cell (v / head.chunk) copy / head.members + 1) * head.chunk ≤ near_rows head end * head.chunk
-    = mul-le (copy_cell (v / head.chunk) copy / head.members + 1) head.chunk (near_rows head end) head.chunk (omega arith) (omega arith) in
-    let next : (copy_cell (v / head.chunk) copy / head.members + 1) * head.chunk ≡ copy_cell (v / head.chunk) copy / head.members * head.chunk + head.chunk = grind arith in
+    let below : copy_row head end copy v < near_rows head end = row_below (copy_row head end copy v) (near_rows head end) head.chunk (omega arith) in
+    let most : (copy_row head end copy v + 1) * head.chunk ≤ near_rows head end * head.chunk = mul-le (copy_row head end copy v + 1) head.chunk (near_rows head end) head.chunk (omega arith) (omega arith) in
+    let next : (copy_row head end copy v + 1) * head.chunk ≡ copy_row head end copy v * head.chunk + head.chunk = grind arith in
     omega arith
   where
     row_below : (a b c : ℕ) → a * c < b * c → a < b

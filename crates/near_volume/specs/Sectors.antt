@@ -6,18 +6,18 @@ use Rattle.near_mirror.specs.Volume.{copy_image, home_copy}
 use Rattle.near_mirror.specs.declared.types.NearSet.{NearSet}
 use Rattle.raid_terms.specs.Parity.{member_byte}
 
--- a copy, 0 or 1, of volume sector v: the member sector of the image that its slot holds
-unfoldable pub copy_bytes : List (List ℕ) → NearSet → ℕ → ℕ → List ℕ
-copy_bytes images set v copy = map (λ x. member_byte images set.head.offset (copy_sector set.head copy v) x (copy_image set copy v)) (range_with_len 0 512)
+-- a copy of volume sector v: the member sector of the image that its slot holds
+unfoldable pub copy_bytes : List (List ℕ) → NearSet → ℕ → ℕ → ℕ → List ℕ
+copy_bytes images set end v copy = map (λ x. member_byte images set.head.offset (copy_sector set.head end copy v) x (copy_image set copy v)) (range_with_len 0 512)
 
--- volume sector v: its first copy where that slot holds an image, and else its second
-abbrev pub near_sector : List (List ℕ) → NearSet → ℕ → List ℕ
-near_sector images set v = copy_bytes images set v (home_copy set v)
+-- volume sector v: its first copy whose slot holds an image
+abbrev pub near_sector : List (List ℕ) → NearSet → ℕ → ℕ → List ℕ
+near_sector images set end v = copy_bytes images set end v (home_copy set v)
 
 -- n sectors of the volume from a sector on
-unfoldable pub sectors_of : List (List ℕ) → NearSet → ℕ → ℕ → List ℕ
-sectors_of images set first n = flat_map (near_sector images set) (range_with_len first n)
+unfoldable pub sectors_of : List (List ℕ) → NearSet → ℕ → ℕ → ℕ → List ℕ
+sectors_of images set end first n = flat_map (near_sector images set end) (range_with_len first n)
 
 -- the bytes of the volume: all its sectors, in order
 abbrev pub near_volume : List (List ℕ) → NearSet → ℕ → List ℕ
-near_volume images set end = flat_map (near_sector images set) (range_with_len 0 (near_sectors set.head end))
+near_volume images set end = flat_map (near_sector images set end) (range_with_len 0 (near_sectors set.head end))

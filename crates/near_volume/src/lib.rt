@@ -1,7 +1,6 @@
-//! The volume of a mirror of two copies beside each other, written out.
+//! The volume of a mirror, written out.
 //!
-//! [`write_near`] reads each chunk from its first copy where that slot holds an image, and else from its second, and puts
-//! it, 128 KiB at a time. It takes the memory for one such block before it reads. The volume stands in `specs/Sectors`,
+//! [`write_near`] reads each chunk from its first copy whose slot holds an image, and puts it, 128 KiB at a time. It takes the memory for one such block before it reads. The volume stands in `specs/Sectors`,
 //! what is asked of a set in `specs/Mirrored`; where copies lie, and which one is read, is said by `near_mirror`.
 #![tactic(auto)]
 

@@ -32,7 +32,7 @@ fn read_run<I: Images>(
     first: u64,
     to: &mut [u8],
 ) -> Result<(), Failed>
-    requires set { IsMirror set.now }
+    requires set { IsMirror set.now end }
     requires near { end < 2 ^ 55 }
     requires held { All (Reaches (I.seen images.old).attached end) set.now.slots.items }
     requires whole { length to.old % 512 ≡ 0 }
@@ -40,7 +40,7 @@ fn read_run<I: Images>(
     requires chunk { first % set.now.head.chunk + length to.old / 512 ≤ set.now.head.chunk }
     requires inside { first < near_sectors set.now.head end }
     ensures told { OnOk result (IfSome (told_all (I.seen images.old).attached)
-        (λ bytes. to.new ≡ sectors_of bytes set.now first (length to.old / 512))) }
+        (λ bytes. to.new ≡ sectors_of bytes set.now end first (length to.old / 512))) }
     ensures long { length to.new ≡ length to.old }
     ensures reads { OnlyReads (I.seen images.old) (I.seen images.new) (length to.old / 512) }
     ensures cause { HasCause (I.seen images.old).faults (I.seen images.new).faults result }
@@ -54,8 +54,8 @@ fn read_run<I: Images>(
     }
 }
 
-/// Fills `to` with the sectors of the volume from number `first` on, chunk by chunk, each from its first copy where that
-/// slot holds an image, and else from its second. It takes no memory, and reads as many sectors as it fills.
+/// Fills `to` with the sectors of the volume from number `first` on, chunk by chunk, each from its first copy whose
+/// slot holds an image. It takes no memory, and reads as many sectors as it fills.
 #[tactic(auto, using(crate::proofs::Mirrors::mirrored_mirror, crate::proofs::Mirrors::mirror_chunk))]
 pub fn read_near<I: Images>(
     images: &mut I,
@@ -68,7 +68,7 @@ pub fn read_near<I: Images>(
     requires whole { length to.old % 512 ≡ 0 }
     requires inside { first + length to.old / 512 ≤ near_sectors set.now.head end }
     ensures told { OnOk result (IfSome (told_all (I.seen images.old).attached)
-        (λ bytes. to.new ≡ sectors_of bytes set.now first (length to.old / 512))) }
+        (λ bytes. to.new ≡ sectors_of bytes set.now end first (length to.old / 512))) }
     ensures long { length to.new ≡ length to.old }
     ensures reads { OnlyReads (I.seen images.old) (I.seen images.new) (length to.old / 512) }
     ensures cause { HasCause (I.seen images.old).faults (I.seen images.new).faults result }
@@ -100,7 +100,7 @@ fn write_block<I: Images, K: Sink>(
     requires fits { count ≤ BLOCK }
     requires inside { first + count ≤ near_sectors set.now.head end }
     ensures put { IfSome (told_all (I.seen images.old).attached)
-        (λ bytes. Puts (K.gained sink.old) (K.gained sink.new) result (sectors_of bytes set.now first count)) }
+        (λ bytes. Puts (K.gained sink.old) (K.gained sink.new) result (sectors_of bytes set.now end first count)) }
     ensures unput { IsErrOf result VolumeFault.ReadFault → K.gained sink.new ≡ K.gained sink.old }
     ensures reads { OnlyReads (I.seen images.old) (I.seen images.new) count }
     ensures later { K.faults sink.old ≤ K.faults sink.new }
@@ -126,9 +126,9 @@ fn write_sectors<I: Images, K: Sink>(
     requires room { length room.old ≡ BLOCK_BYTES }
     requires inside { sectors ≤ near_sectors set.now.head end }
     ensures put { IfSome (told_all (I.seen images.old).attached)
-        (λ bytes. Puts (K.gained sink.old) (K.gained sink.new) result (sectors_of bytes set.now 0 sectors)) }
+        (λ bytes. Puts (K.gained sink.old) (K.gained sink.new) result (sectors_of bytes set.now end 0 sectors)) }
     ensures whole { IsErrOf result VolumeFault.ReadFault → IfSome (told_all (I.seen images.old).attached)
-        (λ bytes. AppendsSectors (K.gained sink.old) (K.gained sink.new) (sectors_of bytes set.now 0 sectors)) }
+        (λ bytes. AppendsSectors (K.gained sink.old) (K.gained sink.new) (sectors_of bytes set.now end 0 sectors)) }
     ensures ahead { IfSome (told_all (I.seen images.old).attached)
         (λ bytes. IsAhead BLOCK_SECTORS (I.seen images.old).sectors_read (I.seen images.new).sectors_read (K.gained sink.old) (K.gained sink.new)) }
     ensures reads { OnlyReads (I.seen images.old) (I.seen images.new) sectors }
@@ -145,9 +145,9 @@ fn write_sectors<I: Images, K: Sink>(
     Ok(())
 }
 
-/// Writes the volume of a mirror over the attached images: its chunks in their order, each from its first copy
-/// where that slot holds an image, and else from its second. Only whole rows before the image sector `end` count,
-/// and a last cell without a second one beside it is no part of the volume.
+/// Writes the volume of a mirror over the attached images: its chunks in their order, each from its first copy whose
+/// slot holds an image. Only whole rows before the image sector `end` count, and last cells or rows that are fewer than
+/// copies are no part of the volume.
 ///
 /// Memory may run out only before anything is read or written. After that only a fault of the images or of the sink
 /// ends the work: then a prefix of the volume was written, of whole sectors where the images failed. No more sectors

@@ -24,8 +24,8 @@ loop-done-init g c = record {
   long = refl;
   told =
       if_any (told_all (g.I.Images.seen c.args.images.now).attached)
-      (λ bytes. take (512 * 0) c.args.to.now ≡ sectors_of bytes c.args.set.now c.args.first 0)
-      (λ bytes. sym (sectors_none bytes c.args.set.now c.args.first));
+      (λ bytes. take (512 * 0) c.args.to.now ≡ sectors_of bytes c.args.set.now c.args.end c.args.first 0)
+      (λ bytes. sym (sectors_none bytes c.args.set.now c.args.end c.args.first));
   reads = reads_up (g.I.Images.seen c.args.images.now) (g.I.Images.seen c.args.images.now) (reads_none (g.I.Images.seen c.args.images.now)) (omega arith);
   stays = refl;
 }
@@ -40,10 +40,10 @@ loop-done-preserved g c =
       long = omega arith;
       told =
           if_both (told_all (g.I.Images.seen c.args.images.now).attached)
-          (λ bytes. take (512 * c.loop-done.done) c.loop-done.to ≡ sectors_of bytes c.args.set.now c.args.first c.loop-done.done)
-          (λ bytes. c.read_run.new.to ≡ sectors_of bytes c.args.set.now (c.args.first + c.loop-done.done) run)
-          (λ bytes. take (512 * (c.loop-done.done + run)) (put_mid (512 * c.loop-done.done) _ c.loop-done.to c.read_run.new.to) ≡ sectors_of bytes c.args.set.now c.args.first (c.loop-done.done + run))
-          (λ bytes before now. run_on bytes c.args.set.now c.args.first c.loop-done.done run _ c.loop-done.to c.read_run.new.to within long before now)
+          (λ bytes. take (512 * c.loop-done.done) c.loop-done.to ≡ sectors_of bytes c.args.set.now c.args.end c.args.first c.loop-done.done)
+          (λ bytes. c.read_run.new.to ≡ sectors_of bytes c.args.set.now c.args.end (c.args.first + c.loop-done.done) run)
+          (λ bytes. take (512 * (c.loop-done.done + run)) (put_mid (512 * c.loop-done.done) _ c.loop-done.to c.read_run.new.to) ≡ sectors_of bytes c.args.set.now c.args.end c.args.first (c.loop-done.done + run))
+          (λ bytes before now. run_on bytes c.args.set.now c.args.end c.args.first c.loop-done.done run _ c.loop-done.to c.read_run.new.to within long before now)
           c.loop-done.invariant.told
           (rw (← c.loop-done.invariant.reads.attached) (search rules));
       reads = reads_up (g.I.Images.seen c.args.images.now) (g.I.Images.seen c.read_run.new.images)

@@ -8,7 +8,7 @@ abbrev pub invariant-loop-done : goal.invariant-loop-done
 invariant-loop-done g l = record {
   within : l.done ≤ l.count;
   long : length l.to ≡ length l.fn.to;
-  told : IfSome (told_all (g.I.Images.seen l.fn.images).attached) (λ bytes. take (512 * l.done) l.to ≡ sectors_of bytes l.set l.first l.done);
+  told : IfSome (told_all (g.I.Images.seen l.fn.images).attached) (λ bytes. take (512 * l.done) l.to ≡ sectors_of bytes l.set l.end l.first l.done);
   reads : OnlyReads (g.I.Images.seen l.fn.images) (g.I.Images.seen l.images) l.done;
   stays : (g.I.Images.seen l.images).faults ≡ (g.I.Images.seen l.fn.images).faults;
 }

@@ -26,5 +26,5 @@ returns-in-Some-clause-told g c =
     let is : get_or c.deref.result.now c.in-Some.home.slot None ≡ copy_image c.args.set.now (home_copy c.args.set.now c.args.first) c.args.first
     = same ∙ ap (λ (k : ℕ). get_or c.args.set.now.slots.items k None) home.slot in
     let held = ap (λ (o : Option ℕ). is_some o) same ∙ home.held in
-    run_told (told_all (g.I.Images.seen c.args.images.now).attached) c.args.set.now c.args.first (length c.args.to.now / 512) c.in-Some.home.sector (get_or c.deref.result.now c.in-Some.home.slot None)
+    run_told (told_all (g.I.Images.seen c.args.images.now).attached) c.args.set.now c.args.end c.args.first (length c.args.to.now / 512) c.in-Some.home.sector (get_or c.deref.result.now c.in-Some.home.slot None)
     c.read_member.result c.read_member.new.to is home.sector held (omega arith) c.requires.chunk c.read_member.ensures.told

@@ -11,7 +11,7 @@ pub returns-clause-written : goal.returns-clause-written
 returns-clause-written g c =
     puts_written (told_all (g.I.Images.seen c.args.images.now).attached) (λ bytes. near_volume bytes c.args.set.now c.args.end) (g.K.Sink.gained c.args.sink.now) (g.K.Sink.gained c.write_sectors.new.sink) c.write_sectors.result
     (if_told (told_all (g.I.Images.seen c.args.images.now).attached)
-    (λ bytes. Puts (g.K.Sink.gained c.args.sink.now) (g.K.Sink.gained c.write_sectors.new.sink) c.write_sectors.result (sectors_of bytes c.args.set.now 0 c.volume_sectors-sectors.result))
+    (λ bytes. Puts (g.K.Sink.gained c.args.sink.now) (g.K.Sink.gained c.write_sectors.new.sink) c.write_sectors.result (sectors_of bytes c.args.set.now c.args.end 0 c.volume_sectors-sectors.result))
     (λ bytes. Puts (g.K.Sink.gained c.args.sink.now) (g.K.Sink.gained c.write_sectors.new.sink) c.write_sectors.result (near_volume bytes c.args.set.now c.args.end))
     (λ bytes p. subst (λ (l : List ℕ). Puts (g.K.Sink.gained c.args.sink.now) (g.K.Sink.gained c.write_sectors.new.sink) c.write_sectors.result l)
     (sectors_whole bytes c.args.set.now c.args.end c.volume_sectors-sectors.result c.volume_sectors-sectors.ensures) p)
@@ -21,7 +21,7 @@ pub returns-clause-front : goal.returns-clause-front
 returns-clause-front g c =
     puts_front (told_all (g.I.Images.seen c.args.images.now).attached) (λ bytes. near_volume bytes c.args.set.now c.args.end) (g.K.Sink.gained c.args.sink.now) (g.K.Sink.gained c.write_sectors.new.sink) c.write_sectors.result
     (if_told (told_all (g.I.Images.seen c.args.images.now).attached)
-    (λ bytes. Puts (g.K.Sink.gained c.args.sink.now) (g.K.Sink.gained c.write_sectors.new.sink) c.write_sectors.result (sectors_of bytes c.args.set.now 0 c.volume_sectors-sectors.result))
+    (λ bytes. Puts (g.K.Sink.gained c.args.sink.now) (g.K.Sink.gained c.write_sectors.new.sink) c.write_sectors.result (sectors_of bytes c.args.set.now c.args.end 0 c.volume_sectors-sectors.result))
     (λ bytes. Puts (g.K.Sink.gained c.args.sink.now) (g.K.Sink.gained c.write_sectors.new.sink) c.write_sectors.result (near_volume bytes c.args.set.now c.args.end))
     (λ bytes p. subst (λ (l : List ℕ). Puts (g.K.Sink.gained c.args.sink.now) (g.K.Sink.gained c.write_sectors.new.sink) c.write_sectors.result l)
     (sectors_whole bytes c.args.set.now c.args.end c.volume_sectors-sectors.result c.volume_sectors-sectors.ensures) p)
@@ -30,7 +30,7 @@ returns-clause-front g c =
 pub returns-clause-whole : goal.returns-clause-whole
 returns-clause-whole g c = λ is.
     if_told (told_all (g.I.Images.seen c.args.images.now).attached)
-    (λ bytes. AppendsSectors (g.K.Sink.gained c.args.sink.now) (g.K.Sink.gained c.write_sectors.new.sink) (sectors_of bytes c.args.set.now 0 c.volume_sectors-sectors.result))
+    (λ bytes. AppendsSectors (g.K.Sink.gained c.args.sink.now) (g.K.Sink.gained c.write_sectors.new.sink) (sectors_of bytes c.args.set.now c.args.end 0 c.volume_sectors-sectors.result))
     (λ bytes. AppendsSectors (g.K.Sink.gained c.args.sink.now) (g.K.Sink.gained c.write_sectors.new.sink) (near_volume bytes c.args.set.now c.args.end))
     (λ bytes p. subst (λ (l : List ℕ). AppendsSectors (g.K.Sink.gained c.args.sink.now) (g.K.Sink.gained c.write_sectors.new.sink) l)
     (sectors_whole bytes c.args.set.now c.args.end c.volume_sectors-sectors.result c.volume_sectors-sectors.ensures) p)

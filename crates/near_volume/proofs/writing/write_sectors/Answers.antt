@@ -14,8 +14,8 @@ pub loop-first-init : goal.loop-first-init
 loop-first-init g c = record {
   put =
       if_any (told_all (g.I.Images.seen c.args.images.now).attached)
-      (λ bytes. Appends (g.K.Sink.gained c.args.sink.now) (g.K.Sink.gained c.args.sink.now) (sectors_of bytes c.args.set.now 0 0))
-      (λ bytes. sectors_start bytes c.args.set.now (g.K.Sink.gained c.args.sink.now));
+      (λ bytes. Appends (g.K.Sink.gained c.args.sink.now) (g.K.Sink.gained c.args.sink.now) (sectors_of bytes c.args.set.now c.args.end 0 0))
+      (λ bytes. sectors_start bytes c.args.set.now c.args.end (g.K.Sink.gained c.args.sink.now));
   reads = reads_up (g.I.Images.seen c.args.images.now) (g.I.Images.seen c.args.images.now) (reads_none (g.I.Images.seen c.args.images.now)) (omega arith);
   images_stay = refl;
   sink_stays = refl;
@@ -31,12 +31,12 @@ pub returns-in_err-write_block-clause-put : goal.returns-in_err-write_block-clau
 returns-in_err-write_block-clause-put g c =
     let few : c.loop-first.first + c.min-count.result ≤ c.args.sectors = omega arith in
     if_both (told_all (g.I.Images.seen c.args.images.now).attached)
-    (λ bytes. Appends (g.K.Sink.gained c.args.sink.now) (g.K.Sink.gained c.loop-first.sink) (sectors_of bytes c.args.set.now 0 c.loop-first.first))
-    (λ bytes. AppendsFront (g.K.Sink.gained c.loop-first.sink) (g.K.Sink.gained c.write_block.new.sink) (sectors_of bytes c.args.set.now c.loop-first.first c.min-count.result))
-    (λ bytes. Puts (g.K.Sink.gained c.args.sink.now) (g.K.Sink.gained c.write_block.new.sink) c.from_residual.result (sectors_of bytes c.args.set.now 0 c.args.sectors))
+    (λ bytes. Appends (g.K.Sink.gained c.args.sink.now) (g.K.Sink.gained c.loop-first.sink) (sectors_of bytes c.args.set.now c.args.end 0 c.loop-first.first))
+    (λ bytes. AppendsFront (g.K.Sink.gained c.loop-first.sink) (g.K.Sink.gained c.write_block.new.sink) (sectors_of bytes c.args.set.now c.args.end c.loop-first.first c.min-count.result))
+    (λ bytes. Puts (g.K.Sink.gained c.args.sink.now) (g.K.Sink.gained c.write_block.new.sink) c.from_residual.result (sectors_of bytes c.args.set.now c.args.end 0 c.args.sectors))
     (λ bytes p q.
-    puts_err (g.K.Sink.gained c.args.sink.now) (g.K.Sink.gained c.write_block.new.sink) (sectors_of bytes c.args.set.now 0 c.args.sectors) c.from_residual.result c.from_residual.ensures.0
-    (sectors_cut bytes c.args.set.now c.loop-first.first c.min-count.result c.args.sectors (g.K.Sink.gained c.args.sink.now) (g.K.Sink.gained c.loop-first.sink) (g.K.Sink.gained c.write_block.new.sink) few p q))
+    puts_err (g.K.Sink.gained c.args.sink.now) (g.K.Sink.gained c.write_block.new.sink) (sectors_of bytes c.args.set.now c.args.end 0 c.args.sectors) c.from_residual.result c.from_residual.ensures.0
+    (sectors_cut bytes c.args.set.now c.args.end c.loop-first.first c.min-count.result c.args.sectors (g.K.Sink.gained c.args.sink.now) (g.K.Sink.gained c.loop-first.sink) (g.K.Sink.gained c.write_block.new.sink) few p q))
     c.loop-first.invariant.put
     (rw (← c.loop-first.invariant.reads.attached) c.in_err-write_block.ensures.put)
 
@@ -45,16 +45,16 @@ returns-in_err-write_block-clause-whole g c = λ is.
     let few : c.loop-first.first ≤ c.args.sectors = omega arith in
     let still : g.K.Sink.gained c.write_block.new.sink ≡ g.K.Sink.gained c.loop-first.sink = c.in_err-write_block.ensures.unput (search rules) in
     subst (λ (gained : Option (List ℕ)). IfSome (told_all (g.I.Images.seen c.args.images.now).attached)
-    (λ bytes. AppendsSectors (g.K.Sink.gained c.args.sink.now) gained (sectors_of bytes c.args.set.now 0 c.args.sectors))) (sym still)
+    (λ bytes. AppendsSectors (g.K.Sink.gained c.args.sink.now) gained (sectors_of bytes c.args.set.now c.args.end 0 c.args.sectors))) (sym still)
     (if_told (told_all (g.I.Images.seen c.args.images.now).attached)
-    (λ bytes. Appends (g.K.Sink.gained c.args.sink.now) (g.K.Sink.gained c.loop-first.sink) (sectors_of bytes c.args.set.now 0 c.loop-first.first))
-    (λ bytes. AppendsSectors (g.K.Sink.gained c.args.sink.now) (g.K.Sink.gained c.loop-first.sink) (sectors_of bytes c.args.set.now 0 c.args.sectors))
-    (λ bytes p. sectors_first bytes c.args.set.now c.loop-first.first c.args.sectors (g.K.Sink.gained c.args.sink.now) (g.K.Sink.gained c.loop-first.sink) few p)
+    (λ bytes. Appends (g.K.Sink.gained c.args.sink.now) (g.K.Sink.gained c.loop-first.sink) (sectors_of bytes c.args.set.now c.args.end 0 c.loop-first.first))
+    (λ bytes. AppendsSectors (g.K.Sink.gained c.args.sink.now) (g.K.Sink.gained c.loop-first.sink) (sectors_of bytes c.args.set.now c.args.end 0 c.args.sectors))
+    (λ bytes p. sectors_first bytes c.args.set.now c.args.end c.loop-first.first c.args.sectors (g.K.Sink.gained c.args.sink.now) (g.K.Sink.gained c.loop-first.sink) few p)
     c.loop-first.invariant.put)
 
 pub returns-in_err-write_block-clause-ahead : goal.returns-in_err-write_block-clause-ahead
 returns-in_err-write_block-clause-ahead g c =
-    ahead_at_error (told_all (g.I.Images.seen c.args.images.now).attached) (g.I.Images.seen c.args.images.now) (g.I.Images.seen c.loop-first.images) (g.I.Images.seen c.write_block.new.images) c.args.set.now
+    ahead_at_error (told_all (g.I.Images.seen c.args.images.now).attached) (g.I.Images.seen c.args.images.now) (g.I.Images.seen c.loop-first.images) (g.I.Images.seen c.write_block.new.images) c.args.set.now c.args.end
     BLOCK c.loop-first.first c.min-count.result (g.K.Sink.gained c.args.sink.now) (g.K.Sink.gained c.loop-first.sink) (g.K.Sink.gained c.write_block.new.sink)
     (omega arith) c.loop-first.invariant.reads c.write_block.ensures.reads c.loop-first.invariant.put (rw (← c.loop-first.invariant.reads.attached) c.in_err-write_block.ensures.put)
 
@@ -62,11 +62,11 @@ pub loop-first-preserved : goal.loop-first-preserved
 loop-first-preserved g c = record {
   put =
       if_both (told_all (g.I.Images.seen c.args.images.now).attached)
-      (λ bytes. Appends (g.K.Sink.gained c.args.sink.now) (g.K.Sink.gained c.loop-first.sink) (sectors_of bytes c.args.set.now 0 c.loop-first.first))
-      (λ bytes. Appends (g.K.Sink.gained c.loop-first.sink) (g.K.Sink.gained c.write_block.new.sink) (sectors_of bytes c.args.set.now c.loop-first.first c.min-count.result))
-      (λ bytes. Appends (g.K.Sink.gained c.args.sink.now) (g.K.Sink.gained c.write_block.new.sink) (sectors_of bytes c.args.set.now 0 (c.loop-first.first + c.min-count.result)))
+      (λ bytes. Appends (g.K.Sink.gained c.args.sink.now) (g.K.Sink.gained c.loop-first.sink) (sectors_of bytes c.args.set.now c.args.end 0 c.loop-first.first))
+      (λ bytes. Appends (g.K.Sink.gained c.loop-first.sink) (g.K.Sink.gained c.write_block.new.sink) (sectors_of bytes c.args.set.now c.args.end c.loop-first.first c.min-count.result))
+      (λ bytes. Appends (g.K.Sink.gained c.args.sink.now) (g.K.Sink.gained c.write_block.new.sink) (sectors_of bytes c.args.set.now c.args.end 0 (c.loop-first.first + c.min-count.result)))
       (λ bytes p q.
-      sectors_on bytes c.args.set.now c.loop-first.first c.min-count.result (g.K.Sink.gained c.args.sink.now) (g.K.Sink.gained c.loop-first.sink) (g.K.Sink.gained c.write_block.new.sink) p q)
+      sectors_on bytes c.args.set.now c.args.end c.loop-first.first c.min-count.result (g.K.Sink.gained c.args.sink.now) (g.K.Sink.gained c.loop-first.sink) (g.K.Sink.gained c.write_block.new.sink) p q)
       c.loop-first.invariant.put
       (rw (← c.loop-first.invariant.reads.attached) c.in_ok-write_block.ensures.put);
   reads =
@@ -80,5 +80,5 @@ loop-first-preserved g c = record {
 
 pub returns-clause-ahead : goal.returns-clause-ahead
 returns-clause-ahead g c =
-    ahead_at_end (told_all (g.I.Images.seen c.args.images.now).attached) (g.I.Images.seen c.args.images.now) (g.I.Images.seen c.loop-first.images) c.args.set.now
+    ahead_at_end (told_all (g.I.Images.seen c.args.images.now).attached) (g.I.Images.seen c.args.images.now) (g.I.Images.seen c.loop-first.images) c.args.set.now c.args.end
     BLOCK c.loop-first.first (g.K.Sink.gained c.args.sink.now) (g.K.Sink.gained c.loop-first.sink) c.loop-first.invariant.reads c.loop-first.invariant.put

@@ -5,7 +5,7 @@ use Rattle.std.specs.declared.option.Option.TheVariants.{None, Some}
 use Rattle.raid_params.specs.declared.types.GeoFault.{GeoFault}
 use Rattle.raid_params.specs.declared.types.GeoFault.TheVariants.{Members, Pattern, Syndrome, Chunk, Image, Repeat, Missing, NoRow}
 use Rattle.near_mirror.specs.declared.types.NearRule.{NearRule}
-use Rattle.near_mirror.specs.declared.types.NearRule.TheVariants.{Members as NearMembers, Chunk as NearChunk, Image as NearImage, Repeat as NearRepeat, Missing as NearMissing, NoRow as NearNoRow}
+use Rattle.near_mirror.specs.declared.types.NearRule.TheVariants.{Members as NearMembers, Chunk as NearChunk, Image as NearImage, Repeat as NearRepeat, Missing as NearMissing, NoRow as NearNoRow, NoCopy as NearNoCopy}
 use Rattle.raid_params.specs.Places.{pattern_place, syndrome_place}
 use Rattle.run_ends.specs.declared.agreement.Kind.{Kind}
 use Rattle.run_ends.specs.declared.agreement.Kind.TheVariants.{Count, Length, End, Offsets, Rows, Long}
@@ -44,6 +44,7 @@ near_rule_of (NearImage n) = 23
 near_rule_of (NearRepeat n) = 24
 near_rule_of (NearMissing n) = 25
 near_rule_of (NearNoRow n) = 26
+near_rule_of (NearNoCopy n) = 25
 
 abbrev pub near_value_of : NearRule → ℕ
 near_value_of (NearMembers n) = n
@@ -52,6 +53,7 @@ near_value_of (NearImage n) = n
 near_value_of (NearRepeat n) = n
 near_value_of (NearMissing n) = n
 near_value_of (NearNoRow n) = n
+near_value_of (NearNoCopy n) = n
 
 -- what of the images disagrees, as it is printed
 abbrev pub kind_text : Kind → List ℕ

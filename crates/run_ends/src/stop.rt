@@ -309,7 +309,7 @@ fn near_rule(fault: &NearRule) -> u8
         NearRule::Chunk(_) => 22,
         NearRule::Image(_) => 23,
         NearRule::Repeat(_) => 24,
-        NearRule::Missing(_) => 25,
+        NearRule::Missing(_) | NearRule::NoCopy(_) => 25,
         NearRule::NoRow(_) => 26,
     }
 }
@@ -323,6 +323,6 @@ fn near_value(fault: &NearRule) -> u64
         | NearRule::Image(number)
         | NearRule::Repeat(number)
         | NearRule::Missing(number) => *number as u64,
-        NearRule::Chunk(number) | NearRule::NoRow(number) => *number,
+        NearRule::Chunk(number) | NearRule::NoRow(number) | NearRule::NoCopy(number) => *number,
     }
 }

@@ -72,11 +72,11 @@ device_told (Some images) geo end first n bytes (Ok r) to size inside read =
     ∙ ap (λ (k : ℕ). slice_range (volume images geo end) (512 * first) (512 * first + k)) (sym size)
 
 pub near_told : {T E : Type 0} (told : Option (List (List ℕ))) (set : NearSet) (end first n bytes : ℕ) (result : Result T E) (to : List ℕ) → bytes ≡ 512 * n → first + n ≤ near_sectors set.head end →
-    OnOk result (IfSome told (λ images. to ≡ near_sectors_of images set first n)) →
+    OnOk result (IfSome told (λ images. to ≡ near_sectors_of images set end first n)) →
     OnOk result (IfSome (option_map (λ images. near_volume images set end) told) (λ content. to ≡ slice_range content (512 * first) (512 * first + bytes)))
 unfolding near_sectors_of
 near_told told set end first n bytes (Err e) to size inside read = tt
 near_told None set end first n bytes (Ok r) to size inside read = tt
 near_told (Some images) set end first n bytes (Ok r) to size inside read =
-    read ∙ sym (flat_slice (near_sector images set) (near_sectors set.head end) first n (λ v. copy_long images set v (home_copy set v)) inside)
+    read ∙ sym (flat_slice (near_sector images set end) (near_sectors set.head end) first n (λ v. copy_long images set end v (home_copy set v)) inside)
     ∙ ap (λ (k : ℕ). slice_range (near_volume images set end) (512 * first) (512 * first + k)) (sym size)

@@ -24,9 +24,9 @@ pub member_long : (images : List (List ℕ)) (geo : Geometry) (slot t : ℕ) →
 unfolding member_sector
 member_long images geo slot t = length-map-range_with_len (λ x. byte_in images geo t slot x (slice_index_or geo.slots.items slot None)) 0 512
 
-pub copy_long : (images : List (List ℕ)) (set : NearSet) (v copy : ℕ) → length (copy_bytes images set v copy) ≡ 512
+pub copy_long : (images : List (List ℕ)) (set : NearSet) (end v copy : ℕ) → length (copy_bytes images set end v copy) ≡ 512
 unfolding copy_bytes
-copy_long images set v copy = length-map-range_with_len (λ x. member_byte images set.head.offset (copy_sector set.head copy v) x (copy_image set copy v)) 0 512
+copy_long images set end v copy = length-map-range_with_len (λ x. member_byte images set.head.offset (copy_sector set.head end copy v) x (copy_image set copy v)) 0 512
 
 -- the volume of a set, and that of a mirror
 abbrev pub volume_told : Option (List (List ℕ)) → Geometry → ℕ → Option (List ℕ)
@@ -42,4 +42,4 @@ volume_whole (Some images) geo end =
 
 pub mirror_whole : (told : Option (List (List ℕ))) (set : NearSet) (end : ℕ) → IsContent (mirror_told told set end) (near_sectors set.head end)
 mirror_whole None set end = tt
-mirror_whole (Some images) set end = flat_long (near_sector images set) 0 (near_sectors set.head end) (λ v. copy_long images set v (home_copy set v))
+mirror_whole (Some images) set end = flat_long (near_sector images set end) 0 (near_sectors set.head end) (λ v. copy_long images set end v (home_copy set v))

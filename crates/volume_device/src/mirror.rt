@@ -1,4 +1,4 @@
-//! The volume of a mirror of two copies as a device.
+//! The volume of a mirror as a device.
 ghost use Rattle.std.specs.Prelude.{◌≡◌, false};
 ghost use Rattle.block_device.specs.Content.{fixed_behind};
 ghost use Rattle.block_device.specs.Reading.{Costs, counts_of, fails_never_lost};

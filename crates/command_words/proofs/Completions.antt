@@ -13,6 +13,7 @@ use Rattle.raid_params.specs.declared.types.Level.TheVariants.{Raid0}
 use Rattle.raid_params.specs.declared.types.Pattern.TheVariants.{Plain}
 use Rattle.raid_params.specs.declared.types.Syndrome.TheVariants.{NoQ}
 use Rattle.near_mirror.specs.Words.{HasNearWord}
+use Rattle.near_mirror.specs.declared.types.Copying.TheVariants.{Near}
 use Rattle.near_mirror.specs.declared.types.NearSet.{NearSet}
 use Rattle.value_text.specs.SetText.{HasWord, common}
 use Rattle.command_words.specs.Commands.{BeginsLine, MayFollow, can_move, command_of, form_or, lost_or, marks_or, mirror_in, mirrors_of, number_in, number_or, relations_of, set_in, survey_of, verb_word}
@@ -52,11 +53,12 @@ has_word = record {
 
 -- the set of a mirror that has a word
 some_mirror : NearSet
-some_mirror = record { head = record { members = 1; chunk = 0; offset = 0 }; slots = record { items = None ∷ [] } }
+some_mirror = record { head = record { members = 1; chunk = 0; offset = 0; layout = record { copying = Near; copies = 2 } }; slots = record { items = None ∷ [] } }
 
 has_near_word : HasNearWord some_mirror
 unfolding some_mirror
 has_near_word = record {
+  copies = refl;
   some = omega arith;
   most = omega arith;
   members = refl;

@@ -1,6 +1,6 @@
 //! The first four rows of arrays of four members and the rows of mirrors, as docs/LAYOUTS.md draws them, and the names of
 //! layouts. The drawings are written out by hand there, and not made by a crate.
-use near_mirror::NearHead;
+use near_mirror::{CopyLayout, Copying, NearHead};
 use raid_layouts::{SlotRole, md_name, role};
 use raid_params::{Head, Level, Pattern, Syndrome};
 
@@ -89,19 +89,26 @@ fn digit(chunk: u64) -> u8 {
 
 // Whether the cells of a mirror of so many members and rows, of one sector a chunk, are those of the drawing: in each the number of
 // its chunk, or a dash where the cell is no part of the volume.
-fn is_near_drawn(members: u8, rows: u64, drawing: &[u8]) -> bool {
+fn are_copies_drawn(
+    copying: Copying,
+    copies: u8,
+    members: u8,
+    rows: u64,
+    drawing: &[u8],
+) -> bool {
     let head = NearHead {
         members,
         chunk: 1,
         offset: 0,
+        layout: CopyLayout { copying, copies },
     };
     if !head.is_valid() || rows > CELLS as u64 {
         return false;
     }
     let mut cells = [b'-'; CELLS];
     for chunk in 0..CELLS as u64 {
-        if let Some(copies) = head.copies(rows, chunk) {
-            for place in [copies.first, copies.second] {
+        for copy in 0..copies {
+            if let Some(place) = head.copy_place(rows, copy, chunk) {
                 let row = (place.sector as usize).min(CELLS);
                 if let Some(cell) = cells.get_mut(row * members as usize + place.slot as usize) {
                     *cell = digit(chunk);
@@ -113,14 +120,33 @@ fn is_near_drawn(members: u8, rows: u64, drawing: &[u8]) -> bool {
 }
 
 #[test]
-fn rows_of_mirrors(rt: HostRuntime) {
-    assert!(rt; is_near_drawn(4, 3, b"001122334455"), "four members");
-    assert!(rt; is_near_drawn(3, 4, b"001122334455"), "three members");
-    assert!(rt; is_near_drawn(3, 3, b"00112233-"), "an odd number of cells");
+fn rows_of_near_copies(rt: HostRuntime) {
+    let near = Copying::Near;
+    assert!(rt; are_copies_drawn(near, 2, 4, 3, b"001122334455"), "four members");
+    assert!(rt; are_copies_drawn(near, 2, 3, 4, b"001122334455"), "three members");
+    assert!(rt; are_copies_drawn(near, 2, 3, 3, b"00112233-"), "an odd number of cells");
+    assert!(rt; are_copies_drawn(near, 3, 4, 3, b"000111222333"), "three copies");
     assert!(rt;
-        !is_near_drawn(3, 3, b"001122334"),
+        !are_copies_drawn(near, 2, 3, 3, b"001122334"),
         "the last cell is no part"
     );
+}
+
+#[test]
+fn rows_of_far_copies(rt: HostRuntime) {
+    let far = Copying::Far;
+    assert!(rt; are_copies_drawn(far, 2, 2, 4, b"01231032"), "two members");
+    assert!(rt; are_copies_drawn(far, 2, 3, 4, b"012345201534"), "three members");
+    assert!(rt; are_copies_drawn(far, 2, 4, 3, b"01233012----"), "an odd number of rows");
+    assert!(rt; are_copies_drawn(far, 3, 3, 3, b"012201120"), "three copies");
+}
+
+#[test]
+fn rows_of_offset_copies(rt: HostRuntime) {
+    let offset = Copying::Offset;
+    assert!(rt; are_copies_drawn(offset, 2, 3, 4, b"012201345534"), "three members");
+    assert!(rt; are_copies_drawn(offset, 2, 4, 3, b"01233012----"), "an odd number of rows");
+    assert!(rt; are_copies_drawn(offset, 3, 4, 3, b"012330122301"), "three copies");
 }
 
 #[test]

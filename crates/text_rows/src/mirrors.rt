@@ -4,13 +4,20 @@ use std::process::Abort;
 use std::test::Fail;
 
 /// Texts that are no near words.
-static REFUSED: [&[u8]; 16] = [
+static REFUSED: [&[u8]; 23] = [
     b"",
     b"near2",
     b"near2:1:0",
     b"near2:1:0:",
     b"near:1:0:0,1",
-    b"near3:1:0:0,1",
+    b"near1:1:0:0,1",
+    b"near5:1:0:0,1",
+    b"near02:1:0:0,1",
+    b"near22:1:0:0,1",
+    b"far:1:0:0,1",
+    b"far1:1:0:0,1",
+    b"offset5:1:0:0,1",
+    b"2:1:0:0,1",
     b"Near2:1:0:0,1",
     b"near2:01:0:0,1",
     b"near2:4294967296:0:0,1",
@@ -31,7 +38,7 @@ fn other_texts_are_no_near_words(rt: HostRuntime) {
 }
 
 /// Near words with the first rule that each breaks over three images that end before sector 2.
-static RULES: [(&[u8], Option<NearRule>); 12] = [
+static RULES: [(&[u8], Option<NearRule>); 24] = [
     (b"near2:1:0:0,1,2", None),
     (b"near2:2:0:0,1", None),
     (b"near2:1:1:0,-,1", None),
@@ -44,6 +51,18 @@ static RULES: [(&[u8], Option<NearRule>); 12] = [
     (b"near2:1:0:0,-,-", Some(NearRule::Missing(2))),
     (b"near2:4:0:0,1", Some(NearRule::NoRow(0))),
     (b"near2:1:2:0,1", Some(NearRule::NoRow(2))),
+    (b"near2:1:0:-,2,-,0,1", None),
+    (b"near2:1:0:-,-,2,0,1", Some(NearRule::Missing(2))),
+    (b"near2:4:0:0,-,1,-", Some(NearRule::Missing(2))),
+    (b"near3:1:0:0,1", Some(NearRule::Members(2))),
+    (b"near3:1:0:-,0,-,1", None),
+    (b"near3:1:0:0,-,-,-,-", Some(NearRule::NoCopy(2))),
+    (b"near3:4:0:-,-,-", Some(NearRule::NoRow(0))),
+    (b"far2:1:0:-,0,-,1", None),
+    (b"far2:1:0:0,-,-,1", Some(NearRule::NoCopy(1))),
+    (b"far2:2:0:0,1", Some(NearRule::NoRow(0))),
+    (b"offset2:1:0:-,0,1", None),
+    (b"offset2:1:0:0,1,-,-", Some(NearRule::NoCopy(2))),
 ];
 
 #[test]
@@ -60,6 +79,9 @@ fn a_mirror_is_written_with_its_rank(rt: HostRuntime) -> Result<(), Fail> {
     let set = read_near(b"near2:128:2048:11,-,0").ok_or("a near word")?;
     let line = near_line(rt.alloc(), 7, &set)?;
     assert!(rt; line.as_slice() == b"7 near2:128:2048:11,-,0\n".as_slice());
+    let set = read_near(b"offset4:128:2048:11,-,0").ok_or("a near word")?;
+    let line = near_line(rt.alloc(), 7, &set)?;
+    assert!(rt; line.as_slice() == b"7 offset4:128:2048:11,-,0\n".as_slice());
     Ok(())
 }
 
@@ -81,5 +103,18 @@ fn sectors_are_read_from_their_homes(rt: HostRuntime) -> Result<(), Fail> {
     homes(&rt, b"near2:1:0:0,1,2", &[(0, 0), (2, 0), (1, 1)])?;
     homes(&rt, b"near2:1:0:0,-,1", &[(0, 0), (2, 0), (2, 1)])?;
     homes(&rt, b"near2:1:0:-,0,1", &[(1, 0), (2, 0), (1, 1)])?;
-    homes(&rt, b"near2:2:0:0,1,2", &[(0, 0), (0, 1)])
+    homes(&rt, b"near2:2:0:0,1,2", &[(0, 0), (0, 1)])?;
+    homes(
+        &rt,
+        b"near2:1:0:-,2,-,0,1",
+        &[(1, 0), (3, 0), (4, 0), (1, 1), (3, 1)],
+    )?;
+    homes(&rt, b"near3:1:0:-,0,-,1", &[(1, 0), (3, 0)])?;
+    homes(
+        &rt,
+        b"far2:1:0:-,0,1,2",
+        &[(1, 1), (1, 0), (2, 0), (3, 0)],
+    )?;
+    homes(&rt, b"far2:1:0:0,-,1", &[(0, 0), (2, 1), (2, 0)])?;
+    homes(&rt, b"offset2:1:0:0,-,1", &[(0, 0), (2, 1), (2, 0)])
 }

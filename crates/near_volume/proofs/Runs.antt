@@ -9,11 +9,12 @@ use Rattle.std.proofs.lemmas.Nat.{div-add-mod', div-mul-add, mod-mul-add, mul-le
 use Rattle.std.proofs.lemmas.Bool.{cases_lt}
 use Rattle.raid_terms.specs.Parity.{member_byte}
 use Rattle.near_mirror.specs.Copies.{copy_row, copy_sector, near_area, near_rows, row_of, slot_of}
-use Rattle.near_mirror.specs.Volume.{copy_image, held_copy, home_copy}
+use Rattle.near_mirror.specs.Volume.{copy_image, held_copy, home_copy, is_held}
 use Rattle.near_mirror.specs.declared.types.NearHead.{NearHead}
 use Rattle.near_mirror.specs.declared.types.NearSet.{NearSet}
-use Rattle.virtual_volume.proofs.Ranges.{flat_more, flat_shift}
-use Rattle.near_volume.specs.Sectors.{copy_bytes, near_sector, sectors_of}
+use Rattle.near_mirror.proofs.Finds.{found}
+use Rattle.virtual_volume.proofs.Ranges.{flat_more, flat_same, flat_shift}
+use Rattle.near_volume.specs.Sectors.{copies_of, copy_bytes, near_sector, sectors_of}
 
 -- a sector further on in the chunk lies in it, and as much further on in its copies
 same_chunk : (chunk v j : ℕ) → v % chunk + j < chunk → (v + j) / chunk ≡ v / chunk
@@ -72,41 +73,62 @@ blocks_are xs f (suc n) long each same =
     sym (take-append-drop (512 * n) xs) ∙ ap (λ (l : List ℕ). l ++ drop (512 * n) xs) before
     ∙ ap (λ (l : List ℕ). flat_map f (range_with_len 0 n) ++ l) last ∙ sym (flat_more f 0 n (suc n) n (omega arith) (omega arith))
 
--- a byte of a sector further on in the chunk
-run_byte : (images : List (List ℕ)) (set : NearSet) (end v j x : ℕ) → v % set.head.chunk + j < set.head.chunk → x < 512 →
-    get_or (near_sector images set end (v + j)) x 0 ≡ member_byte images set.head.offset (copy_sector set.head end (home_copy set v) v) (512 * j + x) (copy_image set (home_copy set v) v)
-run_byte images set end v j x inside below =
-    copy_byte images set end (v + j) (home_copy set (v + j)) x below
-    ∙ ap (λ (copy : ℕ). member_byte images set.head.offset (copy_sector set.head end copy (v + j)) x (copy_image set copy (v + j))) (same_home set v j inside)
-    ∙ ap (λ (t : ℕ). member_byte images set.head.offset t x (copy_image set (home_copy set v) (v + j))) (later_sector set.head end v j (home_copy set v) inside)
-    ∙ ap (λ (o : Option ℕ). member_byte images set.head.offset (copy_sector set.head end (home_copy set v) v + j) x o) (same_image set v j (home_copy set v) inside)
-    ∙ sym (later_byte images set.head.offset (copy_sector set.head end (home_copy set v) v) j x (copy_image set (home_copy set v) v))
+-- a byte of a copy of a sector further on in the chunk
+run_byte : (images : List (List ℕ)) (set : NearSet) (end v j x copy : ℕ) → v % set.head.chunk + j < set.head.chunk → x < 512 →
+    get_or (copy_bytes images set end (v + j) copy) x 0 ≡ member_byte images set.head.offset (copy_sector set.head end copy v) (512 * j + x) (copy_image set copy v)
+run_byte images set end v j x copy inside below =
+    copy_byte images set end (v + j) copy x below
+    ∙ ap (λ (t : ℕ). member_byte images set.head.offset t x (copy_image set copy (v + j))) (later_sector set.head end v j copy inside)
+    ∙ ap (λ (o : Option ℕ). member_byte images set.head.offset (copy_sector set.head end copy v + j) x o) (same_image set v j copy inside)
+    ∙ sym (later_byte images set.head.offset (copy_sector set.head end copy v) j x (copy_image set copy v))
 
--- what was read of the copy that is there is the volume's
-run_is : (images : List (List ℕ)) (set : NearSet) (end v n : ℕ) (to : List ℕ) → length to ≡ 512 * n → v % set.head.chunk + n ≤ set.head.chunk →
-    ((y : ℕ) → y < length to → get_or to y 0 ≡ member_byte images set.head.offset (copy_sector set.head end (home_copy set v) v) y (copy_image set (home_copy set v) v)) →
-    to ≡ sectors_of images set end v n
-unfolding sectors_of
-run_is images set end v n to long inside bytes =
-    blocks_are to (λ j. near_sector images set end (v + j)) n long (λ j. copy_long images set end (v + j) (home_copy set (v + j)))
-    (λ j x below small. bytes (512 * j + x) (omega arith) ∙ sym (run_byte images set end v j x (omega arith) small))
-    ∙ sym (flat_shift (near_sector images set end) v 0 n v (omega arith))
+-- what was read of a copy is the volume's, by that copy
+run_is : (images : List (List ℕ)) (set : NearSet) (end v n copy : ℕ) (to : List ℕ) → length to ≡ 512 * n → v % set.head.chunk + n ≤ set.head.chunk →
+    ((y : ℕ) → y < length to → get_or to y 0 ≡ member_byte images set.head.offset (copy_sector set.head end copy v) y (copy_image set copy v)) →
+    to ≡ copies_of images set end copy v n
+unfolding copies_of
+run_is images set end v n copy to long inside bytes =
+    blocks_are to (λ j. copy_bytes images set end (v + j) copy) n long (λ j. copy_long images set end (v + j) copy)
+    (λ j x below small. bytes (512 * j + x) (omega arith) ∙ sym (run_byte images set end v j x copy (omega arith) small))
+    ∙ sym (flat_shift (λ w. copy_bytes images set end w copy) v 0 n v (omega arith))
 
 some_held : (held : Option ℕ) → is_some held ≡ true → is_none held ≡ false
 some_held None e = absurd (cc)
 some_held (Some i) e = refl
 
 -- where it is known
-pub run_told : {T E : Type 0} (told : Option (List (List ℕ))) (set : NearSet) (end v n sector : ℕ) (held : Option ℕ) (result : Result T E) (to : List ℕ) →
-    held ≡ copy_image set (home_copy set v) v → sector ≡ copy_sector set.head end (home_copy set v) v → is_some held ≡ true → length to ≡ 512 * n → v % set.head.chunk + n ≤ set.head.chunk →
+pub run_told : {T E : Type 0} (told : Option (List (List ℕ))) (set : NearSet) (end v n copy sector : ℕ) (held : Option ℕ) (result : Result T E) (to : List ℕ) →
+    held ≡ copy_image set copy v → sector ≡ copy_sector set.head end copy v → is_some held ≡ true → length to ≡ 512 * n → v % set.head.chunk + n ≤ set.head.chunk →
     OnOk result (IfSome told (λ bytes. (y : ℕ) → y < length to → is_none held ≡ false → get_or to y 0 ≡ member_byte bytes set.head.offset sector y held)) →
-    OnOk result (IfSome told (λ bytes. to ≡ sectors_of bytes set end v n))
-run_told told set end v n sector held (Err e) to is at there long inside bytes = tt
-run_told None set end v n sector held (Ok r) to is at there long inside bytes = tt
-run_told (Some images) set end v n sector held (Ok r) to is at there long inside bytes =
-    run_is images set end v n to long inside
+    OnOk result (IfSome told (λ bytes. to ≡ copies_of bytes set end copy v n))
+run_told told set end v n copy sector held (Err e) to is at there long inside bytes = tt
+run_told None set end v n copy sector held (Ok r) to is at there long inside bytes = tt
+run_told (Some images) set end v n copy sector held (Ok r) to is at there long inside bytes =
+    run_is images set end v n copy to long inside
     (λ y h. bytes y h (some_held held there) ∙ ap (λ (t : ℕ). member_byte images set.head.offset t y held) at
-    ∙ ap (λ (o : Option ℕ). member_byte images set.head.offset (copy_sector set.head end (home_copy set v) v) y o) is)
+    ∙ ap (λ (o : Option ℕ). member_byte images set.head.offset (copy_sector set.head end copy v) y o) is)
+
+-- the first copy whose slot holds an image is the volume
+home_run : (images : List (List ℕ)) (set : NearSet) (end copy v n : ℕ) → held_copy set (v / set.head.chunk) ≡ Some copy → v % set.head.chunk + n ≤ set.head.chunk →
+    copies_of images set end copy v n ≡ sectors_of images set end v n
+unfolding copies_of sectors_of
+home_run images set end copy v n held inside =
+    flat_same (λ w. copy_bytes images set end w copy) (near_sector images set end) v n
+    (λ w low high.
+    let at : v + (w - v) ≡ w = omega arith in
+    let home : home_copy set w ≡ copy = ap (λ (u : ℕ). home_copy set u) (sym at) ∙ same_home set v (w - v) (omega arith) ∙ ap (λ (o : Option ℕ). unwrap_or o 0) held in
+    ap (λ (c : ℕ). copy_bytes images set end w c) (sym home))
+
+pub home_told : {T E : Type 0} (told : Option (List (List ℕ))) (set : NearSet) (end copy v n : ℕ) (result : Result T E) (to : List ℕ) → held_copy set (v / set.head.chunk) ≡ Some copy → v % set.head.chunk + n ≤ set.head.chunk →
+    OnOk result (IfSome told (λ bytes. to ≡ copies_of bytes set end copy v n)) → OnOk result (IfSome told (λ bytes. to ≡ sectors_of bytes set end v n))
+home_told told set end copy v n (Err e) to held inside read = tt
+home_told None set end copy v n (Ok r) to held inside read = tt
+home_told (Some images) set end copy v n (Ok r) to held inside read = read ∙ home_run images set end copy v n held inside
+
+-- the slot of that copy does
+pub held_there : (set : NearSet) (chunk copy : ℕ) → held_copy set chunk ≡ Some copy → is_held set chunk copy ≡ true
+unfolding held_copy
+held_there set chunk copy e = (found (is_held set chunk) 0 set.head.layout.copies copy e).0
 
 -- the rows end before the end, and so does what lies in one chunk of them
 pub run_inside : (head : NearHead) (end v n copy sector : ℕ) → 1 ≤ head.chunk → sector ≡ copy_sector head end copy v → sector < near_area head end → v % head.chunk + n ≤ head.chunk →

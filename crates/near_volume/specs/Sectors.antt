@@ -10,6 +10,10 @@ use Rattle.raid_terms.specs.Parity.{member_byte}
 unfoldable pub copy_bytes : List (List ℕ) → NearSet → ℕ → ℕ → ℕ → List ℕ
 copy_bytes images set end v copy = map (λ x. member_byte images set.head.offset (copy_sector set.head end copy v) x (copy_image set copy v)) (range_with_len 0 512)
 
+-- n sectors of the volume from a sector on, by one of their copies
+unfoldable pub copies_of : List (List ℕ) → NearSet → ℕ → ℕ → ℕ → ℕ → List ℕ
+copies_of images set end copy first n = flat_map (λ v. copy_bytes images set end v copy) (range_with_len first n)
+
 -- volume sector v: its first copy whose slot holds an image
 abbrev pub near_sector : List (List ℕ) → NearSet → ℕ → ℕ → List ℕ
 near_sector images set end v = copy_bytes images set end v (home_copy set v)

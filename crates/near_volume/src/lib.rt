@@ -8,4 +8,4 @@ mod writing;
 
 // The tests stand in `volume_rows`.
 
-pub use writing::{read_near, write_near};
+pub use writing::{read_copy, read_near, write_near};

@@ -1,5 +1,5 @@
 //! The volume of a mirror, written out.
-ghost use Rattle.std.specs.Prelude.{◌≡◌, ◌+◌, ◌*◌, ◌/◌, ◌%◌, ◌^◌, ◌<◌, ◌≤◌, length, All, IfErr, IfSome, OnOk};
+ghost use Rattle.std.specs.Prelude.{true, ◌≡◌, ◌+◌, ◌*◌, ◌/◌, ◌%◌, ◌^◌, ◌<◌, ◌≤◌, length, All, IfErr, IfSome, OnOk};
 ghost use Rattle.std.specs.Io.KnownBytes.{Appends};
 ghost use Rattle.std.specs.Result.{IsErrOf};
 ghost use Rattle.outside.specs.Attached.{told_all};
@@ -7,13 +7,13 @@ ghost use Rattle.outside.specs.Causes.{HasCause};
 ghost use Rattle.outside.specs.Seen.{OnlyReads};
 ghost use Rattle.outside.specs.Streams.{AppendsFront, AppendsSectors, Puts};
 ghost use Rattle.near_mirror.specs.Copies.{near_sectors};
-ghost use Rattle.near_mirror.specs.Volume.{IsMirror};
+ghost use Rattle.near_mirror.specs.Volume.{IsMirror, is_held};
 ghost use Rattle.member_regions.specs.Members.{Reaches};
 ghost use Rattle.member_regions.specs.declared.regions.TheConstants.{BLOCK as BLOCK_SECTORS};
 ghost use Rattle.virtual_volume.specs.Gained.{IsAhead};
 ghost use Rattle.virtual_volume.specs.Served.{Faults, IsFault};
 ghost use Rattle.near_volume.specs.Mirrored.{IsMirrored};
-ghost use Rattle.near_volume.specs.Sectors.{near_volume, sectors_of};
+ghost use Rattle.near_volume.specs.Sectors.{copies_of, near_volume, sectors_of};
 
 use member_regions::{BLOCK, read_member, zeros};
 use near_mirror::NearSet;
@@ -24,7 +24,42 @@ use virtual_volume::VolumeFault;
 /// The bytes of a block.
 const BLOCK_BYTES: usize = BLOCK * SECTOR;
 
-/// Reads sectors of the volume from number `first` on, which lie in one chunk, from the copy that is there.
+/// Reads sectors of the volume from number `first` on, which lie in one chunk, from one of their copies, whose slot holds an image. It
+/// takes no memory, and reads as many sectors as it fills.
+pub fn read_copy<I: Images>(
+    images: &mut I,
+    set: &NearSet,
+    end: u64,
+    copy: u8,
+    first: u64,
+    to: &mut [u8],
+) -> Result<(), Failed>
+    requires set { IsMirror set.now end }
+    requires near { end < 2 ^ 55 }
+    requires held { All (Reaches (I.seen images.old).attached end) set.now.slots.items }
+    requires copy { copy < set.now.head.layout.copies }
+    requires there { is_held set.now (first / set.now.head.chunk) copy ≡ true }
+    requires whole { length to.old % 512 ≡ 0 }
+    requires some { 0 < length to.old }
+    requires chunk { first % set.now.head.chunk + length to.old / 512 ≤ set.now.head.chunk }
+    requires inside { first < near_sectors set.now.head end }
+    ensures told { OnOk result (IfSome (told_all (I.seen images.old).attached)
+        (λ bytes. to.new ≡ copies_of bytes set.now end copy first (length to.old / 512))) }
+    ensures long { length to.new ≡ length to.old }
+    ensures reads { OnlyReads (I.seen images.old) (I.seen images.new) (length to.old / 512) }
+    ensures cause { HasCause (I.seen images.old).faults (I.seen images.new).faults result }
+{
+    match set.head.copy_place(end, copy, first) {
+        Some(place) => {
+            let held = set.slots[place.slot as usize];
+            read_member(images, held, set.head.offset, place.sector, to)
+        }
+        None => Ok(()),
+    }
+}
+
+/// Reads sectors of the volume from number `first` on, which lie in one chunk, from the first copy that is there.
+#[tactic(auto, using(crate::proofs::Mirrors::mirror_chunk))]
 fn read_run<I: Images>(
     images: &mut I,
     set: &NearSet,
@@ -45,11 +80,8 @@ fn read_run<I: Images>(
     ensures reads { OnlyReads (I.seen images.old) (I.seen images.new) (length to.old / 512) }
     ensures cause { HasCause (I.seen images.old).faults (I.seen images.new).faults result }
 {
-    match set.home(end, first) {
-        Some(home) => {
-            let held = set.slots[home.slot as usize];
-            read_member(images, held, set.head.offset, home.sector, to)
-        }
+    match set.held_copy(first / set.head.chunk) {
+        Some(copy) => read_copy(images, set, end, copy, first, to),
         None => Ok(()),
     }
 }

@@ -1,5 +1,5 @@
 -- What rows say of the prefixes of a head's slot lists.
-use Rattle.std.specs.Prelude.{ℕ, ◌≡◌, ◌+◌, ◌-◌, ◌*◌, ◌/◌, min, Bool, true, ◌&&◌, nat_lt, if◌then◌else◌, List, drop, length, take}
+use Rattle.std.specs.Prelude.{ℕ, ◌≡◌, ◌+◌, ◌-◌, ◌*◌, ◌/◌, ◌%◌, min, Bool, true, nat_le, nat_lt, if◌then◌else◌, List, drop, length, take}
 use Rattle.std.specs.Option.{option_map, option_map_or}
 use Rattle.std.specs.declared.option.Option.{Option}
 use Rattle.raid_params.specs.declared.types.Head.{Head}
@@ -18,14 +18,15 @@ most_empty plan members = min plan.bounds.missing (members + plan.bounds.foreign
 abbrev pub test_of : Plan → Head → PrefixTest
 test_of plan head = prefix_test head (tested_with plan head.chunk head.offset) plan.limits.badrows (most_empty plan head.members)
 
--- how many of some rows are asked of a prefix of so many slots: few where it is short, and none where one or two slots are open
+-- how many of some rows are asked of a prefix of so many slots: few more than twice as many as may be unsound, none where one or two
+-- slots are open, and all of a whole list
 abbrev pub rows_asked : ℕ → ℕ → ℕ → ℕ → ℕ
 rows_asked badrows rows members slots =
-    if nat_lt slots members && nat_lt (members - slots) 3 then 0 else if nat_lt slots 4 then min rows (min badrows 4096 + 4) else rows
+    if nat_le members slots then rows else if nat_lt (members - slots) 3 then 0 else min rows (min badrows 4096 * 2 + 4)
 
--- the first of them: elsewhere among the rows for each number of slots up to three
+-- the first of them: elsewhere among the rows for each of four numbers of slots that follow one another
 abbrev pub first_asked : ℕ → ℕ → ℕ → ℕ
-first_asked rows asked slots = if nat_lt slots 4 then min (rows / 4 * slots) (rows - asked) else 0
+first_asked rows asked slots = min (rows / 4 * (slots % 4)) (rows - asked)
 
 -- by these, the slots of a set may begin so
 abbrev pub lets_begin_by : List SampledRow → ℕ → PrefixTest → List (Option ℕ) → Bool

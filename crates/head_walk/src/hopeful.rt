@@ -139,35 +139,32 @@ fn most_empty(plan: &Plan, members: u8) -> u8
     (plan.bounds.missing as usize).min(open) as u8
 }
 
-/// How many of the rows are asked of a prefix of so many slots: few where it is short, so that one that they allow costs little, and
-/// none where it is so long that its whole lists cost less.
+/// How many of the rows are asked of a prefix of so many slots: few more than twice as many as may be unsound, so that one that they
+/// allow costs little and one whose rows are mostly unsound is still refused; none where it is so long that its whole lists cost less, and
+/// all of a whole list.
 #[inline]
 fn rows_asked(badrows: u64, rows: usize, members: usize, slots: usize) -> usize
     ensures asked { result ≡ rows_to_ask badrows rows members slots }
     ensures few { result ≤ rows }
 {
-    if slots < members && members - slots < 3 {
-        0
-    } else if slots < 4 {
-        rows.min(badrows.min(4096) as usize + 4)
-    } else {
+    if slots >= members {
         rows
+    } else if members - slots < 3 {
+        0
+    } else {
+        rows.min(badrows.min(4096) as usize * 2 + 4)
     }
 }
 
-/// The first of the rows that are asked where there are `asked`: elsewhere among them for each number of slots up to three, so that
-/// rows that tell little at one place cost one slot.
+/// The first of the rows that are asked where there are `asked`: elsewhere among them for each of four numbers of slots that follow one
+/// another, so that rows that tell little at one place cost one slot.
 #[inline]
 fn first_asked(rows: usize, asked: usize, slots: usize) -> usize
     requires { asked ≤ rows }
     ensures first { result ≡ first_to_ask rows asked slots }
     ensures within { result + asked ≤ rows }
 {
-    if slots < 4 {
-        (rows / 4 * slots).min(rows - asked)
-    } else {
-        0
-    }
+    (rows / 4 * (slots % 4)).min(rows - asked)
 }
 
 /// Whether rows let the slots of a set begin so.

@@ -13,3 +13,4 @@ pub mod Following
 pub mod Pinned
 pub mod Begun
 pub mod Keeping
+pub mod Demands

@@ -6,6 +6,7 @@ use Rattle.gf256.specs.Field.{product}
 use Rattle.row_relations.specs.Rows.{field_sum, AreBytes}
 use Rattle.relation_prefix.specs.declared.condition.Condition.{Condition}
 use Rattle.relation_prefix.specs.declared.condition.TheConstants.{MOST_TIES}
+use Rattle.relation_prefix.specs.declared.demand.Demand.{Demand}
 
 -- values of the unknowns: bytes
 abbrev pub AreValues : (ℕ → ℕ) → Type 0
@@ -37,3 +38,7 @@ pub record IsTriangular (conditions : List (Option Condition)) : Type 0 where
 -- some values meet all conditions
 abbrev pub IsSolvable : List (Option Condition) → Type 0
 IsSolvable conditions = (x : ℕ → ℕ) × AreValues x × Solves x conditions
+
+-- the values meet what is asked of the first unknown alone
+abbrev pub AsksFirst : (ℕ → ℕ) → Demand → Type 0
+AsksFirst x demand = product demand.coefficient (x 0) ≡ demand.value

@@ -16,6 +16,7 @@
 
 mod beginning;
 mod condition;
+mod demand;
 mod equation;
 mod head_relations;
 pub mod laws;

@@ -10,6 +10,7 @@ ghost use Rattle.relation_prefix.specs.Sampled.{allows_by};
 ghost use Rattle.relation_prefix.specs.Ties.{AreSlots, AreThere, AreTiesOf, AreWeightsOf, CanHaveAll, FitTies, ForeignHaveNone, HasWeight, HaveWeights};
 
 use crate::condition::Condition;
+use crate::demand::clashes;
 use crate::row_ties::RowTies;
 use crate::system::System;
 
@@ -114,6 +115,9 @@ fn can_have_all(ties: &RowTies, members: usize, weights: &[u8], slots: &[Option<
     requires slots { AreThere ties.now.images slots.now }
     ensures { Decides result (CanHaveAll ties.now weights.now members slots.now) }
 {
+    if clashes(ties, weights, slots) {
+        return false;
+    }
     let mut system = System::new();
     if !pin_slots(ties, &mut system, weights, slots) {
         return false;

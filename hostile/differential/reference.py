@@ -19,7 +19,7 @@ from generated import array_images, put_file_system, volume_of
 from landmarks import first_blocks, groups_of, sightings
 from product import Product, page
 from texts import (LEVELS, LISTS, MOST, MOST_RELATED, PATTERNS, RANKS, SECTOR, SYNDROMES, USUAL_KINDS, Plan, Set, Stop, broken_bases,
-                   broken_mirror_rule, broken_rule, read_plan, read_sets, read_words)
+                   broken_rule, read_plan, read_sets, read_words)
 
 # Rows of `relations`: as many where no step is given, and the most.
 USUAL_ROWS, MOST_ROWS = 4096, 1048576
@@ -224,7 +224,7 @@ def salvage_volume(given, text, images):
 
 def list_mirrors(given, images):
     end = usual_end(given, images)
-    asked = {**asked_values(given, images, end), "end": end}
+    asked = {**asked_values(given, images, end), "layouts": given.get("layouts", ["near2"]), "end": end}
     product = mirrors.Mirrors(asked, len(images))
     first = followed_cursor(given, followed_total(product))
     lines, after = mirrors.page(asked, product, images, first, given.get("size", 100), given.get("span", RANKS - 1))
@@ -233,7 +233,7 @@ def list_mirrors(given, images):
 
 def write_mirror(given, images):
     end, found = usual_end(given, images), given["set"]
-    follow(broken_mirror_rule(found, len(images), end))
+    follow(mirrors.broken_mirror_rule(found, len(images), end))
     return mirrors.volume(found, images, end)
 
 

@@ -178,11 +178,65 @@ def near():
     for word, rule, value in (("1:0:0", 21, 1), ("3:0:0,1,2", 22, 3), ("1:0:0,1,7", 23, 7), ("1:0:0,1,1", 24, 1), ("1:2:0,1,2", 26, 2)):
         row(f"mirrorwrite set=near2:{word}", three, status=7, line=f"set rule {rule} value {value}")
     row(f"mirrors {usual} from=7", three, status=6, line="cursor 7 is past 6")
-    row("mirrors missing=2", three, status=1, line="word 2 is not understood")
+    row("mirrors missing=24", three, status=1, line="word 2 is not understood")
     row("mirrors pages=1", three, status=1, line="word 2 is not understood")
     row("mirrorwrite", three, status=1, line="word 2 is not understood")
     row("mirrors end=3", three, status=4, line="images: end given 3 planned 2")
     row(f"mirrors {usual}", [sectors("00")] * 21, status=5, line="the product has more than 18446744073709551615 sets")
+
+
+# Copies otherwise: the volume's chunks are 1, 2, 3 and so on, and what no chunk lies on is 99
+
+def copies():
+    def volume(word, images, out):
+        row(f"mirrorwrite set={word}", [sectors(image) for image in images.split()], out=sectors(out))
+
+    def refused(word, images, value, rule=25):
+        row(f"mirrorwrite set={word}", [sectors(image) for image in images.split()], status=7, line=f"set rule {rule} value {value}")
+    volume("far2:1:0:0,1", "0102 0201", "0102")
+    volume("far2:1:0:0,-", "0102", "0102")
+    volume("far2:1:0:-,0", "0201", "0102")
+    volume("far2:1:0:0,1,2", "01040306 02050104 03060205", "010203040506")
+    volume("far2:1:0:0,-,1", "01040306 03060205", "010203040506")
+    volume("far2:1:0:0,1,2,3", "010499 020199 030299 040399", "01020304")
+    volume("far2:1:0:-,0,-,1", "020199 040399", "01020304")
+    refused("far2:1:0:0,-,-,1", "010499 040399", 1)
+    refused("far2:1:0:0,1,2", "99 99 99", 0, 26)
+    refused("far3:1:0:0,1", "010201 020102", 2, 21)
+    volume("far3:1:0:0,1,2,3", "01040399 02010499 03020199 04030299", "01020304")
+    refused("far3:1:0:-,-,0,-", "03020199", 3)
+    volume("offset2:1:0:0,1,2", "01030406 02010504 03020605", "010203040506")
+    volume("offset2:1:0:0,-,1", "0103040699 0302060599", "010203040506")
+    volume("offset3:1:0:0,-,-", "010302", "010203")
+    refused("offset2:1:0:0,-,-", "01030406", 1)
+    volume("near3:1:0:0,1,2,3", "010203 010204 010304 020304", "01020304")
+    volume("near3:1:0:0,-,-,1", "010203 020304", "01020304")
+    refused("near3:1:0:-,-,-,0", "020304", 0)
+    volume("near2:1:0:-,0,-,1,2", "0104 0205 0305", "0102030405")
+    refused("near2:1:0:0,-,-,1,2", "0103 0205 0305", 2)
+    volume("near2:1:0:0,-,-,1,2", "01 02 99", "0102")
+    refused("near2:1:1:0,-,1", "99 99", 1, 26)
+    refused("near2:1:1:0,-,-", "99 99", 2)
+    two, three = [sectors("0102"), sectors("0201")], [sectors(image) for image in ("01040306", "02050104", "03060205")]
+    row("mirrors layouts=far2 chunks=1 offsets=0", two, out="0 far2:1:0:0,1\n1 far2:1:0:1,0\nnext 2 of 2\n")
+    turned = "6 far2:1:0:0,1,2\n9 far2:1:0:1,2,0\n10 far2:1:0:2,0,1\n"
+    row("mirrors layouts=near2,far2,far4 chunks=1 offsets=0", three, out=f"{turned}next 12 of 12\n")
+    # a window is one of each part, and of three copies that differ there are three pairs
+    wrong = [three[0][:-SECTOR] + sectors("99"), *three[1:]]
+    row("mirrors layouts=near2,far2 chunks=1 offsets=0 window=1", wrong, out=f"{turned}next 12 of 12\n")
+    row("mirrors layouts=near2,far2 chunks=1 offsets=0 window=2", wrong, out="next 12 of 12\n")
+    row("mirrors layouts=near2,far2 chunks=1 offsets=0 badrows=1", wrong, out=f"{turned}next 12 of 12\n")
+    for bad, line in ((2, ""), (3, "0 near3:1:0:0,1,2\n")):
+        row(f"mirrors layouts=near3 chunks=1 offsets=0 span=1 badrows={bad}", [sectors("01"), sectors("02"), sectors("03")], out=f"{line}next 1 of 6\n")
+    # of two chunks on four slots two may be missing, one of each pair; with three missing a chunk has no copy
+    row("mirrors chunks=1 offsets=0 members=4 missing=3 foreign=1", [sectors("01"), sectors("02")],
+        out="".join(f"{rank} near2:1:0:{slots}\n" for rank, slots in (
+            (1, "0,-,1,-"), (2, "0,-,-,1"), (5, "1,-,0,-"), (6, "1,-,-,0"), (8, "-,0,1,-"), (9, "-,0,-,1"), (11, "-,1,0,-"), (12, "-,1,-,0")))
+        + "next 20 of 20\n")
+    for word in ("layouts=far2,near2", "layouts=far5", "layouts=near1", "layouts=", "layouts=near2,near2", "layouts=5"):
+        row(f"mirrors {word}", two, status=1, line="word 2 is not understood")
+    for word in ("near1", "near5", "far1", "offset5", "far02", "offset"):
+        row(f"mirrorwrite set={word}:1:0:0,1", two, status=1, line="word 2 is not understood")
 
 
 # Landmarks of btrfs, LVM2 and ext
@@ -325,7 +379,7 @@ def differs(words, images, text, out, status, line, ends):
 
 
 def main():
-    for rows in (earlier, own_offsets, large_blocks, rescue, near, file_systems, relations):
+    for rows in (earlier, own_offsets, large_blocks, rescue, near, copies, file_systems, relations):
         rows()
     differing = 0
     for words, *rest in ROWS:

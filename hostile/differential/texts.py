@@ -17,6 +17,7 @@ SYNDROMES = ["none", "after-q", "by-data", "by-slot"]
 KINDS = ["gpt", "ntfs", "xfs", "btrfs", "lvm", "ext"]
 USUAL_KINDS = KINDS[:5]
 MARKS_OF = {"gpt": ["gpt"], "ntfs": ["boot", "record"], "xfs": ["super", "agf", "agi"], "btrfs": ["btrfs"], "lvm": ["lvm"], "ext": ["ext"]}
+LAYOUTS = [f"{kind}{copies}" for kind in ("near", "far", "offset") for copies in (2, 3, 4)]
 FIVE = PATTERNS[1:7]
 SIX = PATTERNS[1:]
 REDUNDANCY = {0: 0, 5: 1, 6: 2}
@@ -133,10 +134,14 @@ class Set(Array):
 
 
 class Mirror(Array):
-    """A set of two copies next to each other."""
+    """A set of copies of each chunk."""
+
+    def __init__(self, layout, chunk, offset, slots):
+        super().__init__(chunk, offset, slots)
+        self.layout, self.copies = layout, int(layout[-1])
 
     def word(self):
-        return f"near2:{self.chunk}:{self.offset}:{self.slot_words()}"
+        return f"{self.layout}:{self.chunk}:{self.offset}:{self.slot_words()}"
 
 
 def places(text):
@@ -163,34 +168,16 @@ def set_word(text):
 
 def mirror_word(text):
     parts = text.split(":")
-    if len(parts) != 4 or parts[0] != "near2":
+    if len(parts) != 4 or parts[0] not in LAYOUTS:
         return None
     chunk, offset, slots = number(parts[1], 0, 2 ** 32 - 1), number(parts[2], 0, FAR - 1), slots_word(parts[3])
-    return None if None in (chunk, offset, slots) else Mirror(chunk, offset, slots)
+    return None if None in (chunk, offset, slots) else Mirror(parts[0], chunk, offset, slots)
 
 
 def strange_images(found, images):
     """The images of a set that do not exist, and those that stand in a slot before."""
     there = [slot for slot in found.slots if slot is not None]
     return [slot for slot in there if slot >= images], [slot for place, slot in enumerate(there) if slot in there[:place]]
-
-
-def broken_mirror_rule(found, images, end):
-    """The first rule that a set of copies breaks, and its value."""
-    absent, again = strange_images(found, images)
-    if not 2 <= found.members <= MOST:
-        return 21, found.members
-    if found.chunk not in CHUNKS:
-        return 22, found.chunk
-    if absent:
-        return 23, absent[0]
-    if again:
-        return 24, again[0]
-    if found.lost > 1:
-        return 25, found.lost
-    if found.rows(end) == 0:
-        return 26, found.offset
-    return None
 
 
 def broken_bases(found, images):
@@ -252,8 +239,8 @@ OPERANDS = {
     "sample": {"number": one(0, RANKS - 1), "set": set_word, "rows": one(1, 65536), "marks": either("none", "xfs")},
     "classes": {"images": one(1, MOST), **END},
     "salvage": {"set": set_word, "form": either("data", "lost"), **END},
-    "mirrors": {**{name: LISTS[name] for name in ("members", "chunks", "offsets", "foreign", "badrows", "window")}, "missing": one(0, 1),
-                **END, **RANGE},
+    "mirrors": {"layouts": named(LAYOUTS), **{name: LISTS[name] for name in ("members", "chunks", "offsets", "foreign", "badrows", "window")},
+                "missing": one(0, MOST - 1), **END, **RANGE},
     "mirrorwrite": {"set": mirror_word, **END},
     "relations": {"from": one(0, FAR - 1), **END, "step": one(1, FAR - 1), "offsets": places, "form": either("text", "json")},
 }

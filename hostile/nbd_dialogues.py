@@ -22,7 +22,7 @@ sys.path.insert(0, str(HERE))
 import nbd_model as model  # noqa: E402
 
 DISKS = HERE.parent / "bench/making/disks.py"
-# The level, pattern, chunk, offsets and members of each array, and how many members may be lost.
+# The level or the layout of copies, which has no pattern, the pattern, chunk, offsets and members of each array, and how many members may be lost.
 ARRAYS = [
     ("0", "plain", 8, [16], 3, 0),
     ("0", "plain", 128, [2048], 4, 0),
@@ -34,6 +34,10 @@ ARRAYS = [
     ("6", "n-continue", 16, [0, 16, 16, 48, 0], 5, 2),
     ("near2", "", 128, [2048], 4, 1),
     ("near2", "", 8, [0], 5, 1),
+    ("near3", "", 8, [0], 4, 2),
+    ("far2", "", 128, [2048], 4, 1),
+    ("far3", "", 8, [8], 5, 2),
+    ("offset2", "", 16, [0], 3, 1),
 ]
 LINE = "reraid: "
 # The lines of the statuses that `write` has not, or with other words.
@@ -56,8 +60,8 @@ class Cases:
 def set_word(array, slots):
     """The set of an array whose slots hold these images."""
     level, pattern, chunk, offsets, _, _ = array
-    if level == "near2":
-        return f"near2:{chunk}:{offsets[0]}:{','.join(slots)}"
+    if not pattern:
+        return f"{level}:{chunk}:{offsets[0]}:{','.join(slots)}"
     syndrome = "by-slot" if pattern == "n-continue" else "after-q" if level == "6" else "none"
     return f"{level}:{pattern}:{syndrome}:{chunk}:{'+'.join(map(str, offsets))}:{','.join(slots)}"
 
@@ -110,7 +114,7 @@ def try_reads(cases, program, server, count, chance):
     kept = []
     for number, array in enumerate(ARRAYS):
         names = make_array(array, number, chance)
-        command = "mirrorwrite" if array[0] == "near2" else "write"
+        command = "write" if array[1] else "mirrorwrite"
         sets = list(sets_of(array, names))
         for lost, word, left in sets:
             content = subprocess.run([program, command, f"set={word}", "--", *left], check=True, stdout=subprocess.PIPE).stdout
@@ -236,7 +240,8 @@ def try_refusals(cases, program, server):
                ["set=5:ls:after-q:128:0:0,1,2", "--", *names], ["set=5:ls:none:128:0:-,-,2", "--", *names], ["set=5:ls:none:128:99999:0,1,2", "--", *names],
                ["set=5:ls:none:128:0+0:0,1,2", "--", *names], [good, "--", *(names * 9)]]
     mirrored = [["set=near2:128:0:0,0,1", "--", *names], ["set=near2:3:0:0,1,2", "--", *names], ["set=near2:128:0:-,-,1", "--", *names],
-                ["set=near2:128:0:0", "--", *names], ["set=near2:128:99999:0,1,2", "--", *names], ["set=near2:128:0", "--", *names]]
+                ["set=near2:128:0:0", "--", *names], ["set=near2:128:99999:0,1,2", "--", *names], ["set=near2:128:0", "--", *names],
+                ["set=far2:128:0:-,-,1", "--", *names], ["set=offset4:128:0:0,1,2", "--", *names], ["set=far5:128:0:0,1,2", "--", *names]]
     for command, lists in (("write", refused), ("mirrorwrite", mirrored)):
         for words in lists:
             wanted = subprocess.run([program, command, *words], stdin=subprocess.DEVNULL, capture_output=True, check=False)

@@ -3,7 +3,7 @@
 left-symmetric, with Q in the order after Q, its data from sector 2048 on and noise before it, as md has them.
 
 Usage: disks.py [pattern=NAME] [syndrome=NAME] [offsets=LIST] LEVEL CHUNK VOLUME DISK..
-LEVEL is 0, 5 or 6, or near2 for two copies next to each other. CHUNK is in sectors of 512 bytes. The disks are written in
+LEVEL is 0, 5 or 6, or for two to four copies of each chunk near2, far2 or offset2, and so on. CHUNK is in sectors of 512 bytes. The disks are written in
 the order of their slots; the volume is filled up with zeros to whole rows. NAME is one that reraid has for a pattern or
 an order of Q; LIST is the sector at which the data begin, on all disks, or on each, with commas. Then all disks are as long
 as the one whose data begin last, by noise after the data.
@@ -17,6 +17,7 @@ PARITY = {"0": 0, "5": 1, "6": 2}
 PATTERNS = {"0": ["plain"], "5": ["ls", "la", "ra", "rs", "parity-first", "parity-last"]}
 PATTERNS["6"] = PATTERNS["5"] + ["n-restart", "n-continue", "la-6", "ra-6", "ls-6", "rs-6", "parity-first-6"]
 ORDERS = ["after-q", "by-data", "by-slot"]
+COPIES = [f"{kind}{count}" for kind in ("near", "far", "offset") for count in (2, 3, 4)]
 
 
 def powers():
@@ -111,17 +112,29 @@ def striped(data, size, members, parity, pattern, order):
     return disks
 
 
-def mirrored(data, size, members, noise):
-    """What each disk holds of a volume of which each chunk stands twice, on one disk and the next, round and round. Of an odd number of
-    disks the last chunk may hold nothing of it."""
-    rows = -(-2 * len(data) // (size * members))
-    while rows * members // 2 * size < len(data):
-        rows += 1
-    data = data.ljust(rows * members // 2 * size, b"\0")
+def copies(layout, chunk, members, rows):
+    """The disk and the row of each copy of a chunk: near copies follow one another over the rows; of others each is on the next disk, in a part of
+    the rows of its own, or in the next row."""
+    kind, count = layout[:-1], int(layout[-1])
+    if kind == "near":
+        return [(cell % members, cell // members) for cell in range(count * chunk, count * chunk + count)]
+    row, first = divmod(chunk, members)
+    return [((first + copy) % members, row + copy * (rows // count) if kind == "far" else count * row + copy) for copy in range(count)]
+
+
+def mirrored(data, size, members, layout, noise):
+    """What each disk holds of a volume of whose chunks there are several copies. Of near copies the last cells may hold nothing of it."""
+    count = int(layout[-1])
+    chunks = -(-len(data) // size)
+    rows = -(-chunks * count // members) if layout.startswith("near") else -(-chunks // members) * count
+    chunks = rows * members // count
+    data = data.ljust(chunks * size, b"\0")
+    cells = {place: chunk for chunk in range(chunks) for place in copies(layout, chunk, members, rows)}
     disks = [bytearray() for _ in range(members)]
-    for cell in range(rows * members):
-        start = cell // 2 * size
-        disks[cell % members] += data[start:start + size] or noise.randbytes(size)
+    for row in range(rows):
+        for slot, disk in enumerate(disks):
+            chunk = cells.get((slot, row))
+            disk += noise.randbytes(size) if chunk is None else data[chunk * size:chunk * size + size]
     return disks
 
 
@@ -136,7 +149,7 @@ def read_words(words):
 
 def main():
     asked, words = read_words(sys.argv[1:])
-    if len(words) < 5 or words[0] not in (*PARITY, "near2"):
+    if len(words) < 5 or words[0] not in (*PARITY, *COPIES):
         sys.exit(__doc__)
     level, chunk, volume, *names = words
     patterns = PATTERNS.get(level, [None])
@@ -147,8 +160,8 @@ def main():
         data = file.read()
     noise, size = random.Random(0), int(chunk) * SECTOR
     before = [noise.randbytes(offset * SECTOR) for offset in offsets * (len(names) // len(offsets))]
-    if level == "near2":
-        disks = mirrored(data, size, len(names), noise)
+    if level in COPIES:
+        disks = mirrored(data, size, len(names), level, noise)
     else:
         disks = striped(data, size, len(names), PARITY[level], pattern, asked["syndrome"])
     for name, first, disk in zip(names, before, disks):

@@ -1,7 +1,8 @@
 #!/usr/bin/env python3
 """Talks to reraid-nbd as clients at random over arrays of six disks of which some have bad areas, by their maps, and compares every byte and
 the status with a model of the protocol over the volume that damaged.py computes of its own: two damaged disks at level 5, three at level 6, in
-each pattern and order of Q; one of level 0; each also without a member where the level allows it. What is lost is EIO, and nothing else is.
+each pattern and order of Q; one of level 0; of copies all, in each layout; each also without members where it survives that. What is lost is EIO,
+and nothing else is.
 
 Usage: hostile/nbd_maps.py SERVER [seed=NUMBER] [dialogues=NUMBER]
 Dialogues are for all arrays together (2000, if left out). A bad sector of an image holds random bytes, so that it shows if it is read. The last
@@ -35,31 +36,53 @@ def areas(chance):
 class Array:
     """An array, its images in the folder, and what can be had of its volume."""
 
-    def __init__(self, level, pattern, order, without, chance):
-        parity = disks.PARITY[level]
-        volume = chance.randbytes(ROWS * (MEMBERS - parity) * CHUNK * SECTOR)
-        members = disks.striped(volume, CHUNK * SECTOR, MEMBERS, parity, pattern, order)
-        slots = chance.sample(range(MEMBERS), MEMBERS)
-        lost = chance.sample(range(MEMBERS), 1) if without else []
-        hurt = chance.sample([slot for slot in range(MEMBERS) if slot not in lost], parity + 1 - len(lost))
-        bad = [set(range(ROWS * CHUNK)) if slot in lost else areas(chance) if slot in hurt else set() for slot in range(MEMBERS)]
-        self.sectors = damaged.volume_of(members, bad, pattern, order, parity)
-        for slot, (member, wrong) in enumerate(zip(members, bad)):
+    def __init__(self, members, bad, lost, sectors, word, chance):
+        """The members in their slots with the bad sectors of each, the slots that are lost, the sectors of the volume, none where they cannot be had,
+        and what of the word of the set comes before the slots."""
+        self.sectors = sectors
+        for member, wrong in zip(members, bad):
             for sector in wrong:
                 member[sector * SECTOR : (sector + 1) * SECTOR] = chance.randbytes(SECTOR)
-        left = [slot for slot in sorted(range(MEMBERS), key=slots.__getitem__) if slot not in lost]
+        left, lines = [slot for slot in chance.sample(range(MEMBERS), MEMBERS) if slot not in lost], []
         for number, slot in enumerate(left):
             pathlib.Path(f"image{number}").write_bytes(chance.randbytes(OFFSET * SECTOR) + members[slot])
-        lines = []
-        for number, slot in enumerate(left):
-            if slot in hurt:
+            if bad[slot]:
                 lines += [f"map {number}"] + damaged.map_of(bad[slot], chance)
         pathlib.Path("maps").write_text("".join(line + "\n" for line in lines), encoding="ascii")
-        word = ",".join(str(left.index(slot)) if slot in left else "-" for slot in range(MEMBERS))
-        self.set, self.images = f"set={level}:{pattern}:{order}:{CHUNK}:{OFFSET}:{word}", [f"image{number}" for number in range(len(left))]
+        slots = ",".join(str(left.index(slot)) if slot in left else "-" for slot in range(MEMBERS))
+        self.set, self.images = f"set={word}:{CHUNK}:{OFFSET}:{slots}", [f"image{number}" for number in range(len(left))]
         self.words = [*chance.choice([("maps=maps", self.set), (self.set, "maps=maps")]), "--", *self.images]
         self.content = b"".join(sector or bytes(SECTOR) for sector in self.sectors)
         self.lost = frozenset(place for place, sector in enumerate(self.sectors) if sector is None)
+
+
+def striped(level, pattern, order, without, chance):
+    """An array at a level, with a member too many that is damaged."""
+    parity = disks.PARITY[level]
+    volume = chance.randbytes(ROWS * (MEMBERS - parity) * CHUNK * SECTOR)
+    members = disks.striped(volume, CHUNK * SECTOR, MEMBERS, parity, pattern, order)
+    lost = chance.sample(range(MEMBERS), 1) if without else []
+    hurt = chance.sample([slot for slot in range(MEMBERS) if slot not in lost], parity + 1 - len(lost))
+    bad = [set(range(ROWS * CHUNK)) if slot in lost else areas(chance) if slot in hurt else set() for slot in range(MEMBERS)]
+    return Array(members, bad, lost, damaged.volume_of(members, bad, pattern, order, parity), f"{level}:{pattern}:{order}", chance)
+
+
+def mirrored(layout, chance):
+    """An array of copies of which one is left at least, and all that are left are damaged: a sector can be had where one of its copies is good."""
+    count = int(layout[-1])
+    chunks = ROWS * MEMBERS // count if layout.startswith("near") else ROWS // count * MEMBERS
+    volume = chance.randbytes(chunks * CHUNK * SECTOR)
+    members = disks.mirrored(volume, CHUNK * SECTOR, MEMBERS, layout, chance)
+    for member in members:
+        member += chance.randbytes(ROWS * CHUNK * SECTOR - len(member))
+    lost = chance.sample(range(MEMBERS), chance.randrange(count))
+    bad = [set(range(ROWS * CHUNK)) if slot in lost else areas(chance) for slot in range(MEMBERS)]
+    sectors = []
+    for sector in range(chunks * CHUNK):
+        chunk, inner = divmod(sector, CHUNK)
+        good = any(row * CHUNK + inner not in bad[slot] for slot, row in disks.copies(layout, chunk, MEMBERS, ROWS))
+        sectors.append(volume[sector * SECTOR : (sector + 1) * SECTOR] if good else None)
+    return Array(members, bad, lost, sectors, layout, chance)
 
 
 def near_lost(array, chance, count):
@@ -113,7 +136,6 @@ def try_refusals(cases, server, array):
                                 ([word, "maps=maps", "maps=maps", "--", *images], 1, "word 3 is not understood\n"),
                                 ([word, "maps=maps", "end=x", "--", *images], 1, "word 3 is not understood\n"),
                                 (["end=x", "maps=maps", word, "--", *images], 1, "word 1 is not understood\n"),
-                                (["maps=maps", "set=near2:128:0:0,1", "--", "image0", "image1"], 1, "word 2 is not understood\n"),
                                 ([word, "--", "maps=nothing"], 10, "image read fault\n"),
                                 ([word, "maps=nothing", "--", "nothing"], 10, "image read fault\n"),
                                 ([word, "maps=nothing", "--"], 4, "images: count given 0 planned 1\n")):
@@ -127,13 +149,13 @@ def main(words):
     server, cases, chance = os.path.abspath(words[0]), Cases(), random.Random(asked["seed"])
     print(f"seed={asked['seed']}")
     arrays = [("0", "plain", "none")] + [("5", pattern, "none") for pattern in disks.PATTERNS["5"]]
-    arrays += [("6", pattern, order) for pattern in disks.PATTERNS["6"] for order in disks.ORDERS]
+    arrays += [("6", pattern, order) for pattern in disks.PATTERNS["6"] for order in disks.ORDERS] + [(layout,) for layout in disks.COPIES]
     chance.shuffle(arrays)
     arrays = arrays[: max(1, asked["dialogues"] // 40)]
     with tempfile.TemporaryDirectory() as folder:
         os.chdir(folder)
-        for level, pattern, order in arrays:
-            array = Array(level, pattern, order, level != "0" and chance.random() < 0.5, chance)
+        for words in arrays:
+            array = mirrored(*words, chance) if len(words) == 1 else striped(*words, words[0] != "0" and chance.random() < 0.5, chance)
             try_dialogues(cases, server, array, asked["dialogues"] // len(arrays) - 1, chance)
         try_refusals(cases, server, array)
         os.chdir("/")

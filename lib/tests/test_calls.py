@@ -5,7 +5,7 @@ import unittest
 from reraid_try.calls import formats, sets
 from reraid_try.calls.formats import Held, Ranked
 from reraid_try.calls.plans import Mark, read_plan
-from reraid_try.calls.program import LAST, MOST_LINES, SPAN, Program
+from reraid_try.calls.program import LAST, MOST_LINES, SPAN, Copied, Program
 from reraid_try.calls.sets import read_word, simplest
 from reraid_try.calls.surveys import KINDS, Request, Surveys
 from reraid_try.errors import OutsideError, Refused
@@ -37,7 +37,7 @@ class Sets(unittest.TestCase):
         self.assertEqual((word.data, word.row, word.spare, word.pattern), (1.5, 192, 0, ""))
         # Five rows of 128 sectors of three disks have 7.5 chunks, of which the last is half: whole sectors of 7.
         self.assertEqual(word.sectors(2048 + 5 * 128), 7 * 128)
-        self.assertEqual(sets.mirrored(128, 2048, (0, None)).text, "near2:128:2048:0,-")
+        self.assertEqual(sets.mirrored(sets.Copying("near", 3), 128, 2048, (0, None)).text, "near3:128:2048:0,-")
 
     def test_sectors_are_of_whole_rows(self) -> None:
         word = read_word("5:ls:none:128:2048:0,1,2")
@@ -270,10 +270,33 @@ class Programs(unittest.TestCase):
 
     def test_mirrors(self) -> None:
         program, _ = self.program()
-        self.assertEqual(program.mirror_words(4, 1, 7, [2048, 0], 99, 50),
+        self.assertEqual(program.mirror_words(Copied((sets.NEAR_2,), 4, 1), 7, [2048, 0], 99, 50),
                          ["reraid", "mirrors", "members=4", "offsets=0,2048", "end=99", "missing=1", "badrows=7", "chunks=8", "window=50",
                           f"size={MOST_LINES}", "--", "a", "b"])
-        self.assertNotIn("chunks=8", program.mirror_words(3, 0, 0, [0], 99, 50))
+        self.assertNotIn("chunks=8", program.mirror_words(Copied((sets.NEAR_2,), 3), 0, [0], 99, 50))
+        far = Copied(tuple(sets.Copying("far", copies) for copies in (2, 3)), 6, 2, (128, 64))
+        self.assertEqual(program.mirror_words(far, 0, [2048], 99, 50)[2:7],
+                         ["layouts=far2,far3", "members=6", "offsets=2048", "end=99", "missing=2"])
+        self.assertIn("chunks=64,128", program.mirror_words(far, 0, [2048], 99, 50))
+        # Six slots of four copies hold the same by twos, so the chunk is told; those of three by threes.
+        told = [program.mirror_words(Copied((sets.Copying("near", copies),), 6), 0, [0], 99, 50) for copies in (4, 3)]
+        self.assertEqual(["chunks=8" in words for words in told], [False, True])
+
+    def test_layouts_of_copies(self) -> None:
+        self.assertEqual([sets.read_copying(text) for text in ("near2", "far4", "offset3", "near1", "far5", "5", "nearly2")],
+                         [sets.Copying("near", 2), sets.Copying("far", 4), sets.Copying("offset", 3), None, None, None, None])
+        layouts = [sets.Copying(kind, copies) for kind, copies in (("near", 2), ("near", 3), ("near", 4), ("far", 2), ("offset", 3))]
+        self.assertEqual([it.together(6) for it in layouts], [2, 3, 2, 1, 1])
+        self.assertEqual([sets.Copying("near", copies).is_striped(6) for copies in (2, 3, 4)], [True, True, False])
+        word = read_word("offset2:64:2048:0,-,1")
+        self.assertEqual((word.is_mirrored, word.copying, word.together), (True, sets.Copying("offset", 2), 1))
+        self.assertEqual((word.needs_end, word.pattern), (False, ""))
+        self.assertTrue(read_word("far2:64:2048:0,1").needs_end)
+
+    def test_sectors_of_copies(self) -> None:
+        """Three members of 11 rows of 8 sectors behind sector 5, and a rest: 16 chunks near, and of whole rows of copies 15, 9 of three copies."""
+        found = [read_word(f"{layout}:8:5:0,1,2").sectors(5 + 11 * 8 + 7) for layout in ("near2", "far2", "offset2", "far3", "near3")]
+        self.assertEqual(found, [16 * 8, 15 * 8, 15 * 8, 9 * 8, 11 * 8])
 
     def test_check_and_lost(self) -> None:
         program, standin = self.program(("reraid check", put("unsound 0 of 5\npass\n")), ("reraid salvage", put("good 5 of 5\n")))

@@ -174,6 +174,10 @@ class Kin(unittest.TestCase):
         self.assertEqual(self.same("0:plain:none:8:0:0,1", "near2:8:0:0,2,1,-"), [None, 0])
         self.assertEqual(self.same("0:plain:none:8:0:0,1", "near2:8:0:-,0,1,3"), [None, 0])
         self.assertEqual(self.same("near2:8:0:0,1,2", "near2:8:0:0,2,1"), [None, None])
+        self.assertEqual(self.same("0:plain:none:8:0:0,1", "near3:8:0:-,0,3,1,-,-"), [None, 0])
+        # Four copies on six disks: two side by side may change places, others not.
+        self.assertEqual(self.same("near4:8:0:0,1,2,3,4,5", "near4:8:0:1,0,2,3,5,4", "near4:8:0:2,1,0,3,4,5"), [None, 0, None])
+        self.assertEqual(self.same("far2:8:0:0,1", "far2:8:0:1,0", "offset2:8:0:0,1"), [None, None, None])
         self.assertEqual(self.same("5:ls:none:8:0:0,1,2,-", "6:ls-6:after-q:8:0:0,1,2,-,-"), [None, 0])
         self.assertEqual(self.same("0:plain:none:8:0:0,1", "5:parity-first:none:8:0:-,0,1"), [None, 0])
 
@@ -498,8 +502,23 @@ class Printed(unittest.TestCase):
         said = words.in_words(read_word("near2:128:2048:0,1,-,2"), [image.name for image in self.images[:3]])
         self.assertEqual(said, "RAID 10 (near=2) of 4 disks, chunks of 64 KiB, data from sector 2048; slots: a.img=b.img -=c.img "
                          "(which of two copies is the first cannot be known); in no slot: none; missing: one of slot 2 and slot 3 "
-                         "(which of the two copies is lost cannot be known)")
+                         "(one of two copies, which cannot be told)")
         self.assertIn("missing: slot 1 of 0 to 2", words.missing(read_word("near2:128:2048:0,-,2")))
+
+    def test_more_copies_and_other_layouts(self) -> None:
+        names = [image.name for image in self.images]
+        said = words.in_words(read_word("near3:128:2048:0,-,1,2,-,-"), names[:3])
+        self.assertTrue(said.startswith("RAID 10 (near=3) of 6 disks, "))
+        self.assertIn("slots: a.img=-=b.img c.img=-=- (which of three copies is the first cannot be known)", said)
+        self.assertIn("missing: one of slot 0, slot 1 and slot 2 (one of three copies, which cannot be told), two of slot 3, slot 4 and slot 5 "
+                      "(two of three copies, which cannot be told)", said)
+        # Of six slots with four copies of each chunk two hold the same each time, and both of such two may be lost.
+        self.assertEqual(words.missing(read_word("near4:8:0:-,0,-,-,1,2")),
+                         "missing: one of slot 0 and slot 1 (one of two copies, which cannot be told), slot 2 and slot 3")
+        for layout, kind in (("far2", "far=2"), ("offset3", "offset=3")):
+            said = words.in_words(read_word(f"{layout}:128:2048:0,1,-,2"), names[:3])
+            self.assertTrue(said.startswith(f"RAID 10 ({kind}) of 4 disks, "))
+            self.assertIn("slots: a.img b.img - c.img; in no slot: none; missing: slot 2 of 0 to 3", said)
 
     def test_left_out(self) -> None:
         said = words.in_words(read_word("5:ls:none:8:0:0,-,1"), ["a", "b", "c", "d"], read_word("5:ls:none:8:0:0,3,1"))

@@ -171,9 +171,9 @@ class Gathered(InFolder):
         self.assertEqual(self.gather(self.plan(), map=many).bad, 3000)
 
     def test_mirrors_say_the_offsets(self) -> None:
-        found = self.gather(self.plan("super 0 4096 every:4096:2:0"), Pairs((None, None, None), (16, 2048)))
+        found = self.gather(self.plan("super 0 4096 every:4096:2:0"), Pairs(((), (), ()), (16, 2048)))
         self.assertEqual((found.offset_values, found.tried), ([16, 2048], (16, 2048)))
-        self.assertEqual([hint.what for hint in self.gather(self.plan(), Pairs((None,) * 3, (16,), True)).said], [])
+        self.assertEqual([hint.what for hint in self.gather(self.plan(), Pairs(((),) * 3, (16,), True)).said], [])
 
     def test_a_far_mark_is_a_stray_one(self) -> None:
         near, far = Hint(What.OFFSET, 100, Source.MARK, "", 2, 2), Hint(What.OFFSET, 100 + gathered.FAR + 1, Source.MARK, "", 2, 2)

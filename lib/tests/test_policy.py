@@ -6,24 +6,24 @@ from unittest import mock
 
 from reraid_try.calls.commands import Answer
 from reraid_try.calls.plans import Plan
-from reraid_try.calls.program import LAST, Program
+from reraid_try.calls.program import LAST, Copied, Program
 from reraid_try.calls.surveys import KINDS, Request, Surveys
 from reraid_try.evidence.filling import Filling
 from reraid_try.evidence.gathered import Evidence, Pairs
 from reraid_try.evidence.hints import Hint, Source, What
 from reraid_try.evidence.images import Image
 from reraid_try.options import Options
-from reraid_try.policy import cures
 from reraid_try.policy.cures import Family
 from reraid_try.policy.hunt import Hunt
-from reraid_try.policy.mirrors import Mirrors, pair, pairings
+from reraid_try.policy import cures, mirrors
+from reraid_try.policy.mirrors import Mirrors, groupings, is_striped, there
 from reraid_try.policy.plans import Asking
 from reraid_try.policy.questions import Questions
 from reraid_try.policy.shapes import Shape, Shapes
 from reraid_try.policy.steps import Step
 from reraid_try.policy.trials import Trial
 from reraid_try.calls.formats import Ranked
-from reraid_try.calls.sets import read_word
+from reraid_try.calls.sets import NEAR_2, Copying, read_word
 from reraid_try.units import SECTOR
 from tests.standin import OPTIONS, InFolder, Reply, Standin, plan_of, put
 
@@ -31,6 +31,8 @@ Marked = tuple[str, list[tuple[str, int, int, str]]]
 XFS = ("xfs", [("super", 0, 2048, "every:49152:4:0"), ("super", 1, 26624, "every:49152:4:0")])
 EXT = ("ext", [("ext", 2, 7426, "at:262144")])
 NTFS = ("ntfs", [("boot", 1, 2048, "either:0:9000"), ("record", 1, 2056, "at:8"), ("record", 2, 2058, "at:8")])
+# Four members with two copies side by side, one missing.
+TWO = Copied((NEAR_2,), 4, 1)
 BASE = Request().having(kinds=KINDS, offsets="0,2048", end=100000, origins="0,2048")
 
 
@@ -96,7 +98,7 @@ class OfShapes(unittest.TestCase):
         self.assertEqual(self.shapes(evidence(3)).allowed(Shape("5,6", 3)), Shape("5", 3))
 
     def test_pairs_are_a_raid_0(self) -> None:
-        self.assertEqual(self.shapes(evidence(2, pairs=Pairs((None, None), ()))).tiers().all, (Shape("0", 2),))
+        self.assertEqual(self.shapes(evidence(2, pairs=Pairs(((), ()), ()))).tiers().all, (Shape("0", 2),))
 
     def test_speak_for(self) -> None:
         shapes = self.shapes(evidence(4, ((3, 2),)))
@@ -411,8 +413,10 @@ class Hunts(InFolder):
     def test_words(self) -> None:
         hunt, _ = self.hunt(lambda *_: put(""))
         self.assertEqual(hunt.word("5:la:none:8:7+7+7:0,1,2").text, "5:la:none:8:7:0,1,2")
-        mirrors, _ = self.hunt(lambda *_: put(""), pairs=Pairs((5, None, 4), (2048,)))
-        self.assertEqual(mirrors.word("0:plain:none:8:2048:2,0,1").text, "near2:8:2048:2,4,0,5,1,-")
+        pairs, _ = self.hunt(lambda *_: put(""), pairs=Pairs(((5,), (), (4,)), (2048,)))
+        self.assertEqual(pairs.word("0:plain:none:8:2048:2,0,1").text, "near2:8:2048:2,4,0,5,1,-")
+        threes, _ = self.hunt(lambda *_: put(""), pairs=Pairs(((5, 6), (), (4,)), (2048,), copies=3))
+        self.assertEqual(threes.word("0:plain:none:8:2048:2,0,1").text, "near3:8:2048:2,4,-,0,5,6,1,-,-")
 
     def test_checked_by_all_groups(self) -> None:
         hunt, _ = self.hunt(lambda *_: put(""))
@@ -424,25 +428,63 @@ class Hunts(InFolder):
         hunt, _ = self.hunt(lambda *_: put(""))
         standin = Standin(("reraid mirrors", put("5 near2:8:2048:0,1,2,-\n7 near2:8:4096:1,0,-,2\nnext 9 of 9\n")))
         hunt.program.commands = standin
-        listing = Mirrors(hunt, standin).listing(4, 1)
+        listing = Mirrors(hunt, standin).listing(TWO)
         self.assertEqual((len(listing.sets), listing.total, listing.whole), (2, 9, True))
         self.assertEqual(standin.count("reraid mirrors"), 1)
-        found = pairings(listing.sets)
-        self.assertEqual([(it.pairs, it.offsets) for it in found], [(((0, 1), (2, None)), (2048, 4096))])
+        found = groupings(listing.sets)
+        self.assertEqual([(it.groups, it.offsets) for it in found], [(((0, 1), (2,)), (2048, 4096))])
         images = [Image("a", 0, 9), Image("b", 1, 9, like=0), Image("c", 2, 9)]
         self.assertEqual(found[0].line(images), "  pairs 0=1 image 2 alone: a RAID 0 of 2 disks")
-        self.assertEqual(found[0].partners(images), Pairs((1, None), (2048, 4096), True))
+        self.assertEqual(found[0].partners(images), Pairs(((1,), ()), (2048, 4096), True))
         self.assertFalse(found[0].partners([Image("a", 0, 9), Image("b", 1, 9), Image("c", 2, 9)]).same)
-        self.assertEqual((pair(None, 3), pair(4, 2), pair(None, None)), ((3, None), (2, 4), None))
+        self.assertEqual((there((None, 3)), there((4, 2)), there((None, None))), ((3,), (2, 4), ()))
+
+    def test_groups_of_more_copies(self) -> None:
+        found = groupings([Ranked(0, "near3:8:0:4,0,2,-,1,3"), Ranked(1, "near3:8:0:3,1,-,0,2,4"), Ranked(2, "near2:8:0:0,1,2,3,4,-")])
+        self.assertEqual([(it.groups, it.copies) for it in found], [(((0, 2, 4), (1, 3)), 3), (((0, 1), (2, 3), (4,)), 2)])
+        images = [Image(str(number), number, 9) for number in range(5)]
+        self.assertEqual(found[0].line(images), "  copies 0=2=4 1=3: a RAID 0 of 2 disks")
+        self.assertEqual(found[0].partners(images), Pairs(((2, 4), (3,)), (0,), False, 3))
+        texts = "near3:8:0:0,1,2,3,4,-", "near3:8:0:0,1,2", "near4:8:0:0,1,2,3,4,5", "far2:8:0:0,1"
+        self.assertEqual([is_striped(Ranked(0, text)) for text in texts], [True, False, False, False])
+
+    def test_what_is_asked_of_copies_side_by_side(self) -> None:
+        """Of three images: what lacks no member first. Of four members with two copies and two missing nothing would be compared."""
+        asked = [(it.layouts[0].text, it.members, it.missing) for it in mirrors.near(3)]
+        self.assertEqual(asked, [("near2", 3, 0), ("near3", 3, 0), ("near2", 4, 1), ("near3", 4, 1), ("near4", 4, 1), ("near2", 5, 2),
+                                 ("near3", 5, 2), ("near4", 5, 2), ("near3", 6, 3), ("near4", 6, 3)])
+        self.assertEqual([it.layouts[0].text for it in mirrors.near(4, 4)][:3], ["near4", "near2", "near3"])
+        self.assertEqual([(it.layouts[0].text, it.members) for it in mirrors.near(2)],
+                         [("near2", 2), ("near2", 3), ("near3", 3), ("near3", 4), ("near4", 4), ("near3", 5), ("near4", 5)])
+
+    def test_what_is_asked_of_copies_that_lie_apart(self) -> None:
+        """A distance that is a chunk is one of layout offset, or far; one that is none is far, by where the images end, and then by itself."""
+        def told(distance: int) -> list[tuple[str, int, int, tuple[int, ...], int | None, tuple[int, ...]]]:
+            return [(it.line(), it.members, it.missing, it.chunks, it.end, it.offsets) for it in mirrors.moved(3, distance, evidence())]
+        self.assertEqual(told(128)[0], ("copies offset2,offset3", 3, 0, (128,), None, ()))
+        self.assertEqual(told(128)[1], ("copies far2,far3", 3, 0, (128, 64, 32, 16, 8), None, ()))
+        # The members end at sector 100,000; behind sector 2048 three times 32,672 sectors are more.
+        self.assertEqual(told(32672)[:4], [("copies far2,far3", 3, 0, (32, 16, 8), None, ()), ("copies far2", 3, 0, (32, 16, 8), 65344, (0,)),
+                                           ("copies far2", 3, 0, (32, 16, 8), 67392, (2048,)), ("copies far3", 3, 0, (32, 16, 8), 98016, (0,))])
+        self.assertEqual(told(32672)[4], ("copies far2,far3,far4", 4, 1, (32, 16, 8), None, ()))
+        self.assertEqual(told(32673), [])
+
+    def test_far_copies_end_where_their_distance_is_told(self) -> None:
+        hunt, _ = self.hunt(lambda *_: put(""))
+        standin = Standin(("reraid mirrors", put("next 9 of 9\n")))
+        hunt.program.commands = standin
+        Mirrors(hunt, standin).listing(Copied((Copying("far", 2),), 3, 0, (8,), 67392, (2048,)))
+        words = standin.asked[0][0]
+        self.assertTrue({"layouts=far2", "end=67392", "offsets=2048", "chunks=8"} <= set(words))
 
     def test_mirrors_that_were_late(self) -> None:
         hunt, _ = self.hunt(lambda *_: put(""))
         hunt.program.commands = Standin(("reraid mirrors", put("5 near2:8:2048:0,1,2,-\n", None)))
-        listing = Mirrors(hunt, hunt.program.commands).listing(4, 1)
+        listing = Mirrors(hunt, hunt.program.commands).listing(TWO)
         self.assertEqual((len(listing.sets), listing.whole, listing.note), (1, False, "its time of 60 s was up before all were looked at"))
 
     def test_pairings_of_none(self) -> None:
-        self.assertEqual(pairings([Ranked(0, read_word("near2:8:0:0,1").text)])[0].pairs, ((0, 1),))
+        self.assertEqual(groupings([Ranked(0, read_word("near2:8:0:0,1").text)])[0].groups, ((0, 1),))
 
 
 if __name__ == "__main__":

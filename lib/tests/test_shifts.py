@@ -86,7 +86,10 @@ class Told(unittest.TestCase):
         """Copies one chunk further on the next disk, as of a RAID 10 with the layout offset=2; far ones; beginnings are none."""
         self.assertEqual(shifts.apart([Shift(0, 1, -128, 90), Shift(0, 2, 128, 90), Shift(1, 3, -128, 90), Shift(2, 3, 128, 90)]), 128)
         self.assertEqual(shifts.apart([Shift(0, 1, 90112, 50), Shift(1, 2, 90112, 50), Shift(0, 2, -90112, 50)]), 90112)
-        self.assertIsNone(shifts.apart([Shift(0, 1, 8, 20), Shift(1, 2, -24, 30), Shift(0, 2, -16, 25)]))
+        # Of a lost disk too, which leaves no circle; and of three copies, of which the third lies twice as far.
+        self.assertEqual(shifts.apart([Shift(0, 1, 90112, 50), Shift(1, 2, 90112, 50)]), 90112)
+        self.assertEqual(shifts.apart([Shift(0, 1, 512, 50), Shift(0, 2, 1024, 50), Shift(1, 3, -1024, 50), Shift(2, 3, 512, 50)]), 512)
+        self.assertIsNone(shifts.apart([Shift(0, 1, 8, 20), Shift(1, 2, -24, 30), Shift(0, 2, -36, 25), Shift(0, 3, -40, 25)]))
         self.assertIsNone(shifts.apart([Shift(0, 1, 0, 20)]))
         self.assertEqual([shifts.layout(128), shifts.layout(90112), shifts.layout(65536)], ["offset", "far", "far"])
 

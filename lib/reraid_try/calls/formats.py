@@ -5,7 +5,7 @@ import re
 
 from .commands import Answer
 
-PASSED = re.compile(r"(\d+) (\d+:\S+|near2:\S+)")
+PASSED = re.compile(r"(\d+) ((?:\d+|(?:near|far|offset)[2-4]):\S+)")
 NEXT = re.compile(r"next (\d+) of (\d+)")
 UNSOUND = re.compile(r"unsound (\d+) of (\d+)")
 GROUP = re.compile(r"group (\d+) (\w+) (?:none|origin (\d+) fits (\d+) misfits (\d+))")

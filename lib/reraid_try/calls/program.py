@@ -9,7 +9,7 @@ from . import formats
 from .commands import Runner, refused
 from .formats import Checked, Page, Ranked
 from .plans import Plan
-from .sets import Word
+from .sets import NEAR_2, Copying, Word
 
 # As many lines as a trial lists at most, and as many sets as one command looks at, at least; there are so many times as many such parts as jobs.
 MOST_LINES, SPAN, PARTS = 20_000, 4_000_000, 16
@@ -31,6 +31,23 @@ class Listing:
     def line(self) -> str:
         """What is said of it."""
         return f"{counted(len(self.sets), 'set')} of {self.total}" + (f" ({self.note})" if self.note else "")
+
+
+@dataclasses.dataclass(frozen=True)
+class Copied:
+    """What is asked of copies: the layouts, how many members, how many of them are missing; the chunks and the end of the members, where these are
+    known, and the offsets, where others are asked for than the usual ones."""
+
+    layouts: tuple[Copying, ...]
+    members: int
+    missing: int = 0
+    chunks: tuple[int, ...] = ()
+    end: int | None = None
+    offsets: tuple[int, ...] = ()
+
+    def line(self) -> str:
+        """What is said of its layouts."""
+        return "copies " + ",".join(it.text for it in self.layouts)
 
 
 class Program:
@@ -99,12 +116,15 @@ class Program:
         answer = self.commands.run(["reraid", "classes", f"images={len(self.names)}", f"end={end}", "--"], text)
         return formats.read_classes(answer) if answer.good else list(range(len(found)))
 
-    def mirror_words(self, members: int, missing: int, bad_rows: int, offsets: Sequence[int], end: int, window: int) -> list[str]:
-        """The command that lists the sets of a RAID 10. With an even number of members the copies do not tell the chunk, so one is enough."""
-        words = ["reraid", "mirrors", f"members={members}", f"offsets={listed(offsets)}", f"end={end}"]
-        words += ["missing=1"] if missing else []
+    def mirror_words(self, asked: Copied, bad_rows: int, offsets: Sequence[int], end: int, window: int) -> list[str]:
+        """The command that lists the sets of a RAID 10. Where copies do not tell the chunk, one is enough."""
+        words = ["reraid", "mirrors"]
+        words += [] if asked.layouts == (NEAR_2,) else ["layouts=" + ",".join(it.text for it in asked.layouts)]
+        words += [f"members={asked.members}", f"offsets={listed(offsets)}", f"end={end}"]
+        words += [f"missing={asked.missing}"] if asked.missing else []
         words += [f"badrows={bad_rows}"] if bad_rows else []
-        words += ["chunks=8"] if members % 2 == 0 else []
+        chunks = (8,) if all(it.is_striped(asked.members) for it in asked.layouts) else asked.chunks
+        words += [f"chunks={listed(chunks)}"] if chunks else []
         return [*words, f"window={window}", f"size={MOST_LINES}", "--", *self.names]
 
     def mirrors(self, words: list[str]) -> Page:

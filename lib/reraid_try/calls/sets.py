@@ -1,9 +1,43 @@
 """Set words, taken apart, and the levels."""
 
 import dataclasses
+import functools
+import math
+import re
 
-# Of RAID 10, in a set word.
-MIRRORED = "near2"
+# How the copies of RAID 10 lie.
+NEAR, FAR, OFFSET = "near", "far", "offset"
+COPYING, MOST_COPIES = re.compile(r"(near|far|offset)([2-4])"), 4
+
+
+@dataclasses.dataclass(frozen=True)
+class Copying:
+    """A layout of RAID 10: how the copies of a chunk lie, and how many there are."""
+
+    kind: str
+    copies: int
+
+    @property
+    def text(self) -> str:
+        """The layout as a set word has it."""
+        return f"{self.kind}{self.copies}"
+
+    def together(self, members: int) -> int:
+        """How many slots in a row hold the same, of so many members; 1 where none does."""
+        return math.gcd(self.copies, members) if self.kind == NEAR else 1
+
+    def is_striped(self, members: int) -> bool:
+        """Of so many members the volume is that of a RAID 0 of one of each so many, so that the copies do not tell the chunk."""
+        return self.together(members) == self.copies
+
+
+NEAR_2 = Copying(NEAR, 2)
+
+
+def read_copying(text: str) -> Copying | None:
+    """A layout of RAID 10; None where it is another word."""
+    match = COPYING.fullmatch(text)
+    return Copying(match[1], int(match[2])) if match else None
 
 
 @dataclasses.dataclass(frozen=True)
@@ -36,10 +70,25 @@ class Word:
     offsets: tuple[int, ...]
     slots: tuple[int | None, ...]
 
+    @functools.cached_property
+    def copying(self) -> Copying | None:
+        """The layout of a RAID 10; None of others."""
+        return read_copying(self.level)
+
     @property
     def is_mirrored(self) -> bool:
         """It is a RAID 10."""
-        return self.level == MIRRORED
+        return self.copying is not None
+
+    @property
+    def together(self) -> int:
+        """How many slots in a row hold the same."""
+        return self.copying.together(len(self.slots)) if self.copying else 1
+
+    @property
+    def needs_end(self) -> bool:
+        """How far apart its copies lie comes from where the members end."""
+        return self.copying is not None and self.copying.kind == FAR
 
     @property
     def lost(self) -> int:
@@ -53,9 +102,9 @@ class Word:
 
     @property
     def data(self) -> float:
-        """How many data chunks a row has; half of the members for RAID 10, where it may be no whole number."""
+        """How many data chunks a row has; those of RAID 10 by its copies, where it may be no whole number."""
         members = len(self.slots)
-        return members / 2 if self.is_mirrored else members - LEVELS[self.level].parity
+        return members / self.copying.copies if self.copying else members - LEVELS[self.level].parity
 
     @property
     def row(self) -> int:
@@ -84,8 +133,11 @@ class Word:
 
     def sectors(self, end: int) -> int:
         """The sectors of its volume, of members that end there."""
-        rows = max(0, end - self.offset) // self.chunk
-        return int(rows * self.data) * self.chunk
+        rows, members = max(0, end - self.offset) // self.chunk, len(self.slots)
+        if not self.copying:
+            return int(rows * self.data) * self.chunk
+        copies = self.copying.copies
+        return (rows * members // copies if self.copying.kind == NEAR else rows // copies * members) * self.chunk
 
     def having(self, slots: tuple[int | None, ...]) -> "Word":
         """The set with other slots."""
@@ -142,7 +194,7 @@ def read_word(text: str) -> Word:
     """A set word of a listing, taken apart."""
     parts = text.split(":")
     slots = tuple(None if slot == "-" else int(slot) for slot in parts[-1].split(","))
-    pattern, order = ("", "") if parts[0] == MIRRORED else (parts[1], parts[2])
+    pattern, order = ("", "") if read_copying(parts[0]) else (parts[1], parts[2])
     return Word(text, parts[0], pattern, order, int(parts[-3]), tuple(int(offset) for offset in parts[-2].split("+")), slots)
 
 
@@ -151,6 +203,6 @@ def made(level: str, pattern: str, order: str, chunk: int, offsets: tuple[int, .
     return read_word(":".join([level, pattern, order, str(chunk), "+".join(map(str, offsets)), slots_text(slots)]))
 
 
-def mirrored(chunk: int, offset: int, slots: tuple[int | None, ...]) -> Word:
+def mirrored(copying: Copying, chunk: int, offset: int, slots: tuple[int | None, ...]) -> Word:
     """The set word of a RAID 10."""
-    return read_word(f"{MIRRORED}:{chunk}:{offset}:{slots_text(slots)}")
+    return read_word(f"{copying.text}:{chunk}:{offset}:{slots_text(slots)}")

@@ -64,6 +64,12 @@ class Candidate:
         return min(score, Score.KNOWN) if self.rivalled else score
 
     @property
+    def end(self) -> int | None:
+        """Where its members end, where that is another place than the end of the shortest image and its volume depends on it; None else."""
+        copied = self.trial.copied
+        return copied.end if copied and self.word.needs_end else None
+
+    @property
     def lessened(self) -> bool:
         """There is one sign less: a group with most of the marks was left out. One sign is left where files tell the order of the chunks."""
         return self.left_most and self.found.score >= Score.CHECKED and not self.found.in_order

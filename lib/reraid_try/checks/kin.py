@@ -15,7 +15,6 @@ from .verdicts import Score
 TURNS = {"ls": -1, "rs": 1}
 FIXED = ("plain", "parity-first", "parity-last")
 BY_SLOT = "by-slot"
-MIRRORS = ("near2",)
 PLAIN = ("0", "plain", "none")
 # Why a set has no sign beside another one.
 CONTENT = "another set of these images, which contradicts it, has long whole files"
@@ -24,7 +23,8 @@ UNSOUND = "parity holds in far fewer rows than with another set of these images,
 
 @dataclasses.dataclass(frozen=True)
 class Key:
-    """What a volume is told by: the layout, the chunk, the offsets and the slots, with one number for images that hold the same."""
+    """What a volume is told by: the layout (of RAID 10 but one word), the chunk, the offsets and the slots, with one number for images that hold the
+    same."""
 
     layout: tuple[str, ...]
     chunk: int
@@ -61,19 +61,21 @@ def in_order(tested: Sequence[Candidate], images: Sequence[Image]) -> list[Candi
 
 
 def key(word: Word, same: Mapping[int, int]) -> Key:
-    """A set by what tells its volume: the simplest one of the same volume, and RAID 10 of pairs as the RAID 0 that it is."""
+    """A set by what tells its volume: the simplest one of the same volume, and RAID 10 of copies side by side as the RAID 0 that it is."""
     word = simplest(word)
     slots = tuple(None if slot is None else same.get(slot, slot) for slot in word.slots)
-    layout = MIRRORS if word.is_mirrored else (word.level, word.pattern, word.order)
-    if word.is_mirrored and len(slots) % 2 == 0:
-        layout, slots = PLAIN, tuple(one if one is not None else other for one, other in zip(slots[::2], slots[1::2]))
-    return Key(layout, word.chunk, word.offsets, slots)
+    if not word.copying:
+        return Key((word.level, word.pattern, word.order), word.chunk, word.offsets, slots)
+    groups = [sorted(slots[k:k + word.together], key=lambda slot: (slot is None, slot)) for k in range(0, len(slots), word.together)]
+    if word.copying.is_striped(len(slots)):
+        return Key(PLAIN, word.chunk, word.offsets, tuple(group[0] for group in groups))
+    return Key((word.level,), word.chunk, word.offsets, tuple(slot for group in groups for slot in group))
 
 
 def rows_behind(inner: Key, outer: Key) -> int:
     """How many rows of chunks the volume of a set begins behind that of another one of its family; 0 where it does not."""
     rows, rest = divmod(inner.offsets[0] - outer.offsets[0], inner.chunk)
-    if inner.layout == MIRRORS or rest or rows < 1:
+    if len(inner.layout) == 1 or rest or rows < 1:
         return 0
     _, pattern, order = inner.layout
     # Q by slot weighs the disks in another way where their order is turned.

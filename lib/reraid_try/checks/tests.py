@@ -75,10 +75,8 @@ class Tests:
         self.ask(candidate, False)
         word = candidate.word
         places = [0, *(origin for origin in candidate.origins if origin < FARTHEST)]
-        source = Source(word, self.names, self.end)
-        rows = 1 + (max(places) + heads.HEAD_BYTES // SECTOR) // max(1, word.row)
-        words, text = source.command(source.row_end(rows))
-        data = self.commands.run(words, text, self.options.seconds).data
+        pipeline, text = Source(word, self.names, candidate.end or self.end).beginning(max(places) * SECTOR + heads.HEAD_BYTES)
+        data = self.commands.shell(pipeline, text, self.options.seconds).data
         return any(heads.sniff(data[place * SECTOR:place * SECTOR + heads.HEAD_BYTES]) for place in places)
 
     def ask(self, candidate: Candidate, rows: bool = True) -> None:
@@ -132,7 +130,7 @@ class Tests:
         candidate.verdict = self.looks.known(word, candidate.origins, files)
         if candidate.verdict:
             return candidate
-        source = Source(word, self.names, self.end, self.maps)
+        source = Source(word, self.names, candidate.end or self.end, self.maps)
         most = self.options.first * max(1, int(word.data))
         try:
             with self.room.volume(source, most, WRITTEN_TIMES * self.options.seconds) as volume:

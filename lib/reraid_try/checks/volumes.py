@@ -95,8 +95,17 @@ class Source:
         return ["reraid", "write", *operands], None
 
     def row_end(self, rows: int) -> int:
-        """Where members end that have so many rows of chunks."""
-        return min(self.end, self.word.offset + rows * self.word.chunk)
+        """Where members end that have so many rows of chunks, or a few more, so that each chunk is there with all its copies."""
+        copies = self.word.copying.copies if self.word.copying else 1
+        return min(self.end, self.word.offset + -(-rows // copies) * copies * self.word.chunk)
+
+    def beginning(self, count: int) -> tuple[list[list[str]], str | None]:
+        """The commands that put so many first bytes of the volume, or more, and the text that the first one reads."""
+        if self.word.needs_end:
+            words, text = self.command(self.end)
+            return [words, ["head", "-c", str(count)]], text
+        words, text = self.command(self.row_end(1 + count // SECTOR // max(1, self.word.row)))
+        return [words], text
 
 
 class Room:
@@ -133,7 +142,7 @@ class Room:
     @contextlib.contextmanager
     def volume(self, source: Source, most: int, seconds: float) -> Iterator[Volume | None]:
         """The volume of a set. Where it is no mount, at most so many bytes of it are written; None where it cannot be had."""
-        if self.mounts and not source.word.is_mirrored and not source.maps:
+        if self.mounts and not source.maps:
             folder = self.path("mount")
             if self.mount(folder, source):
                 try:
@@ -151,6 +160,8 @@ class Room:
     def write(self, path: str, source: Source, most: int, seconds: float) -> Volume | None:
         """Writes the volume into a sparse file, its first bytes alone where it is longer than may be written."""
         most, stop = min(most, self.free()), source.end
+        if source.length > most and source.word.needs_end:
+            return None
         if source.length > most:
             stop = source.row_end(max(1, most // SECTOR // max(1, source.word.row)))
         words, text = source.command(stop)

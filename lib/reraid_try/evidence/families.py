@@ -86,6 +86,12 @@ class Family:
     copies: tuple[tuple[int, int], ...] = ()
 
     @property
+    def may_be_copies(self) -> bool:
+        """Two images hold the same in not few rows: copies, as of RAID 10 with an odd number of disks, or what level 5 has of three disks where the
+        third, which is lost, was zeros."""
+        return len(self.images) == 2 and self.level == LEVEL_5
+
+    @property
     def current(self) -> tuple[int, ...]:
         """Its images but for the old ones."""
         old = {it.image for it in self.old}

@@ -28,12 +28,13 @@ MOST_UNREAD = 4
 
 @dataclasses.dataclass(frozen=True)
 class Pairs:
-    """The mirrors of a RAID 10: for each image the one that holds the same, or None where that is missing, and the offsets at which they agree.
-    `same` says that they are the same from their start to their end, so that these offsets tell nothing."""
+    """The mirrors of a RAID 10: for each image the others that hold the same, how many copies there are of each chunk, and the offsets at which they
+    agree. `same` says that they are the same from their start to their end, so that these offsets tell nothing."""
 
-    partners: tuple[int | None, ...]
+    partners: tuple[tuple[int, ...], ...]
     offsets: tuple[int, ...]
     same: bool = False
+    copies: int = 2
 
 
 @dataclasses.dataclass(frozen=True)

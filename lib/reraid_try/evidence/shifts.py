@@ -9,6 +9,7 @@ import itertools
 import zlib
 from collections.abc import Iterator, Mapping, Sequence
 
+from ..calls.sets import FAR, MOST_COPIES, OFFSET
 from .families import connected
 
 SECTOR = 512
@@ -104,14 +105,15 @@ def potentials(found: Sequence[Shift]) -> dict[int, int] | None:
 
 
 def apart(found: Sequence[Shift]) -> int | None:
-    """How far apart the copies of RAID 10 lie, where distances between images have one size and agree on no beginnings; None else."""
+    """How far apart the copies of RAID 10 lie, where most distances between images have one size, or, of more than two copies, are up to three times
+    as long; None else."""
     sizes = collections.Counter(abs(it.distance) for it in found if it.distance)
-    if not sizes or potentials(found):
-        return None
-    size, count = sizes.most_common(1)[0]
-    return size if 2 * count > sum(sizes.values()) else None
+    for size in sorted(sizes):
+        if 2 * sum(count for other, count in sizes.items() if other % size == 0 and other // size < MOST_COPIES) > sum(sizes.values()):
+            return size
+    return None
 
 
 def layout(distance: int) -> str:
     """What RAID 10 has its copies so far apart: `offset` where that is a chunk, and else `far`."""
-    return "offset" if distance <= MOST_CHUNK and distance & (distance - 1) == 0 else "far"
+    return OFFSET if distance <= MOST_CHUNK and distance & (distance - 1) == 0 else FAR

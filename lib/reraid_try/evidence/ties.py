@@ -118,6 +118,10 @@ def lines(told: Told) -> list[str]:
                 two = named(family.images) if len(family.images) == LEAST_IMAGES else f"two of {named(family.images)}"
                 said.append(f"{two} hold the same in {counted(family.rows, 'row')} of those that were looked at")
             continue
+        if family.may_be_copies:
+            said.append(f"{named(family.images)} hold the same in {counted(family.rows, 'row')} of those that were looked at: copies, or level 5 "
+                        "whose third disk is lost and zeros there")
+            continue
         chunk = f", chunks of {it.chunk} sectors" if it.chunk else ""
         begin = f", from sector {it.begin} on" if it.begin is not None else ""
         said.append(f"{named(family.images)}: {lost_line(family)}{chunk}{begin}")

@@ -1,5 +1,6 @@
 """The first part of a search: what the images themselves say of their array is printed, and tried before all else."""
 
+import collections
 import dataclasses
 import functools
 import itertools
@@ -8,7 +9,7 @@ from typing import TYPE_CHECKING
 
 from ..calls.formats import Ranked
 from ..calls.program import Listing
-from ..calls.sets import read_word
+from ..calls.sets import NEAR_2, read_word
 from ..checks.candidates import Candidate
 from ..checks.verdicts import Score
 from ..evidence import gathered, hints, metadata, places, shared, shifts, ties, unlike
@@ -17,7 +18,7 @@ from ..evidence.images import Image
 from ..evidence.places import Places
 from ..evidence.shared import Place
 from ..evidence.ties import Ties, Told
-from . import cures, plain
+from . import cures, mirrors, plain
 from .cures import Family
 from .hunt import Hunt
 from .plain import Aim, Span
@@ -116,8 +117,9 @@ class Evident:
         asked = self.asked()
         found = asked.told(part.images, part.span.first, part.span.end)
         self.say("relation", ties.lines(found))
-        tied, copied, untied = (of(found, part.images, part.span, self.options) for of in (plain.tied, plain.copied, plain.untied))
-        return [*self.by_metadata(part), *self.unlike(asked, found, part), *tied, *copied, *self.alike(part), *untied]
+        ways = plain.perhaps_copied, plain.tied, plain.copied, plain.untied
+        perhaps, tied, copied, untied = (of(found, part.images, part.span, self.options) for of in ways)
+        return [*self.by_metadata(part), *self.unlike(asked, found, part), *perhaps, *tied, *copied, *self.alike(part), *untied]
 
     def alike(self, part: Part) -> list[Aim]:
         """What is tried where whole images are the same, as the copies of a RAID 1 or 10 are."""
@@ -145,20 +147,18 @@ class Evident:
         return [aim for aim in found if aim and aim.shapes and (not aim.is_each or len(aim.images) == len(self.search.images))]
 
     def unlike(self, asked: Ties, found: Told, part: Part) -> list[Aim]:
-        """What is tried of images that nothing ties, where distances tell that their data begin at unlike sectors; and what is said of copies that
-        lie elsewhere on the next disk."""
-        if not found.asked or found.known or part.span.partition:
+        """What is tried of images that nothing ties, where distances tell that their data begin at unlike sectors, or that they are copies which lie
+        elsewhere on the next disk."""
+        if not found.asked or found.known:
             return []
         images = [self.search.images[number] for number in part.images]
         told = unlike.found_shifts(images, part.span.first, part.span.end)
-        if distance := shifts.apart(told):
-            layout = shifts.layout(distance)
-            self.say("copies", [f"the images hold the same {distance} sectors apart: perhaps RAID 10 with copies of layout {layout}"])
-        offsets = unlike.look(asked, images, told, part.span.end)
-        if offsets is None:
-            return []
-        self.say("unlike", [offsets.line()])
-        return [plain.unlike_aim(offsets, part.images, part.span, self.options)]
+        offsets = None if part.span.partition else unlike.look(asked, images, told, part.span.end)
+        if offsets:
+            self.say("unlike", [offsets.line()])
+            return [plain.unlike_aim(offsets, part.images, part.span, self.options)]
+        distance = shifts.apart(told) if self.options.wants("10") else None
+        return [plain.apart_aim(distance, part.images, part.span)] if distance else []
 
     def seek(self, aim: Aim) -> bool:
         """The trials of an aim; it says whether a candidate says enough."""
@@ -170,10 +170,26 @@ class Evident:
         hunt = Hunt(self.options, search.commands, images, search.say_late, start=aim.span.first, asked=dict(aim.asked), tied=aim.tied)
         hunt.ask_places = functools.partial(self.places_of, aim)
         search.say_evidence(hunt)
-        if not (aim.copied and any(search.mirrors(hunt, missing) for missing in (0, 1))):
+        if not (aim.copied and self.copies(hunt, aim, before)):
             self.attempt(hunt, aim, before)
         search.why = ""
         return any(map(enough, self.since(before)))
+
+    def copies(self, hunt: Hunt, aim: Aim, before: int) -> bool:
+        """RAID 10 by its copies, with as few members missing as may be; it says whether the search is at its end, or a candidate is content."""
+        count = len(aim.images)
+        asked = mirrors.moved(count, aim.apart, hunt.evidence) if aim.apart else mirrors.near(count, self.alike_count(aim.images))
+        return any(self.search.mirrors(hunt, it) or self.is_content(before) for it in asked)
+
+    def alike_count(self, numbers: Iterable[int]) -> int:
+        """How many of these images hold the same wholly, of most of those of which another one does."""
+        sizes = collections.Counter(collections.Counter(self.same_as(number) for number in numbers).values())
+        return max((size for size in sizes if size > 1), key=lambda size: sizes[size], default=NEAR_2.copies)
+
+    def same_as(self, number: int) -> int:
+        """The first image that holds the same as one."""
+        like = self.search.images[number].like
+        return number if like is None else like
 
     def places_of(self, aim: Aim) -> Places | None:
         """Where parity may lie on the images of an aim, by rows of which a part is zeros; None where that cannot be told."""

@@ -7,7 +7,7 @@ from collections.abc import Callable, Iterator, Mapping, Sequence
 from ..calls.commands import Runner, quoted
 from ..calls.plans import Plan
 from ..calls.program import MOST_LINES, Listing, Program
-from ..calls.sets import Word, mirrored, read_word
+from ..calls.sets import NEAR, Copying, Word, mirrored, read_word
 from ..calls.surveys import Request, Surveys
 from ..evidence import gathered
 from ..evidence.gathered import Pairs
@@ -121,8 +121,9 @@ class Hunt:
             return word if word.is_each else word.having(tuple(None if slot is None else self.evidence.images[slot].number for slot in word.slots))
         slots: list[int | None] = []
         for slot in word.images:
-            slots += [self.evidence.images[slot].number, pairs.partners[slot]]
-        return mirrored(word.chunk, word.offset, tuple(slots))
+            there = (self.evidence.images[slot].number, *pairs.partners[slot])
+            slots += [*there, *[None] * (pairs.copies - len(there))]
+        return mirrored(Copying(NEAR, pairs.copies), word.chunk, word.offset, tuple(slots))
 
     def checked_by(self, trial: Trial) -> Plan | None:
         """The plan with which `check` is asked of a candidate of a trial: with all groups, whatever was left out; None for RAID 10."""

@@ -1,60 +1,104 @@
-"""RAID 10 by its copies: which images are pairs, and the hunts over one image of each."""
+"""RAID 10 by its copies: what is asked of them, which images hold the same, and the hunts over one image of each such group."""
 
 import dataclasses
-from collections.abc import Iterable, Sequence
+from collections.abc import Iterable, Iterator, Sequence
 
 from ..calls.commands import Runner, quoted
 from ..calls.formats import Page, Ranked
-from ..calls.program import MOST_LINES, Listing
-from ..calls.sets import read_word
-from ..evidence.gathered import Pairs
+from ..calls.program import MOST_LINES, Copied, Listing
+from ..calls.sets import FAR, MOST_COPIES, NEAR, NEAR_2, OFFSET, Copying, read_word
+from ..evidence import shifts
+from ..evidence.families import CHUNKS
+from ..evidence.gathered import Evidence, Pairs
 from ..evidence.images import Image
 from .hunt import Hunt
 
 # What fails in a window of so many sectors fails in a large one; with rows that maps call unread it is so many times as many.
 SMALL_WINDOW, SMALL_TIMES = 8192, 4
-# So many ways to pair the images are looked at.
-MOST_PAIRINGS = 8
-Pairing = frozenset[tuple[int, int | None]]
+# So many ways to group the images are looked at.
+MOST_GROUPINGS = 8
+# So many members may be missing at most, and chunks are so long at most where copies do not tell them.
+MOST_MISSING, MOST_CHUNK = 3, 2048
+COPIES = range(2, MOST_COPIES + 1)
+Group = tuple[int, ...]
+
+
+def bearing(layouts: Iterable[Copying], members: int, missing: int) -> tuple[Copying, ...]:
+    """Those of these layouts by which so many members may have a copy of each chunk though so many are missing, and of some chunk two: else nothing
+    is compared, and the images are a RAID 0, or the half of one that is lost."""
+    return tuple(it for it in layouts if it.copies <= members < it.copies * (members - missing))
+
+
+def near(count: int, alike: int = 2) -> Iterator[Copied]:
+    """What is asked where some of so many images hold the same in the same rows, the fewest missing first; `alike` is of how many most do."""
+    order = sorted(COPIES, key=lambda copies: copies != alike)
+    for missing in range(MOST_MISSING + 1):
+        for layout in bearing((Copying(NEAR, copies) for copies in order), count + missing, missing):
+            yield Copied((layout,), count + missing, missing)
+
+
+def moved(count: int, distance: int, evidence: Evidence) -> Iterator[Copied]:
+    """What is asked where images hold the same so many sectors apart, the fewest missing first: copies of layout offset, where that is a chunk, and
+    far ones, first by where the images end, and then with an end that puts them so far apart."""
+    chunk, layouts = shifts.layout(distance) == OFFSET, {kind: [Copying(kind, copies) for copies in COPIES] for kind in (OFFSET, FAR)}
+    chunks = tuple(it for it in CHUNKS if it <= MOST_CHUNK and distance % it == 0)
+    for missing in range(MOST_MISSING + 1):
+        members = count + missing
+        if chunk and (found := bearing(layouts[OFFSET], members, missing)):
+            yield Copied(found, members, missing, (distance,))
+        found = bearing(layouts[FAR], members, missing) if chunks else ()
+        if found:
+            yield Copied(found, members, missing, chunks)
+        for layout in found:
+            for offset in evidence.tried:
+                if (end := offset + layout.copies * distance) <= evidence.end:
+                    yield Copied((layout,), members, missing, chunks, end, (offset,))
 
 
 @dataclasses.dataclass(frozen=True)
-class Paired:
-    """A way in which the images of a hunt are paired, by their places there, with the offsets at which the pairs agree."""
+class Grouped:
+    """A way in which the images of a hunt are grouped, by their places there: those of a group hold the same. With how many copies there are of each
+    chunk, and the offsets at which the groups agree."""
 
-    pairs: tuple[tuple[int, int | None], ...]
+    groups: tuple[Group, ...]
+    copies: int
     offsets: tuple[int, ...]
 
     def line(self, images: Sequence[Image]) -> str:
         """What is said of it."""
-        said = " ".join(f"image {images[one].number} alone" if other is None else f"{images[one].number}={images[other].number}"
-                        for one, other in self.pairs)
-        return f"  pairs {said}: a RAID 0 of {len(self.pairs)} disks"
+        said = " ".join("=".join(str(images[one].number) for one in group) if len(group) > 1 else f"image {images[group[0]].number} alone"
+                        for group in self.groups)
+        return f"  {'pairs' if self.copies == NEAR_2.copies else 'copies'} {said}: a RAID 0 of {len(self.groups)} disks"
 
     def partners(self, images: Sequence[Image]) -> Pairs:
-        """What is known of the second image of each pair."""
+        """What is known of the other images of each group."""
         def alike(one: int, other: int) -> bool:
             """Two images hold the same in all that is read."""
             like = images[other].like
             return like is not None and like in (images[one].number, images[one].like)
-        same = all(other is None or alike(one, other) for one, other in self.pairs)
-        return Pairs(tuple(None if other is None else images[other].number for _, other in self.pairs), self.offsets, same)
+        same = all(alike(group[0], other) for group in self.groups for other in group[1:])
+        return Pairs(tuple(tuple(images[other].number for other in group[1:]) for group in self.groups), self.offsets, same, self.copies)
 
 
-def pairings(sets: Iterable[Ranked]) -> list[Paired]:
-    """The ways in which these sets pair the images, the first ones."""
-    found: dict[Pairing, set[int]] = {}
+def groupings(sets: Iterable[Ranked]) -> list[Grouped]:
+    """The ways in which these sets group the images, the first ones."""
+    found: dict[tuple[frozenset[Group], int], set[int]] = {}
     for it in sets:
         word = read_word(it.text)
-        pairs = [pair(one, other) for one, other in zip(word.slots[::2], word.slots[1::2])]
-        found.setdefault(frozenset(it for it in pairs if it), set()).add(word.offset)
-    return [Paired(tuple(sorted(pairing, key=lambda it: it[0])), tuple(sorted(offsets))) for pairing, offsets in found.items()][:MOST_PAIRINGS]
+        groups = (there(word.slots[first:first + word.together]) for first in range(0, len(word.slots), word.together))
+        found.setdefault((frozenset(filter(None, groups)), word.together), set()).add(word.offset)
+    return [Grouped(tuple(sorted(groups)), copies, tuple(sorted(offsets))) for (groups, copies), offsets in found.items()][:MOST_GROUPINGS]
 
 
-def pair(one: int | None, other: int | None) -> tuple[int, int | None] | None:
-    """Two images in order, the one that is there first."""
-    there = sorted(it for it in (one, other) if it is not None)
-    return (there[0], there[1] if len(there) > 1 else None) if there else None
+def there(slots: Iterable[int | None]) -> Group:
+    """The images of some slots, in order."""
+    return tuple(sorted(it for it in slots if it is not None))
+
+
+def is_striped(it: Ranked) -> bool:
+    """The volume of a set is that of a RAID 0 of one image of each group, of which there are several."""
+    word = read_word(it.text)
+    return word.copying is not None and word.copying.is_striped(len(word.slots)) and len(word.slots) > word.copying.copies
 
 
 class Mirrors:
@@ -63,22 +107,23 @@ class Mirrors:
     def __init__(self, hunt: Hunt, commands: Runner) -> None:
         self.hunt, self.commands = hunt, commands
 
-    def words(self, members: int, missing: int, offsets: Sequence[int], window: int) -> list[str]:
+    def words(self, asked: Copied, offsets: Sequence[int], window: int) -> list[str]:
         """The command that lists them."""
         evidence = self.hunt.evidence
-        return self.hunt.program.mirror_words(members, missing, evidence.unread, offsets, evidence.end, window)
+        return self.hunt.program.mirror_words(asked, evidence.unread, offsets, asked.end or evidence.end, window)
 
-    def listing(self, members: int, missing: int) -> Listing:
+    def listing(self, asked: Copied) -> Listing:
         """The sets. What fails in a small window fails in a large one, so that is asked of the offsets that are left alone; where its time is up,
         the sets of the small window stand."""
         program, evidence = self.hunt.program, self.hunt.evidence
         small = min(evidence.window, max(SMALL_WINDOW, SMALL_TIMES * evidence.unread))
-        page = program.mirrors(self.words(members, missing, evidence.tried, small))
+        tried = asked.offsets or evidence.tried
+        page = program.mirrors(self.words(asked, tried, small))
         if page.late:
             return self.late(page)
         told = len(page.sets) < MOST_LINES
         offsets = sorted({read_word(it.text).offset for it in page.sets}) if told else []
-        large = self.words(members, missing, offsets or evidence.tried, evidence.window)
+        large = self.words(asked, offsets or tried, evidence.window)
         self.commands.tell(quoted(large))
         if not page.sets or small == evidence.window:
             return Listing(page.sets, page.total or 0, True)

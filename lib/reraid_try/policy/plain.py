@@ -4,7 +4,7 @@ import dataclasses
 from collections.abc import Iterable, Iterator, Sequence
 
 from ..calls.sets import LEVELS
-from ..evidence import metadata, ties
+from ..evidence import metadata, shifts, ties
 from ..evidence.families import COPIES, Family
 from ..evidence.metadata import Member
 from ..evidence.ties import Known, Told
@@ -29,7 +29,7 @@ class Aim:
     """Images, by their numbers, that are searched as an array, in a part of each; the shapes that are tried, in order, and why. `asked` are operands
     that are asked for in each trial, as far as they are known; `copied` says that RAID 10 is tried before them, `tied` that parity ties
     them; `begin` is a row of the array, so that its data do not begin later, None where none is known; `moved` has the offset of each image, where
-    these are known and not the same."""
+    these are known and not the same; `apart` says how far apart the copies lie, where they do not lie side by side."""
 
     images: tuple[int, ...]
     span: Span
@@ -40,6 +40,7 @@ class Aim:
     tied: bool = False
     begin: int | None = None
     moved: tuple[int, ...] = ()
+    apart: int | None = None
 
     @property
     def is_each(self) -> bool:
@@ -108,10 +109,26 @@ def tied(told: Told, _numbers: Sequence[int], span: Span, options: Options) -> l
 
 def copied(told: Told, numbers: Sequence[int], span: Span, options: Options) -> list[Aim]:
     """What is tried of images of which some are copies: RAID 10 of all of them."""
-    pairs = tuple(it for it in told.known if it.family.level == COPIES)
-    if not pairs or not options.wants(COPIES):
+    return copied_by((it for it in told.known if it.family.level == COPIES), numbers, span, options)
+
+
+def perhaps_copied(told: Told, numbers: Sequence[int], span: Span, options: Options) -> list[Aim]:
+    """What is tried before anything else where two images hold the same in fewer rows: RAID 10 of all, whose copies are soon looked for."""
+    return copied_by((it for it in told.known if it.family.may_be_copies), numbers, span, options)
+
+
+def copied_by(known: Iterable[Known], numbers: Sequence[int], span: Span, options: Options) -> list[Aim]:
+    """RAID 10 of all images, where something is known that speaks for it."""
+    found = tuple(known)
+    if not found or not options.wants(COPIES):
         return []
-    return [Aim(tuple(numbers), span, "; ".join(ties.lines(Told(pairs, asked=True))), copied=True)]
+    return [Aim(tuple(numbers), span, "; ".join(ties.lines(Told(found, asked=True))), copied=True)]
+
+
+def apart_aim(distance: int, numbers: Sequence[int], span: Span) -> Aim:
+    """What is tried of images that hold the same so many sectors apart: RAID 10 of all of them."""
+    why = f"the images hold the same {distance} sectors apart, as RAID 10 with copies of layout {shifts.layout(distance)} does"
+    return Aim(tuple(numbers), span, why, copied=True, apart=distance)
 
 
 def untied(told: Told, numbers: Sequence[int], span: Span, options: Options) -> list[Aim]:

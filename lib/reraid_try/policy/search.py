@@ -6,8 +6,8 @@ from collections.abc import Callable, Iterable, Sequence
 from ..calls.commands import Runner
 from ..calls.formats import Ranked
 from ..calls.memory import Memory
-from ..calls.program import Listing
-from ..calls.sets import Word, read_word, simplest
+from ..calls.program import Copied, Listing
+from ..calls.sets import NEAR_2, Word, read_word, simplest
 from ..calls.surveys import Request
 from ..checks import kin
 from ..checks.candidates import Candidate
@@ -27,7 +27,7 @@ from . import cures
 from .cures import Cure, Family
 from .evident import Evident
 from .hunt import Hunt
-from .mirrors import Mirrors, Paired, pairings
+from .mirrors import Grouped, Mirrors, groupings, is_striped
 from .plans import FIRST_ROWS
 from .shapes import Shape
 from .steps import Step
@@ -154,7 +154,7 @@ class Search:
         """What the hints say, with up to three things loosened where parity tells something, what parity tells of with up to two that are soon
         told, and the rest with up to one; it says whether the search is at its end."""
         lost_early = len(self.images) % 2 == 1
-        if self.options.wants("10") and (self.mirrors(self.hunt, 0) or lost_early and self.mirrors(self.hunt, 1)):
+        if self.options.wants("10") and (self.near_mirrors(self.hunt, 0) or lost_early and self.near_mirrors(self.hunt, 1)):
             return True
         tiers = self.hunt.shapes.tiers()
         hinted, told = tiers.hinted, tiers.told
@@ -169,7 +169,7 @@ class Search:
                 return True
         if self.best() < Score.KNOWN:
             self.diagnose(Diagnosis.show_on_the_way)
-        if self.options.wants("10") and not lost_early and self.mirrors(self.hunt, 1):
+        if self.options.wants("10") and not lost_early and self.near_mirrors(self.hunt, 1):
             return True
         return any(self.take_step(step) or self.best() >= Score.CHECKED for step in (Step(tiers.rest, 0), Step(told + tiers.rest, 1)))
 
@@ -300,26 +300,32 @@ class Search:
             self.tests.tell(it)
         return any(it.found.score is Score.WHOLE for it in tested)
 
-    def mirrors(self, hunt: Hunt, missing: int) -> bool:
-        """RAID 10 by its copies: the pairs, and then the RAID 0 of one image of each; it says whether the search is at its end."""
+    def near_mirrors(self, hunt: Hunt, missing: int) -> bool:
+        """RAID 10 with two copies side by side; it says whether the search is at its end."""
         members = len(hunt.evidence.images) + missing
-        if not 2 <= members <= MOST_IMAGES or (self.options.members and members not in self.options.members):
+        return members >= NEAR_2.copies and self.mirrors(hunt, Copied((NEAR_2,), members, missing))
+
+    def mirrors(self, hunt: Hunt, asked: Copied) -> bool:
+        """RAID 10 by its copies: the sets, and where these group the images the RAID 0 of one of each group; it says whether the search is at its
+        end."""
+        if asked.members > MOST_IMAGES or (self.options.members and asked.members not in self.options.members):
             return False
         try:
-            listing = Mirrors(hunt, self.commands).listing(members, missing)
+            listing = Mirrors(hunt, self.commands).listing(asked)
         except Refused as error:
             self.say_refused(error)
             return False
-        trial = self.say_trial(hunt, Trial(Shape("10", members, missing)), listing)
-        if members % 2 or members == 2:
-            return self.take(hunt, trial, listing.sets, lambda it: (None, hunt.word(it.text)))
-        return any([self.paired(hunt, paired) for paired in pairings(listing.sets)])
+        trial = self.say_trial(hunt, Trial(Shape("10", asked.members, asked.missing), copied=asked), listing)
+        striped, others = ([it for it in listing.sets if is_striped(it) == wanted] for wanted in (True, False))
+        whole = self.take(hunt, trial, others, lambda it: (None, hunt.word(it.text)))
+        return any([whole, *(self.grouped(hunt, grouped) for grouped in groupings(striped))])
 
-    def paired(self, over: Hunt, paired: Paired) -> bool:
-        """The RAID 0 of one image of each pair of a hunt, as a hunt of its own; it says whether the search is at its end."""
+    def grouped(self, over: Hunt, grouped: Grouped) -> bool:
+        """The RAID 0 of one image of each group of a hunt, as a hunt of its own; it says whether the search is at its end."""
         seen_by, start = over.evidence.images, over.evidence.start
-        hunt = Hunt(self.options, self.commands, [seen_by[one] for one, _ in paired.pairs], self.say_late, paired.partners(seen_by), start)
-        self.report.say("pairs", paired.line(seen_by), pairs=[list(pair) for pair in paired.pairs])
+        images = [seen_by[group[0]] for group in grouped.groups]
+        hunt = Hunt(self.options, self.commands, images, self.say_late, grouped.partners(seen_by), start)
+        self.report.say("pairs", grouped.line(seen_by), pairs=[list(group) for group in grouped.groups])
         self.say_evidence(hunt)
         shapes = hunt.shapes.tiers().all
         steps = [Step(shapes, count) for count in range(MOST_PAIRED + 1)]

@@ -2,6 +2,7 @@
 
 import dataclasses
 
+from ..calls.program import Copied
 from ..calls.surveys import Request
 from .cures import Cure, Family
 from .shapes import Shape
@@ -14,12 +15,13 @@ def names_of(cures: tuple[Cure, ...]) -> str:
 
 @dataclasses.dataclass(frozen=True)
 class Trial:
-    """A listing: what is searched, what is loosened, and what is asked for; of RAID 10 by its copies no request."""
+    """A listing: what is searched, what is loosened, and what is asked for; of RAID 10 by its copies no request, but what is asked of these."""
 
     shape: Shape
     cures: tuple[Cure, ...] = ()
     request: Request | None = None
     number: int = 0
+    copied: Copied | None = None
 
     @property
     def loosened(self) -> list[str]:
@@ -48,4 +50,5 @@ class Trial:
 
     def line(self) -> str:
         """What is said of it."""
-        return f"{self.shape.line()}: {names_of(self.cures) or 'nothing loosened'}"
+        copies = f", {self.copied.line()}" if self.copied else ""
+        return f"{self.shape.line()}{copies}: {names_of(self.cures) or 'nothing loosened'}"

@@ -1,5 +1,6 @@
 """What a candidate is in words, and what to type next: the end of a run, for the classes of which most is known."""
 
+import collections
 import os
 import shlex
 from collections.abc import Sequence
@@ -17,8 +18,7 @@ PATTERNS = {"la": "left-asymmetric", "ra": "right-asymmetric", "ls": "left-symme
             "parity-last": "parity last", "n-restart": "N restart", "n-continue": "N continue"}
 ORDERS = {"by-data": "Q by the number of the data", "by-slot": "Q by slot"}
 LVM = "LVM2_member"
-COPIES = "which of two copies is the first cannot be known"
-LOST_COPIES = "which of the two copies is lost cannot be known"
+NUMBERS = {1: "one", 2: "two", 3: "three", 4: "four"}
 
 
 def size(sectors: int) -> str:
@@ -28,8 +28,8 @@ def size(sectors: int) -> str:
 
 def layout(word: Word) -> str:
     """The level, the disks and the order of a set."""
-    if word.is_mirrored:
-        return f"RAID 10 (near=2) of {len(word.slots)} disks"
+    if word.copying:
+        return f"RAID 10 ({word.copying.kind}={word.copying.copies}) of {len(word.slots)} disks"
     name = PATTERNS.get(word.pattern.removesuffix(LAST_Q), word.pattern)
     said = [f"RAID {word.level} of {len(word.slots)} disks"]
     said += [f"{name}-6 (Q on the last slot)" if word.pattern.endswith(LAST_Q) else name] if word.level != "0" else []
@@ -50,27 +50,34 @@ def short(names: Sequence[str]) -> list[str]:
     return [shlex.quote(name) for name in (last if len(set(last)) == len(names) else names)]
 
 
-def is_paired(word: Word) -> bool:
-    """Each two slots of a RAID 10 have the same."""
-    return word.is_mirrored and len(word.slots) % 2 == 0
-
-
 def slots(word: Word, names: Sequence[str]) -> str:
-    """The image of each slot; of two copies with a sign between them."""
+    """The image of each slot; of copies that fill slots side by side with a sign between them."""
     told = ["-" if slot is None else names[slot] for slot in word.slots]
-    if is_paired(word):
-        return f"slots: {' '.join('='.join(pair) for pair in zip(told[::2], told[1::2]))} ({COPIES})"
+    if word.together > 1:
+        groups = ("=".join(told[first:first + word.together]) for first in range(0, len(told), word.together))
+        return f"slots: {' '.join(groups)} (which of {NUMBERS[word.together]} copies is the first cannot be known)"
     return f"slots: {' '.join(told)}"
 
 
 def missing(word: Word) -> str:
-    """The slots that are empty; of two copies that cannot be known."""
+    """The slots that are empty; of slots that hold the same which of them that is cannot be told."""
     empty = [place for place, slot in enumerate(word.slots) if slot is None]
     if not empty:
         return "missing: none"
-    if is_paired(word):
-        return "missing: " + ", ".join(f"one of slot {place // 2 * 2} and slot {place // 2 * 2 + 1}" for place in empty) + f" ({LOST_COPIES})"
-    return "missing: " + ", ".join(f"slot {place}" for place in empty) + f" of 0 to {len(word.slots) - 1}"
+    if word.together == 1:
+        return "missing: " + ", ".join(f"slot {place}" for place in empty) + f" of 0 to {len(word.slots) - 1}"
+    lost = collections.Counter(place // word.together * word.together for place in empty)
+    told = (lost_copies(first, count, word.together) for first, count in lost.items())
+    return f"missing: {', '.join(told)}"
+
+
+def lost_copies(first: int, lost: int, copies: int) -> str:
+    """So many lost of so many slots that hold the same, from a first one on; which of them cannot be told, where one is there."""
+    places = [f"slot {place}" for place in range(first, first + copies)]
+    names = f"{', '.join(places[:-1])} and {places[-1]}"
+    if lost == copies:
+        return names
+    return f"{NUMBERS[lost]} of {names} ({NUMBERS[lost]} of {NUMBERS[copies]} copies, which cannot be told)"
 
 
 def in_words(word: Word, names: Sequence[str], whole: Word | None = None) -> str:

@@ -1,0 +1,2 @@
+pub mod GoodCopies
+pub mod Told

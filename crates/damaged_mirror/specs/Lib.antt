@@ -1,0 +1,2 @@
+pub mod Damaged
+pub mod Lengths

@@ -86,9 +86,9 @@ _reraid_set() {
     shift 2
     IFS=: read -ra parts <<<"$value:."
     level=${parts[0]}
-    [[ $level != near2 || ${#parts[@]} == 2 ]] || parts=(near2 copies none "${parts[@]:1}")
+    [[ $level != @(near|far|offset)[234] || ${#parts[@]} == 2 ]] || parts=("$level" copies none "${parts[@]:1}")
     case ${#parts[@]} in
-        2) choices=("$@") expects="LEVEL:PATTERN:ORDER:CHUNK:OFFSET:SLOTS with level 0, 5 or 6, or near2:CHUNK:OFFSET:SLOTS" ;;
+        2) choices=("$@") expects="LEVEL:PATTERN:ORDER:CHUNK:OFFSET:SLOTS with level 0, 5 or 6, or near2:CHUNK:OFFSET:SLOTS, also with near3, far2, offset2 and so on" ;;
         3) expects="a pattern: la for left-asymmetric, ra, ls, rs, parity-first, parity-last; at level 0 plain" && case $level in
             0) choices=(plain) ;;
             5) choices=(la ra ls rs parity-first parity-last) ;;
@@ -130,8 +130,8 @@ _reraid_value() {
     expects=$(_reraid_expects "$2")
     case $2 in
         set) case $1 in
-            mirrorwrite) _reraid_set "$before" "$3" near2 ;;
-            nbd) _reraid_set "$before" "$3" 0 5 6 near2 ;;
+            mirrorwrite) _reraid_set "$before" "$3" {near,far,offset}{2,3,4} ;;
+            nbd) _reraid_set "$before" "$3" 0 5 6 {near,far,offset}{2,3,4} ;;
             *) _reraid_set "$before" "$3" 0 5 6 ;;
         esac ;;
         form) [[ $1 == salvage ]] && _reraid_offer form=data form=lost || _reraid_offer form=text form=json ;;
@@ -218,7 +218,7 @@ _reraid_mount() {
     COMPREPLY=()
     [[ ${#words[@]} == 2 || ${words[1]} != --no-maps ]] || options=1
     case $((${#words[@]} - options)) in
-        2) if [[ $word == -* ]]; then _reraid_offer --no-maps --help --version; else _reraid_set "" "$word" 0 5 6 near2; fi ;;
+        2) if [[ $word == -* ]]; then _reraid_offer --no-maps --help --version; else _reraid_set "" "$word" 0 5 6 {near,far,offset}{2,3,4}; fi ;;
         *) _reraid_files ;;
     esac
 }

@@ -15,7 +15,7 @@ use Rattle.outside.proofs.Reading.{reads_up}
 use Rattle.search_terms.specs.Page.{stop_of}
 use Rattle.candidate_enum.specs.Left.{overlaps}
 use Rattle.raid_params.specs.declared.limits.TheConstants.{MOST}
-use Rattle.near_mirror.specs.Validity.{has_members}
+use Rattle.near_mirror.specs.Heads.{has_members}
 use Rattle.near_mirror.specs.Words.{near_line}
 use Rattle.near_mirror.specs.declared.types.NearSet.{NearSet}
 use Rattle.near_tables.specs.Torn.{tested_below}

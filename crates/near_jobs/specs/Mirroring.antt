@@ -10,7 +10,7 @@ use Rattle.outside.specs.Seen.{Image, Seen}
 use Rattle.raid_params.specs.Validity.{is_chunk}
 use Rattle.raid_params.specs.declared.limits.TheConstants.{MOST}
 use Rattle.search_terms.specs.Page.{page_next, page_ranks, stop_of}
-use Rattle.near_mirror.specs.Validity.{has_members}
+use Rattle.near_mirror.specs.Heads.{has_members}
 use Rattle.near_mirror.specs.Words.{near_line}
 use Rattle.near_search.specs.Product.{near_product, near_total, passes_at}
 use Rattle.near_search.specs.Walk.{near_cost}

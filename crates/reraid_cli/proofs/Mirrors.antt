@@ -5,7 +5,7 @@ use Rattle.std.proofs.lemmas.List.Elements.{All-nil, All-weaker}
 use Rattle.command_words.specs.Commands.{AreMirrors}
 use Rattle.near_jobs.specs.Mirroring.{AreMirrorWords}
 use Rattle.near_jobs.specs.declared.mirroring.MirrorWords.{MirrorWords}
-use Rattle.near_mirror.specs.Validity.{has_members}
+use Rattle.near_mirror.specs.Heads.{has_members}
 use Rattle.raid_params.specs.declared.limits.TheConstants.{MOST}
 use Rattle.value_text.specs.Bounded.{AreMembers}
 

@@ -59,7 +59,7 @@ fn stop_of(fault: VolumeFault) -> Stop
 }
 
 /// The end of the members of a mirror whose volume can be written.
-#[tactic(auto, using(crate::proofs::Mirrored::images_refused, crate::proofs::Mirrored::rule_refused, crate::proofs::Mirrored::mirror_allowed, crate::proofs::Mirrored::mirrored))]
+#[tactic(auto, using(crate::proofs::Mirrored::images_refused, crate::proofs::Mirrored::rule_refused, crate::proofs::Mirrored::mirror_allowed))]
 pub fn mirrored_end<I: Images>(
     images: &I,
     names: usize,

@@ -12,6 +12,8 @@ use Rattle.raid_params.specs.declared.limits.TheConstants.{MOST}
 use Rattle.search_terms.specs.Page.{page_next, page_ranks, stop_of}
 use Rattle.near_mirror.specs.Heads.{has_members}
 use Rattle.near_mirror.specs.Words.{near_line}
+use Rattle.near_mirror.specs.declared.types.CopyLayout.{CopyLayout}
+use Rattle.near_mirror.specs.declared.types.Copying.TheVariants.{Near}
 use Rattle.near_search.specs.Product.{near_product, near_total, passes_at}
 use Rattle.near_search.specs.Walk.{near_cost}
 use Rattle.near_search.specs.declared.ask.NearAsk.{NearAsk}
@@ -37,9 +39,14 @@ pub record AreMirrorWords (asked : MirrorWords) : Type 0 where
   pub end : IfSome asked.end (λ sector. sector < 2 ^ 55)
   pub size : 1 ≤ asked.size
 
+-- the layout that is searched: two copies near to each other
+abbrev pub near2 : CopyLayout
+near2 = record { copying = Near; copies = 2 }
+
 -- what the words ask of a search over `names` images, whose members end before the image sector `end`
 abbrev pub ask_of : MirrorWords → ℕ → ℕ → NearAsk
 ask_of asked names end = record {
+  layouts = record { items = near2 ∷ [] };
   members = record { items = members_for asked.members.items names };
   chunks = asked.chunks;
   offsets = asked.offsets;

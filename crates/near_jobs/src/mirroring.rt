@@ -12,7 +12,7 @@ ghost use Rattle.near_jobs.specs.Mirroring.{AreMirrorWords, EndsMirrors, ask_of 
 
 use arrayvec::ArrayVec;
 use asked_values::{members_for, window_for};
-use near_mirror::near_line;
+use near_mirror::{CopyLayout, Copying, near_line};
 use near_search::{NearAsk, NearFault, NearLine, NearPage, near_page};
 use outside::{Images, MOST_ATTACHED, Memory, Sink};
 use raid_params::{MOST, MOST_CHUNKS, MOST_LESS_ONE, MOST_OFFSETS};
@@ -149,7 +149,13 @@ fn ask_of(asked: MirrorWords, names: usize, end: u64) -> NearAsk
     requires names { names ≤ MOST }
     ensures { result ≡ ask_of_words asked names end }
 {
+    let mut layouts = ArrayVec::new();
+    layouts.push(CopyLayout {
+        copying: Copying::Near,
+        copies: 2,
+    });
     NearAsk {
+        layouts,
         members: members_for(asked.members.as_slice(), names),
         chunks: asked.chunks,
         offsets: asked.offsets,

@@ -1,29 +1,15 @@
 -- A mirror passes just where each beginning of its slots is hopeful.
-use Rattle.std.proofs.Common.{ℕ, zero, suc, ◌≡◌, ◌+◌, ◌<◌, ◌≤◌, Bool, true, false, ◌&&◌, nat_le, List, length, take, refl, sym, ap, ap₂, ◌∙◌, arith, inl, inr, Option}
+use Rattle.std.proofs.Common.{ℕ, ◌≡◌, ◌+◌, ◌≤◌, Bool, true, false, not, ◌&&◌, nat_le, List, length, take, refl, sym, ap, ap₂, ◌∙◌, arith, Option}
 use Rattle.std.specs.List.{list_all, range_with_len}
-use Rattle.std.proofs.lemmas.Bool.{cases_eq, le-leb, leb-true}
+use Rattle.std.proofs.lemmas.Bool.{le-leb, leb-true}
 use Rattle.std.proofs.lemmas.List.{take_all}
 use Rattle.candidate_enum.specs.Survivors.{all_admitted}
-use Rattle.near_mirror.specs.Copies.{near_rows}
+use Rattle.near_mirror.specs.Copies.{near_chunks}
 use Rattle.near_mirror.specs.declared.types.NearHead.{NearHead}
-use Rattle.near_tables.specs.Torn.{near_passes, torn, with_slots}
+use Rattle.near_tables.specs.Torn.{first_chunks, has_lost, near_passes, torn, with_slots}
+use Rattle.near_tables.proofs.LostChunks.{all_true, none_lost, one_false}
 use Rattle.near_tables.proofs.Prefixes.{prefixes_less}
 use Rattle.near_search.specs.Laws.{PassingMirrorsAreHopeful}
-
-all_true : (f : ℕ → Bool) (a n : ℕ) → ((x : ℕ) → a ≤ x → x < a + n → f x ≡ true) → list_all f (range_with_len a n) ≡ true
-all_true f a zero h = refl
-all_true f a (suc n) h = ap₂ (λ (b c : Bool). b && c) (h a (omega arith) (omega arith)) (all_true f (a + 1) n (λ x low high. h x (omega arith) (omega arith)))
-
-and_false : (b c : Bool) → c ≡ false → (b && c) ≡ false
-and_false true c e = e
-and_false false c e = refl
-
-one_false : (f : ℕ → Bool) (a n x : ℕ) → a ≤ x → x < a + n → f x ≡ false → list_all f (range_with_len a n) ≡ false
-one_false f a zero x low high e = absurd (omega arith)
-one_false f a (suc n) x low high e = elim (cases_eq a x) [
-  | inl here ↦ ap (λ (b : Bool). b && list_all f (range_with_len (a + 1) n)) (ap f here ∙ e)
-  | inr ne ↦ and_false (f a) (list_all f (range_with_len (a + 1) n)) (one_false f (a + 1) n x (omega arith) (omega arith) e)
-]
 
 parts : (a b : Bool) → (a && b) ≡ true → (a ≡ true) × (b ≡ true)
 parts true true e = (refl, refl)
@@ -32,10 +18,17 @@ parts false b e = absurd (cc)
 
 fewer : (bytes : List (List ℕ)) (end window most k : ℕ) (head : NearHead) (slots : List (Option ℕ)) → near_passes bytes end window most (with_slots head slots) ≡ true → near_passes bytes end window most (with_slots head (take k slots)) ≡ true
 fewer bytes end window most k head slots passes =
-    let both = parts (nat_le 1 (near_rows head end)) (nat_le (torn bytes end window (with_slots head slots)) most) passes in
-    let high : torn bytes end window (with_slots head slots) ≤ most = leb-true (torn bytes end window (with_slots head slots)) most both.1 in
+    let both = parts (nat_le 1 (near_chunks head end)) (not (has_lost end (with_slots head slots)) && nat_le (torn bytes end window (with_slots head slots)) most) passes in
+    let rest = parts (not (has_lost end (with_slots head slots))) (nat_le (torn bytes end window (with_slots head slots)) most) both.1 in
+    let high : torn bytes end window (with_slots head slots) ≤ most = leb-true (torn bytes end window (with_slots head slots)) most rest.1 in
     let less = prefixes_less bytes end window k head slots in
-    ap₂ (λ (a b : Bool). a && b) both.0 (le-leb (torn bytes end window (with_slots head (take k slots))) most (omega arith))
+    let kept : has_lost end (with_slots head (take k slots)) ≡ false = none_lost head (first_chunks head end) k slots (not_true (has_lost end (with_slots head slots)) rest.0) in
+    ap₂ (λ (a b : Bool). a && b) both.0
+    (ap₂ (λ (a b : Bool). a && b) (ap not kept) (le-leb (torn bytes end window (with_slots head (take k slots))) most (omega arith)))
+  where
+    not_true : (b : Bool) → not b ≡ true → b ≡ false
+    not_true true e = sym e
+    not_true false e = refl
 
 pub hopeful : PassingMirrorsAreHopeful
 unfolding all_admitted

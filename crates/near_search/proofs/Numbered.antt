@@ -10,19 +10,20 @@ use Rattle.slot_math.proofs.Listed.{each_more}
 use Rattle.slot_math.proofs.Nested.{get_low, get_high, get-map, length-map}
 use Rattle.slot_math.specs.Space.{lists_of}
 use Rattle.candidate_enum.specs.Left.{overlaps}
+use Rattle.near_mirror.specs.declared.types.Copying.TheVariants.{Near}
 use Rattle.near_mirror.specs.declared.types.NearHead.{NearHead}
-use Rattle.near_tables.specs.Torn.{tested_below}
+use Rattle.near_tables.specs.Reading.{read_of}
 use Rattle.near_search.specs.Asks.{IsNearAsk}
 use Rattle.near_search.specs.Product.{near_heads, near_numbered, near_product, near_sets_of, near_space, near_total, numbered, set_count, set_of}
 use Rattle.near_search.specs.Walk.{IsEdge, IsHeadSets, near_cost, count_at, first_at}
 use Rattle.near_search.specs.declared.ask.NearAsk.{NearAsk}
 use Rattle.near_search.specs.declared.heads.NearSets.{NearSets}
-use Rattle.near_search.proofs.HeadPlaces.{heads_sound}
-use Rattle.near_search.proofs.Spaces.{lists_fit}
+use Rattle.near_search.proofs.HeadPlaces.{heads_sound, sound_valid}
+use Rattle.near_search.proofs.Spaces.{lists_fit, some_fit}
 
 -- a head with its slot lists, where its first set has this rank
 abbrev pub sets_at : ℕ → NearAsk → ℕ → NearHead → NearSets
-sets_at images ask first head = record { head = head; space = near_space images ask head.members; first = first; count = set_count images ask head }
+sets_at images ask first head = record { head = head; space = near_space images ask head; first = first; count = set_count images ask head }
 
 -- how many sets a head has
 sets_long : (images : ℕ) (ask : NearAsk) (head : NearHead) → length (near_sets_of images ask head) ≡ set_count images ask head
@@ -80,7 +81,7 @@ pub record Standing (images : ℕ) (ask : NearAsk) (before : ℕ) (heads : List 
   pub stand : (k : ℕ) (slots : List (Option ℕ)) → slice_get (lists_of sets.space) k ≡ Some slots → slice_get (flat_map (near_sets_of images ask) heads) (at + k) ≡ Some (set_of sets.head slots)
   pub within : at + sets.count ≤ length (flat_map (near_sets_of images ask) heads)
 
-one_stands : (images : ℕ) (ask : NearAsk) (head : NearHead) (k : ℕ) (slots : List (Option ℕ)) → slice_get (lists_of (near_space images ask head.members)) k ≡ Some slots → slice_get (near_sets_of images ask head) k ≡ Some (set_of head slots)
+one_stands : (images : ℕ) (ask : NearAsk) (head : NearHead) (k : ℕ) (slots : List (Option ℕ)) → slice_get (lists_of (near_space images ask head)) k ≡ Some slots → slice_get (near_sets_of images ask head) k ≡ Some (set_of head slots)
 one_stands images ask head k slots e =
     get-map (set_of head) _ k ∙ ap (option_map (set_of head)) (ap (λ (l : List (List (Option ℕ))). slice_get l k) (sym (lists_fit images ask head)) ∙ e)
 
@@ -96,7 +97,7 @@ standing images ask before zero (h ∷ heads) head e =
       at = 0;
       first = refl;
       stand = λ k slots f.
-          let inside = slice_get_within (lists_of (near_space images ask h.members)) k slots f in
+          let inside = slice_get_within (lists_of (near_space images ask h)) k slots f in
           let zero_on : 0 + k ≡ k = omega arith in
           ap (slice_get (near_sets_of images ask h ++ flat_map (near_sets_of images ask) heads)) zero_on
           ∙ get_low (near_sets_of images ask h) (flat_map (near_sets_of images ask) heads) k (omega arith) ∙ one_stands images ask h k slots f;
@@ -128,8 +129,8 @@ is_head images ask place head is found =
     let first : 0 + sum_by (set_count images ask) (take place (near_heads ask)) ≡ 0 + stands.at = stands.first in
     let inside = stands.within in
     record {
-      valid = sound.0;
-      offset = sound.1;
+      valid = λ some. sound_valid head sound (some_fit images ask head some);
+      offset = sound.3;
       space = refl;
       count = refl;
       stand = λ k slots e.
@@ -139,24 +140,24 @@ is_head images ask place head is found =
 
 -- a head costs what is tested of it
 cost_in : (images : ℕ) (ask : NearAsk) (from to first place : ℕ) (heads : List NearHead) (sets : NearSets) → slice_get (numbered images ask first heads) place ≡ Some sets → max from sets.first < min to (sets.first + sets.count) →
-    tested_below sets.head ask.end ask.window ≤ sum_by (λ s. cond (overlaps from to s.first s.count) (tested_below s.head ask.end ask.window) 0) (numbered images ask first heads)
+    read_of sets.head ask.end ask.window ≤ sum_by (λ s. cond (overlaps from to s.first s.count) (read_of s.head ask.end ask.window) 0) (numbered images ask first heads)
 unfolding numbered
 cost_in images ask from to first place [] sets e lt = absurd (cc)
 cost_in images ask from to first zero (h ∷ heads) sets e lt =
     let same : sets_at images ask first h ≡ sets = (cc) in
-    let f : NearSets → ℕ = λ s. cond (overlaps from to s.first s.count) (tested_below s.head ask.end ask.window) 0 in
+    let f : NearSets → ℕ = λ s. cond (overlaps from to s.first s.count) (read_of s.head ask.end ask.window) 0 in
     let cons = sum_by-cons f (sets_at images ask first h) (numbered images ask (first + set_count images ask h) heads) in
-    let here : f (sets_at images ask first h) ≡ tested_below sets.head ask.end ask.window
-    = ap f same ∙ ap (λ (b : Bool). cond b (tested_below sets.head ask.end ask.window) 0) (lt-ltb (max from sets.first) (min to (sets.first + sets.count)) lt) in
+    let here : f (sets_at images ask first h) ≡ read_of sets.head ask.end ask.window
+    = ap f same ∙ ap (λ (b : Bool). cond b (read_of sets.head ask.end ask.window) 0) (lt-ltb (max from sets.first) (min to (sets.first + sets.count)) lt) in
     omega arith
 cost_in images ask from to first (suc place) (h ∷ heads) sets e lt =
-    let f : NearSets → ℕ = λ s. cond (overlaps from to s.first s.count) (tested_below s.head ask.end ask.window) 0 in
+    let f : NearSets → ℕ = λ s. cond (overlaps from to s.first s.count) (read_of s.head ask.end ask.window) 0 in
     let cons = sum_by-cons f (sets_at images ask first h) (numbered images ask (first + set_count images ask h) heads) in
     let rest = cost_in images ask from to (first + set_count images ask h) place heads sets e lt in
     omega arith
 
 pub head_cost : (images : ℕ) (ask : NearAsk) (from to place : ℕ) (sets : NearSets) → slice_get (near_numbered images ask) place ≡ Some sets → max from sets.first < min to (sets.first + sets.count) →
-    tested_below sets.head ask.end ask.window ≤ near_cost images ask from to
+    read_of sets.head ask.end ask.window ≤ near_cost images ask from to
 unfolding near_cost
 head_cost images ask from to place sets e lt = cost_in images ask from to 0 place (near_heads ask) sets e lt
 
@@ -210,7 +211,7 @@ numbered_long images ask first (head ∷ heads) = ap (λ (n : ℕ). suc n) (numb
 
 pub is_at : (images : ℕ) (ask : NearAsk) (place : ℕ) (sets : NearSets) → IsNearAsk ask → slice_get (near_numbered images ask) place ≡ Some sets → IsAt images ask place sets
 is_at images ask place sets is e =
-    let none : NearHead = record { members = 0; chunk = 0; offset = 0 } in
+    let none : NearHead = record { members = 0; chunk = 0; offset = 0; layout = record { copying = Near; copies = 0 } } in
     let inside = slice_get_within (near_numbered images ask) place sets e in
     let long = numbered_long images ask 0 (near_heads ask) in
     let found = slice_get-get_or (near_heads ask) place none (omega arith) in

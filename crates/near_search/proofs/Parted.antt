@@ -1,5 +1,5 @@
 -- What the table of a head says of beginnings, and of its ranks.
-use Rattle.std.proofs.Common.{ℕ, zero, suc, ◌≡◌, ◌+◌, ◌-◌, ◌<◌, ◌≤◌, Bool, true, false, cond, ◌&&◌, nat_le, List, [], ◌∷◌, ◌++◌, length, take, filter, append-nil, get_or, slice_get, refl, sym, ap, ap₂, ◌∙◌, subst, arith, Option, Some, None, IfSome, IsTrue}
+use Rattle.std.proofs.Common.{ℕ, zero, suc, ◌≡◌, ◌+◌, ◌-◌, ◌<◌, ◌≤◌, Bool, true, false, cond, not, ◌&&◌, nat_le, List, [], ◌∷◌, ◌++◌, length, take, filter, append-nil, get_or, slice_get, refl, sym, ap, ap₂, ◌∙◌, subst, arith, Option, Some, None, IfSome, IsTrue}
 use Rattle.std.specs.List.{list_all, range_with_len}
 use Rattle.std.specs.Option.{option_map_or}
 use Rattle.std.proofs.lemmas.Bool.{le-leb, lt-leb}
@@ -12,12 +12,12 @@ use Rattle.slot_math.proofs.Completions.{all_images, none_unknown}
 use Rattle.slot_math.proofs.Listed.{listed}
 use Rattle.candidate_enum.specs.Survivors.{all_admitted}
 use Rattle.page_loop.specs.Parts.{Added}
-use Rattle.near_mirror.specs.Copies.{near_rows}
-use Rattle.near_mirror.specs.Validity.{is_valid_near}
+use Rattle.near_mirror.specs.Copies.{near_chunks}
+use Rattle.near_mirror.specs.Heads.{is_valid_near}
 use Rattle.near_mirror.specs.declared.types.NearHead.{NearHead}
 use Rattle.near_mirror.specs.declared.types.NearSet.{NearSet}
-use Rattle.near_tables.specs.Tables.{TornCounts, table_torn}
-use Rattle.near_tables.specs.Torn.{near_passes, torn, with_slots}
+use Rattle.near_tables.specs.Tables.{TornCounts}
+use Rattle.near_tables.specs.Torn.{first_chunks, has_lost, lost_among, near_passes, torn, with_slots}
 use Rattle.near_tables.proofs.Told.{tables_tell}
 use Rattle.near_search.specs.Product.{near_product, passes_at, set_of}
 use Rattle.near_search.specs.Hopeful.{AdmitsHopeful, IsHeadTable, is_near_admitted, is_near_hopeful, NearAsked}
@@ -29,7 +29,11 @@ use Rattle.near_search.proofs.Spaces.{space_images, space_members}
 
 -- the sizes of a head's space
 pub space_size : (many : ℕ) (ask : NearAsk) (sets : NearSets) → IsHeadSets many ask sets → (sets.space.images ≡ many) × (sets.space.members ≡ sets.head.members)
-space_size many ask sets head = (ap (λ (s : Space). s.images) head.space ∙ space_images many ask sets.head.members, ap (λ (s : Space). s.members) head.space ∙ space_members many ask sets.head.members)
+space_size many ask sets head = (ap (λ (s : Space). s.images) head.space ∙ space_images many ask sets.head, ap (λ (s : Space). s.members) head.space ∙ space_members many ask sets.head)
+
+and_none : (d : Bool) → (d && false) ≡ false
+and_none true = refl
+and_none false = refl
 
 more_images : (n m : ℕ) (l : List (Option ℕ)) → n ≤ m → AllImages n l → AllImages m l
 more_images n m [] le all = tt
@@ -64,14 +68,14 @@ admitted bytes many ask head asked slots admits images =
     ∙ hopeful bytes ask.end ask.window ask.badrows head slots
 
 -- the table of a head tells which beginnings are hopeful
-pub admits_hopeful : (bytes : List (List ℕ)) (many : ℕ) (ask : NearAsk) (head : NearHead) (space : Space) (table : Option TornCounts) → IsTrue (is_valid_near head) → space.members ≡ head.members →
-    IsHeadTable bytes many ask head table → AdmitsHopeful bytes many ask head (record { space = space; table = table; most = ask.badrows })
-admits_hopeful bytes many ask head space None valid members none = λ prefix images.
-    sym (ap (λ (b : Bool). b && nat_le (torn bytes ask.end ask.window (with_slots head prefix)) ask.badrows) (lt-leb 1 (near_rows head ask.end) (omega arith)))
-admits_hopeful bytes many ask head space (Some table) valid members (rows, is) = λ prefix images.
-    ap (λ (n : ℕ). nat_le (table_torn table n prefix) ask.badrows) members
-    ∙ ap (λ (n : ℕ). nat_le n ask.badrows) (tables_tell bytes many ask.end ask.window head table prefix valid images is)
-    ∙ sym (ap (λ (b : Bool). b && nat_le (torn bytes ask.end ask.window (with_slots head prefix)) ask.badrows) (le-leb 1 (near_rows head ask.end) rows))
+pub admits_hopeful : (bytes : List (List ℕ)) (many : ℕ) (ask : NearAsk) (head : NearHead) (space : Space) (chunks : ℕ) (table : Option TornCounts) → IsTrue (is_valid_near head) → chunks ≡ first_chunks head ask.end →
+    IsHeadTable bytes many ask head table → AdmitsHopeful bytes many ask head (record { space = space; head = head; chunks = chunks; table = table; most = ask.badrows })
+admits_hopeful bytes many ask head space chunks None valid first none = λ prefix images.
+    and_none (not (lost_among chunks (with_slots head prefix)))
+    ∙ sym (ap (λ (b : Bool). b && (not (has_lost ask.end (with_slots head prefix)) && nat_le (torn bytes ask.end ask.window (with_slots head prefix)) ask.badrows)) (lt-leb 1 (near_chunks head ask.end) (omega arith)))
+admits_hopeful bytes many ask head space chunks (Some table) valid first (some, is) = λ prefix images.
+    ap₂ (λ (c n : ℕ). not (lost_among c (with_slots head prefix)) && nat_le n ask.badrows) first (tables_tell bytes many ask.end ask.window head table prefix valid images is)
+    ∙ sym (ap (λ (b : Bool). b && (not (has_lost ask.end (with_slots head prefix)) && nat_le (torn bytes ask.end ask.window (with_slots head prefix)) ask.badrows)) (le-leb 1 (near_chunks head ask.end) some))
 
 -- the list of a rank of the head
 record HasList (many : ℕ) (ask : NearAsk) (sets : NearSets) (rank : ℕ) : Type 0 where
@@ -100,12 +104,12 @@ tells bytes many ask sets asked rank head admits low high =
     ∙ admitted bytes many ask sets.head asked has.slots admits images
     ∙ sym (ap (λ (o : Option NearSet). option_map_or (near_passes bytes ask.end ask.window ask.badrows) o false) has.set)
 
--- without a whole row none passes
-pub rowless : (bytes : List (List ℕ)) (many : ℕ) (ask : NearAsk) (sets : NearSets) (rank : ℕ) → IsHeadSets many ask sets → near_rows sets.head ask.end ≡ 0 → sets.first ≤ rank → rank < sets.first + sets.count → passes_at bytes many ask rank ≡ false
+-- without a chunk none passes
+pub rowless : (bytes : List (List ℕ)) (many : ℕ) (ask : NearAsk) (sets : NearSets) (rank : ℕ) → IsHeadSets many ask sets → near_chunks sets.head ask.end ≡ 0 → sets.first ≤ rank → rank < sets.first + sets.count → passes_at bytes many ask rank ≡ false
 rowless bytes many ask sets rank head none low high =
     let has = has_list many ask sets rank head low high in
     ap (λ (o : Option NearSet). option_map_or (near_passes bytes ask.end ask.window ask.badrows) o false) has.set
-    ∙ ap (λ (b : Bool). b && nat_le (torn bytes ask.end ask.window (set_of sets.head has.slots)) ask.badrows) (lt-leb 1 (near_rows sets.head ask.end) (omega arith))
+    ∙ ap (λ (b : Bool). b && (not (has_lost ask.end (set_of sets.head has.slots)) && nat_le (torn bytes ask.end ask.window (set_of sets.head has.slots)) ask.badrows)) (lt-leb 1 (near_chunks sets.head ask.end) (omega arith))
 
 -- tests that agree on a range
 same_range : (p q : ℕ → Bool) (a n : ℕ) → ((x : ℕ) → a ≤ x → x < a + n → p x ≡ q x) → filter p (range_with_len a n) ≡ filter q (range_with_len a n)

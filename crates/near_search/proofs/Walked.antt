@@ -4,7 +4,7 @@ use Rattle.std.proofs.lemmas.Nat.{mul-le}
 use Rattle.outside.specs.Seen.{Image, OnlyReads, Seen}
 use Rattle.outside.proofs.Reading.{reads_up}
 use Rattle.page_loop.specs.Parts.{Added, Fills}
-use Rattle.near_tables.specs.Torn.{tested_below}
+use Rattle.near_tables.specs.Reading.{read_of}
 use Rattle.near_tables.specs.declared.torn_table.TableFault.{TableFault}
 use Rattle.near_search.specs.Asks.{HasImages}
 use Rattle.near_search.specs.Pages.{CanNear, StandsNear}
@@ -99,18 +99,18 @@ pub can_still : (walk : NearWalk) (place first tested at : ℕ) (old seen : Seen
 can_still walk place first tested at old seen same can = let on = can_on walk old seen same can in record { ask = on.ask; images = on.images; many = on.many; total = on.total; small = on.small; some = on.some }
 
 -- what is read for a head is what it costs
-pub reads_head : (walk : NearWalk) (place to : ℕ) (sets : NearSets) (old new : Seen) → Sought walk place sets → walk.tested < to → OnlyReads old new (walk.many * tested_below sets.head walk.ask.now.end walk.ask.now.window) →
+pub reads_head : (walk : NearWalk) (place to : ℕ) (sets : NearSets) (old new : Seen) → Sought walk place sets → walk.tested < to → OnlyReads old new (walk.many * read_of sets.head walk.ask.now.end walk.ask.now.window) →
     OnlyReads old new (walk.many * near_cost walk.many walk.ask.now walk.tested to)
 reads_head walk place to sets old new is up reads =
     let low = is.low in
     let high = is.high in
     let cost = head_cost walk.many walk.ask.now walk.tested to place sets is.listed (omega arith) in
-    let more : walk.many * tested_below sets.head walk.ask.now.end walk.ask.now.window ≤ walk.many * near_cost walk.many walk.ask.now walk.tested to
-    = mul-le walk.many (tested_below sets.head walk.ask.now.end walk.ask.now.window) walk.many (near_cost walk.many walk.ask.now walk.tested to) (omega arith) cost in
+    let more : walk.many * read_of sets.head walk.ask.now.end walk.ask.now.window ≤ walk.many * near_cost walk.many walk.ask.now walk.tested to
+    = mul-le walk.many (read_of sets.head walk.ask.now.end walk.ask.now.window) walk.many (near_cost walk.many walk.ask.now walk.tested to) (omega arith) cost in
     reads_up old new reads more
 
 -- a whole head
-pub reads_part : (walk : NearWalk) (place : ℕ) (sets : NearSets) (old new : Seen) → Sought walk place sets → OnlyReads old new (walk.many * tested_below sets.head walk.ask.now.end walk.ask.now.window) → new.faults ≡ old.faults →
+pub reads_part : (walk : NearWalk) (place : ℕ) (sets : NearSets) (old new : Seen) → Sought walk place sets → OnlyReads old new (walk.many * read_of sets.head walk.ask.now.end walk.ask.now.window) → new.faults ≡ old.faults →
     ReadsNear walk.many walk.ask.now walk.tested (sets.first + sets.count) false old new
 reads_part walk place sets old new is reads quiet = record {
   reads = reads_head walk place (sets.first + sets.count) sets old new is is.high reads;
@@ -119,7 +119,7 @@ reads_part walk place sets old new is reads quiet = record {
 }
 
 -- the beginning of one
-pub reads_front : (walk : NearWalk) (place next : ℕ) (sets : NearSets) (old new : Seen) → Sought walk place sets → walk.tested < next → OnlyReads old new (walk.many * tested_below sets.head walk.ask.now.end walk.ask.now.window) → new.faults ≡ old.faults →
+pub reads_front : (walk : NearWalk) (place next : ℕ) (sets : NearSets) (old new : Seen) → Sought walk place sets → walk.tested < next → OnlyReads old new (walk.many * read_of sets.head walk.ask.now.end walk.ask.now.window) → new.faults ≡ old.faults →
     ReadsNear walk.many walk.ask.now walk.tested next true old new
 reads_front walk place next sets old new is up reads quiet = record {
   reads = reads_head walk place next sets old new is up reads;
@@ -136,7 +136,7 @@ reads_still many ask tested stop seen = record {
 }
 
 -- one that was not gathered
-pub fails_head : (walk : NearWalk) (place stop : ℕ) (sets : NearSets) (old new : Seen) (fault : TableFault) → Sought walk place sets → walk.tested < stop → OnlyReads old new (walk.many * tested_below sets.head walk.ask.now.end walk.ask.now.window) →
+pub fails_head : (walk : NearWalk) (place stop : ℕ) (sets : NearSets) (old new : Seen) (fault : TableFault) → Sought walk place sets → walk.tested < stop → OnlyReads old new (walk.many * read_of sets.head walk.ask.now.end walk.ask.now.window) →
     EndsWalk old new fault → FailsNear walk.many walk.ask.now walk.tested stop old new fault
 fails_head walk place stop sets old new fault is up reads ends = record { reads = reads_head walk place stop sets old new is up reads; ends = ends }
 

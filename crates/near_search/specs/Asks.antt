@@ -3,15 +3,16 @@ use Rattle.std.specs.Prelude.{◌≤◌, ◌<◌, ◌^◌, IsTrue, List, length,
 use Rattle.outside.specs.Seen.{Image}
 use Rattle.raid_params.specs.declared.limits.TheConstants.{MOST}
 use Rattle.raid_params.specs.Validity.{is_chunk}
-use Rattle.near_mirror.specs.Validity.{has_members}
+use Rattle.near_mirror.specs.Heads.{are_copies, has_members}
 use Rattle.near_search.specs.declared.ask.NearAsk.{NearAsk}
 
--- numbers of members, chunks and offsets that mirrors have, and limits within those of the words
+-- numbers of copies and of members, chunks and offsets that mirrors have, and limits within those of the words
 pub record IsNearAsk (ask : NearAsk) : Type 0 where
+  pub layouts : All (λ layout. IsTrue (are_copies layout.copies)) ask.layouts.items
   pub members : All (λ members. IsTrue (has_members members)) ask.members.items
   pub chunks : All (λ chunk. IsTrue (is_chunk chunk)) ask.chunks.items
   pub offsets : All (λ offset. offset < 2 ^ 55) ask.offsets.items
-  pub missing : ask.missing ≤ 1
+  pub missing : ask.missing ≤ MOST
   pub foreign : ask.foreign ≤ MOST
   pub end : ask.end < 2 ^ 55
 

@@ -6,7 +6,7 @@ use Rattle.std.proofs.lemmas.List.Sums.{sum_by-cons}
 use Rattle.std.proofs.lemmas.Nat.{mul-le}
 use Rattle.outside.specs.Seen.{OnlyReads, Seen}
 use Rattle.candidate_enum.specs.Left.{overlaps}
-use Rattle.near_tables.specs.Torn.{tested_below}
+use Rattle.near_tables.specs.Reading.{read_of}
 use Rattle.near_tables.specs.declared.torn_table.TableFault.{TableFault}
 use Rattle.near_tables.specs.declared.torn_table.TableFault.TheVariants.{ReadFault, Memory}
 use Rattle.near_search.specs.Pages.{SameNear}
@@ -18,7 +18,7 @@ use Rattle.near_search.specs.declared.walk.NearWalk.{NearWalk}
 
 -- what one head costs
 abbrev cost_of : NearAsk → ℕ → ℕ → NearSets → ℕ
-cost_of ask from to sets = cond (overlaps from to sets.first sets.count) (tested_below sets.head ask.end ask.window) 0
+cost_of ask from to sets = cond (overlaps from to sets.first sets.count) (read_of sets.head ask.end ask.window) 0
 
 one_head : (a b c f n most : ℕ) → a ≤ b → b ≤ c → (f + n ≤ b) ⊎ (b ≤ f) → cond (overlaps a b f n) most 0 + cond (overlaps b c f n) most 0 ≤ cond (overlaps a c f n) most 0
 one_head a b c f n most low high (inl e) =
@@ -42,7 +42,7 @@ heads_join ask a b c (sets ∷ heads) low high edge =
     let first = sum_by-cons (cost_of ask a b) sets heads in
     let second = sum_by-cons (cost_of ask b c) sets heads in
     let both = sum_by-cons (cost_of ask a c) sets heads in
-    let here = one_head a b c sets.first sets.count (tested_below sets.head ask.end ask.window) low high edge.0 in
+    let here = one_head a b c sets.first sets.count (read_of sets.head ask.end ask.window) low high edge.0 in
     let rest = heads_join ask a b c heads low high edge.1 in
     omega arith
 
@@ -51,7 +51,7 @@ no_head : (ask : NearAsk) (a : ℕ) (heads : List NearSets) → sum_by (cost_of 
 no_head ask a [] = refl
 no_head ask a (sets ∷ heads) =
     let cons = sum_by-cons (cost_of ask a a) sets heads in
-    let none : cost_of ask a a sets ≡ 0 = ap (λ (b : Bool). cond b (tested_below sets.head ask.end ask.window) 0) (le-ltb (max a sets.first) (min a (sets.first + sets.count)) (omega arith)) in
+    let none : cost_of ask a a sets ≡ 0 = ap (λ (b : Bool). cond b (read_of sets.head ask.end ask.window) 0) (le-ltb (max a sets.first) (min a (sets.first + sets.count)) (omega arith)) in
     let rest = no_head ask a heads in
     omega arith
 

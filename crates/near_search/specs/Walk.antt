@@ -10,8 +10,8 @@ use Rattle.slot_math.specs.Space.{lists_of}
 use Rattle.candidate_enum.specs.Left.{overlaps}
 use Rattle.candidate_enum.specs.Survivors.{all_admitted}
 use Rattle.page_loop.specs.Parts.{Added, Fills}
-use Rattle.near_mirror.specs.Validity.{is_valid_near}
-use Rattle.near_tables.specs.Torn.{tested_below}
+use Rattle.near_mirror.specs.Heads.{is_valid_near}
+use Rattle.near_tables.specs.Reading.{read_of}
 use Rattle.near_tables.specs.declared.torn_table.TableFault.{TableFault}
 use Rattle.near_tables.specs.declared.torn_table.TableFault.TheVariants.{ReadFault, Memory}
 use Rattle.near_search.specs.Product.{near_heads, near_numbered, near_product, near_space, near_total, passes_at, set_count, set_of}
@@ -25,9 +25,9 @@ HoldsNear images ask line = slice_get (near_product images ask) line.rank ≡ So
 
 -- the sets of one head of a search, which stand at the ranks from its first on
 pub record IsHeadSets (images : ℕ) (ask : NearAsk) (sets : NearSets) : Type 0 where
-  pub valid : IsTrue (is_valid_near sets.head)
+  pub valid : 1 ≤ sets.count → IsTrue (is_valid_near sets.head)
   pub offset : sets.head.offset < 2 ^ 55
-  pub space : sets.space ≡ near_space images ask sets.head.members
+  pub space : sets.space ≡ near_space images ask sets.head
   pub count : sets.count ≡ length (lists_of sets.space)
   pub stand : (k : ℕ) (slots : List (Option ℕ)) → slice_get (lists_of sets.space) k ≡ Some slots → slice_get (near_product images ask) (sets.first + k) ≡ Some (set_of sets.head slots)
   pub within : sets.first + sets.count ≤ near_total images ask
@@ -55,9 +55,9 @@ abbrev pub EndsWalk : Seen → Seen → TableFault → Type 0
 EndsWalk old new ReadFault = Rose old.faults new.faults
 EndsWalk old new Memory = new.faults ≡ old.faults
 
--- the sectors of each image that are tested for the heads of which a rank lies from one up to another
+-- the sectors of each image that are read for the heads of which a rank lies from one up to another
 unfoldable pub near_cost : ℕ → NearAsk → ℕ → ℕ → ℕ
-near_cost images ask from to = sum_by (λ sets. if overlaps from to sets.first sets.count then tested_below sets.head ask.end ask.window else 0) (near_numbered images ask)
+near_cost images ask from to = sum_by (λ sets. if overlaps from to sets.first sets.count then read_of sets.head ask.end ask.window else 0) (near_numbered images ask)
 
 -- no head has ranks both before this one and from it on
 abbrev pub IsEdge : ℕ → NearAsk → ℕ → Type 0

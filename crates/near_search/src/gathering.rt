@@ -4,7 +4,7 @@ ghost use Rattle.outside.specs.Attached.{told_all};
 ghost use Rattle.outside.specs.Seen.{OnlyReads};
 ghost use Rattle.raid_params.specs.declared.limits.TheConstants.{MOST};
 ghost use Rattle.slot_math.specs.Space.{lists_of};
-ghost use Rattle.near_tables.specs.Torn.{tested_below};
+ghost use Rattle.near_tables.specs.Reading.{read_of};
 ghost use Rattle.near_search.specs.declared.ask.NearAsk.{NearAsk as NearAskOf};
 ghost use Rattle.near_search.specs.Asks.{HasImages, IsNearAsk};
 ghost use Rattle.near_search.specs.Product.{near_numbered, passes_at};
@@ -17,7 +17,7 @@ use crate::hopeful::NearHopeful;
 use crate::parts::{NearLine, NearLines};
 use candidate_enum::Survivors;
 use near_mirror::NearSet;
-use near_tables::{TableFault, near_rows};
+use near_tables::TableFault;
 use outside::{Images, Memory};
 use std::alloc::Global;
 
@@ -57,7 +57,7 @@ fn gather_lists(
 }
 
 /// Gathers the sets of a head that pass of ranks from `from` up to `to`, as long as the page has fewer than `size` lines; gives the
-/// rank after its last line where it has as many. A head without a whole row has none that passes, and nothing is read for it.
+/// rank after its last line where it has as many. A head without a chunk has none that passes, and nothing is read for it.
 pub(crate) fn gather_head<I: Images>(
     alloc: Global,
     images: &mut I,
@@ -76,13 +76,14 @@ pub(crate) fn gather_head<I: Images>(
     requires part { IsPart sets.now from to }
     requires high { to < 2 ^ 64 }
     requires few { length page.old < size }
+    requires some { 1 ≤ sets.now.count }
     ensures gathers { IfOk result (Gathers (passes_told (told_all (I.seen images.old).attached) many ask.now) size from to (map (λ line. line.rank) page.old) (map (λ line. line.rank) page.new)) }
     ensures holds { All (HoldsNear many ask.now) page.old → IfOk result (λ full. All (HoldsNear many ask.now) page.new) }
-    ensures reads { OnlyReads (I.seen images.old) (I.seen images.new) (many * tested_below sets.now.head ask.now.end ask.now.window) }
+    ensures reads { OnlyReads (I.seen images.old) (I.seen images.new) (many * read_of sets.now.head ask.now.end ask.now.window) }
     ensures quiet { IfOk result (λ full. (I.seen images.new).faults ≡ (I.seen images.old).faults) }
     ensures ends { IfErr result (EndsWalk (I.seen images.old) (I.seen images.new)) }
 {
-    if near_rows(&sets.head, ask.end) == 0 {
+    if sets.head.volume_chunks(ask.end) == 0 {
         return Ok(None);
     }
     let family = NearHopeful::of_head(alloc, images, many, ask, &sets.head, sets.space)?;

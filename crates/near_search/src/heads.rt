@@ -3,10 +3,10 @@ ghost use Rattle.std.specs.Prelude.{◌≡◌, ◌<◌, ◌≤◌, ◌+◌, ◌*
 ghost use Rattle.raid_params.specs.declared.limits.TheConstants.{MOST};
 ghost use Rattle.near_mirror.specs.declared.types.NearHead.{NearHead as NearHeadOf};
 ghost use Rattle.near_search.specs.Asks.{IsNearAsk};
-ghost use Rattle.near_search.specs.Product.{near_heads, near_space as near_space_of, near_total, set_count};
+ghost use Rattle.near_search.specs.Product.{layout_heads, near_heads, near_space as near_space_of, near_total, set_count};
 
 use crate::ask::NearAsk;
-use near_mirror::NearHead;
+use near_mirror::{CopyLayout, NearHead};
 use slot_math::Space;
 
 /// Where the count of sets stops: of as many or more none is ranked.
@@ -35,11 +35,19 @@ fn number_at<T: Copy>(numbers: &[T], place: usize) -> T
 }
 
 impl NearAsk {
+    /// How many heads a layout has.
+    fn layout_count(&self) -> usize
+        ensures value { result ≡ length self.now.members.items * (length self.now.chunks.items * length self.now.offsets.items) }
+        ensures few { result ≤ 23 * (16 * 64) }
+    {
+        self.members.len() * (self.chunks.len() * self.offsets.len())
+    }
+
     /// How many heads there are.
     pub(crate) fn head_count(&self) -> usize
         ensures { result ≡ length (near_heads self.now) }
     {
-        self.members.len() * (self.chunks.len() * self.offsets.len())
+        self.layouts.len() * self.layout_count()
     }
 
     /// The head of this place.
@@ -47,35 +55,48 @@ impl NearAsk {
         requires { place < length (near_heads self.now) }
         ensures { slice_get (near_heads self.now) place ≡ Some result }
     {
+        let layout_count = self.layout_count();
+        let layout = number_at(&self.layouts, place / layout_count);
+        self.head_of(layout, place % layout_count)
+    }
+
+    /// The head of this place among those of a layout.
+    fn head_of(&self, layout: CopyLayout, place: usize) -> NearHead
+        requires { place < length (layout_heads self.now layout) }
+        ensures { slice_get (layout_heads self.now layout) place ≡ Some result }
+    {
         let offsets = self.offsets.len();
         let pairs = self.chunks.len() * offsets;
         NearHead {
             members: number_at(&self.members, place / pairs),
             chunk: number_at(&self.chunks, place % pairs / offsets),
             offset: number_at(&self.offsets, place % pairs % offsets),
+            layout,
         }
     }
 
-    /// The slot lists of one number of members over so many images.
-    pub(crate) fn space(&self, images: u8, members: u8) -> Space
+    /// The slot lists of a head over so many images.
+    pub(crate) fn space(&self, images: u8, head: &NearHead) -> Space
         requires foreign { self.now.foreign ≤ MOST }
-        requires members { members ≤ MOST }
-        ensures { result ≡ near_space_of images self.now members }
+        requires members { head.now.members ≤ MOST }
+        ensures { result ≡ near_space_of images self.now head.now }
     {
+        let members = head.members;
         let held = self.foreign + members;
-        if held < images {
-            return Space {
+        if head.layout.copies <= members && images <= held {
+            Space {
+                images,
+                members,
+                low: 0,
+                high: self.missing.min(held - images),
+            }
+        } else {
+            Space {
                 images,
                 members,
                 low: 1,
                 high: 0,
-            };
-        }
-        Space {
-            images,
-            members,
-            low: 0,
-            high: self.missing.min(held - images),
+            }
         }
     }
 
@@ -86,7 +107,7 @@ impl NearAsk {
         requires place { place < length (near_heads self.now) }
         ensures { (head : NearHeadOf) → slice_get (near_heads self.now) place ≡ Some head → result ≡ set_count images self.now head }
     {
-        self.space(images, self.head_at(place).members).total()
+        self.space(images, &self.head_at(place)).total()
     }
 
     /// How many sets there are over so many images. The count stops at `COUNT_END`.

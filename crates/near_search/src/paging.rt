@@ -33,10 +33,10 @@ fn count_images<I: Images>(images: &I) -> u8
 }
 
 /// The page of mirrors from a rank on: the first `size` of the parameter sets that pass and whose ranks are below `from + span`, and the
-/// rank from which the next page goes on. A set passes where its members have a whole row, and at most `badrows` of the tested sectors
-/// are torn. `size` is 1 at least.
+/// rank from which the next page goes on. A set passes where it has a chunk, each chunk has a copy, and at most `badrows` of the
+/// tested sectors are torn, over each two of their copies. `size` is 1 at least.
 ///
-/// For each head with a whole row of which a rank is looked at, the tested sectors of each image are read once. Where the page fails,
+/// For each head with a chunk of which a rank is looked at, the tested sectors of each image are read once. Where the page fails,
 /// no more is read than for the page up to the end of its range.
 pub fn near_page<I: Images>(
     alloc: Global,

@@ -59,7 +59,7 @@ fn seek(ask: &NearAsk, many: u8, place: usize, first: u64, rank: u64) -> (usize,
         let count = ask.count_at(many, at) as u64;
         if rank < start + count {
             let head = ask.head_at(at);
-            let space = ask.space(many, head.members);
+            let space = ask.space(many, &head);
             let sets = NearSets {
                 head,
                 space,

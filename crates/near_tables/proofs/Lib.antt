@@ -1,6 +1,10 @@
 pub mod Sums
+pub mod Rows
+pub mod LaneRanges
 pub mod Pairs
 pub mod Told
 pub mod Prefixes
 pub mod Strips
 pub mod Reach
+pub mod Reaches
+pub mod LostChunks

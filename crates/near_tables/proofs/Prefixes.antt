@@ -1,11 +1,11 @@
 -- No more is torn in the beginning of a slot list than in the list.
 use Rattle.std.proofs.Common.{ℕ, zero, suc, ◌≡◌, ◌≤◌, ◌⊎◌, Bool, true, false, cond, ◌&&◌, List, [], ◌∷◌, take, get_or, refl, sym, ap, ◌∙◌, subst, arith, inl, inr, Option, Some, None}
-use Rattle.std.specs.List.{range_with_len}
+use Rattle.std.specs.List.{range_with_len, sum_by}
 use Rattle.std.proofs.lemmas.List.Sums.{sum_by-le-sum_by}
 use Rattle.near_mirror.specs.Copies.{copy_sector, copy_slot, near_sectors}
 use Rattle.near_mirror.specs.Volume.{copy_image}
 use Rattle.near_tables.specs.Laws.{PrefixesAreTornLess}
-use Rattle.near_tables.specs.Torn.{copies_differ, is_tested, is_torn, tested_below, torn, with_slots}
+use Rattle.near_tables.specs.Torn.{copies_differ, is_tested, is_torn, tested_below, torn, torn_copies, with_slots}
 
 -- what a slot holds in the beginning of a list is what it holds, or nothing
 front_slot : (k s : ℕ) (slots : List (Option ℕ)) → (get_or (take k slots) s None ≡ get_or slots s None) ⊎ (get_or (take k slots) s None ≡ None)
@@ -42,8 +42,15 @@ less images offset first second tested one other here there (inl e) (inr f) =
 pub prefixes_less : PrefixesAreTornLess
 unfolding torn
 prefixes_less bytes end window k head slots =
-    sum_by-le-sum_by (λ v. cond (is_torn bytes (tested_below head end window) (with_slots head (take k slots)) v) 1 0) (λ v. cond (is_torn bytes (tested_below head end window) (with_slots head slots) v) 1 0)
-    (range_with_len 0 (near_sectors head end))
-    (λ v. less bytes head.offset (copy_sector head 0 v) (copy_sector head 1 v) (is_tested head (tested_below head end window) v)
-    (copy_image (with_slots head slots) 0 v) (copy_image (with_slots head slots) 1 v) (copy_image (with_slots head (take k slots)) 0 v) (copy_image (with_slots head (take k slots)) 1 v)
-    (front_slot k (copy_slot head 0 v) slots) (front_slot k (copy_slot head 1 v) slots))
+    sum_by-le-sum_by (λ second. sum_by (λ first. torn_copies bytes end window (with_slots head (take k slots)) first second) (range_with_len 0 second))
+    (λ second. sum_by (λ first. torn_copies bytes end window (with_slots head slots) first second) (range_with_len 0 second)) (range_with_len 0 head.layout.copies)
+    (λ second. sum_by-le-sum_by (λ first. torn_copies bytes end window (with_slots head (take k slots)) first second) (λ first. torn_copies bytes end window (with_slots head slots) first second) (range_with_len 0 second)
+    (λ first. copies_less first second))
+  where
+    copies_less : (first second : ℕ) → torn_copies bytes end window (with_slots head (take k slots)) first second ≤ torn_copies bytes end window (with_slots head slots) first second
+    copies_less first second =
+        sum_by-le-sum_by (λ v. cond (is_torn bytes end (tested_below head end window) (with_slots head (take k slots)) first second v) 1 0)
+        (λ v. cond (is_torn bytes end (tested_below head end window) (with_slots head slots) first second v) 1 0) (range_with_len 0 (near_sectors head end))
+        (λ v. less bytes head.offset (copy_sector head end first v) (copy_sector head end second v) (is_tested head end (tested_below head end window) first second v)
+        (copy_image (with_slots head slots) first v) (copy_image (with_slots head slots) second v) (copy_image (with_slots head (take k slots)) first v) (copy_image (with_slots head (take k slots)) second v)
+        (front_slot k (copy_slot head first v) slots) (front_slot k (copy_slot head second v) slots))

@@ -1,18 +1,23 @@
 -- Strips of images in memory, and what is counted in them.
-use Rattle.std.proofs.Common.{ℕ, zero, suc, ◌≡◌, ◌+◌, ◌-◌, ◌*◌, ◌^◌, ◌/◌, ◌%◌, ◌<◌, ◌≤◌, min, Bool, true, false, not, nat_eq, nat_lt, cond, ◌&&◌, ◌||◌, List, length, replicate, drop, get_or, slice_range, refl, sym, ap, ap₂, ◌∙◌, subst, arith, inl, inr}
+use Rattle.std.proofs.Common.{ℕ, zero, suc, ◌≡◌, ◌+◌, ◌-◌, ◌*◌, ◌^◌, ◌/◌, ◌%◌, ◌<◌, ◌≤◌, ◌≢◌, IsTrue, min, Bool, true, false, not, nat_eq, nat_lt, cond, ◌&&◌, ◌||◌, List, [], length, replicate, drop, take, append-nil, ◌++◌, get_or, slice_range, refl, sym, ap, ap₂, ◌∙◌, arith, inl, inr}
 use Rattle.std.specs.Bool.{Decides}
 use Rattle.std.specs.List.{list_any, range_with_len, slice_index, sum_by}
 use Rattle.std.proofs.lemmas.Bool.{cases_eq, eq-eqb, eqb-true, le-ltb, lt-ltb}
-use Rattle.std.proofs.lemmas.List.{ext_get_or, get_or-drop, get_or-take}
+use Rattle.std.proofs.lemmas.List.{drop_all, ext_get_or, get_or-drop, get_or-take, take_all}
 use Rattle.std.proofs.lemmas.List.Sums.{count_by-le-length}
-use Rattle.std.proofs.lemmas.Nat.{div-add-mod', div-mul-add, le-div, mod-mul-add, mul-le}
-use Rattle.near_tables.proofs.Pairs.{row_late}
+use Rattle.std.proofs.Math.Nat.{zero-mul, mul-zero}
+use Rattle.std.proofs.lemmas.Nat.{div-add-mod', div-mul-add, le-div, mod-mul-add, mod_below, mul-le}
+use Rattle.near_mirror.specs.Heads.{is_valid_near}
+use Rattle.near_mirror.proofs.Chunks.{valid_chunk}
+use Rattle.near_mirror.proofs.Heads.{few_copies, some_copies}
+use Rattle.near_tables.proofs.Rows.{first_lane, group_some, lane_up}
 use Rattle.member_regions.specs.ImageSums.{room_byte}
 use Rattle.member_regions.specs.Regions.{Room}
 use Rattle.near_mirror.specs.declared.types.NearHead.{NearHead}
-use Rattle.near_tables.specs.Reading.{HoldStrip, regions_differ, strip_torn}
-use Rattle.near_tables.specs.Tables.{CountsFirst, CountsPairs, TornCounts, count_of, is_torn_at, row_sector, torn_between}
-use Rattle.near_tables.specs.Torn.{image_byte, sectors_differ}
+use Rattle.near_tables.specs.Counting.{AddsPair}
+use Rattle.near_tables.specs.Reading.{HoldStrip, HoldsLane, lane_room, regions_differ, rest_of, strip_torn}
+use Rattle.near_tables.specs.Tables.{CountsFirst, TornCounts, count_of, group_rows, is_torn_at, lane_counts, lane_depth, lane_row, lane_sector, row_sector, torn_between}
+use Rattle.near_tables.specs.Torn.{image_byte, part_start, sectors_differ}
 use Rattle.near_tables.proofs.Sums.{sum_moved, sum_none, sum_split}
 
 -- a byte of a region's sector
@@ -25,7 +30,7 @@ region_at room region image place x is below =
     ∙ ap (λ (k : ℕ). get_or room.bytes k 0) at
 
 -- whether one of some numbers passes
-none_of : (f : ℕ → Bool) (a n : ℕ) → ((x : ℕ) → a ≤ x → x < a + n → f x ≡ false) → list_any f (range_with_len a n) ≡ false
+pub none_of : (f : ℕ → Bool) (a n : ℕ) → ((x : ℕ) → a ≤ x → x < a + n → f x ≡ false) → list_any f (range_with_len a n) ≡ false
 none_of f a zero h = refl
 none_of f a (suc n) h = ap₂ (λ (b c : Bool). b || c) (h a (omega arith) (omega arith)) (none_of f (a + 1) n (λ x low high. h x (omega arith) (omega arith)))
 
@@ -37,14 +42,14 @@ or_right : (a b : Bool) → b ≡ true → (a || b) ≡ true
 or_right true b e = refl
 or_right false b e = e
 
-some_of : (f : ℕ → Bool) (a n x : ℕ) → a ≤ x → x < a + n → f x ≡ true → list_any f (range_with_len a n) ≡ true
+pub some_of : (f : ℕ → Bool) (a n x : ℕ) → a ≤ x → x < a + n → f x ≡ true → list_any f (range_with_len a n) ≡ true
 some_of f a zero x low high e = absurd (omega arith)
 some_of f a (suc n) x low high e = elim (cases_eq a x) [
   | inl here ↦ or_left (f a) (list_any f (range_with_len (a + 1) n)) (ap f here ∙ e)
   | inr ne ↦ or_right (f a) (list_any f (range_with_len (a + 1) n)) (some_of f (a + 1) n x (omega arith) (omega arith) e)
 ]
 
-each_fails : (f : ℕ → Bool) (n x : ℕ) → list_any f (range_with_len 0 n) ≡ false → x < n → f x ≡ false
+pub each_fails : (f : ℕ → Bool) (n x : ℕ) → list_any f (range_with_len 0 n) ≡ false → x < n → f x ≡ false
 each_fails f n x none lt = by_case (f x) refl
   where
     by_case : (b : Bool) → f x ≡ b → f x ≡ false
@@ -92,63 +97,105 @@ held_differ bytes images one other here there wide long j first second hold keep
     (keep other (512 * j + x) below (omega arith) ∙ ap (image_byte bytes other) (let e : 512 * there + (512 * j + x) ≡ 512 * (there + j) + x = omega arith in e)))
 
 -- within a row of chunks sectors follow each other
-row_on : (chunk row at j : ℕ) → at % chunk + j < chunk → row_sector chunk row (at + j) ≡ row_sector chunk row at + j
-row_on chunk row at j lt =
+row_on : (step chunk row at j : ℕ) → at % chunk + j < chunk → row_sector step chunk row (at + j) ≡ row_sector step chunk row at + j
+row_on step chunk row at j lt =
     let split : at / chunk * chunk + at % chunk ≡ at = div-add-mod' at chunk in
     let same : at + j ≡ at / chunk * chunk + (at % chunk + j) = omega arith in
     let quotient : (at + j) / chunk ≡ at / chunk = ap (λ (k : ℕ). k / chunk) same ∙ div-mul-add (at / chunk) chunk (at % chunk + j) lt in
     let rest : (at + j) % chunk ≡ at % chunk + j = ap (λ (k : ℕ). k % chunk) same ∙ mod-mul-add (at / chunk) chunk (at % chunk + j) lt in
-    ap₂ (λ (q r : ℕ). (2 * q + row) * chunk + r) quotient rest ∙ (let e : (2 * (at / chunk) + row) * chunk + (at % chunk + j) ≡ (2 * (at / chunk) + row) * chunk + at % chunk + j = omega arith in e)
+    ap₂ (λ (q r : ℕ). (step * q + row) * chunk + r) quotient rest ∙ (let e : (step * (at / chunk) + row) * chunk + (at % chunk + j) ≡ (step * (at / chunk) + row) * chunk + at % chunk + j = omega arith in e)
 
--- the same place in the row after
-pub row_after : (chunk at : ℕ) → row_sector chunk 1 at ≡ row_sector chunk 0 at + chunk
-row_after chunk at = let e : (2 * (at / chunk) + 1) * chunk ≡ (2 * (at / chunk) + 0) * chunk + chunk = grind arith in omega arith
+pub lane_on : (head : NearHead) (lane at j : ℕ) → at % head.chunk + j < head.chunk → lane_depth head lane (at + j) ≡ lane_depth head lane at + j
+lane_on head lane at j lt = row_on (group_rows head.layout.copying head.layout.copies) head.chunk (lane_row head.layout.copying lane) at j lt
+
+-- the first lane
+row_first : (step chunk row at : ℕ) → row ≡ 0 → step * (at / chunk) * chunk + at % chunk ≡ row_sector step chunk row at
+row_first step chunk row at e =
+    let f : step * (at / chunk) ≡ step * (at / chunk) + row = omega arith in
+    ap (λ (k : ℕ). k * chunk + at % chunk) f
+
+pub first_depth : (head : NearHead) (at : ℕ) → group_rows head.layout.copying head.layout.copies * (at / head.chunk) * head.chunk + at % head.chunk ≡ lane_depth head 0 at
+first_depth head at = row_first (group_rows head.layout.copying head.layout.copies) head.chunk (lane_row head.layout.copying 0) at (first_lane head.layout.copying)
+
+-- the first sector of the first lane
+zero_at : (step chunk row : ℕ) → 0 < chunk → row ≡ 0 → 0 ≡ row_sector step chunk row 0
+zero_at step chunk row some e =
+    let none : 0 * chunk ≡ 0 = zero-mul chunk in
+    let z : 0 ≡ 0 * chunk + 0 = omega arith in
+    let q : 0 / chunk ≡ 0 = ap (λ (k : ℕ). k / chunk) z ∙ div-mul-add 0 chunk 0 some in
+    let r : 0 % chunk ≡ 0 = ap (λ (k : ℕ). k % chunk) z ∙ mod-mul-add 0 chunk 0 some in
+    let f : step * 0 + row ≡ 0 = (let m : step * 0 ≡ 0 = mul-zero step in omega arith) in
+    let same : row_sector step chunk row 0 ≡ 0 * chunk + 0 = ap₂ (λ (a b : ℕ). (step * a + row) * chunk + b) q r ∙ ap (λ (k : ℕ). k * chunk + 0) f in
+    sym (same ∙ sym z)
+
+pub depth_zero : (head : NearHead) → IsTrue (is_valid_near head) → 0 ≡ lane_depth head 0 0
+depth_zero head h = zero_at (group_rows head.layout.copying head.layout.copies) head.chunk (lane_row head.layout.copying 0) (valid_chunk head h) (first_lane head.layout.copying)
+
+-- the same place in another lane
+row_after : (step chunk first row at : ℕ) → first ≡ 0 → row_sector step chunk row at ≡ row_sector step chunk first at + row * chunk
+row_after step chunk first row at e =
+    let same = row_first step chunk first at e in
+    let f : (step * (at / chunk) + row) * chunk ≡ step * (at / chunk) * chunk + row * chunk = grind arith in
+    omega arith
+
+pub lane_after : (head : NearHead) (lane at : ℕ) → lane_depth head lane at ≡ lane_depth head 0 at + lane_row head.layout.copying lane * head.chunk
+lane_after head lane at = row_after (group_rows head.layout.copying head.layout.copies) head.chunk (lane_row head.layout.copying 0) (lane_row head.layout.copying lane) at (first_lane head.layout.copying)
+
+-- later lanes lie no earlier
+pub lane_on_up : (head : NearHead) (lane next at : ℕ) → lane ≤ next → lane_depth head lane at ≤ lane_depth head next at
+lane_on_up head lane next at le =
+    let one = lane_after head lane at in
+    let other = lane_after head next at in
+    let up : lane_row head.layout.copying lane * head.chunk ≤ lane_row head.layout.copying next * head.chunk = mul-le (lane_row head.layout.copying lane) head.chunk (lane_row head.layout.copying next) head.chunk (lane_up head.layout.copying lane next le) (omega arith) in
+    omega arith
 
 -- what is counted with a strip
-strip_more : (bytes : List (List ℕ)) (images : ℕ) (head : NearHead) (limit row one next other at count rest wide long : ℕ) (first second : Room) → one < images → other < images →
+strip_more : (bytes : List (List ℕ)) (images : ℕ) (head : NearHead) (end limit lane one next other at count rest wide long : ℕ) (first second : Room) → one < images → other < images →
     at % head.chunk + count ≤ head.chunk → rest ≤ count → rest ≤ wide → rest ≤ long →
-    HoldStrip bytes images (head.offset + row_sector head.chunk row at) wide first → HoldStrip bytes images (head.offset + row_sector head.chunk next at) long second →
-    ((j : ℕ) → j < rest → (row_sector head.chunk row at + j < limit) × (row_sector head.chunk next at + j < limit)) →
-    ((j : ℕ) → rest ≤ j → j < count → limit ≤ row_sector head.chunk next at + j) →
-    torn_between bytes head limit row one next other (at + count) ≡ torn_between bytes head limit row one next other at + strip_torn first second rest one other
-strip_more bytes images head limit row one next other at count rest wide long first second low below inside short few less hold keep tested past =
-    let f : ℕ → ℕ = λ u. cond (is_torn_at bytes head limit row one next other u) 1 0 in
+    HoldStrip bytes images (head.offset + lane_sector head end lane at) wide first → HoldStrip bytes images (head.offset + lane_sector head end next at) long second →
+    ((j : ℕ) → j < rest → (lane_depth head lane at + j < limit) × (lane_depth head next at + j < limit)) →
+    ((j : ℕ) → rest ≤ j → j < count → limit ≤ lane_depth head next at + j) →
+    torn_between bytes head end limit lane one next other (at + count) ≡ torn_between bytes head end limit lane one next other at + strip_torn first second rest one other
+strip_more bytes images head end limit lane one next other at count rest wide long first second low below inside short few less hold keep tested past =
+    let f : ℕ → ℕ = λ u. cond (is_torn_at bytes head end limit lane one next other u) 1 0 in
     let g : ℕ → ℕ = λ j. cond (regions_differ first one second other j) 1 0 in
     let parts : count ≡ rest + (count - rest) = omega arith in
-    let zero_on : 0 + at ≡ at = omega arith in
     let whole = sum_split f 0 at count in
     let front = sum_split f (0 + at) rest (count - rest) in
     let split = ap (λ (k : ℕ). sum_by f (range_with_len (0 + at) k)) parts in
     let none = sum_none f (0 + at + rest) (count - rest)
     (λ x lt.
-    let there : row_sector head.chunk next (at + (rest + x)) ≡ row_sector head.chunk next at + (rest + x) = row_on head.chunk next at (rest + x) (omega arith) in
+    let there : lane_depth head next (at + (rest + x)) ≡ lane_depth head next at + (rest + x) = lane_on head next at (rest + x) (omega arith) in
     let high = past (rest + x) (omega arith) (omega arith) in
     let place : 0 + at + rest + x ≡ at + (rest + x) = omega arith in
     ap f place ∙ ap (λ (b : Bool). cond b 1 0)
-    (untested (nat_lt (row_sector head.chunk row (at + (rest + x))) limit) (nat_lt (row_sector head.chunk next (at + (rest + x))) limit)
-    (sectors_differ bytes one (head.offset + row_sector head.chunk row (at + (rest + x))) other (head.offset + row_sector head.chunk next (at + (rest + x))))
-    (le-ltb (row_sector head.chunk next (at + (rest + x))) limit (omega arith)))) in
+    (untested (nat_lt (lane_depth head lane (at + (rest + x))) limit) (nat_lt (lane_depth head next (at + (rest + x))) limit)
+    (sectors_differ bytes one (head.offset + lane_sector head end lane (at + (rest + x))) other (head.offset + lane_sector head end next (at + (rest + x))))
+    (le-ltb (lane_depth head next (at + (rest + x))) limit (omega arith)))) in
     let same = sum_moved f g (0 + at) 0 rest
     (λ x lt.
-    let here : row_sector head.chunk row (at + x) ≡ row_sector head.chunk row at + x = row_on head.chunk row at x (omega arith) in
-    let there : row_sector head.chunk next (at + x) ≡ row_sector head.chunk next at + x = row_on head.chunk next at x (omega arith) in
+    let here : lane_depth head lane (at + x) ≡ lane_depth head lane at + x = lane_on head lane at x (omega arith) in
+    let there : lane_depth head next (at + x) ≡ lane_depth head next at + x = lane_on head next at x (omega arith) in
     let both = tested x lt in
-    let one_lt : row_sector head.chunk row at + x < limit = both.0 in
-    let other_lt : row_sector head.chunk next at + x < limit = both.1 in
+    let one_lt : lane_depth head lane at + x < limit = both.0 in
+    let other_lt : lane_depth head next at + x < limit = both.1 in
     let place : 0 + at + x ≡ at + x = omega arith in
     ap f place ∙ ap (λ (b : Bool). cond b 1 0)
-    (tested_both (nat_lt (row_sector head.chunk row (at + x)) limit) (nat_lt (row_sector head.chunk next (at + x)) limit)
-    (sectors_differ bytes one (head.offset + row_sector head.chunk row (at + x)) other (head.offset + row_sector head.chunk next (at + x)))
-    (lt-ltb (row_sector head.chunk row (at + x)) limit (omega arith)) (lt-ltb (row_sector head.chunk next (at + x)) limit (omega arith))
+    (tested_both (nat_lt (lane_depth head lane (at + x)) limit) (nat_lt (lane_depth head next (at + x)) limit)
+    (sectors_differ bytes one (head.offset + lane_sector head end lane (at + x)) other (head.offset + lane_sector head end next (at + x)))
+    (lt-ltb (lane_depth head lane (at + x)) limit (omega arith)) (lt-ltb (lane_depth head next (at + x)) limit (omega arith))
     ∙ ap₂ (λ (s t : ℕ). sectors_differ bytes one s other t)
-    (let e : head.offset + row_sector head.chunk row (at + x) ≡ head.offset + row_sector head.chunk row at + x = omega arith in e)
-    (let e : head.offset + row_sector head.chunk next (at + x) ≡ head.offset + row_sector head.chunk next at + x = omega arith in e)
-    ∙ sym (held_differ bytes images one other (head.offset + row_sector head.chunk row at) (head.offset + row_sector head.chunk next at) wide long x first second hold keep low below (omega arith) (omega arith))
+    (on head.offset (part_start head end lane) (lane_depth head lane (at + x)) (lane_depth head lane at) x here)
+    (on head.offset (part_start head end next) (lane_depth head next (at + x)) (lane_depth head next at) x there)
+    ∙ sym (held_differ bytes images one other (head.offset + lane_sector head end lane at) (head.offset + lane_sector head end next at) wide long x first second hold keep low below (omega arith) (omega arith))
     ∙ ap (regions_differ first one second other) (sym (zero_first x)))) in
     omega arith
   where
     zero_first : (x : ℕ) → 0 + x ≡ x
     zero_first x = omega arith
+
+    on : (offset start far near x : ℕ) → far ≡ near + x → offset + (start + far) ≡ offset + (start + near) + x
+    on offset start far near x e = omega arith
 
     untested : (a b c : Bool) → b ≡ false → ((a && b) && c) ≡ false
     untested true b c e = ap (λ (x : Bool). x && c) e
@@ -161,97 +208,100 @@ length_range : (a n : ℕ) → length (range_with_len a n) ≡ n
 length_range a zero = refl
 length_range a (suc n) = ap (λ (k : ℕ). suc k) (length_range (a + 1) n)
 
--- counts with those of a strip
-pub counts_more : (bytes : List (List ℕ)) (images : ℕ) (head : NearHead) (limit row next at count rest wide long : ℕ) (first second : Room) (old new : List (List ℕ)) →
-    at % head.chunk + count ≤ head.chunk → rest ≤ count → rest ≤ wide → rest ≤ long → at + count < 2 ^ 60 →
-    HoldStrip bytes images (head.offset + row_sector head.chunk row at) wide first → HoldStrip bytes images (head.offset + row_sector head.chunk next at) long second →
-    ((j : ℕ) → j < rest → (row_sector head.chunk row at + j < limit) × (row_sector head.chunk next at + j < limit)) →
-    ((j : ℕ) → rest ≤ j → j < count → limit ≤ row_sector head.chunk next at + j) →
-    ((one other : ℕ) → one < images → other < images → count_of new one other ≡ min (count_of old one other + strip_torn first second rest one other) (2 ^ 64 - 1)) →
-    CountsPairs images old (λ one other. torn_between bytes head limit row one next other at) → CountsPairs images new (λ one other. torn_between bytes head limit row one next other (at + count))
-counts_more bytes images head limit row next at count rest wide long first second old new inside short few less near hold keep tested past adds before = λ one other low below.
-    let more = strip_more bytes images head limit row one next other at count rest wide long first second low below inside short few less hold keep tested past in
-    let so_far = before one other low below in
-    let added = adds one other low below in
-    let most = count_by-le-length (is_torn_at bytes head limit row one next other) (range_with_len 0 (at + count)) in
+-- a table with those of a strip
+pub table_more : (bytes : List (List ℕ)) (images : ℕ) (head : NearHead) (end limit at count : ℕ) (rooms : List Room) (old new : TornCounts) → IsTrue (is_valid_near head) →
+    at % head.chunk + count ≤ head.chunk → at + count < 2 ^ 60 →
+    ((lane : ℕ) → lane < head.layout.copies → HoldsLane bytes images head end limit at count rooms lane) →
+    ((pair : ℕ) → pair < 16 → AddsPair images head limit at count rooms pair (get_or old pair []) (get_or new pair [])) →
+    CountsFirst bytes images head end limit at old → CountsFirst bytes images head end limit (at + count) new
+table_more bytes images head end limit at count rooms old new h inside near hold adds before = λ lane next one other up least low below.
+    let few : lane < head.layout.copies = omega arith in
+    let later = lane_on_up head lane next at up in
+    let more = strip_more bytes images head end limit lane one next other at count (rest_of head limit at count next) (rest_of head limit at count lane) (rest_of head limit at count next) (lane_room rooms lane) (lane_room rooms next) low below inside
+    (omega arith) (omega arith) (omega arith) (hold lane few) (hold next least) (λ j lt. (omega arith, omega arith)) (λ j high lt. omega arith) in
+    let so_far = before lane next one other up least low below in
+    let four = few_copies head h in
+    let row : (4 * lane + next) / 4 ≡ lane = ap (λ (k : ℕ). k / 4) (turned lane next) ∙ div-mul-add lane 4 next (omega arith) in
+    let place : (4 * lane + next) % 4 ≡ next = ap (λ (k : ℕ). k % 4) (turned lane next) ∙ mod-mul-add lane 4 next (omega arith) in
+    let added = of_pair bytes images head limit at count rooms (get_or old (4 * lane + next) []) (get_or new (4 * lane + next) []) ((4 * lane + next) / 4) lane ((4 * lane + next) % 4) next one other row place up least low below (adds (4 * lane + next) (omega arith)) in
+    let most = count_by-le-length (is_torn_at bytes head end limit lane one next other) (range_with_len 0 (at + count)) in
     let wide = length_range 0 (at + count) in
     omega arith
+  where
+    turned : (a b : ℕ) → 4 * a + b ≡ a * 4 + b
+    turned a b = omega arith
+
+    of_pair : (bytes : List (List ℕ)) (images : ℕ) (head : NearHead) (limit at count : ℕ) (rooms : List Room) (old new : List (List ℕ)) (a lane b next one other : ℕ) → a ≡ lane → b ≡ next → lane ≤ next → next < head.layout.copies → one < images → other < images →
+        ((one other : ℕ) → a ≤ b → b < head.layout.copies → one < images → other < images → count_of new one other ≡ min (count_of old one other + strip_torn (lane_room rooms a) (lane_room rooms b) (rest_of head limit at count b) one other) (2 ^ 64 - 1)) →
+        count_of new one other ≡ min (count_of old one other + strip_torn (lane_room rooms lane) (lane_room rooms next) (rest_of head limit at count next) one other) (2 ^ 64 - 1)
+    of_pair bytes images head limit at count rooms old new a lane b next one other e f up least low below adds = rw (← e, ← f) (adds one other (omega arith) (omega arith) low below)
 
 -- no sector, nothing counted
-pub counts_none : (bytes : List (List ℕ)) (images : ℕ) (head : NearHead) (limit : ℕ) (table : TornCounts) →
-    ((one other : ℕ) → (count_of table.even one other ≡ 0) × (count_of table.odd one other ≡ 0) × (count_of table.across one other ≡ 0)) → CountsFirst bytes images head limit 0 table
-counts_none bytes images head limit table zeros = record {
-  even = λ one other low below. (zeros one other).0;
-  odd = λ one other low below. (zeros one other).1;
-  across = λ one other low below. (zeros one other).2;
-}
-
--- a table with those of a strip
-pub table_more : (bytes : List (List ℕ)) (images : ℕ) (head : NearHead) (limit at sector count rest : ℕ) (here after : Room) (old new : TornCounts) →
-    sector ≡ row_sector head.chunk 0 at → at % head.chunk + count ≤ head.chunk → sector + count ≤ limit → rest ≡ min count (limit - (sector + head.chunk)) → limit < 2 ^ 55 →
-    HoldStrip bytes images (head.offset + sector) count here → HoldStrip bytes images (head.offset + sector + head.chunk) rest after →
-    ((one other : ℕ) → one < images → other < images → count_of new.even one other ≡ min (count_of old.even one other + strip_torn here here count one other) (2 ^ 64 - 1)) →
-    ((one other : ℕ) → one < images → other < images → count_of new.odd one other ≡ min (count_of old.odd one other + strip_torn after after rest one other) (2 ^ 64 - 1)) →
-    ((one other : ℕ) → one < images → other < images → count_of new.across one other ≡ min (count_of old.across one other + strip_torn here after rest one other) (2 ^ 64 - 1)) →
-    CountsFirst bytes images head limit at old → CountsFirst bytes images head limit (at + count) new
-table_more bytes images head limit at sector count rest here after old new is inside within are near hold keep even odd across before =
-    let next = row_after head.chunk at in
-    let late = row_late head.chunk 0 at in
-    let P : ℕ → Type 0 = λ s. HoldStrip bytes images s count here in
-    let Q : ℕ → Type 0 = λ s. HoldStrip bytes images s rest after in
-    let first : HoldStrip bytes images (head.offset + row_sector head.chunk 0 at) count here = subst P (let e : head.offset + sector ≡ head.offset + row_sector head.chunk 0 at = omega arith in e) hold in
-    let second : HoldStrip bytes images (head.offset + row_sector head.chunk 1 at) rest after = subst Q (let e : head.offset + sector + head.chunk ≡ head.offset + row_sector head.chunk 1 at = omega arith in e) keep in
-    record {
-      even = counts_more bytes images head limit 0 0 at count count count count here here old.even new.even inside (omega arith) (omega arith) (omega arith) (omega arith) first first
-          (λ j lt. (omega arith, omega arith)) (λ j low high. absurd (omega arith)) even before.even;
-      odd = counts_more bytes images head limit 1 1 at count rest rest rest after after old.odd new.odd inside (omega arith) (omega arith) (omega arith) (omega arith) second second
-          (λ j lt. (omega arith, omega arith)) (λ j low high. omega arith) odd before.odd;
-      across = counts_more bytes images head limit 0 1 at count rest count rest here after old.across new.across inside (omega arith) (omega arith) (omega arith) (omega arith) first second
-          (λ j lt. (omega arith, omega arith)) (λ j low high. omega arith) across before.across;
-    }
+pub counts_none : (bytes : List (List ℕ)) (images : ℕ) (head : NearHead) (end limit : ℕ) (table : TornCounts) →
+    ((lane next one other : ℕ) → count_of (lane_counts table lane next) one other ≡ 0) → CountsFirst bytes images head end limit 0 table
+counts_none bytes images head end limit table zeros = λ lane next one other up least low below. zeros lane next one other
 
 -- sectors of later numbers are later
-row_up : (chunk row at k : ℕ) → 0 < chunk → at ≤ k → row_sector chunk row at ≤ row_sector chunk row k
-row_up chunk row at k some le =
+row_up : (step chunk row at k : ℕ) → 0 < chunk → 1 ≤ step → at ≤ k → row_sector step chunk row at ≤ row_sector step chunk row k
+row_up step chunk row at k some long le =
     let split : at / chunk * chunk + at % chunk ≡ at = div-add-mod' at chunk in
     let other : k / chunk * chunk + k % chunk ≡ k = div-add-mod' k chunk in
     let up : at / chunk ≤ k / chunk = le-div (at / chunk) k chunk some (omega arith) in
-    let more : at / chunk * chunk ≤ k / chunk * chunk = mul-le (at / chunk) chunk (k / chunk) chunk up (omega arith) in
-    let wide : (2 * (at / chunk) + row) * chunk ≡ at / chunk * chunk + (at / chunk * chunk + row * chunk) = grind arith in
-    let long : (2 * (k / chunk) + row) * chunk ≡ k / chunk * chunk + (k / chunk * chunk + row * chunk) = grind arith in
+    elim (cases_eq (at / chunk) (k / chunk)) [
+      | inl same ↦ (let e : (step * (at / chunk) + row) * chunk ≡ (step * (k / chunk) + row) * chunk = ap (λ (q : ℕ). (step * q + row) * chunk) same in
+          let f : at / chunk * chunk ≡ k / chunk * chunk = ap (λ (q : ℕ). q * chunk) same in omega arith)
+      | inr ne ↦ (let apart : at / chunk ≢ k / chunk = ne in
+          let below = mod_below at chunk some in
+          let first : step * (at / chunk + 1) ≤ step * (k / chunk) = mul-le step (at / chunk + 1) step (k / chunk) (omega arith) (omega arith) in
+          let wide : step * (at / chunk + 1) ≡ step * (at / chunk) + step = grind arith in
+          let second : (step * (at / chunk) + row + 1) * chunk ≤ (step * (k / chunk) + row) * chunk = mul-le (step * (at / chunk) + row + 1) chunk (step * (k / chunk) + row) chunk (omega arith) (omega arith) in
+          let broad : (step * (at / chunk) + row + 1) * chunk ≡ (step * (at / chunk) + row) * chunk + chunk = grind arith in
+          omega arith)
+    ]
+
+lane_later : (head : NearHead) (lane at k : ℕ) → IsTrue (is_valid_near head) → at ≤ k → lane_depth head 0 at ≤ lane_depth head lane k
+lane_later head lane at k h le =
+    let some = some_copies head h in
+    let first = row_up (group_rows head.layout.copying head.layout.copies) head.chunk (lane_row head.layout.copying 0) at k (valid_chunk head h) (group_some head.layout.copying head.layout.copies (omega arith)) le in
+    let later = lane_on_up head 0 lane k (omega arith) in
     omega arith
 
-between_all : (bytes : List (List ℕ)) (head : NearHead) (limit row one next other at : ℕ) → 0 < head.chunk → at ≤ limit → limit ≤ row_sector head.chunk row at →
-    torn_between bytes head limit row one next other at ≡ torn_between bytes head limit row one next other limit
-between_all bytes head limit row one next other at some le end =
-    let f : ℕ → ℕ = λ u. cond (is_torn_at bytes head limit row one next other u) 1 0 in
+-- where no tested sector is left, the table is whole
+pub table_whole : (bytes : List (List ℕ)) (images : ℕ) (head : NearHead) (end limit at : ℕ) (table : TornCounts) → IsTrue (is_valid_near head) → at ≤ limit → limit ≤ lane_depth head 0 at →
+    CountsFirst bytes images head end limit at table → CountsFirst bytes images head end limit limit table
+table_whole bytes images head end limit at table h le past counts = λ lane next one other up least low below.
+    counts lane next one other up least low below ∙
+    (let f : ℕ → ℕ = λ u. cond (is_torn_at bytes head end limit lane one next other u) 1 0 in
     let long : limit ≡ at + (limit - at) = omega arith in
     let none = sum_none f (0 + at) (limit - at)
-    (λ x lt. let late = row_up head.chunk row at (0 + at + x) some (omega arith) in
-    ap (λ (b : Bool). cond ((b && nat_lt (row_sector head.chunk next (0 + at + x)) limit)
-    && sectors_differ bytes one (head.offset + row_sector head.chunk row (0 + at + x)) other (head.offset + row_sector head.chunk next (0 + at + x))) 1 0)
-    (le-ltb (row_sector head.chunk row (0 + at + x)) limit (omega arith))) in
+    (λ x lt. let late = lane_later head lane at (0 + at + x) h (omega arith) in
+    ap (λ (b : Bool). cond ((b && nat_lt (lane_depth head next (0 + at + x)) limit)
+    && sectors_differ bytes one (head.offset + lane_sector head end lane (0 + at + x)) other (head.offset + lane_sector head end next (0 + at + x))) 1 0)
+    (le-ltb (lane_depth head lane (0 + at + x)) limit (omega arith))) in
     let split = sum_split f 0 at (limit - at) in
-    sym (ap (λ (k : ℕ). torn_between bytes head limit row one next other k) long ∙ (let e : torn_between bytes head limit row one next other (at + (limit - at)) ≡ torn_between bytes head limit row one next other at = omega arith in e))
-
--- where no tested sector is left, the table is whole
-pub table_whole : (bytes : List (List ℕ)) (images : ℕ) (head : NearHead) (limit at : ℕ) (table : TornCounts) → 0 < head.chunk → at ≤ limit → limit ≤ row_sector head.chunk 0 at →
-    CountsFirst bytes images head limit at table → CountsFirst bytes images head limit limit table
-table_whole bytes images head limit at table some le end counts =
-    let next = row_after head.chunk at in
-    record {
-      even = λ one other low below. counts.even one other low below ∙ between_all bytes head limit 0 one 0 other at some le end;
-      odd = λ one other low below. counts.odd one other low below ∙ between_all bytes head limit 1 one 1 other at some le (omega arith);
-      across = λ one other low below. counts.across one other low below ∙ between_all bytes head limit 0 one 1 other at some le end;
-    }
+    sym (ap (λ (k : ℕ). torn_between bytes head end limit lane one next other k) long ∙ (let e : torn_between bytes head end limit lane one next other (at + (limit - at)) ≡ torn_between bytes head end limit lane one next other at = omega arith in e)))
 
 -- a table of zeros
-pub no_counts : (n m k i : ℕ) → count_of (replicate n (replicate m 0)) k i ≡ 0
+zeros_at : (m i : ℕ) → slice_index (replicate m 0) i ≡ 0
+zeros_at zero i = refl
+zeros_at (suc m) zero = refl
+zeros_at (suc m) (suc i) = zeros_at m i
+
+no_counts : (n m k i : ℕ) → count_of (replicate n (replicate m 0)) k i ≡ 0
 no_counts zero m k i = refl
-no_counts (suc n) m zero i = zeros m i
-  where
-    zeros : (m i : ℕ) → slice_index (replicate m 0) i ≡ 0
-    zeros zero i = refl
-    zeros (suc m) zero = refl
-    zeros (suc m) (suc i) = zeros m i
+no_counts (suc n) m zero i = zeros_at m i
 no_counts (suc n) m (suc k) i = no_counts n m k i
+
+no_pair : (l n m pair one other : ℕ) → count_of (get_or (replicate l (replicate n (replicate m 0))) pair []) one other ≡ 0
+no_pair zero n m pair one other = refl
+no_pair (suc l) n m zero one other = no_counts n m one other
+no_pair (suc l) n m (suc pair) one other = no_pair l n m pair one other
+
+pub no_lanes : (l n m : ℕ) (table : TornCounts) → table ≡ replicate l (replicate n (replicate m 0)) → (lane next one other : ℕ) → count_of (lane_counts table lane next) one other ≡ 0
+no_lanes l n m table e lane next one other = ap (λ (t : TornCounts). count_of (lane_counts t lane next) one other) e ∙ no_pair l n m (4 * lane + next) one other
+
+-- what was written over the whole of a list
+pub written_whole : {A : Type 0} (capacity : ℕ) (old new : List A) → length new ≡ length old → length old ≤ capacity → new ≡ take capacity (new ++ drop (length new) old)
+written_whole capacity old new same fits =
+    let none : drop (length new) old ≡ [] = drop_all (length new) old (omega arith) in
+    sym (ap (λ (l : List _). take capacity (new ++ l)) none ∙ ap (take capacity) (append-nil new) ∙ take_all capacity new (omega arith))

@@ -1,4 +1,5 @@
 pub mod Torn
 pub mod Tables
 pub mod Reading
+pub mod Counting
 pub mod Laws

@@ -1,79 +1,106 @@
 -- What a table of torn sectors holds, and what it says of the slots.
-use Rattle.std.specs.Prelude.{ℕ, zero, suc, ◌≡◌, ◌+◌, ◌*◌, ◌/◌, ◌%◌, ◌<◌, Bool, ◌&&◌, nat_lt, List, [], count_by, slice_index, slice_index_or}
+use Rattle.std.specs.Prelude.{ℕ, ◌+◌, ◌*◌, ◌/◌, ◌%◌, ◌≡◌, ◌<◌, ◌≤◌, Bool, ◌&&◌, nat_lt, List, [], count_by, slice_index, slice_index_or}
 use Rattle.std.specs.List.{range_with_len, sum_by}
 use Rattle.std.specs.declared.option.Option.{Option}
 use Rattle.std.specs.declared.option.Option.TheVariants.{None, Some}
+use Rattle.near_mirror.specs.Copies.{copy_cell, slot_of}
+use Rattle.near_mirror.specs.declared.types.Copying.{Copying}
+use Rattle.near_mirror.specs.declared.types.Copying.TheVariants.{Near, Far, Offset}
 use Rattle.near_mirror.specs.declared.types.NearHead.{NearHead}
-use Rattle.near_tables.specs.Torn.{sectors_differ}
+use Rattle.near_tables.specs.Torn.{part_start, sectors_differ}
 
--- The cells of two rows of chunks after each other, a row of an even number and the next one, are as many pairs as there are
--- members: pair j is the cells 2j and 2j + 1. Each is the two copies of a chunk.
+-- The chunks of a volume stand in groups of as many as there are members. The copies of a group take up whole rows, as many as
+-- there are copies: its lanes. Those of near and offset copies lie after each other, and of far copies each in a part of its own.
 
--- the slot of a cell of the two rows
-abbrev pub cell_slot : ℕ → ℕ → ℕ
-cell_slot members cell = cell % members
+-- how many rows of a part a group takes up
+abbrev pub group_rows : Copying → ℕ → ℕ
+group_rows Near copies = copies
+group_rows Far copies = 1
+group_rows Offset copies = copies
 
--- the row of a cell, 0 or 1
-abbrev pub cell_row : ℕ → ℕ → ℕ
-cell_row members cell = cell / members
+-- which of these rows a lane is
+abbrev pub lane_row : Copying → ℕ → ℕ
+lane_row Near lane = lane
+lane_row Far lane = 0
+lane_row Offset lane = lane
 
--- the member sector that is number u among those of the rows of even numbers, or as far on in the row after
-abbrev pub row_sector : ℕ → ℕ → ℕ → ℕ
-row_sector chunk row u = (2 * (u / chunk) + row) * chunk + u % chunk
+-- the lane of a copy of the chunk that is this number of its group
+abbrev pub lane_of : Copying → ℕ → ℕ → ℕ → ℕ → ℕ
+lane_of Near members copies copy chunk = copy_cell copies chunk copy / members
+lane_of Far members copies copy chunk = copy
+lane_of Offset members copies copy chunk = copy
 
--- the sectors there of two images, each in one of the two rows, are tested and differ
-abbrev pub is_torn_at : List (List ℕ) → NearHead → ℕ → ℕ → ℕ → ℕ → ℕ → ℕ → Bool
-is_torn_at images head limit row one next other u =
-    (nat_lt (row_sector head.chunk row u) limit && nat_lt (row_sector head.chunk next u) limit)
-    && sectors_differ images one (head.offset + row_sector head.chunk row u) other (head.offset + row_sector head.chunk next u)
+-- the sector that is number u among those of a row of each group, where groups take up `step` rows
+abbrev pub row_sector : ℕ → ℕ → ℕ → ℕ → ℕ
+row_sector step chunk row u = (step * (u / chunk) + row) * chunk + u % chunk
+
+-- and among those of a lane, in its part
+abbrev pub lane_depth : NearHead → ℕ → ℕ → ℕ
+lane_depth head lane u = row_sector (group_rows head.layout.copying head.layout.copies) head.chunk (lane_row head.layout.copying lane) u
+
+-- the member sector there
+abbrev pub lane_sector : NearHead → ℕ → ℕ → ℕ → ℕ
+lane_sector head end lane u = part_start head end lane + lane_depth head lane u
+
+-- the sectors there of two images, each in one of two lanes, are tested and differ
+abbrev pub is_torn_at : List (List ℕ) → NearHead → ℕ → ℕ → ℕ → ℕ → ℕ → ℕ → ℕ → Bool
+is_torn_at images head end limit lane one next other u =
+    (nat_lt (lane_depth head lane u) limit && nat_lt (lane_depth head next u) limit)
+    && sectors_differ images one (head.offset + lane_sector head end lane u) other (head.offset + lane_sector head end next u)
 
 -- how many of the first ones are
-abbrev pub torn_between : List (List ℕ) → NearHead → ℕ → ℕ → ℕ → ℕ → ℕ → ℕ → ℕ
-torn_between images head limit row one next other count = count_by (is_torn_at images head limit row one next other) (range_with_len 0 count)
+abbrev pub torn_between : List (List ℕ) → NearHead → ℕ → ℕ → ℕ → ℕ → ℕ → ℕ → ℕ → ℕ
+torn_between images head end limit lane one next other count = count_by (is_torn_at images head end limit lane one next other) (range_with_len 0 count)
 
--- a table as contracts see it: for each two images in how many sectors they differ, both in rows of even numbers, both in rows
--- of odd numbers, and the first in one of an even number and the second in the next row
-pub record TornCounts : Type 0 where
-  pub even : List (List ℕ)
-  pub odd : List (List ℕ)
-  pub across : List (List ℕ)
+-- a table as contracts see it: for each two lanes and each two images in how many sectors the first image in the one lane and the
+-- second in the other differ. Lanes are four at most, and their pairs follow each other by the first lane
+abbrev pub TornCounts : Type 0
+TornCounts = List (List (List ℕ))
+
+-- the counts for two lanes
+abbrev pub lane_counts : TornCounts → ℕ → ℕ → List (List ℕ)
+lane_counts table lane next = slice_index_or table (4 * lane + next) []
 
 -- the counts of two images
 abbrev pub count_of : List (List ℕ) → ℕ → ℕ → ℕ
 count_of counts one other = slice_index (slice_index_or counts one []) other
 
--- counts of each two of the first images
-abbrev pub CountsPairs : ℕ → List (List ℕ) → (ℕ → ℕ → ℕ) → Type 0
-CountsPairs images counts of = (one other : ℕ) → one < images → other < images → count_of counts one other ≡ of one other
-
--- the table counts the first `count` sectors of the rows of even numbers, and those as far on in the rows after
-pub record CountsFirst (bytes : List (List ℕ)) (images : ℕ) (head : NearHead) (limit count : ℕ) (table : TornCounts) : Type 0 where
-  pub even : CountsPairs images table.even (λ one other. torn_between bytes head limit 0 one 0 other count)
-  pub odd : CountsPairs images table.odd (λ one other. torn_between bytes head limit 1 one 1 other count)
-  pub across : CountsPairs images table.across (λ one other. torn_between bytes head limit 0 one 1 other count)
+-- the table counts the first `count` sectors of each lane
+abbrev pub CountsFirst : List (List ℕ) → ℕ → NearHead → ℕ → ℕ → ℕ → TornCounts → Type 0
+CountsFirst bytes images head end limit count table =
+    (lane next one other : ℕ) → lane ≤ next → next < head.layout.copies → one < images → other < images →
+    count_of (lane_counts table lane next) one other ≡ torn_between bytes head end limit lane one next other count
 
 -- the table counts all that are tested
-abbrev pub IsTornTable : List (List ℕ) → ℕ → NearHead → ℕ → TornCounts → Type 0
-IsTornTable bytes images head limit table = CountsFirst bytes images head limit limit table
+abbrev pub IsTornTable : List (List ℕ) → ℕ → NearHead → ℕ → ℕ → TornCounts → Type 0
+IsTornTable bytes images head end limit table = CountsFirst bytes images head end limit limit table
 
--- the counts for the rows of the two cells of a pair
-abbrev pub counts_for : TornCounts → ℕ → ℕ → List (List ℕ)
-counts_for table zero zero = table.even
-counts_for table zero (suc next) = table.across
-counts_for table (suc row) next = table.odd
-
--- what they say of what two slots hold
+-- what counts say of what two slots hold
 abbrev pub count_between : List (List ℕ) → Option ℕ → Option ℕ → ℕ
 count_between counts (Some one) (Some other) = count_of counts one other
 count_between counts (Some one) None = 0
 count_between counts None other = 0
 
--- what the table says of a pair
-abbrev pub pair_torn : TornCounts → ℕ → List (Option ℕ) → ℕ → ℕ
-pair_torn table members slots pair =
-    count_between (counts_for table (cell_row members (2 * pair)) (cell_row members (2 * pair + 1)))
-    (slice_index_or slots (cell_slot members (2 * pair)) None) (slice_index_or slots (cell_slot members (2 * pair + 1)) None)
+-- the lane of a copy of a chunk of a group, and what its slot holds
+abbrev pub copy_lane : NearHead → ℕ → ℕ → ℕ
+copy_lane head copy chunk = lane_of head.layout.copying head.members head.layout.copies copy chunk
 
--- and of all pairs: how many sectors are torn, where slots begin so
-abbrev pub table_torn : TornCounts → ℕ → List (Option ℕ) → ℕ
-table_torn table members slots = sum_by (pair_torn table members slots) (range_with_len 0 members)
+abbrev pub copy_held : NearHead → List (Option ℕ) → ℕ → ℕ → Option ℕ
+copy_held head slots copy chunk = slice_index_or slots (slot_of head.layout.copying head.members head.layout.copies copy chunk) None
+
+-- what the table says of two copies of a chunk of each group
+abbrev pub pair_torn : TornCounts → NearHead → List (Option ℕ) → ℕ → ℕ → ℕ → ℕ
+pair_torn table head slots first second chunk =
+    count_between (lane_counts table (copy_lane head first chunk) (copy_lane head second chunk)) (copy_held head slots first chunk) (copy_held head slots second chunk)
+
+-- of two copies of all chunks
+abbrev pub pairs_torn : TornCounts → NearHead → List (Option ℕ) → ℕ → ℕ → ℕ
+pairs_torn table head slots second first = sum_by (pair_torn table head slots first second) (range_with_len 0 head.members)
+
+-- of a copy and those before it
+abbrev pub copy_torn : TornCounts → NearHead → List (Option ℕ) → ℕ → ℕ
+copy_torn table head slots second = sum_by (pairs_torn table head slots second) (range_with_len 0 second)
+
+-- and of each two copies: how many sectors are torn, where slots begin so
+abbrev pub table_torn : TornCounts → NearHead → List (Option ℕ) → ℕ
+table_torn table head slots = sum_by (copy_torn table head slots) (range_with_len 0 head.layout.copies)

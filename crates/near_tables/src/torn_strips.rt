@@ -1,5 +1,5 @@
 //! In how many sectors of their regions images differ.
-ghost use Rattle.std.specs.Prelude.{◌≡◌, ◌+◌, ◌-◌, ◌*◌, ◌≤◌, ◌<◌, ◌^◌, ℕ, All, IfSome, OnOk, Some, if◌then◌else◌, length, map, min, slice_index};
+ghost use Rattle.std.specs.Prelude.{◌≡◌, ◌+◌, ◌-◌, ◌*◌, ◌≤◌, ◌<◌, ◌^◌, ℕ, All, IfSome, IsTrue, OnOk, Some, [], if◌then◌else◌, length, map, min, slice_index, slice_index_or};
 ghost use Rattle.std.specs.Bool.{Decides};
 ghost use Rattle.outside.specs.Attached.{told_all};
 ghost use Rattle.outside.specs.Causes.{HasCause};
@@ -8,10 +8,14 @@ ghost use Rattle.std.specs.List.{range_with_len};
 ghost use Rattle.raid_params.specs.declared.limits.TheConstants.{MOST};
 ghost use Rattle.member_regions.specs.Regions.{IsRoomFor};
 ghost use Rattle.member_regions.specs.declared.regions.TheConstants.{BLOCK};
-ghost use Rattle.near_tables.specs.Reading.{HoldStrip, regions_differ, strip_torn};
-ghost use Rattle.near_tables.specs.Tables.{count_of};
+ghost use Rattle.near_mirror.specs.Heads.{is_valid_near};
+ghost use Rattle.near_tables.specs.Counting.{AddsPair};
+ghost use Rattle.near_tables.specs.Reading.{HasRoom, HoldStrip, regions_differ, strip_torn};
+ghost use Rattle.near_tables.specs.Tables.{count_of, lane_depth};
 
+use crate::lane_reading::Strips;
 use member_regions::{BLOCK, Regions};
+use near_mirror::MOST_COPIES;
 use outside::{Failed, Images};
 use raid_params::{MOST, Slots};
 
@@ -20,6 +24,9 @@ pub(crate) type ImageCounts = [u64; MOST];
 
 /// For each two images, in how many sectors they differ.
 pub(crate) type PairCounts = [ImageCounts; MOST];
+
+/// The most lanes: as many as a chunk may have copies.
+pub(crate) const LANES: usize = MOST_COPIES as usize;
 
 /// Slots that hold `count` images, each in the slot of its number.
 fn all_images(count: usize) -> Slots
@@ -59,9 +66,67 @@ pub(crate) fn read_strip<I: Images>(
     regions.read(images, &slots, sector, 0, count)
 }
 
+/// Adds to the counts of each two lanes those of the first `count` sectors from number `at` on, which is this sector of the first
+/// lane, as they were read.
+pub(crate) fn add_lanes(
+    counts: &mut [PairCounts],
+    strips: &Strips,
+    at: u64,
+    sector: u64,
+    count: usize,
+)
+    requires head { IsTrue (is_valid_near strips.now.head) }
+    requires few { strips.now.many ≤ MOST }
+    requires room { HasRoom strips.now }
+    requires sector { sector ≡ lane_depth strips.now.head 0 at }
+    requires near { sector < 2 ^ 55 }
+    requires fits { count ≤ BLOCK }
+    requires long { length counts.old ≡ 16 }
+    ensures long { length counts.new ≡ 16 }
+    ensures adds { (pair : ℕ) → pair < 16 → AddsPair strips.now.many strips.now.head strips.now.limit at count strips.now.lanes.items pair
+        (slice_index_or counts.old pair []) (slice_index_or counts.new pair []) }
+{
+    for pair in 0..LANES * LANES {
+        counts[pair] = with_pair(&counts[pair], strips, pair, at, sector, count);
+    }
+}
+
+/// The counts of two lanes with those, where the second one is there and no earlier than the first.
+fn with_pair(
+    counts: &PairCounts,
+    strips: &Strips,
+    pair: usize,
+    at: u64,
+    sector: u64,
+    count: usize,
+) -> PairCounts
+    requires head { IsTrue (is_valid_near strips.now.head) }
+    requires few { strips.now.many ≤ MOST }
+    requires room { HasRoom strips.now }
+    requires pair { pair < 16 }
+    requires sector { sector ≡ lane_depth strips.now.head 0 at }
+    requires near { sector < 2 ^ 55 }
+    requires fits { count ≤ BLOCK }
+    ensures { AddsPair strips.now.many strips.now.head strips.now.limit at count strips.now.lanes.items pair counts.now result }
+{
+    let (lane, next) = (pair / LANES, pair % LANES);
+    if lane <= next && next < usize::from(strips.head.layout.copies) {
+        let rest = strips.rest_at(next as u8, at, sector, count);
+        with_strip(
+            counts,
+            &strips.lanes[lane],
+            &strips.lanes[next],
+            strips.many,
+            rest,
+        )
+    } else {
+        *counts
+    }
+}
+
 /// The counts of each two images, with those of the first `count` sectors of their regions: the first image's among some regions,
 /// the second's among others.
-pub(crate) fn with_strip(
+fn with_strip(
     counts: &PairCounts,
     first: &Regions,
     second: &Regions,

@@ -1,7 +1,7 @@
 use Rattle.std.proofs.Common.{rules, ℕ, ◌≡◌, ◌<◌, ◌≤◌, false, arith, sym, ◌∙◌}
 use Rattle.outside.specs.Attached.{told_all}
 use Rattle.member_regions.proofs.IfTold.{if_any, if_told}
-use Rattle.near_mirror.specs.Copies.{near_rows}
+use Rattle.near_mirror.specs.Copies.{near_chunks}
 use Rattle.near_mirror.proofs.Heads.{few_members}
 use Rattle.near_search.specs.Product.{passes_at}
 use Rattle.near_search.specs.Hopeful.{AdmitsHopeful, is_near_admitted}
@@ -10,12 +10,12 @@ use Rattle.near_search.proofs.Leafwise.{ranks, ranks_length}
 use Rattle.near_search.proofs.Parted.{gathers_none, gathers_told, rowless, space_size, tells}
 use Rattle.near_search.proofs.gathering.gather_head.Goals as goal
 
-pub returns-then-near_rows-eq0-clause-gathers : goal.returns-then-near_rows-eq0-clause-gathers
-returns-then-near_rows-eq0-clause-gathers g c =
+pub returns-then-volume_chunks-eq0-clause-gathers : goal.returns-then-volume_chunks-eq0-clause-gathers
+returns-then-volume_chunks-eq0-clause-gathers g c =
     let part = c.requires.part in
     let begins = part.begins in
     let ends = part.ends in
-    let none : near_rows c.args.sets.now.head c.args.ask.now.end ≡ 0 = sym c.near_rows.ensures ∙ c.if-near_rows-eq0.true in
+    let none : near_chunks c.args.sets.now.head c.args.ask.now.end ≡ 0 = sym c.volume_chunks.ensures ∙ c.if-volume_chunks-eq0.true in
     let few = c.requires.few in
     let long = ranks_length c.args.page.now in (
       gathers_none (told_all (g.I.Images.seen c.args.images.now).attached) c.args.many c.args.ask.now c.args.from c.args.to (ranks c.args.page.now) part.ordered
@@ -34,7 +34,7 @@ gather_lists-requires-clause-images g c =
 pub gather_lists-requires-clause-members : goal.gather_lists-requires-clause-members
 gather_lists-requires-clause-members g c =
     let members = (space_size c.args.many c.args.ask.now c.args.sets.now c.requires.head).1 in
-    let few = few_members c.args.sets.now.head c.requires.head.valid in
+    let few = few_members c.args.sets.now.head (c.requires.head.valid c.requires.some) in
     omega arith
 
 pub of_head-requires-clause-over : goal.of_head-requires-clause-over

@@ -3,18 +3,18 @@ use Rattle.std.specs.Option.{option_map_or}
 use Rattle.std.proofs.lemmas.Bool.{cases_lt}
 use Rattle.std.proofs.lemmas.Option.{slice_get-get_or}
 use Rattle.slot_math.specs.declared.space.Space.{Space}
+use Rattle.near_mirror.specs.declared.types.Copying.TheVariants.{Near}
 use Rattle.near_mirror.specs.declared.types.NearHead.{NearHead}
-use Rattle.near_mirror.proofs.Heads.{few_members}
 use Rattle.near_search.specs.Product.{near_heads, near_space, set_count}
 use Rattle.near_search.specs.Walk.{count_at, first_at}
 use Rattle.near_search.specs.declared.heads.NearSets.{NearSets}
-use Rattle.near_search.proofs.HeadPlaces.{heads_sound}
+use Rattle.near_search.proofs.HeadPlaces.{heads_sound, sound_members}
 use Rattle.near_search.proofs.Numbered.{all_before, first_more, is_head, numbered_at}
 use Rattle.near_search.proofs.walk.seek.Goals as goal
 
 pub overflow_cast-count : goal.overflow_cast-count
 overflow_cast-count c =
-    let none : NearHead = record { members = 0; chunk = 0; offset = 0 } in
+    let none : NearHead = record { members = 0; chunk = 0; offset = 0; layout = record { copying = Near; copies = 0 } } in
     let lt : c.loop-at.at < length (near_heads c.args.ask.now) = let end = c.head_count-at-end.ensures in let below = c.loop-at-test.true in omega arith in
     let here = slice_get-get_or (near_heads c.args.ask.now) c.loop-at.at none lt in
     let count = c.count_at-count.ensures (get_or (near_heads c.args.ask.now) c.loop-at.at none) here in
@@ -24,7 +24,7 @@ overflow_cast-count c =
 
 pub overflow_add-start : goal.overflow_add-start
 overflow_add-start c =
-    let none : NearHead = record { members = 0; chunk = 0; offset = 0 } in
+    let none : NearHead = record { members = 0; chunk = 0; offset = 0; layout = record { copying = Near; copies = 0 } } in
     let lt : c.loop-at.at < length (near_heads c.args.ask.now) = let end = c.head_count-at-end.ensures in let below = c.loop-at-test.true in omega arith in
     let here = slice_get-get_or (near_heads c.args.ask.now) c.loop-at.at none lt in
     let count = c.count_at-count.ensures (get_or (near_heads c.args.ask.now) c.loop-at.at none) here in
@@ -34,20 +34,20 @@ overflow_add-start c =
     omega arith
 
 pub space-space-requires-clause-members : goal.space-space-requires-clause-members
-space-space-requires-clause-members c = few_members c.head_at-head.result (heads_sound c.args.ask.now c.loop-at.at c.head_at-head.result c.requires.ask c.head_at-head.ensures).0
+space-space-requires-clause-members c = sound_members c.head_at-head.result (heads_sound c.args.ask.now c.loop-at.at c.head_at-head.result c.requires.ask c.head_at-head.ensures)
 
 pub returns-then-rank-start-clause-sets : goal.returns-then-rank-start-clause-sets
 returns-then-rank-start-clause-sets c =
     let count = c.count_at-count.ensures c.head_at-head.result c.head_at-head.ensures in
     let first = c.loop-at.invariant.first in
-    let space : near_space c.args.many c.args.ask.now c.head_at-head.result.members ≡ c.space-space.result = sym c.space-space.ensures in
+    let space : near_space c.args.many c.args.ask.now c.head_at-head.result ≡ c.space-space.result = sym c.space-space.ensures in
     numbered_at c.args.many c.args.ask.now c.loop-at.at c.head_at-head.result c.head_at-head.ensures
-    ∙ ap₂ (λ (f n : ℕ). let o : Option NearSets = Some (record { head = c.head_at-head.result; space = near_space c.args.many c.args.ask.now c.head_at-head.result.members; first = f; count = n }) in o) (sym first) (sym count)
+    ∙ ap₂ (λ (f n : ℕ). let o : Option NearSets = Some (record { head = c.head_at-head.result; space = near_space c.args.many c.args.ask.now c.head_at-head.result; first = f; count = n }) in o) (sym first) (sym count)
     ∙ ap (λ (s : Space). let o : Option NearSets = Some (record { head = c.head_at-head.result; space = s; first = c.loop-at.start; count = c.count_at-count.result }) in o) space
 
 pub loop-at-preserved : goal.loop-at-preserved
 loop-at-preserved c =
-    let none : NearHead = record { members = 0; chunk = 0; offset = 0 } in
+    let none : NearHead = record { members = 0; chunk = 0; offset = 0; layout = record { copying = Near; copies = 0 } } in
     let lt : c.loop-at.at < length (near_heads c.args.ask.now) = let end = c.head_count-at-end.ensures in let below = c.loop-at-test.true in omega arith in
     let here = slice_get-get_or (near_heads c.args.ask.now) c.loop-at.at none lt in
     let count = c.count_at-count.ensures (get_or (near_heads c.args.ask.now) c.loop-at.at none) here in

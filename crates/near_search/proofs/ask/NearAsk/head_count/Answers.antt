@@ -3,4 +3,4 @@ use Rattle.near_search.proofs.HeadPlaces.{heads_long}
 use Rattle.near_search.proofs.ask.NearAsk.head_count.Goals as goal
 
 pub returns : goal.returns
-returns c = rw (c.len.ensures.value, c.len-2.ensures.value, c.len-3.ensures.value) (sym (heads_long c.args.self.now))
+returns c = rw (c.len.ensures.value, c.layout_count.ensures.value) (sym (heads_long c.args.self.now))

@@ -9,5 +9,5 @@ use Rattle.near_search.proofs.hopeful.NearHopefulFamily.may_pass.Goals as goal
 pub torn-requires-clause-images : goal.torn-requires-clause-images
 torn-requires-clause-images c =
     let Q : NearAsked → Type 0 = λ asked. 0 < length (filter (begins c.args.prefix.now.items) (lists_of asked.space)) in
-    subst (AllImages MOST) (sym c.deref.ensures.0)
+    subst (AllImages MOST) (sym c.deref-then-not-has_lost.ensures.0)
     (begun_images c.self.inside.space c.args.prefix.now.items c.self.invariant.0 (subst Q (sym c.self.view_is) c.requires.begins))

@@ -44,3 +44,6 @@ returns-in-None-clause-reads g c =
       record { ask = refl; many = refl },
       reads_front c.args.self.now c.seek.result.0 c.args.stop c.seek.result.1 (g.I.Images.seen c.args.images.now) (g.I.Images.seen c.gather_head.new.images) is (omega arith) c.gather_head.ensures.reads c.in_ok-full.ensures.quiet,
     )
+
+pub gather_head-requires-clause-some : goal.gather_head-requires-clause-some
+gather_head-requires-clause-some g c = let low = c.seek.ensures.low in let high = c.seek.ensures.high in omega arith

@@ -87,3 +87,6 @@ returns-in-None-clause-fewer g c =
     let here = c.requires.stands.stands in
     let within = is.within in
     omega arith
+
+pub gather_head-requires-clause-some : goal.gather_head-requires-clause-some
+gather_head-requires-clause-some g c = let low = c.seek-place.ensures.low in let high = c.seek-place.ensures.high in omega arith

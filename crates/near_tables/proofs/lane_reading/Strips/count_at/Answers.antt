@@ -1,7 +1,7 @@
 use Rattle.std.proofs.Common.{arith}
 use Rattle.std.proofs.lemmas.Nat.{mod_below}
 use Rattle.near_mirror.proofs.Chunks.{valid_chunk}
-use Rattle.near_tables.proofs.torn_table.Strips.count_at.Goals as goal
+use Rattle.near_tables.proofs.lane_reading.Strips.count_at.Goals as goal
 
 pub nonzero_rem-at : goal.nonzero_rem-at
 nonzero_rem-at c = valid_chunk c.args.self.now.head c.requires.head

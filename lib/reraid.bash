@@ -139,7 +139,7 @@ _reraid_value() {
         marks) _reraid_offer marks=none marks=xfs ;;
         mode) _reraid_offer mode=common mode=each ;;
         logical) _reraid_offer logical=512 logical=4096 ;;
-        missing) _reraid_offer missing={0,1}; [[ $1 == mirrors ]] || _reraid_offer missing=2 ;;
+        missing) _reraid_offer missing={0,1,2} ;;
         levels) _reraid_list "$before" "$3" 0 5 6 ;;
         members) _reraid_list "$before" "$3" {2..24} ;;
         patterns) _reraid_list "$before" "$3" plain la ra ls rs parity-first parity-last n-restart n-continue la-6 ra-6 ls-6 rs-6 \

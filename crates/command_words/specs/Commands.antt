@@ -322,7 +322,7 @@ pub record AreMirrors (counts sizes places : List ℕ) (empty others torn : ℕ)
   pub members : (counts ≡ []) ⊎ AreMembers counts
   pub chunks : AreChunks sizes
   pub offsets : AreSectors 64 places
-  pub missing : empty ≤ 1
+  pub missing : empty ≤ MOST - 1
   pub foreign : others ≤ MOST
   pub badrows : torn < 2 ^ 55
   pub window : IfSome top (λ n. (1 ≤ n) × (n < 2 ^ 55))

@@ -66,9 +66,9 @@ name_text ModeName = codes "mode"
 name_text LogicalName = codes "logical"
 name_text StepName = codes "step"
 
--- the most empty slots: of the two copies of a mirror's chunk one is left where one member is missing
+-- the most empty slots: of a mirror all but one, since which of them leave each chunk a copy depends on its layout
 abbrev pub most_missing : Verb → ℕ
-most_missing Mirrors = 1
+most_missing Mirrors = MOST - 1
 most_missing _ = MOST_MISSING
 
 -- the largest `from`: that of `relations` is a row, which lies where a sector may; any other is a rank

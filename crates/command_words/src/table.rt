@@ -18,8 +18,8 @@ pub const MOST_ROWS: u64 = 65_536;
 /// The most operands that a command takes.
 pub const MOST_OPERANDS: usize = 18;
 
-/// The most empty slots of a mirror: of the two copies of each chunk one is left.
-const MOST_MISSING_OF_MIRRORS: u64 = 1;
+/// The most empty slots of a mirror: all but one. Which of them leave each chunk a copy depends on the layout.
+const MOST_MISSING_OF_MIRRORS: u64 = MOST as u64 - 1;
 
 /// The name of an operand.
 #[derive(Clone, Copy)]

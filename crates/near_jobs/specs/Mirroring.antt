@@ -1,5 +1,5 @@
 -- What `mirrors` refuses and prints.
-use Rattle.std.specs.Prelude.{ℕ, ◌≡◌, ◌≤◌, ◌<◌, ◌+◌, ◌*◌, ◌^◌, Bool, false, nat_le, nat_lt, if◌then◌else◌, IfSome, IsTrue, List, [], ◌∷◌, ◌++◌, length, codes, slice_get, All}
+use Rattle.std.specs.Prelude.{ℕ, ◌≡◌, ◌≤◌, ◌<◌, ◌+◌, ◌-◌, ◌*◌, ◌^◌, Bool, false, nat_le, nat_lt, if◌then◌else◌, IfSome, IsTrue, List, [], ◌∷◌, ◌++◌, length, codes, slice_get, All}
 use Rattle.std.specs.List.{flat_map}
 use Rattle.std.specs.Option.{option_map, option_map_or}
 use Rattle.std.specs.declared.option.Option.{Option}
@@ -34,7 +34,7 @@ pub record AreMirrorWords (asked : MirrorWords) : Type 0 where
   pub members : All (λ members. IsTrue (has_members members)) asked.members.items
   pub chunks : All (λ chunk. IsTrue (is_chunk chunk)) asked.chunks.items
   pub offsets : All (λ offset. offset < 2 ^ 55) asked.offsets.items
-  pub missing : asked.missing ≤ 1
+  pub missing : asked.missing ≤ MOST - 1
   pub foreign : asked.foreign ≤ MOST
   pub end : IfSome asked.end (λ sector. sector < 2 ^ 55)
   pub size : 1 ≤ asked.size

@@ -110,7 +110,7 @@ static REFUSED: [(&str, u64); 131] = [
     ("survey offsets=0,18014398509481984 mode=each -- a", 3),
     ("sample number=1 set=0:plain:none:8:0:0,1 rows=2 -- a", 6),
     ("mirror -- a", 1),
-    ("mirrors missing=2 -- a", 2),
+    ("mirrors missing=24 -- a", 2),
     ("mirrors pages=1 -- a", 2),
     ("mirrors form=text -- a", 2),
     ("mirrors levels=0 -- a", 2),

@@ -1,8 +1,7 @@
 -- What can be read once more, and what was read.
-use Rattle.std.proofs.Common.{ℕ, ◌≡◌, ◌*◌, ◌∙◌, Bool, true, false, List, length, Result, Ok, Err, refl, sym, subst, arith}
+use Rattle.std.proofs.Common.{ℕ, ◌≡◌, ◌*◌, ◌∙◌, true, false, List, length, Result, refl, sym, subst, arith}
 use Rattle.std.specs.Result.{is_err}
 use Rattle.block_device.specs.Reading.{Answers, Asked, counts_of, is_any_lost}
-use Rattle.outside.proofs.Reading.{reads_none, reads_up}
 use Rattle.outside.specs.Seen.{Image, OnlyReads, Seen}
 use Rattle.outside.specs.declared.Failed.{Failed}
 use Rattle.raid_params.specs.declared.wide.Wide.{Wide}
@@ -11,7 +10,7 @@ use Rattle.virtual_volume.proofs.Sets.{served_held, served_testable}
 use Rattle.virtual_volume.specs.Served.{IsServed}
 use Rattle.rescue_map.specs.Salvaged.{reads_for_all, ReadsUpTo}
 use Rattle.rescue_text.specs.declared.section.Section.{Section}
-use Rattle.volume_device.specs.Kept.{CanRead, HasRead, most_kept}
+use Rattle.volume_device.specs.Kept.{HasRead}
 use Rattle.volume_device.specs.declared.kept.Kept.{Kept}
 use Rattle.volume_device.proofs.Counted.{costs}
 use Rattle.volume_device.proofs.Memory.{can_again}

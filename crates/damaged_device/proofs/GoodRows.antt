@@ -1,6 +1,6 @@
 -- Rows in which all is good.
-use Rattle.std.proofs.Common.{ℕ, zero, suc, ◌≡◌, ◌+◌, ◌-◌, ◌*◌, ◌/◌, ◌%◌, ◌^◌, ◌<◌, ◌≤◌, ◌||◌, Bool, true, false, cond, List, [], ◌∷◌, length, map, get_or, replicate, refl, sym, ap, ◌∙◌, arith, Option, Some, None}
-use Rattle.std.specs.Prelude.{IsTrue, count_by, slice_index_or, if◌then◌else◌}
+use Rattle.std.proofs.Common.{ℕ, zero, suc, ◌≡◌, ◌+◌, ◌-◌, ◌*◌, ◌/◌, ◌%◌, ◌<◌, ◌≤◌, ◌||◌, Bool, true, false, cond, List, [], ◌∷◌, length, map, replicate, refl, sym, ap, ◌∙◌, arith, Option, Some, None}
+use Rattle.std.specs.Prelude.{IsTrue, slice_index_or, if◌then◌else◌}
 use Rattle.std.specs.List.{range_with_len, sum}
 use Rattle.std.specs.Option.{is_none, is_some}
 use Rattle.std.proofs.lemmas.Nat.{div-add-mod', div_below, le-div, mod_below, mul-le}
@@ -8,7 +8,7 @@ use Rattle.raid_layouts.proofs.Counts.{count_cons}
 use Rattle.address_map.proofs.Heads.{some_chunk, some_data}
 use Rattle.lost_members.proofs.NeededSums.{sum_first}
 use Rattle.member_regions.proofs.Sets.{testable_head, testable_slots}
-use Rattle.member_regions.specs.Members.{held, IsTestable}
+use Rattle.member_regions.specs.Members.{held}
 use Rattle.raid_params.specs.Size.{data_blocks, redundancy, rows, volume_sectors}
 use Rattle.raid_params.specs.Slots.{empties}
 use Rattle.raid_params.specs.Validity.{is_valid_head}
@@ -17,13 +17,12 @@ use Rattle.raid_params.specs.declared.types.Head.{Head}
 use Rattle.raid_params.specs.declared.wide.Wide.{Wide}
 use Rattle.raid_terms.specs.Address.{home_sector, home_slot}
 use Rattle.raid_terms.specs.Volume.{volume_sector}
-use Rattle.rescue_map.specs.Damaged.{damaged, damaged_at, is_lost, is_unknown, known_slot, AreAllGood, IsDamaged, IsMendable}
+use Rattle.rescue_map.specs.Damaged.{damaged, damaged_at, is_unknown, AreAllGood, IsMendable}
 use Rattle.rescue_map.specs.Salvaged.{reads_for, reads_for_all, salvaged_sector, salvaged_sectors}
 use Rattle.rescue_map.proofs.Passed.{damage_of, good_row}
 use Rattle.rescue_text.specs.declared.section.Section.{Section}
 use Rattle.virtual_volume.proofs.Ranges.{flat_same}
-use Rattle.volume_device.specs.Cost.{cost_of, is_row_asked, is_there, range_cost, row_sectors}
-use Rattle.volume_device.specs.Kept.{LieAmong}
+use Rattle.volume_device.specs.Cost.{cost_of, is_row_asked, range_cost, row_sectors}
 use Rattle.volume_device.specs.Sectors.{sectors_of}
 use Rattle.volume_device.proofs.Rows.{row_some, rows_among, rows_end}
 use Rattle.damaged_device.specs.Reading.{AreGoodRows}

@@ -1,6 +1,5 @@
 -- What was read of a damaged volume so far, where the images are known.
 use Rattle.std.proofs.Common.{ℕ, ◌≡◌, ◌+◌, ◌-◌, ◌*◌, ◌≤◌, List, length, take, Option, None, Some, IfSome, OnOk, Result, Ok, Err, sym, ap, ◌∙◌, slice_range}
-use Rattle.std.specs.Option.{option_map}
 use borrow.Rule.Slice.PartMut.{put_mid}
 use Rattle.raid_params.specs.Size.{volume_sectors}
 use Rattle.raid_params.specs.declared.wide.Wide.{Wide}

@@ -13,11 +13,11 @@ ghost use Rattle.damaged_device.specs.Cost.{damaged_cost, fails_by};
 ghost use Rattle.damaged_device.specs.Lengths.{salvaged_told, salvaged_whole};
 ghost use Rattle.damaged_device.specs.Reading.{CanReadDamaged};
 
-use crate::reading::read_damaged;
+use crate::reading::read_steps;
 use address_map::volume_sectors;
 use block_device::BlockDevice;
-use outside::{Failed, Images};
-use rescue_map::Damage;
+use outside::{Failed, Images, SECTOR};
+use rescue_map::{Damage, has_lost};
 use volume_device::Kept;
 
 /// The volume of a set over attached images that have unreadable areas, as a device.
@@ -83,6 +83,9 @@ impl<'a, I: Images> BlockDevice for DamagedDevice<'a, I> {
     }
 
     fn read(&mut self, first: u64, to: &mut [u8]) -> Result<(), Failed> {
-        read_damaged(self.images, self.damage, self.kept, self.row, first, to)
+        if has_lost(self.damage, first, (to.len() / SECTOR) as u64) {
+            return Err(Failed);
+        }
+        read_steps(self.images, self.damage, self.kept, self.row, first, to)
     }
 }

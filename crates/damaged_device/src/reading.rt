@@ -1,18 +1,13 @@
 //! Reading sectors of a damaged volume.
-ghost use Rattle.std.specs.Prelude.{◌≡◌, ◌+◌, ◌*◌, ◌%◌, ◌/◌, ◌<◌, ◌≤◌, OnOk, length, true, false};
-ghost use Rattle.std.specs.Result.{is_err};
-ghost use Rattle.std.specs.List.{list_any, range_with_len};
-ghost use Rattle.block_device.specs.Reading.{Answers, counts_of};
+ghost use Rattle.std.specs.Prelude.{◌≡◌, ◌+◌, ◌*◌, ◌%◌, ◌/◌, ◌<◌, ◌≤◌, OnOk, length, true};
 ghost use Rattle.outside.specs.Attached.{told_all};
-ghost use Rattle.outside.specs.Seen.{OnlyReads};
 ghost use Rattle.raid_params.specs.Size.{volume_sectors as volume_sectors_of};
-ghost use Rattle.rescue_map.specs.Damaged.{IsMendable, is_lost as is_lost_of};
+ghost use Rattle.rescue_map.specs.Damaged.{IsMendable};
 ghost use Rattle.rescue_map.specs.Salvaged.{ReadsUpTo, reads_for_all};
-ghost use Rattle.damaged_device.specs.Cost.{damaged_cost};
 ghost use Rattle.damaged_device.specs.Reading.{AreGoodRows, AreSectorsOf, CanReadDamaged};
 
 use outside::{Failed, Images, SECTOR};
-use rescue_map::{Damage, are_all_good, has_lost, read_salvaged};
+use rescue_map::{Damage, are_all_good, read_salvaged};
 use volume_device::{Kept, read_range, row_sectors, step_of};
 
 /// Whether all members are good in the rows of chunks of `count` volume sectors from number `first` on.
@@ -59,7 +54,7 @@ fn read_step<I: Images>(
 }
 
 /// Reads sectors of the volume from number `first` on, step by step.
-fn read_steps<I: Images>(
+pub(crate) fn read_steps<I: Images>(
     images: &mut I,
     damage: &Damage,
     kept: &mut Kept,
@@ -83,28 +78,4 @@ fn read_steps<I: Images>(
         at = next;
     }
     Ok(())
-}
-
-/// Reads sectors of the volume from number `first` on, or fails where one of them is lost: then nothing is read.
-pub(crate) fn read_damaged<I: Images>(
-    images: &mut I,
-    damage: &Damage,
-    kept: &mut Kept,
-    row: &mut [u8],
-    first: u64,
-    to: &mut [u8],
-) -> Result<(), Failed>
-    requires can { CanReadDamaged damage.now.set.now damage.now.end (I.seen images.old).attached kept.old row.old }
-    requires whole { length to.old % 512 ≡ 0 }
-    requires within { first + length to.old / 512 ≤ volume_sectors_of damage.now.set.now.geo.head damage.now.end }
-    ensures told { OnOk result (AreSectorsOf (told_all (I.seen images.old).attached) damage.now.rescue.now damage.now.set.now first (length to.old / 512) to.new) }
-    ensures can { CanReadDamaged damage.now.set.now damage.now.end (I.seen images.new).attached kept.new row.new }
-    ensures only { OnlyReads (I.seen images.old) (I.seen images.new) (reads_for_all damage.now.rescue.now damage.now.set.now first (length to.old / 512)) }
-    ensures answers { Answers (damaged_cost damage.now.rescue.now damage.now.set.now (record { first = first; count = length to.old / 512 }))
-        (is_err result) (counts_of (I.seen images.old)) (counts_of (I.seen images.new)) }
-{
-    if has_lost(damage, first, (to.len() / SECTOR) as u64) {
-        return Err(Failed);
-    }
-    read_steps(images, damage, kept, row, first, to)
 }

@@ -50,36 +50,8 @@ fn step_sectors(row: u64, most: u64, sector: u64, left: u64) -> u64
     most.min(left / row) * row
 }
 
-/// Reads whole rows of the volume. Where some member is missing they are found together, and then copied.
-fn read_rows<I: Images>(
-    images: &mut I,
-    kept: &mut Kept,
-    geo: &Geometry,
-    end: u64,
-    first: u64,
-    rows: u64,
-    to: &mut [u8],
-) -> Result<(), Failed>
-    requires can { CanRead geo.now end (most_kept geo.now.head) (I.seen images.old).attached kept.old }
-    requires some { 1 ≤ rows }
-    requires short { rows * geo.now.head.chunk ≤ most_kept geo.now.head }
-    requires long { length to.old ≡ 512 * (rows * row_sectors_of geo.now.head) }
-    requires inside { (first + rows) * row_sectors_of geo.now.head ≤ volume_sectors geo.now.head end }
-    ensures told { OnOk result (AreSectors (I.seen images.old).attached geo.now
-        (first * row_sectors_of geo.now.head) (rows * row_sectors_of geo.now.head) to.new) }
-    ensures read { HasRead geo.now (rows * row_sectors_of geo.now.head) (I.seen images.old) (I.seen images.new) kept.old kept.new }
-    ensures cause { HasCause (I.seen images.old).faults (I.seen images.new).faults result }
-{
-    let sector = first * row_sectors(&geo.head);
-    if is_full(geo) {
-        return read_part(images, kept, geo, end, sector, to);
-    }
-    let chunk = geo.head.chunk;
-    kept.fill(images, geo, first * chunk, (rows * chunk) as usize)?;
-    read_part(images, kept, geo, end, sector, to)
-}
-
-/// Reads sectors of the volume from number `first` on, which are one step of a range.
+/// Reads sectors of the volume from number `first` on, which are one step of a range. Where some member is missing the lost data of whole rows
+/// are found together, before they are copied.
 fn read_step<I: Images>(
     images: &mut I,
     kept: &mut Kept,
@@ -100,10 +72,17 @@ fn read_step<I: Images>(
 {
     let row = row_sectors(&geo.head);
     let count = (to.len() / SECTOR) as u64;
-    if count < row {
+    if count < row || is_full(geo) {
         return read_part(images, kept, geo, end, first, to);
     }
-    read_rows(images, kept, geo, end, first / row, count / row, to)
+    let chunk = geo.head.chunk;
+    kept.fill(
+        images,
+        geo,
+        first / row * chunk,
+        (count / row * chunk) as usize,
+    )?;
+    read_part(images, kept, geo, end, first, to)
 }
 
 /// How many of the `left` sectors of the volume from number `first` on are read by one step of [`read_range`].

@@ -1,4 +1,4 @@
-use Rattle.std.proofs.Common.{◌≡◌, ◌/◌, length, rules, arith}
+use Rattle.std.proofs.Common.{◌/◌, length}
 use Rattle.outside.specs.Attached.{told_all}
 use Rattle.outside.proofs.Reading.{reads_up}
 use Rattle.volume_device.specs.Cost.{range_cost}

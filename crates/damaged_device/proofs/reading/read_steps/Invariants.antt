@@ -1,4 +1,4 @@
-use Rattle.std.proofs.Common.{ℕ, ◌≡◌, ◌-◌, ◌*◌, ◌≤◌, IfSome, length, take}
+use Rattle.std.proofs.Common.{◌≡◌, ◌-◌, ◌*◌, ◌≤◌, IfSome, length, take}
 use Rattle.outside.specs.Attached.{told_all}
 use Rattle.outside.specs.Seen.{OnlyReads}
 use Rattle.rescue_map.specs.Salvaged.{reads_for_all, salvaged_sectors}

@@ -1,6 +1,6 @@
 use Rattle.std.proofs.Common.{ℕ, ◌≡◌, ◌/◌, max, ap, arith}
 use Rattle.address_map.proofs.Heads.{some_chunk}
-use Rattle.volume_device.specs.Cost.{IsStep, row_sectors}
+use Rattle.volume_device.specs.Cost.{row_sectors}
 use Rattle.volume_device.specs.Kept.{most_kept}
 use Rattle.volume_device.proofs.Rows.{most_fits, most_short, most_some, row_some, step_same}
 use Rattle.volume_device.proofs.ranges.step_of.Goals as goal

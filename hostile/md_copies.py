@@ -55,10 +55,11 @@ def made(folder, layout, count, chance):
     devices = [f"/dev/ubd{chr(ord('a') + place)}" for place in range(count)]
     (folder / "init").write_text(GUEST.format(folder=folder, layout=layout, kilobytes=CHUNK // 2, count=count, disks=" ".join(devices)))
     (folder / "init").chmod(0o755)
-    words = ["mem=256M", "root=/dev/root", "rootfstype=hostfs", "rootflags=/", "ro", f"init={folder}/init", f"uml_dir={folder}", "con=null", "con0=null,fd:1"]
+    words = ["mem=256M", "root=/dev/root", "rootfstype=hostfs", "rootflags=/", "ro", f"init={folder}/init", f"uml_dir={folder}", "con=null",
+             "con0=null,fd:1", *(f"ubd{place}={disk}" for place, disk in enumerate(disks))]
     with open(folder / "log", "w", encoding="utf-8") as log:
-        subprocess.run(["linux.uml", *words, *(f"ubd{place}={disk}" for place, disk in enumerate(disks))], stdin=subprocess.DEVNULL, stdout=log, stderr=log,
-                       timeout=600, env={**os.environ, "TMPDIR": str(folder)}, check=False)
+        subprocess.run(["linux.uml", *words], stdin=subprocess.DEVNULL, stdout=log, stderr=log, timeout=600,
+                       env={**os.environ, "TMPDIR": str(folder)}, check=False)
     if not (folder / "done").exists():
         sys.exit("no array was made:\n" + (folder / "log").read_text(errors="replace")[-2000:])
     kilobytes, offset = map(int, (folder / "facts").read_text().split())
@@ -86,7 +87,8 @@ def ask(tally, program, folder, found, images, volume, end):
         (folder / name).write_bytes(image)
     put = run(program, folder, "mirrorwrite", f"set={found.word()}", f"end={end}", "--", *names)
     tally.add((put.returncode, put.stdout) == (0, volume), f"mirrorwrite set={found.word()} end={end}")
-    asked = [f"layouts={','.join(LAYOUTS)}", f"members={found.members}", f"missing={found.lost}", f"chunks={CHUNK // 2},{CHUNK}", f"offsets={found.offset}"]
+    asked = [f"layouts={','.join(LAYOUTS)}", f"members={found.members}", f"missing={found.lost}", f"chunks={CHUNK // 2},{CHUNK}",
+             f"offsets={found.offset}"]
     listed = run(program, folder, "mirrors", *asked, f"end={end}", "window=4096", "size=1000", "--", *names)
     lines = listed.stdout.decode().splitlines()
     tally.add(listed.returncode == 0 and any(line.endswith(" " + found.word()) for line in lines), f"mirrors {' '.join(asked)}: {len(lines) - 1} pass")

@@ -113,8 +113,8 @@ def mirrors_case(rng):
              "foreign": [max(0, absent + rng.choice([0] * 10 + [1, -1]))],
              "badrows": [rng.choice([0, 0, 1, 2, 3, FAR - 1])],
              "window": [rng.choice([1, 2, max(1, area - 1), max(1, area), area + 1, max(1, found.chunk), FAR - 1])]}
-    usual = {"layouts": 0.01 + 0.7 * (found.layout == "near2"), "members": 0.7 if found.members == len(images) else 0.03, "chunks": 0.01, "offsets": 0.01, "missing": 0.5, "foreign": 0.5,
-             "badrows": 0.4, "window": 0.5}
+    usual = {"layouts": 0.7 if found.layout == "near2" else 0.01, "members": 0.7 if found.members == len(images) else 0.03, "chunks": 0.01,
+             "offsets": 0.01, "missing": 0.5, "foreign": 0.5, "badrows": 0.4, "window": 0.5}
     operands = [f"{name}={joined(values)}" for name, values in asked.items()
                 if rng.random() > usual[name] or name in ("missing", "foreign") and values != [0]]
     if rng.random() < 0.01:
@@ -154,8 +154,9 @@ def large_mirrors(rng):
     members = count + rng.choice([0, 0, 1]) if count < 21 else rng.choice([2, 3, 6, count])
     block = some_bytes(rng, 4 * SECTOR)
     images = [block if rng.random() < 0.7 else some_bytes(rng, 4 * SECTOR) for _ in range(count)]
-    asked = {"members": [min(MOST, members)], "chunks": CHUNKS[:rng.randint(1, 16)], "offsets": list(range(rng.choice([1, 1, 2, 3, 64]))),
-             "missing": rng.choice([0, 1, 2]), "foreign": min(MOST, max(0, count - members) + rng.choice([0, 0, 1]))}
+    asked = {"layouts": rng.choice([["near2"], [some_layout(rng)], LAYOUTS]), "members": [min(MOST, members)],
+             "chunks": CHUNKS[:rng.randint(1, 16)], "offsets": list(range(rng.choice([1, 1, 2, 3, 64]))),
+             "missing": rng.choice([0, 1, 1, 2, 3, MOST - 1]), "foreign": min(MOST, max(0, count - members) + rng.choice([0, 0, 1]))}
     total = mirrors.Mirrors(asked, count).total
     first = rng.choice([0, 1, total - 5, total - 1, total, total + 1, rng.randint(0, total), RANKS - 1, rng.choice(EDGES)])
     operands = [f"{name}={joined(value) if isinstance(value, list) else value}" for name, value in asked.items()]

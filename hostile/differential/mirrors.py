@@ -43,12 +43,21 @@ def bare(found, end):
     return next((chunk for chunk, copies in enumerate(held(found, end)) if not copies), None)
 
 
+def tested_below(found, end, window):
+    """Before which sector of its part a copy is tested: within the window, and of near copies not in a last row in which a chunk that has no place for
+    all its copies has two or more."""
+    rows = found.rows(end)
+    if found.layout.startswith("near") and rows * found.members % found.copies > 1:
+        rows -= 1
+    return min(window, rows * found.chunk)
+
+
 def torn(found, images, end, window, most):
-    """How many pairs of copies of one sector differ, where both lie below the window in their parts; no more are counted than one above `most`."""
-    count = 0
+    """How many pairs of tested copies of one sector differ; the count ends where it is above `most`."""
+    count, limit = 0, tested_below(found, end, window)
     for copies in held(found, end):
         for inner in range(found.chunk):
-            tested = [block_at(found, images, slot, row * found.chunk + inner) for slot, row, within in copies if within * found.chunk + inner < window]
+            tested = [block_at(found, images, slot, row * found.chunk + inner) for slot, row, within in copies if within * found.chunk + inner < limit]
             count += sum(one != other for one, other in itertools.combinations(tested, 2))
         if count > most:
             break

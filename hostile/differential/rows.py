@@ -228,6 +228,9 @@ def copies():
     row("mirrors layouts=near2,far2 chunks=1 offsets=0 badrows=1", wrong, out=f"{turned}next 12 of 12\n")
     for bad, line in ((2, ""), (3, "0 near3:1:0:0,1,2\n")):
         row(f"mirrors layouts=near3 chunks=1 offsets=0 span=1 badrows={bad}", [sectors("01"), sectors("02"), sectors("03")], out=f"{line}next 1 of 6\n")
+    # of two chunks of three copies the second is not tested: two cells of its row are those of a third chunk
+    row("mirrors layouts=near3 chunks=1 offsets=0 span=1", [sectors(image) for image in ("0199", "0102", "0188", "0277")],
+        out="0 near3:1:0:0,1,2,3\nnext 1 of 24\n")
     # of two chunks on four slots two may be missing, one of each pair; with three missing a chunk has no copy
     row("mirrors chunks=1 offsets=0 members=4 missing=3 foreign=1", [sectors("01"), sectors("02")],
         out="".join(f"{rank} near2:1:0:{slots}\n" for rank, slots in (

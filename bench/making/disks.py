@@ -5,8 +5,8 @@ left-symmetric, with Q in the order after Q, its data from sector 2048 on and no
 Usage: disks.py [pattern=NAME] [syndrome=NAME] [offsets=LIST] LEVEL CHUNK VOLUME DISK..
 LEVEL is 0, 5 or 6, or for two to four copies of each chunk near2, far2 or offset2, and so on. CHUNK is in sectors of
 512 bytes. The disks are written in the order of their slots; the volume is filled up with zeros to whole rows. NAME is
-one that reraid has for a pattern or an order of Q; LIST is the sector at which the data begin, on all disks, or on each, with commas. Then all disks are as long
-as the one whose data begin last, by noise after the data.
+one that reraid has for a pattern or an order of Q; LIST is the sector at which the data begin, on all disks, or on each,
+with commas. Then all disks are as long as the one whose data begin last, by noise after the data.
 """
 
 import random

@@ -58,7 +58,7 @@ def made(folder, layout, count, chance):
     words = ["mem=256M", "root=/dev/root", "rootfstype=hostfs", "rootflags=/", "ro", f"init={folder}/init", f"uml_dir={folder}", "con=null",
              "con0=null,fd:1", *(f"ubd{place}={disk}" for place, disk in enumerate(disks))]
     with open(folder / "log", "w", encoding="utf-8") as log:
-        subprocess.run(["linux.uml", *words], stdin=subprocess.DEVNULL, stdout=log, stderr=log, timeout=600,
+        subprocess.run(["timeout", "600", "linux.uml", *words], stdin=subprocess.DEVNULL, stdout=log, stderr=log,
                        env={**os.environ, "TMPDIR": str(folder)}, check=False)
     if not (folder / "done").exists():
         sys.exit("no array was made:\n" + (folder / "log").read_text(errors="replace")[-2000:])

@@ -11,8 +11,8 @@ from unittest import mock
 
 from reraid_try.calls.commands import Answer
 from reraid_try.calls.formats import Checked, Held
-from reraid_try.calls.program import Program
-from reraid_try.calls.sets import read_word
+from reraid_try.calls.program import Copied, Program
+from reraid_try.calls.sets import NEAR_2, read_word
 from reraid_try.calls.surveys import Request
 from reraid_try.checks import damage, kin, rows
 from reraid_try.checks.candidates import Candidate, Inside, left_most
@@ -145,6 +145,27 @@ class OfCandidates(unittest.TestCase):
         verdict.files.long.joined = 9
         lost = candidate(verdict=verdict, left_most=True)
         self.assertEqual((lost.score, lost.doubts), (Score.KNOWN, ["a group with most of the marks was left out"]))
+
+    def test_no_sign_against_marks_without_a_whole_file(self) -> None:
+        """A checker that reads little of a file system may be content with a wrong order; marks that do not fit and files that are broken are not."""
+        broken = whole(longest=0)
+        for held, count, score in ((Held("xfs", 0, 12, 6), 1, Score.KNOWN), (Held("xfs", 0, 12, 0), 1, Score.CHECKED),
+                                   (Held("xfs", 0, 12, 6), 0, Score.CHECKED)):
+            broken.files.found = count
+            self.assertEqual(candidate(verdict=broken, groups=(held,)).score, score)
+        broken.files.found = 1
+        self.assertEqual(candidate(verdict=broken, groups=(Held("xfs", 0, 12, 6),)).doubts,
+                         ["some marks speak against it, and no file that was found is whole"])
+        self.assertEqual(candidate(verdict=whole(), groups=(Held("xfs", 0, 12, 6),)).score, Score.WHOLE)
+
+    def test_end_of_far_copies(self) -> None:
+        """What was asked for with another end than that of the images is read with it, where the volume depends on it."""
+        ends = []
+        for text in ("far2:8:0:0,1", "near2:8:0:0,1"):
+            it = candidate(text)
+            it.trial = dataclasses.replace(it.trial, copied=Copied((NEAR_2,), 2, end=77))
+            ends.append(it.end)
+        self.assertEqual((ends, candidate("far2:8:0:0,1").end), ([77, None], None))
 
     def test_printed_by_sign_fits_and_members(self) -> None:
         fits = (Held("xfs", 0, 12, 0),)
@@ -389,6 +410,14 @@ class Tested(InFolder):
         check = ("reraid check", put("unsound 0 of 1\ngroup 0 xfs origin 8 fits 3 misfits 0\npass\n"))
         for data, told in ((b"XFSB", True), (bytes(8 * SECTOR) + b"XFSB", True), (bytes(9 * SECTOR) + b"XFSB", False)):
             self.assertEqual(self.over(("reraid write", Answer(0, data))).begins(candidate(hunt=hunt_of(check))), told)
+
+    def test_begins_with_copies_that_are_far(self) -> None:
+        """What far copies begin with is read by the end with which they were asked for; of the command's output so much is taken."""
+        tests = self.over(("reraid mirrorwrite", Answer(0, b"XFSB")))
+        it = candidate("far2:8:0:0,1", hunt=hunt_of())
+        it.trial = dataclasses.replace(it.trial, copied=Copied((NEAR_2,), 2, end=77))
+        self.assertTrue(tests.begins(it))
+        self.assertIn("end=77", cast(Standin, tests.commands).asked[0][0])
 
     def test_read(self) -> None:
         check = ("reraid check", put("unsound 0 of 1\ngroup 0 xfs origin 8 fits 3 misfits 0\npass\n"))

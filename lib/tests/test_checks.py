@@ -286,6 +286,26 @@ class Rooms(InFolder):
                          (["reraid", "mirrorwrite", "set=near2:8:0:0,1", "end=9", "--", "a"], None))
         self.assertEqual((source.row_end(2), source.row_end(99)), (2048 + 256, 2048 + 1280))
 
+    def test_where_copies_begin(self) -> None:
+        """Whole rows of copies are written where copies follow one another; of far ones the first bytes of all that is there."""
+        source = Source(read_word("offset2:8:16:0,1,2"), ("a", "b", "c"), 900)
+        self.assertEqual((source.row_end(3), source.row_end(4)), (16 + 32, 16 + 32))
+        # Three rows of one and a half chunks each have 13 sectors, so four rows are taken.
+        self.assertEqual(source.beginning(13 * SECTOR)[0], [["reraid", "mirrorwrite", "set=offset2:8:16:0,1,2", "end=32", "--", "a", "b", "c"]])
+        self.assertEqual(source.beginning(25 * SECTOR)[0][0][3], "end=48")
+        far = Source(read_word("far2:8:16:0,1,2"), ("a", "b", "c"), 900)
+        self.assertEqual(far.beginning(13 * SECTOR), ([["reraid", "mirrorwrite", "set=far2:8:16:0,1,2", "end=900", "--", "a", "b", "c"],
+                                                       ["head", "-c", str(13 * SECTOR)]], None))
+
+    def test_far_copies_are_not_cut(self) -> None:
+        """An end before theirs would move them, so they are written whole, or not at all."""
+        source = Source(read_word("far2:8:0:0,1"), ("a", "b"), 80)
+        with self.room(("reraid mirrorwrite", put("x" * 40))).volume(source, 40 * SECTOR, 9) as volume:
+            self.assertIsNone(volume)
+        with self.room(("reraid mirrorwrite", put("x" * 40))).volume(source, 80 * SECTOR, 9) as volume:
+            assert volume
+            self.assertEqual((os.path.getsize(volume.path), volume.cut), (80 * SECTOR, False))
+
     def test_written_and_cut(self) -> None:
         source = Source(read_word("0:plain:none:8:0:0,1"), ("a", "b"), 80)
         commands = Commands()

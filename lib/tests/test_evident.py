@@ -5,12 +5,18 @@ import types
 import unittest
 from collections.abc import Sequence
 from typing import Any, cast
+from unittest import mock
 
 from reraid_try.calls.commands import Answer, Words
+from reraid_try.calls.program import Copied
 from reraid_try.checks.verdicts import Score
+from reraid_try.evidence import ties
+from reraid_try.evidence.families import Family
 from reraid_try.evidence.images import Image
 from reraid_try.evidence.maps import Map
+from reraid_try.evidence.shifts import Shift
 from reraid_try.evidence.tables import Partition, Table
+from reraid_try.evidence.unlike import Unlike
 from reraid_try.options import Options
 from reraid_try.policy.evident import Evident, Part
 from reraid_try.policy.plain import Aim, Span
@@ -161,6 +167,76 @@ class ByPlaces(unittest.TestCase):
         self.assertTrue(Evident(cast(Any, search)).by_places(cast(Any, hunt), aim))
         self.assertEqual([(it.request and it.request.records, it.out) for it in taken], [(True, {0})])
 
+    def test_where_data_may_begin(self) -> None:
+        """Not behind a row that is tied; of images that are moved by how much later than the first of them, and not before it."""
+        hunt = types.SimpleNamespace(evidence=types.SimpleNamespace(tried=(0, 64, 2048, 3000), end=2100))
+        found, _ = evident([], NoTools({}), Options(("a",)))
+
+        def told(aim: Aim) -> list[int]:
+            return [row for row in found.offsets_of(cast(Any, hunt), aim) if row in (0, 64, 80, 100, 300, 1948, 2048, 3000)]
+        self.assertEqual(told(Aim((0, 1), Span(0, 2100), "why")), [0, 64, 2048])
+        self.assertEqual(told(Aim((0, 1), Span(0, 2100), "why", begin=64)), [0, 64])
+        self.assertEqual(told(Aim((0, 1), Span(0, 2100), "why", begin=1948, moved=(100, 400))), [0, 1948])
+
+
+class Apart(unittest.TestCase):
+    """Images that hold the same, but not at the same sectors."""
+
+    images = [Image(name, number, 900, first=8) for number, name in enumerate("abc")]
+
+    def unlike(self, known: Sequence[ties.Known], alone: Sequence[int], shown: Sequence[Shift], offsets: Unlike | None = None,
+               options: Options = Options(("a",))) -> list[Aim]:
+        """What is tried of three images, of which this is known, with distances between them and the offsets that parity allows."""
+        it, _ = evident(self.images, NoTools({}), options)
+        told, part = ties.Told(tuple(known), tuple(alone), True), Part((0, 1, 2), Span(0, 900))
+        with mock.patch("reraid_try.policy.evident.unlike.found_shifts", return_value=list(shown)), \
+                mock.patch("reraid_try.policy.evident.unlike.look", return_value=offsets):
+            return it.unlike(it.asked(), told, part)
+
+    def test_copies_that_lie_apart(self) -> None:
+        """They are tried as RAID 10, but where parity ties the images at offsets of their own, or level 10 is not asked for."""
+        shown = [Shift(0, 1, 128, 50), Shift(1, 2, 128, 40)]
+        aim, = self.unlike((), (0, 1, 2), shown)
+        self.assertEqual((aim.images, aim.copied, aim.apart, aim.shapes), ((0, 1, 2), True, 128, ()))
+        self.assertEqual(aim.why, "the images hold the same 128 sectors apart, as RAID 10 with copies of layout offset does")
+        self.assertEqual(self.unlike((), (0, 1, 2), shown, options=Options(("a",), levels=("5",))), [])
+        five = ties.Known(Family((0, 1, 2), 500, 8, 900, "5", 1), None, 40)
+        aim, = self.unlike((), (0, 1, 2), shown, Unlike((8, 136, 264), five))
+        self.assertEqual((aim.moved, aim.apart, aim.begin, aim.shapes), ((8, 136, 264), None, 40, (Shape("5", 3),)))
+
+    def test_an_image_that_nothing_ties_where_a_disk_is_lost(self) -> None:
+        """Its data may begin elsewhere. Where none is lost it is foreign, and where all are tied nothing is looked for."""
+        lost, full = (ties.Known(Family((0, 1), 500, 8, 900, "6", parity)) for parity in (1, 2))
+        offsets = Unlike((8, 8, 136), ties.Known(Family((0, 1, 2), 500, 8, 900, "6", 2)))
+        self.assertEqual([aim.moved for aim in self.unlike((lost,), (2,), (), offsets)], [(8, 8, 136)])
+        self.assertEqual(self.unlike((lost,), (2,), [Shift(0, 2, 128, 50)]), [])
+        self.assertEqual(self.unlike((full,), (2,), (), offsets), [])
+        self.assertEqual(self.unlike((lost,), (), (), offsets), [])
+
+    def copies(self, aim: Aim, *content: int) -> tuple[bool, list[str]]:
+        """Whether the search is at its end, and what was asked of copies, where candidates of these questions have a sign."""
+        asked: list[str] = []
+        it, _ = evident([*self.images, Image("d", 3, 900, like=0), Image("e", 4, 900, like=0)], NoTools({}), Options(("a",)))
+
+        def mirrors(_hunt: Any, question: Copied) -> bool:
+            asked.append(f"{question.line().split()[1]} {question.members}")
+            it.search.tested += [cast(Any, types.SimpleNamespace(score=Score.CHECKED))] * (len(asked) in content)
+            return False
+        setattr(it.search, "mirrors", mirrors)
+        hunt = types.SimpleNamespace(evidence=types.SimpleNamespace(tried=(0,), end=900))
+        return it.copies(cast(Any, hunt), aim, 0), asked
+
+    def test_what_is_asked_of_copies(self) -> None:
+        """What copies are told of is asked until a candidate is content; of three images that are the same three copies first."""
+        side = Aim((0, 1, 2), Span(0, 900), "why", copied=True)
+        self.assertEqual(self.copies(side, 3), (True, ["near2 3", "near3 3", "near2 4"]))
+        done, asked = self.copies(side)
+        self.assertEqual((done, asked[-1]), (False, "near4 6"))
+        same = Aim((0, 1, 3, 4), Span(0, 900), "why", copied=True)
+        self.assertEqual(self.copies(same, 1)[1], ["near3 4"])
+        apart = Aim((0, 1, 2), Span(0, 900), "why", copied=True, apart=128)
+        self.assertEqual(self.copies(apart, 2)[1], ["offset2,offset3 3", "far2,far3 3"])
+
 
 class Unread(unittest.TestCase):
     """Rows that maps call unread."""
@@ -189,7 +265,8 @@ class Evidence(unittest.TestCase):
         rnd = random.Random(2)
         made = rows.beside(rows.without(rows.striped(rnd, 6, 6, 600, chunk=16), 1), rows.alone(rnd, 600))
         runner, images = disks(made)
-        found, said = self.aims(images, runner)
+        with mock.patch("reraid_try.policy.evident.unlike.found_shifts", return_value=[]):
+            found, said = self.aims(images, runner)
         self.assertEqual([(aim.images, aim.shapes, dict(aim.asked), aim.begin) for aim in found],
                          [((0, 1, 2, 3, 4), (Shape("6", 6, 1),), {"chunks": "16"}, 0)])
         self.assertEqual(len(said), 2)

@@ -68,7 +68,20 @@ class Aims(unittest.TestCase):
         aim, = plain.copied(told, range(3), SPAN, ALL)
         self.assertEqual((aim.images, aim.copied, aim.shapes, aim.why), ((0, 1, 2), True, (), "images 0 and 2 hold the same"))
         self.assertEqual(plain.copied(told, range(3), SPAN, Options(("a",), levels=("5",))), [])
+        self.assertEqual(plain.perhaps_copied(told, range(3), SPAN, ALL), [])
         self.assertEqual(plain.tied(told, range(3), SPAN, ALL), [])
+
+    def test_two_images_that_are_the_same_in_some_rows(self) -> None:
+        """Copies of a RAID 10, as is tried first, or what level 5 has of three disks of which one is lost."""
+        told = Told((Known(Family((0, 2), 500, 8, 900, "5", 0)),), (1,), True)
+        aim, = plain.perhaps_copied(told, range(3), SPAN, ALL)
+        self.assertEqual((aim.images, aim.copied, aim.shapes), ((0, 1, 2), True, ()))
+        self.assertEqual(aim.why, "images 0, 2 hold the same in 500 rows of those that were looked at: copies, or level 5 whose third disk is lost "
+                         "and zeros there")
+        self.assertEqual([aim.shapes for aim in plain.tied(told, range(3), SPAN, ALL)], [(Shape("5", 3, 1),)])
+        self.assertEqual(plain.copied(told, range(3), SPAN, ALL), [])
+        three = Told((Known(Family((0, 1, 2), 500, 8, 900, "5", 0)),), (), True)
+        self.assertEqual(plain.perhaps_copied(three, range(3), SPAN, ALL), [])
 
     def test_untied(self) -> None:
         """What nothing ties may be a RAID 0, or has lost what it bears; where relations were not to be had nothing is said."""

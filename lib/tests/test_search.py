@@ -9,22 +9,29 @@ import struct
 import subprocess
 import sys
 import time
+import types
 import unittest
 import zlib
-from typing import Any
+from typing import Any, cast
 from unittest import mock
 
 from reraid_try import main, options
 from reraid_try.calls.commands import Answer
+from reraid_try.calls.formats import Ranked
 from reraid_try.calls.program import LAST
+from reraid_try.calls.sets import read_word
 from reraid_try.casefile.gathering import Casefile
 from reraid_try.checks import checkers
 from reraid_try.checks.verdicts import Score
 from reraid_try.checks.volumes import Room
 from reraid_try.errors import OutsideError, Stopped
 from reraid_try.options import Options
+from reraid_try.policy import cures
+from reraid_try.policy.cures import Family
 from reraid_try.policy.evident import Evident
 from reraid_try.policy.search import Search
+from reraid_try.policy.shapes import Shape
+from reraid_try.policy.trials import Trial
 from reraid_try.report.report import Report
 from reraid_try.units import MIB, SECTOR
 from tests.standin import InFolder, Standin, Told, plan_of, put
@@ -150,6 +157,16 @@ class Runs(InFolder):
         search = self.run_search(found)
         self.assertIn("  pairs 0=1 image 2 alone: a RAID 0 of 2 disks", self.report.lines)
         self.assertEqual([it.word.text for it in search.tested], ["near2:128:2048:0,1,2,-"])
+
+    def test_what_was_put_off_without_landmarks_may_be_listed_with_them(self) -> None:
+        """Then it is tested; a set that was put off with landmarks is not listed again."""
+        search = self.search()
+        search.tests = cast(Any, types.SimpleNamespace(test=lambda _: [], without_damaged=lambda _: [], tell=None))
+        hunt = cast(Any, types.SimpleNamespace(evidence=types.SimpleNamespace(pairs=None)))
+        for chosen, known in (((cures.told("no landmarks", Family.BARE),), set()), ((), {TRUE})):
+            trial = Trial(Shape("5", 3), chosen)
+            search.take(hunt, trial, [Ranked(3, TRUE)], lambda it: (read_word(it.text), read_word(it.text)))
+            self.assertEqual(search.known, known)
 
     def test_stopped_in_the_midst(self) -> None:
         calls: list[int] = []

@@ -13,6 +13,8 @@ from .verdicts import Score, Verdict
 
 # A set of which more than one in so many filled rows is unsound is doubtful.
 MOST_UNSOUND = 2
+# Why a set has no sign that marks speak against.
+AGAINST = "some marks speak against it, and no file that was found is whole"
 # So many sets of one volume are said in words.
 MOST_ALIKE = 3
 
@@ -61,7 +63,7 @@ class Candidate:
     def score(self) -> Score:
         """How much speaks for its volume."""
         score = Score(self.found.score - 1) if self.lessened else self.found.score
-        return min(score, Score.KNOWN) if self.rivalled else score
+        return min(score, Score.KNOWN) if self.rivalled or self.spoken_against else score
 
     @property
     def end(self) -> int | None:
@@ -75,11 +77,17 @@ class Candidate:
         return self.left_most and self.found.score >= Score.CHECKED and not self.found.in_order
 
     @property
+    def spoken_against(self) -> bool:
+        """Marks speak against it, and no file that was found in its volume is whole."""
+        return self.found.files.found > 0 and not self.found.files.whole and any(group.misfits for group in self.groups)
+
+    @property
     def doubts(self) -> list[str]:
         """Why it has no sign, or one less."""
         kept = self.left_most and self.found.in_order
         left = ["a group with most of the marks was left out"] * (self.left_most and not kept)
-        return self.found.doubts + left + ([self.rivalled] if self.rivalled else [])
+        against = [AGAINST] * (self.spoken_against and self.found.score >= Score.CHECKED)
+        return self.found.doubts + left + against + ([self.rivalled] if self.rivalled else [])
 
     @property
     def alike_said(self) -> str:

@@ -148,8 +148,9 @@ class Evident:
 
     def unlike(self, asked: Ties, found: Told, part: Part) -> list[Aim]:
         """What is tried of images that nothing ties, where distances tell that their data begin at unlike sectors, or that they are copies which lie
-        elsewhere on the next disk."""
-        if not found.asked or found.known:
+        elsewhere on the next disk; the former too of images of which some are tied to nothing, where as many disks of the others are lost."""
+        lost = sum(it.family.lost or 0 for it in found.known)
+        if not found.asked or found.known and not 0 < len(found.alone) <= lost:
             return []
         images = [self.search.images[number] for number in part.images]
         told = unlike.found_shifts(images, part.span.first, part.span.end)
@@ -157,7 +158,7 @@ class Evident:
         if offsets:
             self.say("unlike", [offsets.line()])
             return [plain.unlike_aim(offsets, part.images, part.span, self.options)]
-        distance = shifts.apart(told) if self.options.wants("10") else None
+        distance = shifts.apart(told) if self.options.wants("10") and not found.known else None
         return [plain.apart_aim(distance, part.images, part.span)] if distance else []
 
     def seek(self, aim: Aim) -> bool:
@@ -215,12 +216,9 @@ class Evident:
         if hunt.places is None:
             return False
         shape = aim.shapes[0]
-        more = (aim.span.first + offset for offset in hints.MORE_OFFSETS)
-        offsets = {it for it in (*hunt.evidence.tried, *more) if it < hunt.evidence.end and (aim.begin is None or it <= aim.begin)}
-        # Rows of images that are moved are counted from where their data begin.
-        best = hunt.places.best([0] if aim.moved else sorted(offsets))
+        best = hunt.places.best(self.offsets_of(hunt, aim))
         numbers = {image: place for place, image in enumerate(aim.images)}
-        words = dict.fromkeys(word for it in best for word in it.words(shape.levels, numbers, aim.moved))
+        words = dict.fromkeys(word for it in best for word in it.words(shape.levels, numbers, tuple(one + it.offset for one in aim.moved)))
         if not words:
             return False
         listing = Listing(tuple(Ranked(rank, word) for rank, word in enumerate(words)), len(words), True, "of those that zeros allow")
@@ -229,6 +227,14 @@ class Evident:
         request = dataclasses.replace(hunt.asking.request(shape), records=True)
         trial = self.search.say_trial(hunt, Trial(shape, (bare,), request), listing)
         return self.search.take(hunt, trial, listing.sets, lambda it: (read_word(it.text), hunt.word(it.text)))
+
+    def offsets_of(self, hunt: Hunt, aim: Aim) -> list[int]:
+        """The rows at which the data of an aim may begin, not behind one that is tied. Those of images that are moved are counted from where they
+        begin, by what they hold, at the earliest."""
+        base = min(aim.moved, default=0)
+        values = {aim.span.first + offset for offset in hints.MORE_OFFSETS}.union(hunt.evidence.tried, [base] if aim.moved else [])
+        rows = {value - base for value in values if base <= value < hunt.evidence.end}
+        return sorted(row for row in rows if aim.begin is None or row <= aim.begin)
 
     def attempt(self, hunt: Hunt, aim: Aim, before: int) -> None:
         """The trials of the shapes of an aim, with ever more loosened, until a candidate is whole or encrypted, or content where something is

@@ -83,7 +83,8 @@ def unlike_aim(found: Unlike, numbers: Sequence[int], span: Span, options: Optio
     """What is tried of images whose data begin at unlike sectors."""
     asked = (("mode", "each"), ("offsets", listed(found.offsets)), ("window", str(EACH_WINDOW)), *chunks(found.known.chunk))
     why = f"{found.line()}: {ties.lost_line(found.known.family)}"
-    return Aim(tuple(numbers), span, why, allowed(shapes_of(found.known.family), options), asked, tied=True, moved=found.offsets)
+    return Aim(tuple(numbers), span, why, allowed(shapes_of(found.known.family), options), asked, tied=True,
+               begin=found.known.begin, moved=found.offsets)
 
 
 def metadata_aim(members: Sequence[Member], span: Span, options: Options) -> Aim | None:

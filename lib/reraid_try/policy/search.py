@@ -146,6 +146,8 @@ class Search:
     def try_all(self) -> None:
         """All trials, in order, until the volume of a candidate says enough for itself."""
         if not self.first_trials() and not self.further_trials() and self.best() < Score.KNOWN:
+            tested = {it.word.text for it in self.tested}
+            self.tests.put_off = list({it.word.text: it for it in reversed(self.tests.put_off) if it.word.text not in tested}.values())
             self.keep(self.looked_at(self.tests.put_off, self.tests.test_late))
         if self.hunt.passed_over:
             self.commands.note(f"# passed over {counted(self.hunt.passed_over, 'trial')}: landmarks alone, or parity alone, allow no set")
@@ -281,6 +283,9 @@ class Search:
             return False
         found = list(fresh.values())
         tested = self.looked_at(found, lambda: self.tests.test(found))
+        if trial.is_bare:
+            # What was put off without landmarks may be listed with them yet, and then it is known where its volume is to be looked at.
+            self.known -= {it.word.text for it in found if it.verdict is None}
         telling = hunt.evidence.pairs is not None or not trial.is_bare
         whole = self.keep([it for it in tested if telling or it.found.findings or it.word.level in trial.shape.telling.split(",")])
         return self.keep(self.tests.without_damaged(tested)) or whole

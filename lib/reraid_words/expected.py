@@ -9,10 +9,10 @@ import difflib
 import sys
 from collections.abc import Sequence
 
-from reraid_words.values import BY_LEVEL, NAMES, NUMBERS, OPERANDS, OTHER_OPERANDS, OTHERS, SYNDROMES, sectors
+from reraid_words.values import BY_LEVEL, LAYOUTS, NAMES, NUMBERS, OPERANDS, OTHER_OPERANDS, OTHERS, SYNDROMES, sectors
 
 SHAPE = "LEVEL:PATTERN:ORDER:CHUNK:OFFSET:SLOTS, as 5:ls:none:128:2048:0,1,-"
-NEAR = "near2:CHUNK:OFFSET:SLOTS, as near2:128:2048:0,1,2,-"
+MIRROR = f"LAYOUT:CHUNK:OFFSET:SLOTS, as near2:128:2048:0,1,2,-, with one of {','.join(LAYOUTS)}"
 
 
 def near(word: str, names: Sequence[str]) -> str:
@@ -60,17 +60,22 @@ def listed(name: str, value: str) -> list[str]:
     return said or rising(name, items, None)
 
 
+def is_mirror(value: str) -> bool:
+    """A set word begins as that of a mirror does."""
+    return value.startswith(("near", "far", "offset"))
+
+
 def set_word(value: str, mirrors: bool) -> list[str]:
     """What is wrong with the first part of a set word that is."""
     parts = value.split(":")
-    if parts[0].startswith("near"):
+    if is_mirror(value):
         chunk, offset, slots = ([*parts[1:], "", "", ""])[:3]
-        if len(parts) != 4 or parts[0] != "near2":
-            return [f"a set of a mirror is {NEAR}"]
+        if len(parts) != 4 or parts[0] not in LAYOUTS:
+            return [f"a set of a mirror is {MIRROR}"]
     elif len(parts) != 6 or parts[0] not in BY_LEVEL:
         if len(parts) == 6 and near(parts[0], list(BY_LEVEL)):
             return [f"{parts[0]}{meant(parts[0], list(BY_LEVEL))}: the level is 0, 5 or 6 (RAID 4 is 5:parity-last)"]
-        return [f"a set is {SHAPE}" + (f", or {NEAR}" if mirrors else "")]
+        return [f"a set is {SHAPE}" + (f", or {MIRROR}" if mirrors else "")]
     else:
         level, pattern, order, chunk, offset, slots = parts
         if pattern not in BY_LEVEL[level]:
@@ -123,7 +128,7 @@ def expected(command: str, words: Sequence[str], place: int) -> list[str]:
         return [f"{words[place]}: an operand is NAME=VALUE; before the images stands --"]
     if name in [word.partition("=")[0] for word in words[:place]]:
         return [f"{name} stands twice"]
-    if (command, name) == ("nbd", "set") and value.startswith("near") and any(word.startswith("maps=") for word in words):
+    if (command, name) == ("nbd", "set") and is_mirror(value) and any(word.startswith("maps=") for word in words):
         return ["maps= goes with a set of level 0, 5 or 6, not with that of a mirror"]
     return operand(command, name, value)
 

@@ -9,14 +9,16 @@ SURVEY = ("levels", "members", "patterns", "syndromes", "chunks", "offsets", "or
 OPERANDS = {
     "survey": SURVEY, "list": ("from", "size", "span", "pages", "form"), "check": ("set",), "map": ("set", "sector", "end"),
     "write": ("set", "end"), "rebuild": ("set", "slot", "end"), "sample": ("number", "set", "rows", "marks"), "classes": ("images", "end"),
-    "mirrors": ("members", "chunks", "offsets", "missing", "foreign", "badrows", "window", "end", "from", "size", "span"),
+    "mirrors": ("layouts", "members", "chunks", "offsets", "missing", "foreign", "badrows", "window", "end", "from", "size", "span"),
     "mirrorwrite": ("set", "end"), "salvage": ("set", "form", "end"), "relations": ("from", "end", "step", "offsets", "form"),
     "nbd": ("set", "maps", "end")}
 PATTERNS = ("plain", "la", "ra", "ls", "rs", "parity-first", "parity-last", "n-restart", "n-continue", "la-6", "ra-6", "ls-6", "rs-6",
             "parity-first-6")
 SYNDROMES = ("none", "after-q", "by-data", "by-slot")
+# Of RAID 10, in the order of a list.
+LAYOUTS = tuple(f"{kind}{copies}" for kind in ("near", "far", "offset") for copies in (2, 3, 4))
 KINDS = ("gpt", "ntfs", "xfs", "btrfs", "lvm", "ext")
-NAMES = {"levels": ("0", "5", "6"), "patterns": PATTERNS, "syndromes": SYNDROMES, "kinds": KINDS, "mode": ("common", "each"),
+NAMES = {"levels": ("0", "5", "6"), "patterns": PATTERNS, "syndromes": SYNDROMES, "layouts": LAYOUTS, "kinds": KINDS, "mode": ("common", "each"),
          "logical": ("512", "4096"), "form": ("text", "json", "data", "lost"), "marks": ("none", "xfs")}
 NUMBERS = ("members", "chunks", "offsets", "origins")
 # Other names, mostly those of mdadm, and ours.
@@ -25,6 +27,7 @@ OTHERS = {
     "parity-n": "parity-last", "ddf-zero-restart": "ra", "ddf-n-restart": "n-restart", "ddf-n-continue": "n-continue",
     "left-asymmetric-6": "la-6", "right-asymmetric-6": "ra-6", "left-symmetric-6": "ls-6", "right-symmetric-6": "rs-6",
     "parity-first-6": "parity-first-6", "raid0": "0", "raid5": "5", "raid6": "6", "4": "5", "raid4": "5", "10": "10", "raid10": "10",
+    "n2": "near2", "n3": "near3", "f2": "far2", "f3": "far3", "o2": "offset2", "o3": "offset3", "near": "near2", "far": "far2", "offset": "offset2",
     "ext2": "ext", "ext3": "ext", "ext4": "ext", "lvm2": "lvm", "efi": "gpt"}
 OTHER_OPERANDS = {"level": "levels", "raid-devices": "members", "disks": "members", "drives": "members", "layout": "patterns",
                   "layouts": "patterns", "pattern": "patterns", "algorithm": "patterns", "chunk": "chunks", "offset": "offsets",

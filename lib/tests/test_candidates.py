@@ -12,7 +12,7 @@ from unittest import mock
 from reraid_try.calls.commands import Answer
 from reraid_try.calls.formats import Checked, Held
 from reraid_try.calls.program import Copied, Program
-from reraid_try.calls.sets import NEAR_2, read_word
+from reraid_try.calls.sets import NEAR_2, Copying, read_word
 from reraid_try.calls.surveys import Request
 from reraid_try.checks import damage, kin, rows
 from reraid_try.checks.candidates import Candidate, Inside, left_most
@@ -580,6 +580,14 @@ class Printed(unittest.TestCase):
         self.assertEqual(words.commands(4, it, [Image("a b", 0, 8000), Image("c", 1, 8000)], 8000),
                          [f"reraid-mount {SET} class4 'a b' c", "cp --sparse=always class4/volume class4.img", f"truncate -s {length} class4.img",
                           "mount -o ro,norecovery,loop class4.img /mnt"])
+
+    def test_commands_of_far_copies(self) -> None:
+        """With the end by which they were found, where that is not the images'."""
+        it = candidate("far2:8:0:0,1", verdict=whole())
+        self.assertEqual(words.commands(4, it, self.images[:2], 8000)[0], "reraid-mount far2:8:0:0,1 class4 /x/a.img /x/b.img")
+        it.trial = dataclasses.replace(it.trial, copied=Copied((Copying("far", 2),), 2, end=80))
+        self.assertEqual(words.commands(4, it, self.images[:2], 8000)[:2],
+                         ["mkdir class4", "nbdfuse -r class4/volume --command reraid-nbd set=far2:8:0:0,1 end=80 -- /x/a.img /x/b.img &"])
 
     def shown(self, *found: Candidate, as_json: bool = False, images: list[Image] | None = None) -> Told:
         """What is printed of these candidates."""

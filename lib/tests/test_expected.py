@@ -39,10 +39,15 @@ class Expected(unittest.TestCase):
         self.assertIn("chunks=64,128", said("survey", "chunks=128,64"))
         self.assertIn("powers of two", said("survey", "chunks=100"))
         self.assertIn("from 2 to 24", said("survey", "members=25"))
+        self.assertIn("layouts=near3,far2", said("mirrors", "layouts=far2,near3"))
+        self.assertIn("is far2 meant?", said("mirrors", "layouts=f2"))
 
     def test_sets(self) -> None:
         self.assertIn("LEVEL:PATTERN:ORDER:CHUNK:OFFSET:SLOTS", said("nbd", "set=5:ls"))
-        self.assertIn("near2:CHUNK", said("nbd", "set=near2:128"))
+        for word in ("near2:128", "far5:128:2048:0,1", "offset:128:2048:0,1"):
+            self.assertIn("LAYOUT:CHUNK:OFFSET:SLOTS, as near2:128:2048:0,1,2,-, with one of near2,near3,near4,far2,", said("nbd", f"set={word}"))
+        self.assertEqual(said("nbd", "set=offset3:128:2048:0,1,-"), "")
+        self.assertIn("so 128 for 64K", said("mirrorwrite", "set=far2:64K:2048:0,1,-"))
         self.assertIn("after-q or by-data or by-slot", said("nbd", "set=6:ls:none:128:2048:0,1,2,3"))
         self.assertIn("numbers of images", said("nbd", "set=5:ls:none:128:2048:a,b,c"))
         self.assertEqual(said("nbd", "set=5:ls:none:128:2048:0,1,-"), "")
@@ -50,7 +55,8 @@ class Expected(unittest.TestCase):
     def test_maps(self) -> None:
         self.assertEqual(said("nbd", "set=5:ls:none:128:2048:0,1,-", "maps=a.map", place=1), "")
         self.assertIn("stands twice", said("nbd", "maps=a.map", "maps=a.map", place=1))
-        self.assertIn("not with that of a mirror", said("nbd", "set=near2:128:2048:0,1", "maps=a.map"))
+        for word in ("near2", "far3", "offset2"):
+            self.assertIn("not with that of a mirror", said("nbd", f"set={word}:128:2048:0,1", "maps=a.map"))
         self.assertIn("the operands are set= end= and", said("write", "maps=a.map"))
 
     def test_relations(self) -> None:

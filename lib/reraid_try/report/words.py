@@ -132,9 +132,14 @@ def offset(it: Finding) -> str:
 def commands(number: int, it: Candidate, images: Sequence[Image], end: int) -> list[str]:
     """What to type next for a candidate: what opens the containers, what mounts its volume. Of a volume that ends before its file system a copy is
     made that is long enough."""
-    folder, length = f"class{number}", it.word.sectors(end) * SECTOR
+    folder, length = f"class{number}", it.word.sectors(it.end or end) * SECTOR
+    names = [image.opened.typed if image.opened else image.name for image in images]
     lines = [line for image in images if image.opened for line in image.opened.lines]
-    lines.append(shlex.join(["reraid-mount", it.word.text, folder, *(image.opened.typed if image.opened else image.name for image in images)]))
+    if it.end:
+        server = ["reraid-nbd", f"set={it.word.text}", f"end={it.end}", "--", *names]
+        lines += [f"mkdir {folder}", shlex.join(["nbdfuse", "-r", f"{folder}/volume", "--command", *server]) + " &"]
+    else:
+        lines.append(shlex.join(["reraid-mount", it.word.text, folder, *names]))
     path, lacks = f"{folder}/volume", max((finding.lacks for finding in it.found.findings), default=0)
     if lacks:
         lines += [f"cp --sparse=always {path} {folder}.img", f"truncate -s {length + lacks} {folder}.img"]

@@ -89,13 +89,7 @@ fn digit(chunk: u64) -> u8 {
 
 // Whether the cells of a mirror of so many members and rows, of one sector a chunk, are those of the drawing: in each the number of
 // its chunk, or a dash where the cell is no part of the volume.
-fn are_copies_drawn(
-    copying: Copying,
-    copies: u8,
-    members: u8,
-    rows: u64,
-    drawing: &[u8],
-) -> bool {
+fn are_copies_drawn(copying: Copying, copies: u8, members: u8, rows: u64, drawing: &[u8]) -> bool {
     let head = NearHead {
         members,
         chunk: 1,
@@ -122,10 +116,22 @@ fn are_copies_drawn(
 #[test]
 fn rows_of_near_copies(rt: HostRuntime) {
     let near = Copying::Near;
-    assert!(rt; are_copies_drawn(near, 2, 4, 3, b"001122334455"), "four members");
-    assert!(rt; are_copies_drawn(near, 2, 3, 4, b"001122334455"), "three members");
-    assert!(rt; are_copies_drawn(near, 2, 3, 3, b"00112233-"), "an odd number of cells");
-    assert!(rt; are_copies_drawn(near, 3, 4, 3, b"000111222333"), "three copies");
+    assert!(rt;
+        are_copies_drawn(near, 2, 4, 3, b"001122334455"),
+        "four members"
+    );
+    assert!(rt;
+        are_copies_drawn(near, 2, 3, 4, b"001122334455"),
+        "three members"
+    );
+    assert!(rt;
+        are_copies_drawn(near, 2, 3, 3, b"00112233-"),
+        "an odd number of cells"
+    );
+    assert!(rt;
+        are_copies_drawn(near, 3, 4, 3, b"000111222333"),
+        "three copies"
+    );
     assert!(rt;
         !are_copies_drawn(near, 2, 3, 3, b"001122334"),
         "the last cell is no part"
@@ -136,17 +142,35 @@ fn rows_of_near_copies(rt: HostRuntime) {
 fn rows_of_far_copies(rt: HostRuntime) {
     let far = Copying::Far;
     assert!(rt; are_copies_drawn(far, 2, 2, 4, b"01231032"), "two members");
-    assert!(rt; are_copies_drawn(far, 2, 3, 4, b"012345201534"), "three members");
-    assert!(rt; are_copies_drawn(far, 2, 4, 3, b"01233012----"), "an odd number of rows");
-    assert!(rt; are_copies_drawn(far, 3, 3, 3, b"012201120"), "three copies");
+    assert!(rt;
+        are_copies_drawn(far, 2, 3, 4, b"012345201534"),
+        "three members"
+    );
+    assert!(rt;
+        are_copies_drawn(far, 2, 4, 3, b"01233012----"),
+        "an odd number of rows"
+    );
+    assert!(rt;
+        are_copies_drawn(far, 3, 3, 3, b"012201120"),
+        "three copies"
+    );
 }
 
 #[test]
 fn rows_of_offset_copies(rt: HostRuntime) {
     let offset = Copying::Offset;
-    assert!(rt; are_copies_drawn(offset, 2, 3, 4, b"012201345534"), "three members");
-    assert!(rt; are_copies_drawn(offset, 2, 4, 3, b"01233012----"), "an odd number of rows");
-    assert!(rt; are_copies_drawn(offset, 3, 4, 3, b"012330122301"), "three copies");
+    assert!(rt;
+        are_copies_drawn(offset, 2, 3, 4, b"012201345534"),
+        "three members"
+    );
+    assert!(rt;
+        are_copies_drawn(offset, 2, 4, 3, b"01233012----"),
+        "an odd number of rows"
+    );
+    assert!(rt;
+        are_copies_drawn(offset, 3, 4, 3, b"012330122301"),
+        "three copies"
+    );
 }
 
 #[test]

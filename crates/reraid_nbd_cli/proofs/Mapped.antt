@@ -1,7 +1,7 @@
 -- How a damaged volume is shown: by what was read of its maps, and over the images once they are attached.
-use Rattle.std.proofs.Common.{◌≡◌, ℕ, ◌≤◌, min, false, List, length, Option, None, Some, Result, Ok, Err, IfSome, IsErrOf, refl, sym, ap, ◌∙◌, subst, arith}
+use Rattle.std.proofs.Common.{◌≡◌, ℕ, ◌≤◌, min, false, List, length, Option, None, Some, Result, Ok, Err, IfSome, IsErrOf, refl, sym, ap, ◌∙◌, subst}
 use Rattle.std.proofs.lemmas.Option.{IfSome_then}
-use Rattle.block_device.specs.Reading.{Asked, Counts, counts_of}
+use Rattle.block_device.specs.Reading.{Asked, Counts}
 use Rattle.damaged_device.specs.Cost.{damaged_cost}
 use Rattle.damaged_device.specs.Lengths.{salvaged_told}
 use Rattle.nbd_server.specs.Turns.{wire}

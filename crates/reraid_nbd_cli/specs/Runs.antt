@@ -29,7 +29,6 @@ use Rattle.reraid_nbd_cli.specs.declared.ends.NbdEnd.{NbdEnd}
 use Rattle.reraid_nbd_cli.specs.declared.ends.NbdEnd.TheVariants.{Refused, ImageFault, MapsFault, Long, Stopped}
 use Rattle.reraid_nbd_cli.specs.declared.telling.Alone.{Alone}
 use Rattle.reraid_nbd_cli.specs.declared.telling.Alone.TheVariants.{Help, Version}
-use Rattle.reraid_nbd_cli.specs.Words.{Asks, alone_in}
 
 -- what a run stands between: the images, the source and the sink
 pub record Place : Type 0 where

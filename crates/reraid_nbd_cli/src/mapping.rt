@@ -8,7 +8,6 @@ ghost use Rattle.rescue_map.specs.Salvaged.{IsSalvaged};
 ghost use Rattle.run_ends.specs.Jobs.{named, stream};
 ghost use Rattle.set_jobs.specs.Writing.{told_for};
 ghost use Rattle.virtual_volume.specs.Served.{IsServed};
-ghost use Rattle.volume_device.specs.Kept.{IsNew};
 ghost use Rattle.reraid_nbd_cli.specs.Ends.{end_of_stop as end_of};
 ghost use Rattle.reraid_nbd_cli.specs.Mapped.{ShowsMapped};
 ghost use Rattle.reraid_nbd_cli.specs.Runs.{AreImages, Shows, place_of};
@@ -113,28 +112,6 @@ fn show_damage<I: Images, S: Source, K: Sink>(
     }
     let mut kept = Kept::new(alloc, geo)?;
     let mut row = zeros(alloc, SECTOR * geo.slots.len())?;
-    serve_damage(alloc, images, damage, &mut kept, &mut row, source, out)
-}
-
-/// Serves the damaged volume of a set, with the memory of its device.
-fn serve_damage<I: Images, S: Source, K: Sink>(
-    alloc: Global,
-    images: &mut I,
-    damage: &Damage,
-    kept: &mut Kept,
-    row: &mut [u8],
-    source: &mut S,
-    out: &mut K,
-) -> Result<(), NbdEnd>
-    requires set { IsServed damage.now.set.now.geo damage.now.end (I.seen images.old).attached }
-    requires short { volume_sectors_of damage.now.set.now.geo.head damage.now.end < SECTORS_END }
-    requires memory { IsNew damage.now.set.now.geo kept.old }
-    requires row { length row.old ≡ 512 * length damage.now.set.now.geo.slots.items }
-    ensures { Shows None (volume_sectors_of damage.now.set.now.geo.head damage.now.end)
-        (salvaged_told (told_all (I.seen images.old).attached) damage.now.rescue.now damage.now.set.now damage.now.end) (damaged_cost damage.now.rescue.now damage.now.set.now)
-        (place_of I.seen S.left S.faults K.gained K.faults images.old source.old out.old)
-        (place_of I.seen S.left S.faults K.gained K.faults images.new source.new out.new) result }
-{
-    let mut device = DamagedDevice::new(images, damage, kept, row);
+    let mut device = DamagedDevice::new(images, damage, &mut kept, &mut row);
     Ok(serve(alloc, &mut device, source, out)?)
 }

@@ -9,7 +9,6 @@ ghost use Rattle.set_jobs.specs.Mapping.{set_refusal};
 ghost use Rattle.set_jobs.specs.Writing.{IsServedBy, told_for, volume_reads, write_output};
 ghost use Rattle.value_text.specs.SetText.{HasWord};
 ghost use Rattle.virtual_volume.specs.Served.{IsServed};
-ghost use Rattle.volume_device.specs.Kept.{IsNew};
 ghost use Rattle.volume_device.specs.Lengths.{mirror_told, volume_told};
 ghost use Rattle.reraid_nbd_cli.specs.Runs.{AreImages, Shows, costs_of, mirror_cost, place_of};
 
@@ -93,27 +92,7 @@ fn show_parity<I: Images, S: Source, K: Sink>(
         return Err(NbdEnd::Long(sectors));
     }
     let mut kept = Kept::new(alloc, geo)?;
-    serve_parity(alloc, images, geo, end, &mut kept, source, out)
-}
-
-/// Serves the volume of a set, with the memory of its device.
-fn serve_parity<I: Images, S: Source, K: Sink>(
-    alloc: Global,
-    images: &mut I,
-    geo: &Geometry,
-    end: u64,
-    kept: &mut Kept,
-    source: &mut S,
-    out: &mut K,
-) -> Result<(), NbdEnd>
-    requires set { IsServed geo.now end (I.seen images.old).attached }
-    requires short { volume_sectors_of geo.now.head end < SECTORS_END }
-    requires memory { IsNew geo.now kept.old }
-    ensures { Shows None (volume_sectors_of geo.now.head end) (volume_told (told_all (I.seen images.old).attached) geo.now end) (costs_of geo.now)
-        (place_of I.seen S.left S.faults K.gained K.faults images.old source.old out.old)
-        (place_of I.seen S.left S.faults K.gained K.faults images.new source.new out.new) result }
-{
-    let mut device = ParityDevice::new(images, geo, end, kept);
+    let mut device = ParityDevice::new(images, geo, end, &mut kept);
     Ok(serve(alloc, &mut device, source, out)?)
 }
 

@@ -1,4 +1,3 @@
-use Rattle.std.proofs.Common.{sym, subst, Err}
 use Rattle.reraid_nbd_cli.proofs.Mapped.{ready_shown, unready_shown}
 use Rattle.reraid_nbd_cli.proofs.mapping.show_damaged.Goals as goal
 

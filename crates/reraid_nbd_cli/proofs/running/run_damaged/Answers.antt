@@ -1,4 +1,4 @@
-use Rattle.std.proofs.Common.{◌≡◌, ℕ, ◌-◌, ◌<◌, ◌^◌, ◌++◌, List, All, Option, length, take, drop, sym, ap, ◌∙◌, subst, Err, Ok, arith}
+use Rattle.std.proofs.Common.{◌≡◌, ℕ, ◌-◌, ◌<◌, ◌^◌, ◌++◌, List, All, length, take, drop, sym, ap, ◌∙◌, subst, Ok, arith}
 use Rattle.std.proofs.lemmas.List.{length-drop, length-take}
 use Rattle.command_words.specs.Commands.{names_after}
 use Rattle.command_words.specs.declared.command.Command.{Command}

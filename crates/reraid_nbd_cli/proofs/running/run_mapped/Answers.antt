@@ -1,4 +1,4 @@
-use Rattle.std.proofs.Common.{◌≡◌, ◌∙◌, ◌<◌, ℕ, List, All, IsTrue, inr, length, ap, sym, subst, arith}
+use Rattle.std.proofs.Common.{◌≡◌, ◌∙◌, ℕ, List, All, IsTrue, inr, length, ap, sym, subst, arith}
 use Rattle.command_words.specs.Commands.{names_after}
 use Rattle.outside.specs.Attached.{AreImagesOf}
 use Rattle.run_ends.specs.Jobs.{named, stream}

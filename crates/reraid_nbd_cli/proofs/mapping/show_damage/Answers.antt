@@ -1,4 +1,4 @@
-use Rattle.std.proofs.Common.{◌≡◌, ◌∙◌, ℕ, ◌≤◌, Ok, Err, IfSome, ap, refl, subst, rules}
+use Rattle.std.proofs.Common.{◌≡◌, ◌∙◌, ◌≤◌, Ok, Err, IfSome, ap, arith, refl, subst, rules}
 use Rattle.std.proofs.lemmas.Option.{IfSome_then}
 use Rattle.std.proofs.lemmas.Result.{err_from_is_err_and}
 use Rattle.block_device.specs.Reading.{Answers, counts_of}
@@ -14,7 +14,7 @@ use Rattle.rescue_map.specs.declared.damaged.Damage.{Damage}
 use Rattle.reraid_nbd_cli.specs.Runs.{costing}
 use Rattle.reraid_nbd_cli.proofs.Counted.{serves_counted}
 use Rattle.reraid_nbd_cli.proofs.Served.{shown_served}
-use Rattle.reraid_nbd_cli.proofs.mapping.serve_damage.Goals as goal
+use Rattle.reraid_nbd_cli.proofs.mapping.show_damage.Goals as goal
 
 pub returns : goal.returns
 returns g c =
@@ -36,7 +36,7 @@ returns g c =
     let here = subst (λ v. IfSome (salvaged_told (told_all (g.I.Images.seen v).attached) damage.rescue.now damage.set.now damage.end) (λ bytes. Serves (costing (damaged_cost damage.rescue.now damage.set.now)) (dialogue bytes) (wire source.known out.known (counts_of (g.I.Images.seen v))) (wire taken.known put.known (counts_of new)) (Ok c.in_ok-serve.field-0))) within
     (subst (λ (q : Damage). IfSome (salvaged_told (told_all (g.I.Images.seen device.images.now).attached) q.rescue.now q.set.now q.end) (λ bytes. Serves (costing (damaged_cost q.rescue.now q.set.now)) (dialogue bytes) (wire source.known out.known (counts_of (g.I.Images.seen device.images.now))) (wire taken.known put.known (counts_of new)) (Ok c.in_ok-serve.field-0))) c.new-device.ensures.damage counted) in
     let later : old.faults ≤ new.faults = subst (λ v. (g.I.Images.seen v).faults ≤ new.faults) within c.in_ok-serve.ensures.later in
-    let done = shown_served (volume_sectors damage.set.now.geo.head damage.end) (salvaged_told (told_all old.attached) damage.rescue.now damage.set.now damage.end) (damaged_cost damage.rescue.now damage.set.now) old new source taken out put (Ok c.in_ok-serve.field-0) c.requires.short here
+    let done = shown_served (volume_sectors damage.set.now.geo.head damage.end) (salvaged_told (told_all old.attached) damage.rescue.now damage.set.now damage.end) (damaged_cost damage.rescue.now damage.set.now) old new source taken out put (Ok c.in_ok-serve.field-0) (omega (arith, c.volume_sectors-sectors.ensures)) here
     (ap (λ f. f.world) fixed ∙ ap (λ v. (g.I.Images.seen v).world) within) (ap (λ f. f.attached) fixed ∙ ap (λ v. (g.I.Images.seen v).attached) within) later c.in_ok-serve.ensures.source c.in_ok-serve.ensures.sink in
     search rules
 
@@ -60,7 +60,7 @@ returns-in_err-serve g c =
     let here = subst (λ v. IfSome (salvaged_told (told_all (g.I.Images.seen v).attached) damage.rescue.now damage.set.now damage.end) (λ bytes. Serves (costing (damaged_cost damage.rescue.now damage.set.now)) (dialogue bytes) (wire source.known out.known (counts_of (g.I.Images.seen v))) (wire taken.known put.known (counts_of new)) (Err c.in_err-serve.field-0.0))) within
     (subst (λ (q : Damage). IfSome (salvaged_told (told_all (g.I.Images.seen device.images.now).attached) q.rescue.now q.set.now q.end) (λ bytes. Serves (costing (damaged_cost q.rescue.now q.set.now)) (dialogue bytes) (wire source.known out.known (counts_of (g.I.Images.seen device.images.now))) (wire taken.known put.known (counts_of new)) (Err c.in_err-serve.field-0.0))) c.new-device.ensures.damage counted) in
     let later : old.faults ≤ new.faults = subst (λ v. (g.I.Images.seen v).faults ≤ new.faults) within c.in_err-serve.ensures.later in
-    let done = shown_served (volume_sectors damage.set.now.geo.head damage.end) (salvaged_told (told_all old.attached) damage.rescue.now damage.set.now damage.end) (damaged_cost damage.rescue.now damage.set.now) old new source taken out put (Err c.in_err-serve.field-0.0) c.requires.short here
+    let done = shown_served (volume_sectors damage.set.now.geo.head damage.end) (salvaged_told (told_all old.attached) damage.rescue.now damage.set.now damage.end) (damaged_cost damage.rescue.now damage.set.now) old new source taken out put (Err c.in_err-serve.field-0.0) (omega (arith, c.volume_sectors-sectors.ensures)) here
     (ap (λ f. f.world) fixed ∙ ap (λ v. (g.I.Images.seen v).world) within) (ap (λ f. f.attached) fixed ∙ ap (λ v. (g.I.Images.seen v).attached) within) later c.in_err-serve.ensures.source c.in_err-serve.ensures.sink in
-    let p = err_from_is_err_and c.from_residual.result c.from_residual.ensures.1 in
+    let p = err_from_is_err_and c.from_residual-in_err-serve.result c.from_residual-in_err-serve.ensures.1 in
     rw (p.1, p.2) (search rules)

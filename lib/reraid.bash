@@ -115,6 +115,7 @@ _reraid_expects() {
         members) echo "numbers from 2 to 24, rising, lost disks too" ;;
         patterns) echo "patterns in this order: plain,la,ra,ls,rs,parity-first,parity-last,n-restart,n-continue,la-6,ra-6,ls-6,rs-6,parity-first-6" ;;
         syndromes) echo "orders of Q in this order: none,after-q,by-data,by-slot" ;;
+        layouts) echo "layouts in this order: near2,near3,near4,far2,far3,far4,offset2,offset3,offset4" ;;
         chunks) echo "powers of two from 1 to 32768, rising, in sectors of 512 bytes: 128 for 64 KiB" ;;
         offsets | origins) echo "numbers, rising, in sectors of 512 bytes: 2048 for 1 MiB" ;;
         kinds) echo "kinds in this order: gpt,ntfs,xfs,btrfs,lvm,ext" ;;
@@ -145,6 +146,7 @@ _reraid_value() {
         patterns) _reraid_list "$before" "$3" plain la ra ls rs parity-first parity-last n-restart n-continue la-6 ra-6 ls-6 rs-6 \
             parity-first-6 ;;
         syndromes) _reraid_list "$before" "$3" none after-q by-data by-slot ;;
+        layouts) _reraid_list "$before" "$3" {near,far,offset}{2,3,4} ;;
         chunks) _reraid_list "$before" "$3" 8 16 32 64 128 256 512 1024 2048 ;;
         offsets) if [[ $1 == relations ]]; then
             expects="one for each image, in their order, with + between, in sectors of 512 bytes: 2048+0+2048"
@@ -194,7 +196,7 @@ _reraid() {
         rebuild) _reraid_operands rebuild set slot end ;;
         sample) _reraid_operands sample number set rows marks ;;
         classes) _reraid_operands classes images end ;;
-        mirrors) _reraid_operands mirrors members chunks offsets missing foreign badrows window end from size span ;;
+        mirrors) _reraid_operands mirrors layouts members chunks offsets missing foreign badrows window end from size span ;;
         salvage) _reraid_operands salvage set form end ;;
         relations) _reraid_operands relations from end step offsets form ;;
     esac

@@ -10,25 +10,27 @@ use Rattle.arrayvec.specs.ArrayVec.{ArrayVec}
 use Rattle.raid_params.specs.Validity.{is_chunk}
 use Rattle.raid_params.specs.declared.limits.TheConstants.{MOST, MOST_MISSING}
 use Rattle.raid_params.specs.declared.wide.Wide.{Wide}
+use Rattle.near_mirror.specs.Heads.{are_copies}
 use Rattle.near_mirror.specs.Words.{HasNearWord}
+use Rattle.near_mirror.specs.declared.types.CopyLayout.{CopyLayout}
 use Rattle.near_mirror.specs.declared.types.NearSet.{NearSet}
 use Rattle.value_text.specs.Bounded.{AreMembers, ArePlaces}
 use Rattle.value_text.specs.SetText.{HasWord}
 use Rattle.raid_params.specs.Places.{level_place, pattern_place, syndrome_place, AreRising}
 use Rattle.landmark_rules.specs.Tests.{AreTests}
 use Rattle.search_scope.specs.Scopes.{AreBounds}
-use Rattle.command_words.specs.Commands.{AreAsked, AreRelations, IsCommandLine, IsWithin, SaysAlone, bounds_of, can_move, chunks_or, command_of, drops_or, each_or, kinds_or, large_or, levels_or, members_or, mirror_in, mirrors_of, number_in, number_or, offsets_or, patterns_or, places_or, plain_survey, relations_of, sectors_or, set_in, survey_of, syndromes_or, tests_of, unit_of}
+use Rattle.command_words.specs.Commands.{AreAsked, AreRelations, IsCommandLine, IsWithin, SaysAlone, bounds_of, can_move, chunks_or, command_of, drops_or, each_or, kinds_or, large_or, layouts_or, levels_or, members_or, mirror_in, mirrors_of, number_in, number_or, offsets_or, patterns_or, places_or, plain_survey, relations_of, sectors_or, set_in, survey_of, syndromes_or, tests_of, unit_of}
 use Rattle.mark_kinds.proofs.Asked.{among_some}
 use Rattle.mark_kinds.specs.Table.{group_place, some_asked}
-use Rattle.command_words.specs.Operands.{AreDrops, AreFitting, IsFitting, IsValueOf, kind_of, value_of}
+use Rattle.command_words.specs.Operands.{AreDrops, AreFitting, AreLayouts, IsFitting, IsValueOf, kind_of, layout_place, value_of}
 use Rattle.command_words.specs.declared.command.Command.{Command}
 use Rattle.command_words.specs.declared.command.Command.TheVariants.{Help, Version}
 use Rattle.command_words.specs.declared.command.Verb.{Verb}
 use Rattle.command_words.specs.declared.command.Verb.TheVariants.{Survey, List as ListVerb, Check, Map, Write, Rebuild, Sample, Classes, Mirrors, MirrorWrite, Salvage, Relations}
 use Rattle.command_words.specs.declared.operands.Operand.{Operand}
 use Rattle.command_words.specs.declared.table.Name.{Name}
-use Rattle.command_words.specs.declared.table.Name.TheVariants.{Levels as LevelsName, Members as MembersName, Patterns as PatternsName, Syndromes as SyndromesName, Chunks as ChunksName, Offsets as OffsetsName, Origins as OriginsName, Missing as MissingName, Foreign as ForeignName, Badrows as BadrowsName, Misfits as MisfitsName, Least as LeastName, Window as WindowName, End as EndName, Kinds as KindsName, Dropped as DropName, Size as SizeName, Span as SpanName, Pages as PagesName, Set as SetName, Slot as SlotName, Rows as RowsName, Images as ImagesName, Mode as ModeName, Logical as LogicalName, From as FromName, Step as StepName}
-use Rattle.command_words.specs.declared.table.ValueKind.TheVariants.{Number as NumberKind, Levels as LevelsKind, Members as MembersKind, Patterns as PatternsKind, Syndromes as SyndromesKind, Chunks as ChunksKind, Sectors as SectorsKind, Places as PlacesKind, Landmarks as LandmarksKind, Drops as DropsKind, Set as SetKind, Mirror as MirrorKind}
+use Rattle.command_words.specs.declared.table.Name.TheVariants.{Levels as LevelsName, Members as MembersName, Patterns as PatternsName, Syndromes as SyndromesName, Chunks as ChunksName, Offsets as OffsetsName, Origins as OriginsName, Missing as MissingName, Foreign as ForeignName, Badrows as BadrowsName, Misfits as MisfitsName, Least as LeastName, Window as WindowName, End as EndName, Kinds as KindsName, Dropped as DropName, Size as SizeName, Span as SpanName, Pages as PagesName, Set as SetName, Slot as SlotName, Rows as RowsName, Images as ImagesName, Mode as ModeName, Logical as LogicalName, From as FromName, Step as StepName, Layouts as LayoutsName}
+use Rattle.command_words.specs.declared.table.ValueKind.TheVariants.{Number as NumberKind, Levels as LevelsKind, Members as MembersKind, Patterns as PatternsKind, Syndromes as SyndromesKind, Chunks as ChunksKind, Sectors as SectorsKind, Places as PlacesKind, Landmarks as LandmarksKind, Drops as DropsKind, Set as SetKind, Mirror as MirrorKind, Layouts as LayoutsKind}
 use Rattle.command_words.specs.declared.table.ValueKind.{ValueKind}
 use Rattle.command_words.specs.declared.values.Value.{Value}
 use Rattle.command_words.proofs.LookUps.{fitting_value, number_below, number_within, operands_fit}
@@ -241,9 +243,20 @@ mirror_fits (Some v) set fits e =
 number_is : (verb : Verb) (name : Name) (os : List Operand) (low high n : ℕ) → kind_of verb name ≡ NumberKind low high → AreFitting verb os → number_in (value_of name os) ≡ Some n → LiesIn low high n
 number_is verb name os low high n kind fit e = subst (λ r. IfSome r (LiesIn low high)) e (number_within verb name os low high kind fit)
 
+layouts_are : (r : Option Value) → Fits r LayoutsKind → AreLayouts (layouts_or r).items
+unfolding rises
+layouts_are None fits =
+    let Has : CopyLayout → Type 0 = λ layout. IsTrue (are_copies layout.copies) in
+    record {
+      list = record { rising = are_rising (map layout_place (layouts_or None).items) (lit≤ tt) refl; few = lit≤ tt };
+      all = all_if Has (λ layout. are_copies layout.copies) (λ layout is. is) (layouts_or None).items refl;
+    }
+layouts_are (Some v) fits = let is = fits v refl in subst (λ w. AreLayouts (layouts_or (Some w)).items) (sym is.1) is.2
+
 -- what mirrors are asked for
 mirrors_are : (os : List Operand) (n : ℕ) → AreFitting Mirrors os → IsWithin (mirrors_of os n)
 mirrors_are os n fit = record {
+  layouts = layouts_are (value_of LayoutsName os) (fits_of Mirrors os fit LayoutsName);
   members = members_are (value_of MembersName os) (fits_of Mirrors os fit MembersName);
   chunks = chunks_are (value_of ChunksName os) (fits_of Mirrors os fit ChunksName);
   offsets = sectors_are (0 ∷ 2048 ∷ 262144 ∷ 264192 ∷ []) (value_of OffsetsName os) offsets_are (fits_of Mirrors os fit OffsetsName);

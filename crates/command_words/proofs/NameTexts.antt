@@ -11,7 +11,7 @@ use Rattle.command_words.specs.Operands.{form_kind, kind_of, most_from, most_mis
 use Rattle.command_words.specs.declared.command.Verb.{Verb}
 use Rattle.command_words.specs.declared.command.Verb.TheVariants.{Mirrors, MirrorWrite, Salvage, Relations}
 use Rattle.command_words.specs.declared.table.Name.{Name}
-use Rattle.command_words.specs.declared.table.Name.TheVariants.{Levels as LevelsName, Members as MembersName, Patterns as PatternsName, Syndromes as SyndromesName, Chunks as ChunksName, Offsets as OffsetsName, Origins as OriginsName, Missing as MissingName, Foreign as ForeignName, Badrows as BadrowsName, Misfits as MisfitsName, Least as LeastName, Window as WindowName, End as EndName, Kinds as KindsName, Dropped as DropName, From as FromName, Size as SizeName, Span as SpanName, Pages as PagesName, Form as FormName, Set as SetName, Sector as SectorName, Slot as SlotName, Number as NumberName, Rows as RowsName, Marks as MarksName, Images as ImagesName, Mode as ModeName, Logical as LogicalName, Step as StepName}
+use Rattle.command_words.specs.declared.table.Name.TheVariants.{Levels as LevelsName, Members as MembersName, Patterns as PatternsName, Syndromes as SyndromesName, Chunks as ChunksName, Offsets as OffsetsName, Origins as OriginsName, Missing as MissingName, Foreign as ForeignName, Badrows as BadrowsName, Misfits as MisfitsName, Least as LeastName, Window as WindowName, End as EndName, Kinds as KindsName, Dropped as DropName, From as FromName, Size as SizeName, Span as SpanName, Pages as PagesName, Form as FormName, Set as SetName, Sector as SectorName, Slot as SlotName, Number as NumberName, Rows as RowsName, Marks as MarksName, Images as ImagesName, Mode as ModeName, Logical as LogicalName, Step as StepName, Layouts as LayoutsName}
 use Rattle.command_words.specs.declared.table.ValueKind.{ValueKind}
 use Rattle.command_words.specs.declared.table.ValueKind.TheVariants.{Number as NumberKind}
 
@@ -57,10 +57,11 @@ plain_name ImagesName = no_equals (name_text ImagesName) refl
 plain_name ModeName = no_equals (name_text ModeName) refl
 plain_name LogicalName = no_equals (name_text LogicalName) refl
 plain_name StepName = no_equals (name_text StepName) refl
+plain_name LayoutsName = no_equals (name_text LayoutsName) refl
 
 -- all names
 all_names : List Name
-all_names = LevelsName ∷ MembersName ∷ PatternsName ∷ SyndromesName ∷ ChunksName ∷ OffsetsName ∷ OriginsName ∷ MissingName ∷ ForeignName ∷ BadrowsName ∷ MisfitsName ∷ LeastName ∷ WindowName ∷ EndName ∷ KindsName ∷ DropName ∷ FromName ∷ SizeName ∷ SpanName ∷ PagesName ∷ FormName ∷ SetName ∷ SectorName ∷ SlotName ∷ NumberName ∷ RowsName ∷ MarksName ∷ ImagesName ∷ ModeName ∷ LogicalName ∷ StepName ∷ []
+all_names = LevelsName ∷ MembersName ∷ PatternsName ∷ SyndromesName ∷ ChunksName ∷ OffsetsName ∷ OriginsName ∷ MissingName ∷ ForeignName ∷ BadrowsName ∷ MisfitsName ∷ LeastName ∷ WindowName ∷ EndName ∷ KindsName ∷ DropName ∷ FromName ∷ SizeName ∷ SpanName ∷ PagesName ∷ FormName ∷ SetName ∷ SectorName ∷ SlotName ∷ NumberName ∷ RowsName ∷ MarksName ∷ ImagesName ∷ ModeName ∷ LogicalName ∷ StepName ∷ LayoutsName ∷ []
 
 -- the name that a text is
 named_by : List ℕ → Option Name
@@ -99,6 +100,7 @@ is_named ImagesName = refl
 is_named ModeName = refl
 is_named LogicalName = refl
 is_named StepName = refl
+is_named LayoutsName = refl
 
 -- names are spelled differently
 pub one_name : (m n : Name) → name_text m ≡ name_text n → m ≡ n
@@ -169,6 +171,7 @@ short_kind verb ImagesName = lit< tt
 short_kind verb ModeName = tt
 short_kind verb LogicalName = tt
 short_kind verb StepName = lit< tt
+short_kind verb LayoutsName = tt
 
 -- a text that was compared with a name, and differs
 pub is_other : (name text bytes : List ℕ) (r : Bool) → bytes ≡ name → r ≡ bytes_eq bytes text → r ≡ false → text ≢ name

@@ -1,5 +1,5 @@
 -- Operands by their names and values.
-use Rattle.std.proofs.Common.{◌≡◌, ◌≢◌, ℕ, ◌<◌, ◌^◌, Bool, true, false, List, [], ◌∷◌, ◌++◌, All, Contains, Option, None, MatchOption, get_or, refl, sym, ap, ap₂, ◌∙◌, subst, arith, decimal, if◌then◌else◌}
+use Rattle.std.proofs.Common.{◌≡◌, ◌≢◌, ℕ, ◌<◌, ◌^◌, Bool, true, false, IsTrue, List, [], ◌∷◌, ◌++◌, All, Contains, Option, None, MatchOption, get_or, refl, sym, ap, ap₂, ◌∙◌, subst, arith, decimal, if◌then◌else◌}
 use Rattle.std.specs.Str.{bytes_eq}
 use Rattle.std.proofs.lemmas.Fmt.{decimal_injective}
 use Rattle.std.proofs.lemmas.List.Elements.{All-head, All-tail}
@@ -15,12 +15,16 @@ use Rattle.value_text.proofs.Fits.{chunks_are_short, members_are_bytes, offsets_
 use Rattle.value_text.proofs.Lists.{some_value}
 use Rattle.value_text.proofs.SetWords.{one_spelling}
 use Rattle.near_mirror.proofs.NearWords.{one_spelling as one_near_spelling}
+use Rattle.near_mirror.specs.Heads.{are_copies}
+use Rattle.near_mirror.specs.NameLaws.{layout_law}
+use Rattle.near_mirror.specs.Words.{layout_name}
+use Rattle.near_mirror.specs.declared.types.CopyLayout.{CopyLayout}
 use Rattle.value_text.proofs.Offsets.{numbers_join}
 use Rattle.value_text.proofs.Spellings.{same_joined, same_list}
 use Rattle.raid_params.specs.Places.{level_place, pattern_place, syndrome_place}
 use Rattle.mark_kinds.specs.declared.looking.DropAt.{DropAt}
 use Rattle.mark_kinds.specs.Table.{group_place}
-use Rattle.command_words.specs.Operands.{IsOperand, IsValueOf, form_text, kind_of, logical_text, marks_text, mode_text, name_text, operand_word, operands_of, salvaged_text, value_text}
+use Rattle.command_words.specs.Operands.{IsOperand, IsValueOf, form_text, kind_of, layout_place, logical_text, marks_text, mode_text, name_text, operand_word, operands_of, salvaged_text, value_text}
 use Rattle.command_words.specs.declared.command.Form.{Form}
 use Rattle.command_words.specs.declared.command.Form.TheVariants.{Text, Json}
 use Rattle.command_words.specs.declared.command.Verb.{Verb}
@@ -28,9 +32,9 @@ use Rattle.mark_kinds.specs.declared.groups.GroupKind.{GroupKind}
 use Rattle.command_words.specs.declared.operands.Operand.{Operand}
 use Rattle.command_words.specs.declared.table.Name.{Name}
 use Rattle.command_words.specs.declared.table.ValueKind.{ValueKind}
-use Rattle.command_words.specs.declared.table.ValueKind.TheVariants.{Number as NumberKind, Levels as LevelsKind, Members as MembersKind, Patterns as PatternsKind, Syndromes as SyndromesKind, Chunks as ChunksKind, Sectors as SectorsKind, Places as PlacesKind, Landmarks as LandmarksKind, Drops as DropsKind, Form as FormKind, Salvaged as SalvagedKind, Marks as MarksKind, Set as SetKind, Mirror as MirrorKind, Mode as ModeKind, Logical as LogicalKind}
+use Rattle.command_words.specs.declared.table.ValueKind.TheVariants.{Number as NumberKind, Levels as LevelsKind, Members as MembersKind, Patterns as PatternsKind, Syndromes as SyndromesKind, Chunks as ChunksKind, Sectors as SectorsKind, Places as PlacesKind, Landmarks as LandmarksKind, Drops as DropsKind, Form as FormKind, Salvaged as SalvagedKind, Marks as MarksKind, Set as SetKind, Mirror as MirrorKind, Layouts as LayoutsKind, Mode as ModeKind, Logical as LogicalKind}
 use Rattle.command_words.specs.declared.values.Value.{Value}
-use Rattle.command_words.specs.declared.values.Value.TheVariants.{Number, Levels, Members, Patterns, Syndromes, Chunks, Sectors, Places, Landmarks, Drops, Form as FormValue, Salvaged, Marks, Set, Mirror, Mode, Logical}
+use Rattle.command_words.specs.declared.values.Value.TheVariants.{Number, Levels, Members, Patterns, Syndromes, Chunks, Sectors, Places, Landmarks, Drops, Form as FormValue, Salvaged, Marks, Set, Mirror, Layouts, Mode, Logical}
 use Rattle.command_words.proofs.NameTexts.{IsShort, one_name, plain_name, short_kind}
 
 -- two texts that are cut at the first `=` are the same where their parts are
@@ -142,6 +146,10 @@ one_value DropsKind short v w a b e =
 one_value FormKind short v w a b e = same_held (λ x. FormValue x) a.0 b.0 v w a.1 b.1 (one_form a.0 b.0 (texts (λ x. FormValue x) a.0 b.0 v w a.1 b.1 e))
 one_value SalvagedKind short v w a b e = same_held (λ x. Salvaged x) a.0 b.0 v w a.1 b.1 (one_salvaged a.0 b.0 (texts (λ x. Salvaged x) a.0 b.0 v w a.1 b.1 e))
 one_value MarksKind short v w a b e = same_held (λ x. Marks x) a.0 b.0 v w a.1 b.1 (one_marks a.0 b.0 (texts (λ x. Marks x) a.0 b.0 v w a.1 b.1 e))
+one_value LayoutsKind short v w a b e =
+    let Has : CopyLayout → Type 0 = λ layout. IsTrue (are_copies layout.copies) in
+    let same = same_list layout_name Has (in_lists layout_name Has layout_law) a.0.items b.0.items (some_value layout_place a.0.items a.2.list.rising) (some_value layout_place b.0.items b.2.list.rising) a.2.all b.2.all (texts (λ xs. Layouts xs) a.0 b.0 v w a.1 b.1 e) in
+    same_held (λ (xs : List CopyLayout). Layouts (record { items = xs })) a.0.items b.0.items v w a.1 b.1 same
 one_value ModeKind short v w a b e = same_held (λ x. Mode x) a.0 b.0 v w a.1 b.1 (one_mode a.0 b.0 (texts (λ x. Mode x) a.0 b.0 v w a.1 b.1 e))
 one_value LogicalKind short v w a b e = same_held (λ x. Logical x) a.0 b.0 v w a.1 b.1 (one_logical a.0 b.0 (texts (λ x. Logical x) a.0 b.0 v w a.1 b.1 e))
 one_value SetKind short v w a b e = same_held (λ x. Set x) a.0 b.0 v w a.1 b.1 (one_spelling a.0 b.0 a.2 b.2 (texts (λ x. Set x) a.0 b.0 v w a.1 b.1 e))

@@ -16,6 +16,8 @@ use Rattle.raid_params.specs.declared.types.Syndrome.TheVariants.{NoQ, AfterQ, B
 use Rattle.raid_params.specs.declared.wide.Wide.{Wide}
 use Rattle.landmark_rules.specs.declared.marks.MarkTests.{MarkTests}
 use Rattle.near_mirror.specs.Words.{HasNearWord}
+use Rattle.near_mirror.specs.declared.types.CopyLayout.{CopyLayout}
+use Rattle.near_mirror.specs.declared.types.Copying.TheVariants.{Near}
 use Rattle.near_mirror.specs.declared.types.NearSet.{NearSet}
 use Rattle.value_text.specs.Bounded.{AreChunks, AreMembers, ArePlaces, AreSectors}
 use Rattle.value_text.specs.SetText.{HasWord}
@@ -24,7 +26,7 @@ use Rattle.search_scope.specs.Scopes.{AreBounds}
 use Rattle.mark_kinds.specs.declared.looking.DropAt.{DropAt}
 use Rattle.mark_kinds.specs.declared.looking.Kinds.{Kinds}
 use Rattle.mark_kinds.specs.Table.{usual_kinds, kinds_among, some_asked}
-use Rattle.command_words.specs.Operands.{AreDrops, AreOperands, operand_word, value_of}
+use Rattle.command_words.specs.Operands.{AreDrops, AreLayouts, AreOperands, operand_word, value_of}
 use Rattle.command_words.specs.declared.command.Command.{Command}
 use Rattle.command_words.specs.declared.command.Command.TheVariants.{Survey as SurveyCommand, List as ListCommand, Check as CheckCommand, Map as MapCommand, Write as WriteCommand, Rebuild as RebuildCommand, Sample as SampleCommand, Classes as ClassesCommand, Mirrors as MirrorsCommand, MirrorWrite as MirrorWriteCommand, Salvage as SalvageCommand, Relations as RelationsCommand, Help, Version}
 use Rattle.command_words.specs.declared.command.Form.{Form}
@@ -34,9 +36,9 @@ use Rattle.command_words.specs.declared.command.SurveyWords.{SurveyWords}
 use Rattle.command_words.specs.declared.command.Verb.{Verb}
 use Rattle.command_words.specs.declared.command.Verb.TheVariants.{Survey, List as ListVerb, Check, Map, Write, Rebuild, Sample, Classes, Mirrors, MirrorWrite, Salvage, Relations}
 use Rattle.command_words.specs.declared.operands.Operand.{Operand}
-use Rattle.command_words.specs.declared.table.Name.TheVariants.{Levels as LevelsName, Members as MembersName, Patterns as PatternsName, Syndromes as SyndromesName, Chunks as ChunksName, Offsets as OffsetsName, Origins as OriginsName, Missing as MissingName, Foreign as ForeignName, Badrows as BadrowsName, Misfits as MisfitsName, Least as LeastName, Window as WindowName, End as EndName, Kinds as KindsName, Dropped as DropName, From as FromName, Size as SizeName, Span as SpanName, Pages as PagesName, Form as FormName, Set as SetName, Sector as SectorName, Slot as SlotName, Number as NumberName, Rows as RowsName, Marks as MarksName, Images as ImagesName, Mode as ModeName, Logical as LogicalName, Step as StepName}
+use Rattle.command_words.specs.declared.table.Name.TheVariants.{Levels as LevelsName, Members as MembersName, Patterns as PatternsName, Syndromes as SyndromesName, Chunks as ChunksName, Offsets as OffsetsName, Origins as OriginsName, Missing as MissingName, Foreign as ForeignName, Badrows as BadrowsName, Misfits as MisfitsName, Least as LeastName, Window as WindowName, End as EndName, Kinds as KindsName, Dropped as DropName, From as FromName, Size as SizeName, Span as SpanName, Pages as PagesName, Form as FormName, Set as SetName, Sector as SectorName, Slot as SlotName, Number as NumberName, Rows as RowsName, Marks as MarksName, Images as ImagesName, Mode as ModeName, Logical as LogicalName, Step as StepName, Layouts as LayoutsName}
 use Rattle.command_words.specs.declared.values.Value.{Value}
-use Rattle.command_words.specs.declared.values.Value.TheVariants.{Number, Levels, Members, Patterns, Syndromes, Chunks, Sectors, Places, Landmarks, Drops, Form as FormValue, Salvaged, Marks, Set, Mirror, Mode, Logical}
+use Rattle.command_words.specs.declared.values.Value.TheVariants.{Number, Levels, Members, Patterns, Syndromes, Chunks, Sectors, Places, Landmarks, Drops, Form as FormValue, Salvaged, Marks, Set, Mirror, Layouts, Mode, Logical}
 
 -- the word of a command
 abbrev pub verb_word : Verb → List ℕ
@@ -69,6 +71,14 @@ mirror_in _ = None
 abbrev pub levels_or : Option Value → ArrayVec Level
 levels_or (Some (Levels xs)) = xs
 levels_or _ = record { items = Raid0 ∷ Raid5 ∷ Raid6 ∷ [] }
+
+-- the layout of most mirrors: two near copies
+abbrev pub near2 : CopyLayout
+near2 = record { copying = Near; copies = 2 }
+
+abbrev pub layouts_or : Option Value → ArrayVec CopyLayout
+layouts_or (Some (Layouts xs)) = xs
+layouts_or _ = record { items = near2 ∷ [] }
 
 abbrev pub members_or : Option Value → ArrayVec ℕ
 members_or (Some (Members ns)) = ns
@@ -180,7 +190,7 @@ can_move mode foreign offsets = if each_or mode then nat_eq (number_or 0 foreign
 -- the page of mirrors that is asked for. The numbers of members are none where they were not given
 abbrev pub mirrors_of : List Operand → ℕ → Command
 mirrors_of operands names =
-    MirrorsCommand (members_or (value_of MembersName operands)) (chunks_or (value_of ChunksName operands)) (offsets_or (value_of OffsetsName operands))
+    MirrorsCommand (layouts_or (value_of LayoutsName operands)) (members_or (value_of MembersName operands)) (chunks_or (value_of ChunksName operands)) (offsets_or (value_of OffsetsName operands))
     (number_or 0 (value_of MissingName operands)) (number_or 0 (value_of ForeignName operands)) (number_or 0 (value_of BadrowsName operands))
     (number_in (value_of WindowName operands)) (number_in (value_of EndName operands))
     (number_or 0 (value_of FromName operands)) (number_or 100 (value_of SizeName operands)) (number_or (2 ^ 64 - 1) (value_of SpanName operands)) names
@@ -293,7 +303,7 @@ names_of (WriteCommand set end names) = Some names
 names_of (RebuildCommand set slot end names) = Some names
 names_of (SampleCommand number set rows xfs) = None
 names_of (ClassesCommand images end) = None
-names_of (MirrorsCommand members chunks offsets missing foreign badrows window end from size span names) = Some names
+names_of (MirrorsCommand layouts members chunks offsets missing foreign badrows window end from size span names) = Some names
 names_of (MirrorWriteCommand set end names) = Some names
 names_of (SalvageCommand set lost end names) = Some names
 names_of (RelationsCommand asked) = Some asked.names
@@ -318,7 +328,8 @@ pub record AreAsked (asked : SurveyWords) : Type 0 where
   pub unit : (asked.unit ≡ 1) ⊎ (asked.unit ≡ 8)
 
 -- what mirrors are asked for is within the limits of the words
-pub record AreMirrors (counts sizes places : List ℕ) (empty others torn : ℕ) (top last : Option ℕ) (lines ranks : ℕ) : Type 0 where
+pub record AreMirrors (ways : List CopyLayout) (counts sizes places : List ℕ) (empty others torn : ℕ) (top last : Option ℕ) (lines ranks : ℕ) : Type 0 where
+  pub layouts : AreLayouts ways
   pub members : (counts ≡ []) ⊎ AreMembers counts
   pub chunks : AreChunks sizes
   pub offsets : AreSectors 64 places
@@ -347,7 +358,7 @@ IsWithin (WriteCommand set end names) = HasWord set × IfSome end (λ n. n < 2 ^
 IsWithin (RebuildCommand set slot end names) = HasWord set × (slot < MOST) × IfSome end (λ n. n < 2 ^ 55)
 IsWithin (SampleCommand number set rows xfs) = HasWord set × (1 ≤ rows) × (rows ≤ 65536)
 IsWithin (ClassesCommand images end) = (1 ≤ images) × (images ≤ MOST) × (end < 2 ^ 55)
-IsWithin (MirrorsCommand members chunks offsets missing foreign badrows window end from size span names) = AreMirrors members.items chunks.items offsets.items missing foreign badrows window end size span
+IsWithin (MirrorsCommand layouts members chunks offsets missing foreign badrows window end from size span names) = AreMirrors layouts.items members.items chunks.items offsets.items missing foreign badrows window end size span
 IsWithin (MirrorWriteCommand set end names) = HasNearWord set × IfSome end (λ n. n < 2 ^ 55)
 IsWithin (SalvageCommand set lost end names) = HasWord set × IfSome end (λ n. n < 2 ^ 55)
 IsWithin (RelationsCommand asked) = AreRelations asked

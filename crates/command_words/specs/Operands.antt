@@ -1,5 +1,5 @@
 -- The operands of commands: their names, their values and limits, and how they are spelled.
-use Rattle.std.specs.Prelude.{ℕ, ◌≡◌, ◌≤◌, ◌^◌, ◌-◌, Bool, true, false, List, [], ◌∷◌, ◌++◌, length, map, All, Contains, codes, decimal, if◌then◌else◌}
+use Rattle.std.specs.Prelude.{ℕ, ◌≡◌, ◌≤◌, ◌+◌, ◌^◌, ◌-◌, Bool, true, false, IsTrue, List, [], ◌∷◌, ◌++◌, length, map, All, Contains, codes, decimal, if◌then◌else◌}
 use Rattle.std.specs.List.{IsDistinct}
 use Rattle.std.specs.Str.{bytes_eq}
 use Rattle.std.specs.declared.option.Option.{Option}
@@ -10,7 +10,11 @@ use Rattle.raid_params.specs.declared.types.Level.{Level}
 use Rattle.raid_params.specs.declared.types.Pattern.{Pattern}
 use Rattle.raid_params.specs.declared.types.Syndrome.{Syndrome}
 use Rattle.raid_params.specs.declared.wide.Wide.{Wide}
-use Rattle.near_mirror.specs.Words.{HasNearWord, near_word}
+use Rattle.near_mirror.specs.Heads.{are_copies}
+use Rattle.near_mirror.specs.Words.{HasNearWord, layout_name, near_word}
+use Rattle.near_mirror.specs.declared.types.CopyLayout.{CopyLayout}
+use Rattle.near_mirror.specs.declared.types.Copying.{Copying}
+use Rattle.near_mirror.specs.declared.types.Copying.TheVariants.{Near, Far, Offset}
 use Rattle.near_mirror.specs.declared.types.NearSet.{NearSet}
 use Rattle.value_text.specs.SetText.{HasWord, set_word}
 use Rattle.value_text.specs.Bounded.{AreChunks, AreMembers, ArePlaces, AreSectors}
@@ -27,11 +31,11 @@ use Rattle.command_words.specs.declared.command.Verb.TheVariants.{Survey, List a
 use Rattle.mark_kinds.specs.declared.groups.GroupKind.{GroupKind}
 use Rattle.command_words.specs.declared.operands.Operand.{Operand}
 use Rattle.command_words.specs.declared.table.Name.{Name}
-use Rattle.command_words.specs.declared.table.Name.TheVariants.{Levels as LevelsName, Members as MembersName, Patterns as PatternsName, Syndromes as SyndromesName, Chunks as ChunksName, Offsets as OffsetsName, Origins as OriginsName, Missing as MissingName, Foreign as ForeignName, Badrows as BadrowsName, Misfits as MisfitsName, Least as LeastName, Window as WindowName, End as EndName, Kinds as KindsName, Dropped as DropName, From as FromName, Size as SizeName, Span as SpanName, Pages as PagesName, Form as FormName, Set as SetName, Sector as SectorName, Slot as SlotName, Number as NumberName, Rows as RowsName, Marks as MarksName, Images as ImagesName, Mode as ModeName, Logical as LogicalName, Step as StepName}
+use Rattle.command_words.specs.declared.table.Name.TheVariants.{Levels as LevelsName, Members as MembersName, Patterns as PatternsName, Syndromes as SyndromesName, Chunks as ChunksName, Offsets as OffsetsName, Origins as OriginsName, Missing as MissingName, Foreign as ForeignName, Badrows as BadrowsName, Misfits as MisfitsName, Least as LeastName, Window as WindowName, End as EndName, Kinds as KindsName, Dropped as DropName, From as FromName, Size as SizeName, Span as SpanName, Pages as PagesName, Form as FormName, Set as SetName, Sector as SectorName, Slot as SlotName, Number as NumberName, Rows as RowsName, Marks as MarksName, Images as ImagesName, Mode as ModeName, Logical as LogicalName, Step as StepName, Layouts as LayoutsName}
 use Rattle.command_words.specs.declared.table.ValueKind.{ValueKind}
-use Rattle.command_words.specs.declared.table.ValueKind.TheVariants.{Number as NumberKind, Levels as LevelsKind, Members as MembersKind, Patterns as PatternsKind, Syndromes as SyndromesKind, Chunks as ChunksKind, Sectors as SectorsKind, Places as PlacesKind, Landmarks as LandmarksKind, Drops as DropsKind, Form as FormKind, Salvaged as SalvagedKind, Marks as MarksKind, Set as SetKind, Mirror as MirrorKind, Mode as ModeKind, Logical as LogicalKind}
+use Rattle.command_words.specs.declared.table.ValueKind.TheVariants.{Number as NumberKind, Levels as LevelsKind, Members as MembersKind, Patterns as PatternsKind, Syndromes as SyndromesKind, Chunks as ChunksKind, Sectors as SectorsKind, Places as PlacesKind, Landmarks as LandmarksKind, Drops as DropsKind, Form as FormKind, Salvaged as SalvagedKind, Marks as MarksKind, Set as SetKind, Mirror as MirrorKind, Layouts as LayoutsKind, Mode as ModeKind, Logical as LogicalKind}
 use Rattle.command_words.specs.declared.values.Value.{Value}
-use Rattle.command_words.specs.declared.values.Value.TheVariants.{Number, Levels, Members, Patterns, Syndromes, Chunks, Sectors, Places, Landmarks, Drops, Form as FormValue, Salvaged, Marks, Set, Mirror, Mode, Logical}
+use Rattle.command_words.specs.declared.values.Value.TheVariants.{Number, Levels, Members, Patterns, Syndromes, Chunks, Sectors, Places, Landmarks, Drops, Form as FormValue, Salvaged, Marks, Set, Mirror, Layouts, Mode, Logical}
 
 abbrev pub name_text : Name → List ℕ
 name_text LevelsName = codes "levels"
@@ -65,6 +69,7 @@ name_text ImagesName = codes "images"
 name_text ModeName = codes "mode"
 name_text LogicalName = codes "logical"
 name_text StepName = codes "step"
+name_text LayoutsName = codes "layouts"
 
 -- the most empty slots: of a mirror all but one, since which of them leave each chunk a copy depends on its layout
 abbrev pub most_missing : Verb → ℕ
@@ -124,6 +129,7 @@ kind_of _ ImagesName = NumberKind 1 MOST
 kind_of _ ModeName = ModeKind
 kind_of _ LogicalName = LogicalKind
 kind_of _ StepName = NumberKind 1 (2 ^ 55 - 1)
+kind_of _ LayoutsName = LayoutsKind
 
 -- the operands that a command takes
 abbrev pub operands_of : Verb → List Name
@@ -135,7 +141,7 @@ operands_of Write = SetName ∷ EndName ∷ []
 operands_of Rebuild = SetName ∷ SlotName ∷ EndName ∷ []
 operands_of Sample = NumberName ∷ SetName ∷ RowsName ∷ MarksName ∷ []
 operands_of Classes = ImagesName ∷ EndName ∷ []
-operands_of Mirrors = MembersName ∷ ChunksName ∷ OffsetsName ∷ MissingName ∷ ForeignName ∷ BadrowsName ∷ WindowName ∷ EndName ∷ FromName ∷ SizeName ∷ SpanName ∷ []
+operands_of Mirrors = LayoutsName ∷ MembersName ∷ ChunksName ∷ OffsetsName ∷ MissingName ∷ ForeignName ∷ BadrowsName ∷ WindowName ∷ EndName ∷ FromName ∷ SizeName ∷ SpanName ∷ []
 operands_of MirrorWrite = SetName ∷ EndName ∷ []
 operands_of Salvage = SetName ∷ FormName ∷ EndName ∷ []
 operands_of Relations = FromName ∷ EndName ∷ StepName ∷ OffsetsName ∷ FormName ∷ []
@@ -174,6 +180,20 @@ pub record AreDrops (drops : List DropAt) : Type 0 where
   pub list : IsList drop_place 64 drops
   pub all : All IsDrop drops
 
+-- where a layout of copies stands among all: near2, near3, near4, far2, far3, far4, offset2, offset3, offset4
+abbrev pub first_place : Copying → ℕ
+first_place Near = 0
+first_place Far = 3
+first_place Offset = 6
+
+abbrev pub layout_place : CopyLayout → ℕ
+layout_place layout = first_place layout.copying + layout.copies
+
+-- layouts of two to four copies
+pub record AreLayouts (layouts : List CopyLayout) : Type 0 where
+  pub list : IsList layout_place 9 layouts
+  pub all : All (λ layout. IsTrue (are_copies layout.copies)) layouts
+
 -- the values of a kind
 abbrev pub IsValueOf : Value → ValueKind → Type 0
 IsValueOf value (NumberKind least most) = (n : ℕ) × (value ≡ Number n) × (least ≤ n) × (n ≤ most)
@@ -191,6 +211,7 @@ IsValueOf value SalvagedKind = (lost : Bool) × (value ≡ Salvaged lost)
 IsValueOf value MarksKind = (xfs : Bool) × (value ≡ Marks xfs)
 IsValueOf value SetKind = (set : Wide) × (value ≡ Set set) × HasWord set
 IsValueOf value MirrorKind = (set : NearSet) × (value ≡ Mirror set) × HasNearWord set
+IsValueOf value LayoutsKind = (xs : ArrayVec CopyLayout) × (value ≡ Layouts xs) × AreLayouts xs.items
 IsValueOf value ModeKind = (each : Bool) × (value ≡ Mode each)
 IsValueOf value LogicalKind = (large : Bool) × (value ≡ Logical large)
 
@@ -211,6 +232,7 @@ value_text (Salvaged lost) = salvaged_text lost
 value_text (Marks xfs) = marks_text xfs
 value_text (Set set) = set_word set
 value_text (Mirror set) = near_word set
+value_text (Layouts xs) = commas (map layout_name xs.items)
 value_text (Mode each) = mode_text each
 value_text (Logical large) = logical_text large
 

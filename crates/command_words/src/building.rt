@@ -1,18 +1,18 @@
 //! The commands, from their operands and defaults.
 ghost use Rattle.std.specs.Prelude.{◌≡◌, ◌≤◌, ◌<◌, ◌^◌, IfSome, Some, length, nat_lt};
 ghost use Rattle.std.specs.List.{list_all};
-ghost use Rattle.command_words.specs.Commands.{AreAsked, plain_survey as plain_survey_words, bounds_of, can_move as can_move_with, chunks_or, command_of, drops_or, each_or, form_or, large_or, kinds_or, levels_or, lost_or, marks_or, members_or, mirror_in, number_in, patterns_or, places_or, relations_of, sectors_or, set_in, survey_of, syndromes_or, tests_of, unit_of};
+ghost use Rattle.command_words.specs.Commands.{AreAsked, plain_survey as plain_survey_words, bounds_of, can_move as can_move_with, chunks_or, command_of, drops_or, each_or, form_or, large_or, kinds_or, layouts_or, levels_or, lost_or, marks_or, members_or, mirror_in, number_in, patterns_or, places_or, relations_of, sectors_or, set_in, survey_of, syndromes_or, tests_of, unit_of};
 ghost use Rattle.command_words.specs.Operands.{AreFitting, value_of};
 ghost use Rattle.command_words.specs.Steps.{can_go_on as can_go_on_with, lines_fit};
 
-use crate::command::{Command, Form, MOST_RELATED, RelationWords, SurveyWords, Verb};
+use crate::command::{Command, Form, MOST_LAYOUTS, MOST_RELATED, RelationWords, SurveyWords, Verb};
 use crate::operands::{Operand, find_value};
 use crate::table::Name;
 use crate::values::Value;
 use arrayvec::ArrayVec;
 use landmark_rules::MarkTests;
 use mark_kinds::{DropAt, Kinds, MOST_DROPS};
-use near_mirror::NearSet;
+use near_mirror::{CopyLayout, Copying, NearSet};
 use raid_params::{
     Bounds, Geometry, Level, MOST_CHUNKS, MOST_LESS_ONE, MOST_LEVELS, MOST_OFFSETS, MOST_PATTERNS,
     MOST_SYNDROMES, Pattern, Syndrome, Wide,
@@ -35,6 +35,12 @@ const OFFSETS: [u64; 4] = [0, 2048, 262_144, 264_192];
 /// The places at which a file system may begin where `origins` is not given: at once, and after 1 MiB, as in
 /// the first partition.
 const ORIGINS: [u64; 2] = [0, 2048];
+
+/// The layouts of copies that are tried where `layouts` is not given: that of most mirrors.
+const LAYOUTS: [CopyLayout; 1] = [CopyLayout {
+    copying: Copying::Near,
+    copies: 2,
+}];
 
 /// Offsets that are tried for each image alone are below this: 2^54.
 const OWN_OFFSETS_END: u64 = 1 << 54;
@@ -111,6 +117,7 @@ fn mirrors(operands: &[Operand], names: usize) -> Command
     ensures { Some result ≡ command_of Verb.Mirrors operands.now names }
 {
     Command::Mirrors {
+        layouts: layouts(operands),
         members: members(operands),
         chunks: chunks(operands),
         offsets: sectors(operands, Name::Offsets, &OFFSETS),
@@ -296,6 +303,17 @@ fn members(operands: &[Operand]) -> ArrayVec<u8, MOST_LESS_ONE>
         list_of(members)
     } else {
         ArrayVec::new()
+    }
+}
+
+/// Two near copies where `layouts` is not given.
+fn layouts(operands: &[Operand]) -> ArrayVec<CopyLayout, MOST_LAYOUTS>
+    ensures { result ≡ layouts_or (value_of Name.Layouts operands.now) }
+{
+    if let Some(Value::Layouts(layouts)) = find_value(operands, Name::Layouts) {
+        list_of(layouts)
+    } else {
+        list_of(&LAYOUTS)
     }
 }
 

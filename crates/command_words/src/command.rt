@@ -2,7 +2,7 @@
 use arrayvec::ArrayVec;
 use landmark_rules::MarkTests;
 use mark_kinds::{DropAt, Kinds, MOST_DROPS};
-use near_mirror::NearSet;
+use near_mirror::{CopyLayout, NearSet};
 use raid_params::{Bounds, MOST_CHUNKS, MOST_LESS_ONE, MOST_OFFSETS, Wide};
 
 /// The first word: which command it is.
@@ -90,6 +90,9 @@ pub struct RelationWords {
 /// The most images that `relations` takes.
 pub const MOST_RELATED: usize = 64;
 
+/// The most layouts of copies: three ways in which two to four copies lie.
+pub const MOST_LAYOUTS: usize = 9;
+
 /// What the words ask for. In each, `names` is the number of words up to `--` and with it: the names of
 /// the images follow. `end` is the image sector after the last one that may belong to the array; where it
 /// is None the members end with the shortest image.
@@ -160,20 +163,22 @@ pub enum Command {
         /// The image sector after the last one that may belong to the array.
         end: u64,
     },
-    /// A page of the mirrors that pass: RAID 10 of the Linux md driver in its layout near=2. What depends on
+    /// A page of the mirrors that pass: RAID 10 of the Linux md driver. What depends on
     /// the images where it is not among the words is empty or None here: `members`, `window` and `end`.
     Mirrors {
+        /// The layouts to try.
+        layouts: ArrayVec<CopyLayout, MOST_LAYOUTS>,
         /// The numbers of members to try.
         members: ArrayVec<u8, MOST_LESS_ONE>,
         /// The chunks to try, in sectors.
         chunks: ArrayVec<u64, MOST_CHUNKS>,
         /// The image sectors to try at which the data of each member may begin.
         offsets: ArrayVec<u64, MOST_OFFSETS>,
-        /// The most empty slots, 0 or 1.
+        /// The most empty slots.
         missing: u8,
         /// The most images that stand in no slot.
         foreign: u8,
-        /// The most tested sectors of the volume whose two copies may differ.
+        /// The most pairs of copies of tested sectors of the volume that may differ.
         badrows: u64,
         /// The member sector from which on none is tested.
         window: Option<u64>,

@@ -15,6 +15,7 @@
 mod building;
 mod command;
 mod laws;
+mod layouts;
 mod operands;
 mod reading;
 mod table;
@@ -22,7 +23,7 @@ mod values;
 mod word;
 
 pub use building::plain_survey;
-pub use command::{Command, Form, MOST_RELATED, RelationWords, SurveyWords, Verb};
+pub use command::{Command, Form, MOST_LAYOUTS, MOST_RELATED, RelationWords, SurveyWords, Verb};
 pub use laws::words_have_one_reading;
 pub use reading::{read_words, read_words_after};
 pub use word::Word;

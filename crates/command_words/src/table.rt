@@ -86,6 +86,8 @@ pub enum Name {
     Logical,
     /// How many rows lie from one that is looked at to the next.
     Step,
+    /// The layouts of copies to try.
+    Layouts,
 }
 
 /// What values an operand takes. Lists rise strictly.
@@ -126,6 +128,8 @@ pub enum ValueKind {
     Set,
     /// The parameter set of a mirror.
     Mirror,
+    /// Layouts of copies.
+    Layouts,
     /// Whether each image has an offset of its own.
     Mode,
     /// The bytes of a block, 512 or 4,096.
@@ -167,7 +171,8 @@ static SAMPLE_OPERANDS: [Name; 4] = [Name::Number, Name::Set, Name::Rows, Name::
 
 static CLASSES_OPERANDS: [Name; 2] = [Name::Images, Name::End];
 
-static MIRRORS_OPERANDS: [Name; 11] = [
+static MIRRORS_OPERANDS: [Name; 12] = [
+    Name::Layouts,
     Name::Members,
     Name::Chunks,
     Name::Offsets,
@@ -309,6 +314,7 @@ impl Name {
             Name::Mode => "mode",
             Name::Logical => "logical",
             Name::Step => "step",
+            Name::Layouts => "layouts",
         }
     }
 
@@ -343,6 +349,7 @@ impl Name {
             Name::Images => number(1, MOST as u64),
             Name::Mode => ValueKind::Mode,
             Name::Logical => ValueKind::Logical,
+            Name::Layouts => ValueKind::Layouts,
         }
     }
 }

@@ -4,12 +4,13 @@ ghost use Rattle.command_words.specs.Operands.{IsValueOf, form_text, logical_tex
 ghost use Rattle.command_words.specs.declared.command.Form.{Form as FormOf};
 ghost use Rattle.command_words.specs.declared.values.Value.{Value as ValueOf};
 
-use crate::command::{Form, MOST_RELATED};
+use crate::command::{Form, MOST_LAYOUTS, MOST_RELATED};
+use crate::layouts::read_layouts;
 use crate::table::ValueKind;
 use arrayvec::ArrayVec;
 use landmark_text::{read_drops, read_groups};
 use mark_kinds::{DropAt, GROUP_COUNT, GroupKind, MOST_DROPS};
-use near_mirror::{NearSet, read_near};
+use near_mirror::{CopyLayout, NearSet, read_near};
 use raid_params::{
     Level, MOST_CHUNKS, MOST_LESS_ONE, MOST_LEVELS, MOST_OFFSETS, MOST_PATTERNS, MOST_SYNDROMES,
     Pattern, Syndrome, Wide,
@@ -51,6 +52,8 @@ pub enum Value {
     Set(Wide),
     /// The parameter set of a mirror.
     Mirror(NearSet),
+    /// Layouts of copies.
+    Layouts(ArrayVec<CopyLayout, MOST_LAYOUTS>),
     /// Whether each image has an offset of its own.
     Mode(bool),
     /// Whether blocks of partition tables have 4,096 bytes. Otherwise they have 512.
@@ -79,6 +82,7 @@ pub fn read_value(kind: ValueKind, text: &[u8]) -> Option<Value>
         ValueKind::Marks => Some(Value::Marks(read_marks(text)?)),
         ValueKind::Set => Some(Value::Set(read_set(text)?)),
         ValueKind::Mirror => Some(Value::Mirror(read_near(text)?)),
+        ValueKind::Layouts => Some(Value::Layouts(read_layouts(text)?)),
         ValueKind::Mode => Some(Value::Mode(read_mode(text)?)),
         ValueKind::Logical => Some(Value::Logical(read_logical(text)?)),
     }

@@ -15,7 +15,7 @@ use Rattle.outside.proofs.Reading.{reads_up}
 use Rattle.search_terms.specs.Page.{stop_of}
 use Rattle.candidate_enum.specs.Left.{overlaps}
 use Rattle.raid_params.specs.declared.limits.TheConstants.{MOST}
-use Rattle.near_mirror.specs.Heads.{are_copies, has_members}
+use Rattle.near_mirror.specs.Heads.{has_members}
 use Rattle.near_mirror.specs.Words.{near_line}
 use Rattle.near_mirror.specs.declared.types.NearSet.{NearSet}
 use Rattle.near_tables.specs.Reading.{read_of}
@@ -44,8 +44,7 @@ use Rattle.run_ends.specs.declared.stop.Stop.{Stop}
 use Rattle.run_ends.specs.declared.stop.Stop.TheVariants.{ImageFault, OutFault, OutOfMemory, Refused, SourceFault}
 use Rattle.asked_values.proofs.Asked.{as_asked}
 use Rattle.asked_values.specs.Asked.{members_for}
-use Rattle.near_mirror.specs.declared.types.CopyLayout.{CopyLayout}
-use Rattle.near_jobs.specs.Mirroring.{AreMirrorWords, EndsMirrors, ask_of, mirrors_job, near2, mirrors_output, mirrors_reads, mirrors_refusal, mirrors_text, page_reads, product_refusal, rank_line}
+use Rattle.near_jobs.specs.Mirroring.{AreMirrorWords, EndsMirrors, ask_of, mirrors_job, mirrors_output, mirrors_reads, mirrors_refusal, mirrors_text, page_reads, product_refusal, rank_line}
 use Rattle.near_jobs.specs.declared.mirroring.MirrorWords.{MirrorWords}
 
 -- the lines of sets by their ranks
@@ -124,9 +123,6 @@ by_product asked names attached none =
 two_at_least : (n : ℕ) → 2 ≤ n → n ≤ MOST → IsTrue (has_members n)
 two_at_least n low high = grind (arith, nat_tests)
 
-two_copies : IsTrue (are_copies 2)
-two_copies = grind (arith, nat_tests)
-
 members_are : (asked : List ℕ) (names : ℕ) → names ≤ MOST → All (λ n. IsTrue (has_members n)) asked → All (λ n. IsTrue (has_members n)) (members_for asked names)
 members_are [] names most all = All-cons (λ n. IsTrue (has_members n)) (max names 2) [] (two_at_least (max names 2) (omega arith) (omega arith)) (All-nil (λ n. IsTrue (has_members n)))
 members_are (n ∷ ns) names most all = subst (All (λ m. IsTrue (has_members m))) (sym (as_asked n ns names)) all
@@ -136,7 +132,7 @@ pub near_ask : (asked : MirrorWords) (names last : ℕ) (attached : List Image) 
 near_ask asked names last attached none good small is =
     let few = (no_limits asked.end names attached none).few in
     let near = end_near asked.end attached small good.end in
-    record { layouts = All-cons (λ (layout : CopyLayout). IsTrue (are_copies layout.copies)) near2 [] two_copies (All-nil (λ (layout : CopyLayout). IsTrue (are_copies layout.copies))); members = members_are asked.members.items names few good.members; chunks = good.chunks; offsets = good.offsets; missing = (let few = good.missing in omega arith); foreign = good.foreign; end = omega arith }
+    record { layouts = good.layouts; members = members_are asked.members.items names few good.members; chunks = good.chunks; offsets = good.offsets; missing = (let few = good.missing in omega arith); foreign = good.foreign; end = omega arith }
 
 pub has_images : (asked : MirrorWords) (names last : ℕ) (attached : List Image) → limits_fault asked.end names attached ≡ None → length attached ≡ min names 65536 → last ≡ end_of asked.end attached → HasImages (ask_of asked names last) attached
 has_images asked names last attached none count is =

@@ -10,10 +10,8 @@ use Rattle.outside.specs.Seen.{Image, Seen}
 use Rattle.raid_params.specs.Validity.{is_chunk}
 use Rattle.raid_params.specs.declared.limits.TheConstants.{MOST}
 use Rattle.search_terms.specs.Page.{page_next, page_ranks, stop_of}
-use Rattle.near_mirror.specs.Heads.{has_members}
+use Rattle.near_mirror.specs.Heads.{are_copies, has_members}
 use Rattle.near_mirror.specs.Words.{near_line}
-use Rattle.near_mirror.specs.declared.types.CopyLayout.{CopyLayout}
-use Rattle.near_mirror.specs.declared.types.Copying.TheVariants.{Near}
 use Rattle.near_search.specs.Product.{near_product, near_total, passes_at}
 use Rattle.near_search.specs.Walk.{near_cost}
 use Rattle.near_search.specs.declared.ask.NearAsk.{NearAsk}
@@ -31,6 +29,7 @@ use Rattle.near_jobs.specs.declared.mirroring.MirrorWords.{MirrorWords}
 
 -- what the words of `mirrors` may ask
 pub record AreMirrorWords (asked : MirrorWords) : Type 0 where
+  pub layouts : All (λ layout. IsTrue (are_copies layout.copies)) asked.layouts.items
   pub members : All (λ members. IsTrue (has_members members)) asked.members.items
   pub chunks : All (λ chunk. IsTrue (is_chunk chunk)) asked.chunks.items
   pub offsets : All (λ offset. offset < 2 ^ 55) asked.offsets.items
@@ -39,14 +38,10 @@ pub record AreMirrorWords (asked : MirrorWords) : Type 0 where
   pub end : IfSome asked.end (λ sector. sector < 2 ^ 55)
   pub size : 1 ≤ asked.size
 
--- the layout that is searched: two copies near to each other
-abbrev pub near2 : CopyLayout
-near2 = record { copying = Near; copies = 2 }
-
 -- what the words ask of a search over `names` images, whose members end before the image sector `end`
 abbrev pub ask_of : MirrorWords → ℕ → ℕ → NearAsk
 ask_of asked names end = record {
-  layouts = record { items = near2 ∷ [] };
+  layouts = asked.layouts;
   members = record { items = members_for asked.members.items names };
   chunks = asked.chunks;
   offsets = asked.offsets;

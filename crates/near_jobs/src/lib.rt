@@ -1,4 +1,4 @@
-//! The jobs of the commands `mirrors` and `mirrorwrite`: the mirrors of two copies that pass, and the volume of one.
+//! The jobs of the commands `mirrors` and `mirrorwrite`: the mirrors that pass, and the volume of one.
 //!
 //! Which mirrors pass stands in `near_search`, the volume in `near_volume`; what the jobs refuse and print stands in
 //! `specs/Mirroring` and `specs/MirrorWriting`.

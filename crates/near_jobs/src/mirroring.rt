@@ -12,8 +12,8 @@ ghost use Rattle.near_jobs.specs.Mirroring.{AreMirrorWords, EndsMirrors, ask_of 
 
 use arrayvec::ArrayVec;
 use asked_values::{members_for, window_for};
-use near_mirror::{CopyLayout, Copying, near_line};
-use near_search::{NearAsk, NearFault, NearLine, NearPage, near_page};
+use near_mirror::{CopyLayout, near_line};
+use near_search::{MOST_LAYOUTS, NearAsk, NearFault, NearLine, NearPage, near_page};
 use outside::{Images, MOST_ATTACHED, Memory, Sink};
 use raid_params::{MOST, MOST_CHUNKS, MOST_LESS_ONE, MOST_OFFSETS};
 use run_ends::{RankFault, Refusal, Stop, add_share, end_of, limits_fault, print};
@@ -23,6 +23,8 @@ use value_text::Text;
 /// What the words of `mirrors` ask.
 #[derive(Drop)]
 pub struct MirrorWords {
+    /// The layouts to try.
+    pub layouts: ArrayVec<CopyLayout, MOST_LAYOUTS>,
     /// The numbers of members to try, or none for as many as there are images.
     pub members: ArrayVec<u8, MOST_LESS_ONE>,
     /// The chunks to try, in sectors.
@@ -33,7 +35,7 @@ pub struct MirrorWords {
     pub missing: u8,
     /// The most images that stand in no slot.
     pub foreign: u8,
-    /// The most tested sectors that may be torn.
+    /// The most tested sectors that may be torn, over each two of their copies.
     pub badrows: u64,
     /// The most member sectors of each slot that are tested, or None for all.
     pub window: Option<u64>,
@@ -149,13 +151,8 @@ fn ask_of(asked: MirrorWords, names: usize, end: u64) -> NearAsk
     requires names { names ≤ MOST }
     ensures { result ≡ ask_of_words asked names end }
 {
-    let mut layouts = ArrayVec::new();
-    layouts.push(CopyLayout {
-        copying: Copying::Near,
-        copies: 2,
-    });
     NearAsk {
-        layouts,
+        layouts: asked.layouts,
         members: members_for(asked.members.as_slice(), names),
         chunks: asked.chunks,
         offsets: asked.offsets,

@@ -12,8 +12,8 @@ usage: reraid COMMAND [NAME=VALUE..] -- [IMAGE..]
        reraid --help
        reraid --version
 
-Finds how a striped array (RAID 0, 4, 5, 6, or 10 near=2) was laid out, from raw
-images of its disks. It only reads the images. Operands come in any order.
+Finds how a striped array (RAID 0, 4, 5, 6 or 10) was laid out, from raw images
+of its disks. It only reads the images. Operands come in any order.
 
   relations [from=ROW] [end=ROW] [step=ROWS] [offsets=A+B..] [form=FORM]
             -- IMAGE..
@@ -47,10 +47,10 @@ images of its disks. It only reads the images. Operands come in any order.
   classes images=IMAGES end=END --  < LINES
       which sets of a listing give the same volume, whatever the images hold
       reraid classes images=2 end=18432 -- < listing
-  mirrors [members=LIST] [chunks=LIST] [offsets=LIST] [missing=M] [foreign=F]
-          [badrows=B] [window=W] [end=END] [from=RANK] [size=LINES]
-          [span=RANKS] -- IMAGE..
-      the parameter sets of RAID 10 near=2 that pass
+  mirrors [layouts=LIST] [members=LIST] [chunks=LIST] [offsets=LIST]
+          [missing=M] [foreign=F] [badrows=B] [window=W] [end=END] [from=RANK]
+          [size=LINES] [span=RANKS] -- IMAGE..
+      the parameter sets of RAID 10 that pass: near2, where LIST is not given
       reraid mirrors chunks=128 offsets=2048 -- a.img b.img c.img d.img
   mirrorwrite set=NEARSET [end=END] -- IMAGE..  > VOLUME
       the volume of such a set
@@ -104,9 +104,9 @@ over standard input and output, or to all that connect to the socket that a
 client hands to it (LISTEN_FDS). It only reads the images.
 
   set=SET    a set word of reraid list, LEVEL:PATTERN:ORDER:CHUNK:OFFSET:SLOTS,
-             or of reraid mirrors, near2:CHUNK:OFFSET:SLOTS; chunk and offset in
-             sectors of 512 bytes; in each slot the number of its image, from 0
-             in the order of the names, or - for a lost disk
+             or of reraid mirrors, LAYOUT:CHUNK:OFFSET:SLOTS; chunk and offset
+             in sectors of 512 bytes; in each slot the number of its image, from
+             0 in the order of the names, or - for a lost disk
   maps=FILE  the maps of ddrescue as one text, as reraid salvage takes them:
              what they call bad is found by parity, and what parity has not
              cannot be read

@@ -16,8 +16,9 @@ members_are : (ns : List ℕ) → (ns ≡ []) ⊎ AreMembers ns → All (λ n. I
 members_are ns (inl none) = subst (λ (l : List ℕ). All (λ n. IsTrue (has_members n)) l) (sym none) (All-nil (λ n. IsTrue (has_members n)))
 members_are ns (inr are) = All-weaker (λ n. (2 ≤ n) × (n ≤ MOST)) (λ n. IsTrue (has_members n)) member ns are.1
 
-pub are_words : (asked : MirrorWords) → AreMirrors asked.members.items asked.chunks.items asked.offsets.items asked.missing asked.foreign asked.badrows asked.window asked.end asked.size asked.span → AreMirrorWords asked
+pub are_words : (asked : MirrorWords) → AreMirrors asked.layouts.items asked.members.items asked.chunks.items asked.offsets.items asked.missing asked.foreign asked.badrows asked.window asked.end asked.size asked.span → AreMirrorWords asked
 are_words asked are = record {
+  layouts = are.layouts.all;
   members = members_are asked.members.items are.members;
   chunks = are.chunks.1;
   offsets = are.offsets.2;

@@ -139,6 +139,7 @@ fn serve<R: Threads + Sync, S: Source, I: Images, K: Sink, G: Gate + Sync>(
         } => sample(rt, alloc, number, &set, rows, xfs, out, gate),
         Command::Classes { images, end } => classes(alloc, plan, images, end, out),
         Command::Mirrors {
+            layouts,
             members,
             chunks,
             offsets,
@@ -153,6 +154,7 @@ fn serve<R: Threads + Sync, S: Source, I: Images, K: Sink, G: Gate + Sync>(
             ..
         } => {
             let asked = MirrorWords {
+                layouts,
                 members,
                 chunks,
                 offsets,

@@ -1,6 +1,6 @@
 //! Command lines and the words at which they are refused, found by hand from the rules of the grammar.
 use command_words::{Command, Form, RelationWords, SurveyWords, Word, read_words};
-use near_mirror::NearSet;
+use near_mirror::{CopyLayout, Copying, NearSet};
 use raid_params::{Bounds, Geometry, Level, Pattern, Syndrome, Wide};
 use std::alloc::Global;
 use std::process::Abort;
@@ -22,7 +22,7 @@ fn refused_word(alloc: Global, line: &str) -> Result<u64, Fail> {
 }
 
 /// Lines with their refused words, counted from 1.
-static REFUSED: [(&str, u64); 131] = [
+static REFUSED: [(&str, u64); 143] = [
     ("", 1),
     ("lists -- a", 1),
     ("LIST -- a", 1),
@@ -119,6 +119,18 @@ static REFUSED: [(&str, u64); 131] = [
     ("mirrors chunks=1 offsets=36028797018963968 -- a", 3),
     ("mirrors members=1 -- a", 2),
     ("mirrors size=2", 3),
+    ("mirrors layouts= -- a b", 2),
+    ("mirrors layouts=near -- a b", 2),
+    ("mirrors layouts=near1 -- a b", 2),
+    ("mirrors layouts=near5 -- a b", 2),
+    ("mirrors layouts=mid2 -- a b", 2),
+    ("mirrors layouts=near2, -- a b", 2),
+    ("mirrors layouts=near2,near2 -- a b", 2),
+    ("mirrors layouts=far2,near2 -- a b", 2),
+    ("mirrors layouts=offset2,far4 -- a b", 2),
+    ("mirrors layouts=near2 layouts=far2 -- a b", 3),
+    ("survey layouts=near2 -- a b", 2),
+    ("mirrorwrite layouts=near2 -- a b", 2),
     ("mirrorwrite -- a b", 2),
     ("mirrorwrite set=5:ls:none:1:0:0,1,2 -- a b c", 2),
     ("mirrorwrite end=4 set=near2:1:0+0:0,1 -- a b", 3),
@@ -163,7 +175,7 @@ static REFUSED: [(&str, u64); 131] = [
 ];
 
 /// Lines that are command lines.
-static ACCEPTED: [&str; 54] = [
+static ACCEPTED: [&str; 57] = [
     "list --",
     "list -- a",
     "list -- -- a",
@@ -203,6 +215,9 @@ static ACCEPTED: [&str; 54] = [
     "survey logical=512 -- a",
     "mirrors --",
     "mirrors -- a b",
+    "mirrors layouts=offset4 -- a b",
+    "mirrors layouts=near2,near3,near4,far2,far3,far4,offset2,offset3,offset4 -- a b",
+    "mirrors size=1 layouts=near4,far2 members=4 -- a b",
     "mirrors missing=1 foreign=24 badrows=36028797018963967 window=1 end=0 -- a b",
     "mirrors span=1 size=1000000 from=18446744073709551615 -- a b",
     "mirrorwrite set=near2:1:0:0,1 -- a b",
@@ -389,11 +404,17 @@ fn a_survey_has_its_mode_and_blocks(rt: HostRuntime) -> Result<(), Fail> {
     Ok(())
 }
 
+/// A layout of so many copies.
+fn layout(copying: Copying, copies: u8) -> CopyLayout {
+    CopyLayout { copying, copies }
+}
+
 #[test]
 fn mirrors_have_their_defaults(rt: HostRuntime) -> Result<(), Fail> {
     let plain = read_text(rt.alloc(), "mirrors -- a b")?;
     if let Ok(
         Command::Mirrors {
+            layouts,
             members,
             chunks,
             offsets,
@@ -409,6 +430,7 @@ fn mirrors_have_their_defaults(rt: HostRuntime) -> Result<(), Fail> {
         },
     ) = plain
     {
+        assert_eq!(rt; layouts.as_slice(), [layout(Copying::Near, 2)].as_slice());
         assert_eq!(rt; (members.len(), chunks.len()), (0, 9));
         assert_eq!(rt; offsets.as_slice(), [0, 2048, 262144, 264192].as_slice());
         assert_eq!(rt; (missing, foreign, badrows), (0, 0, 0));
@@ -423,10 +445,11 @@ fn mirrors_have_their_defaults(rt: HostRuntime) -> Result<(), Fail> {
 #[test]
 fn mirrors_have_their_operands(rt: HostRuntime) -> Result<(), Fail> {
     let line =
-        "mirrors span=9 size=2 from=7 end=6 window=5 badrows=4 foreign=3 missing=1 offsets=0,2 chunks=1,8 members=2,5 -- a b";
+        "mirrors span=9 size=2 from=7 end=6 window=5 badrows=4 foreign=3 missing=1 offsets=0,2 chunks=1,8 members=2,5 layouts=near3,far2,offset4 -- a b";
     let told = read_text(rt.alloc(), line)?;
     if let Ok(
         Command::Mirrors {
+            layouts,
             members,
             chunks,
             offsets,
@@ -442,12 +465,18 @@ fn mirrors_have_their_operands(rt: HostRuntime) -> Result<(), Fail> {
         },
     ) = told
     {
+        let tried = [
+            layout(Copying::Near, 3),
+            layout(Copying::Far, 2),
+            layout(Copying::Offset, 4),
+        ];
+        assert_eq!(rt; layouts.as_slice(), tried.as_slice());
         assert_eq!(rt; members.as_slice(), [2, 5].as_slice());
         assert_eq!(rt; chunks.as_slice(), [1, 8].as_slice());
         assert_eq!(rt; offsets.as_slice(), [0, 2].as_slice());
         assert_eq!(rt; (missing, foreign, badrows), (1, 3, 4));
         assert_eq!(rt; (window, end), (Some(5), Some(6)));
-        assert_eq!(rt; (from, size, span, names), (7, 2, 9, 13));
+        assert_eq!(rt; (from, size, span, names), (7, 2, 9, 14));
     } else {
         assert!(rt; false, "mirrors");
     }

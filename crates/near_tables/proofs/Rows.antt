@@ -6,7 +6,7 @@ use Rattle.std.proofs.lemmas.Nat.{div-add-mod', div-mul-add, le-div, mod-mul-add
 use Rattle.near_mirror.specs.Copies.{chunks_of, row_of, slot_of}
 use Rattle.near_mirror.specs.declared.types.Copying.{Copying}
 use Rattle.near_mirror.specs.declared.types.Copying.TheVariants.{Near, Far, Offset}
-use Rattle.near_tables.specs.Tables.{group_rows, lane_of, lane_row}
+use Rattle.near_tables.specs.Tables.{group_rows, lane_gap, lane_of, lane_row}
 use Rattle.near_tables.specs.Torn.{part_rows, rows_tested}
 
 -- whole parts do not reach past what they are cut from
@@ -140,9 +140,10 @@ lane_up Far lane next le = omega arith
 lane_up Offset lane next le = le
 
 -- the lanes of two copies of a chunk
-pub lanes_up : (copying : Copying) (n copies first second j : ℕ) → 0 < n → first ≤ second → lane_of copying n copies first j ≤ lane_of copying n copies second j
-lanes_up Near n copies first second j some le =
+pub lanes_up : (copying : Copying) (n copies first second j : ℕ) → 0 < n → first < second → lane_of copying n copies first j + lane_gap copying ≤ lane_of copying n copies second j
+lanes_up Near n copies first second j some lt =
     let whole = whole_below (copies * j + first) n in
-    le-div ((copies * j + first) / n) (copies * j + second) n some (omega arith)
-lanes_up Far n copies first second j some le = le
-lanes_up Offset n copies first second j some le = le
+    let up = le-div ((copies * j + first) / n) (copies * j + second) n some (omega arith) in
+    omega arith
+lanes_up Far n copies first second j some lt = omega arith
+lanes_up Offset n copies first second j some lt = omega arith

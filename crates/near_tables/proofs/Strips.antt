@@ -16,7 +16,7 @@ use Rattle.member_regions.specs.Regions.{Room}
 use Rattle.near_mirror.specs.declared.types.NearHead.{NearHead}
 use Rattle.near_tables.specs.Counting.{AddsPair}
 use Rattle.near_tables.specs.Reading.{HoldStrip, HoldsLane, lane_room, regions_differ, rest_of, strip_torn}
-use Rattle.near_tables.specs.Tables.{CountsFirst, TornCounts, count_of, group_rows, is_torn_at, lane_counts, lane_depth, lane_row, lane_sector, row_sector, torn_between}
+use Rattle.near_tables.specs.Tables.{CountsFirst, TornCounts, count_of, group_rows, is_torn_at, lane_counts, lane_depth, lane_gap, lane_row, lane_sector, row_sector, torn_between}
 use Rattle.near_tables.specs.Torn.{image_byte, part_start, sectors_differ}
 use Rattle.near_tables.proofs.Sums.{sum_moved, sum_none, sum_split}
 
@@ -216,7 +216,7 @@ pub table_more : (bytes : List (List ℕ)) (images : ℕ) (head : NearHead) (end
     CountsFirst bytes images head end limit at old → CountsFirst bytes images head end limit (at + count) new
 table_more bytes images head end limit at count rooms old new h inside near hold adds before = λ lane next one other up least low below.
     let few : lane < head.layout.copies = omega arith in
-    let later = lane_on_up head lane next at up in
+    let later = lane_on_up head lane next at (omega arith) in
     let more = strip_more bytes images head end limit lane one next other at count (rest_of head limit at count next) (rest_of head limit at count lane) (rest_of head limit at count next) (lane_room rooms lane) (lane_room rooms next) low below inside
     (omega arith) (omega arith) (omega arith) (hold lane few) (hold next least) (λ j lt. (omega arith, omega arith)) (λ j high lt. omega arith) in
     let so_far = before lane next one other up least low below in
@@ -231,8 +231,8 @@ table_more bytes images head end limit at count rooms old new h inside near hold
     turned : (a b : ℕ) → 4 * a + b ≡ a * 4 + b
     turned a b = omega arith
 
-    of_pair : (bytes : List (List ℕ)) (images : ℕ) (head : NearHead) (limit at count : ℕ) (rooms : List Room) (old new : List (List ℕ)) (a lane b next one other : ℕ) → a ≡ lane → b ≡ next → lane ≤ next → next < head.layout.copies → one < images → other < images →
-        ((one other : ℕ) → a ≤ b → b < head.layout.copies → one < images → other < images → count_of new one other ≡ min (count_of old one other + strip_torn (lane_room rooms a) (lane_room rooms b) (rest_of head limit at count b) one other) (2 ^ 64 - 1)) →
+    of_pair : (bytes : List (List ℕ)) (images : ℕ) (head : NearHead) (limit at count : ℕ) (rooms : List Room) (old new : List (List ℕ)) (a lane b next one other : ℕ) → a ≡ lane → b ≡ next → lane + lane_gap head.layout.copying ≤ next → next < head.layout.copies → one < images → other < images →
+        ((one other : ℕ) → a + lane_gap head.layout.copying ≤ b → b < head.layout.copies → one < images → other < images → count_of new one other ≡ min (count_of old one other + strip_torn (lane_room rooms a) (lane_room rooms b) (rest_of head limit at count b) one other) (2 ^ 64 - 1)) →
         count_of new one other ≡ min (count_of old one other + strip_torn (lane_room rooms lane) (lane_room rooms next) (rest_of head limit at count next) one other) (2 ^ 64 - 1)
     of_pair bytes images head limit at count rooms old new a lane b next one other e f up least low below adds = rw (← e, ← f) (adds one other (omega arith) (omega arith) low below)
 

@@ -11,7 +11,7 @@ use Rattle.near_mirror.specs.declared.types.NearHead.{NearHead}
 use Rattle.near_mirror.proofs.Chunks.{valid_chunk}
 use Rattle.near_mirror.proofs.Heads.{some_members}
 use Rattle.near_tables.specs.Laws.{TablesTellWhatIsTorn}
-use Rattle.near_tables.specs.Tables.{IsTornTable, TornCounts, copy_held, copy_lane, copy_torn, count_between, is_torn_at, lane_counts, lane_depth, lane_sector, pair_torn, pairs_torn, torn_between}
+use Rattle.near_tables.specs.Tables.{IsTornTable, TornCounts, copy_held, copy_lane, copy_torn, count_between, is_torn_at, lane_counts, lane_depth, lane_gap, lane_sector, pair_torn, pairs_torn, torn_between}
 use Rattle.near_tables.specs.Torn.{copies_differ, copy_depth, is_tested, is_torn, rows_tested, sectors_differ, tested_below, torn, torn_copies, with_slots}
 use Rattle.near_tables.proofs.LaneRanges.{lane_within}
 use Rattle.near_tables.proofs.Pairs.{by_pairs, lane_late, pair_copy, pair_sector, past_volume, volume_within}
@@ -103,7 +103,7 @@ to_limit bytes head end limit lane one next other area h le =
     ap (λ (k : ℕ). sum_by f (range_with_len 0 k)) long ∙ (let e : sum_by f (range_with_len 0 (limit + (area - limit))) ≡ sum_by f (range_with_len 0 limit) = omega arith in e)
 
 -- what the table says of a pair is what is torn of it
-said : (bytes : List (List ℕ)) (images end limit area : ℕ) (head : NearHead) (table : TornCounts) (lane next : ℕ) (one other : Option ℕ) → IsTrue (is_valid_near head) → lane ≤ next → next < head.layout.copies → limit ≤ area →
+said : (bytes : List (List ℕ)) (images end limit area : ℕ) (head : NearHead) (table : TornCounts) (lane next : ℕ) (one other : Option ℕ) → IsTrue (is_valid_near head) → lane + lane_gap head.layout.copying ≤ next → next < head.layout.copies → limit ≤ area →
     IsTornTable bytes images head end limit table → ((i : ℕ) → one ≡ Some i → i < images) → ((i : ℕ) → other ≡ Some i → i < images) →
     count_between (lane_counts table lane next) one other ≡ count_by (torn_pair bytes head end limit lane next one other) (range_with_len 0 area)
 said bytes images end limit area head table lane next None other h up most le is low below = sym (empty_pair bytes head end limit lane next area None other (λ first second. refl))

@@ -30,6 +30,12 @@ lane_of Near members copies copy chunk = copy_cell copies chunk copy / members
 lane_of Far members copies copy chunk = copy
 lane_of Offset members copies copy chunk = copy
 
+-- how many lanes a later copy of a chunk lies after an earlier one, at the least: near ones may share a lane
+abbrev pub lane_gap : Copying → ℕ
+lane_gap Near = 0
+lane_gap Far = 1
+lane_gap Offset = 1
+
 -- the sector that is number u among those of a row of each group, where groups take up `step` rows
 abbrev pub row_sector : ℕ → ℕ → ℕ → ℕ → ℕ
 row_sector step chunk row u = (step * (u / chunk) + row) * chunk + u % chunk
@@ -52,8 +58,9 @@ is_torn_at images head end limit lane one next other u =
 abbrev pub torn_between : List (List ℕ) → NearHead → ℕ → ℕ → ℕ → ℕ → ℕ → ℕ → ℕ → ℕ
 torn_between images head end limit lane one next other count = count_by (is_torn_at images head end limit lane one next other) (range_with_len 0 count)
 
--- a table as contracts see it: for each two lanes and each two images in how many sectors the first image in the one lane and the
--- second in the other differ. Lanes are four at most, and their pairs follow each other by the first lane
+-- a table as contracts see it: for each two lanes in which copies of a chunk may lie, and each two images, in how many sectors the
+-- first image in the one lane and the second in the other differ. Lanes are four at most, and their pairs follow each other by the
+-- first lane
 abbrev pub TornCounts : Type 0
 TornCounts = List (List (List ℕ))
 
@@ -65,10 +72,10 @@ lane_counts table lane next = slice_index_or table (4 * lane + next) []
 abbrev pub count_of : List (List ℕ) → ℕ → ℕ → ℕ
 count_of counts one other = slice_index (slice_index_or counts one []) other
 
--- the table counts the first `count` sectors of each lane
+-- the table counts the first `count` sectors of each lane, of each two in which copies of a chunk may lie
 abbrev pub CountsFirst : List (List ℕ) → ℕ → NearHead → ℕ → ℕ → ℕ → TornCounts → Type 0
 CountsFirst bytes images head end limit count table =
-    (lane next one other : ℕ) → lane ≤ next → next < head.layout.copies → one < images → other < images →
+    (lane next one other : ℕ) → lane + lane_gap head.layout.copying ≤ next → next < head.layout.copies → one < images → other < images →
     count_of (lane_counts table lane next) one other ≡ torn_between bytes head end limit lane one next other count
 
 -- the table counts all that are tested

@@ -6,6 +6,7 @@ ghost use Rattle.near_mirror.specs.Heads.{is_valid_near};
 ghost use Rattle.near_tables.specs.Torn.{first_chunks as first_chunks_of, is_gone as is_gone_of, is_lost as is_lost_of, lost_among, with_slots};
 
 use near_mirror::{Copying, NearHead};
+use raid_params::count_empty;
 
 /// How many chunks a mirror has of the first ones, of which there are as many as members. All others stand on the slots of these.
 pub fn first_chunks(head: &NearHead, end: u64) -> u64
@@ -22,6 +23,9 @@ pub fn has_lost(head: &NearHead, slots: &[Option<u8>], chunks: u64) -> bool
     requires chunks { chunks ≤ MOST }
     ensures { result ≡ lost_among chunks (with_slots head.now slots.now) }
 {
+    if count_empty(slots) < usize::from(head.layout.copies) {
+        return false;
+    }
     for chunk in 0..chunks {
         if is_lost(head, slots, chunk) {
             return true;

@@ -11,11 +11,11 @@ ghost use Rattle.member_regions.specs.declared.regions.TheConstants.{BLOCK};
 ghost use Rattle.near_mirror.specs.Heads.{is_valid_near};
 ghost use Rattle.near_tables.specs.Counting.{AddsPair};
 ghost use Rattle.near_tables.specs.Reading.{HasRoom, HoldStrip, regions_differ, strip_torn};
-ghost use Rattle.near_tables.specs.Tables.{count_of, lane_depth};
+ghost use Rattle.near_tables.specs.Tables.{count_of, lane_depth, lane_gap as lane_gap_of};
 
 use crate::lane_reading::Strips;
 use member_regions::{BLOCK, Regions};
-use near_mirror::MOST_COPIES;
+use near_mirror::{Copying, MOST_COPIES};
 use outside::{Failed, Images};
 use raid_params::{MOST, Slots};
 
@@ -87,19 +87,19 @@ pub(crate) fn add_lanes(
         (slice_index_or counts.old pair []) (slice_index_or counts.new pair []) }
 {
     for pair in 0..LANES * LANES {
-        counts[pair] = with_pair(&counts[pair], strips, pair, at, sector, count);
+        add_pair(&mut counts[pair], strips, pair, at, sector, count);
     }
 }
 
-/// The counts of two lanes with those, where the second one is there and no earlier than the first.
-fn with_pair(
-    counts: &PairCounts,
+/// Adds those to the counts of two lanes, where copies of a chunk may lie in them.
+fn add_pair(
+    counts: &mut PairCounts,
     strips: &Strips,
     pair: usize,
     at: u64,
     sector: u64,
     count: usize,
-) -> PairCounts
+)
     requires head { IsTrue (is_valid_near strips.now.head) }
     requires few { strips.now.many ≤ MOST }
     requires room { HasRoom strips.now }
@@ -107,66 +107,68 @@ fn with_pair(
     requires sector { sector ≡ lane_depth strips.now.head 0 at }
     requires near { sector < 2 ^ 55 }
     requires fits { count ≤ BLOCK }
-    ensures { AddsPair strips.now.many strips.now.head strips.now.limit at count strips.now.lanes.items pair counts.now result }
+    ensures { AddsPair strips.now.many strips.now.head strips.now.limit at count strips.now.lanes.items pair counts.old counts.new }
 {
     let (lane, next) = (pair / LANES, pair % LANES);
-    if lane <= next && next < usize::from(strips.head.layout.copies) {
+    let least = lane + lane_gap(strips.head.layout.copying);
+    let copies = usize::from(strips.head.layout.copies);
+    if least <= next && next < copies {
         let rest = strips.rest_at(next as u8, at, sector, count);
-        with_strip(
+        add_images(
             counts,
             &strips.lanes[lane],
             &strips.lanes[next],
             strips.many,
             rest,
-        )
-    } else {
-        *counts
+        );
     }
 }
 
-/// The counts of each two images, with those of the first `count` sectors of their regions: the first image's among some regions,
+/// How many lanes a later copy of a chunk lies after an earlier one, at the least.
+fn lane_gap(copying: Copying) -> usize
+    ensures value { result ≡ lane_gap_of copying }
+    ensures few { result ≤ 1 }
+{
+    match copying {
+        Copying::Near => 0,
+        Copying::Far => 1,
+        Copying::Offset => 1,
+    }
+}
+
+/// Adds to the counts of each two images those of the first `count` sectors of their regions: the first image's among some regions,
 /// the second's among others.
-fn with_strip(
-    counts: &PairCounts,
-    first: &Regions,
-    second: &Regions,
-    many: usize,
-    count: usize,
-) -> PairCounts
+fn add_images(counts: &mut PairCounts, first: &Regions, second: &Regions, many: usize, count: usize)
     requires few { many ≤ MOST }
     requires first { IsRoomFor many count first.now }
     requires second { IsRoomFor many count second.now }
     ensures { (one other : ℕ) → one < many → other < many →
-        count_of result one other ≡ min (count_of counts.now one other + strip_torn first.now second.now count one other) (2 ^ 64 - 1) }
+        count_of counts.new one other ≡ min (count_of counts.old one other + strip_torn first.now second.now count one other) (2 ^ 64 - 1) }
 {
-    let mut more = *counts;
     for one in 0..many {
-        more[one] = with_image(&more[one], first, one, second, many, count);
+        add_image(&mut counts[one], first, one, second, many, count);
     }
-    more
 }
 
-/// Those of one image with each other.
-fn with_image(
-    counts: &ImageCounts,
+/// Adds those of one image with each other.
+fn add_image(
+    counts: &mut ImageCounts,
     first: &Regions,
     one: usize,
     second: &Regions,
     many: usize,
     count: usize,
-) -> ImageCounts
+)
     requires few { many ≤ MOST }
     requires one { one < many }
     requires first { IsRoomFor many count first.now }
     requires second { IsRoomFor many count second.now }
     ensures { (other : ℕ) → other < many →
-        slice_index result other ≡ min (slice_index counts.now other + strip_torn first.now second.now count one other) (2 ^ 64 - 1) }
+        slice_index counts.new other ≡ min (slice_index counts.old other + strip_torn first.now second.now count one other) (2 ^ 64 - 1) }
 {
-    let mut more = *counts;
     for other in 0..many {
-        more[other] = more[other].saturating_add(torn_in(first, one, second, other, count));
+        counts[other] = counts[other].saturating_add(torn_in(first, one, second, other, count));
     }
-    more
 }
 
 /// In how many of the first `count` sectors of their regions two images differ.

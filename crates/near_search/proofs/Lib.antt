@@ -1,6 +1,7 @@
 pub mod HeadPlaces
 pub mod Spaces
 pub mod Numbered
+pub mod Bare
 pub mod Law
 pub mod Leafwise
 pub mod Parted

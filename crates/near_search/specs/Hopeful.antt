@@ -16,8 +16,8 @@ abbrev pub is_near_hopeful : List (List ℕ) → NearAsk → NearHead → List (
 is_near_hopeful bytes ask head prefix =
     nat_le 1 (near_chunks head ask.end) && (not (has_lost ask.end (with_slots head prefix)) && nat_le (torn bytes ask.end ask.window (with_slots head prefix)) ask.badrows)
 
--- what is asked of a walk over the slot lists of a head: the lists, the head, how many chunks may be lost, the table of torn
--- sectors, which is there where the head has a chunk, and how many may be torn
+-- what is asked of a walk over the slot lists of a head: the lists, the head, how many of its first chunks are looked at (all others
+-- stand on the slots of these), the table of torn sectors, which is there where the head has a chunk, and how many may be torn
 pub record NearAsked : Type 0 where
   pub space : Space
   pub head : NearHead

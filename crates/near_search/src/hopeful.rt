@@ -28,7 +28,7 @@ pub struct NearHopeful {
     space: Space,
     /// The head.
     head: NearHead,
-    /// How many chunks there are that may be lost: no more than members.
+    /// How many of the first chunks are looked at, no more than members: all others stand on the slots of these.
     chunks: u64,
     /// The sectors in which each two images differ, where the head has a chunk.
     table: Option<TornTable>,

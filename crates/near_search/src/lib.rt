@@ -22,6 +22,8 @@ mod walk;
 pub use ask::{MOST_LAYOUTS, NearAsk};
 pub use heads::NearSets;
 pub use hopeful::NearHopeful;
-pub use laws::passing_mirrors_are_hopeful;
+pub use laws::{
+    lost_chunks_have_no_copy, passing_mirrors_are_hopeful, passing_mirrors_break_no_rule,
+};
 pub use paging::near_page;
 pub use parts::{NearFault, NearLine, NearLines, NearPage};

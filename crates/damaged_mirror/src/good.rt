@@ -1,5 +1,5 @@
 //! Which copies of a sector are good.
-ghost use Rattle.std.specs.Prelude.{◌≡◌, ◌+◌, ◌<◌, ◌≤◌, ◌^◌, ℕ, Some, true};
+ghost use Rattle.std.specs.Prelude.{◌≡◌, ◌+◌, ◌<◌, ◌≤◌, ◌^◌, ℕ, Some, false, true};
 ghost use Rattle.std.specs.List.{list_any, range_with_len};
 ghost use Rattle.near_mirror.specs.Copies.{near_sectors};
 ghost use Rattle.near_mirror.specs.Volume.{IsMirror};
@@ -90,7 +90,8 @@ fn is_taken(damage: &MirrorDamage, sector: u64, copy: u8) -> bool
     requires set { IsMirror damage.now.set.now damage.now.end }
     requires end { damage.now.end < 2 ^ 55 }
     requires within { sector < near_sectors damage.now.set.now.head damage.now.end }
-    ensures { result ≡ true → good_copy_of damage.now.rescue.now damage.now.set.now damage.now.end sector ≡ Some copy }
+    ensures taken { result ≡ true → good_copy_of damage.now.rescue.now damage.now.set.now damage.now.end sector ≡ Some copy }
+    ensures other { result ≡ false → good_copy_of damage.now.rescue.now damage.now.set.now damage.now.end sector ≡ Some copy → ⊥ }
 {
     match good_copy(damage, sector) {
         Some(taken) => taken == copy,
@@ -98,7 +99,7 @@ fn is_taken(damage: &MirrorDamage, sector: u64, copy: u8) -> bool
     }
 }
 
-/// Of how many volume sectors from number `first` on, and at most `most`, the first good copy is the same as that of the first.
+/// Of how many volume sectors from number `first` on, and at most `most`, the first good copy is the same as that of the first. The run is the longest.
 pub(crate) fn taken_run(damage: &MirrorDamage, copy: u8, first: u64, most: u64) -> u64
     requires set { IsMirror damage.now.set.now damage.now.end }
     requires end { damage.now.end < 2 ^ 55 }
@@ -108,6 +109,7 @@ pub(crate) fn taken_run(damage: &MirrorDamage, copy: u8, first: u64, most: u64) 
     ensures some { 1 ≤ result }
     ensures few { result ≤ most }
     ensures same { (i : ℕ) → i < result → good_copy_of damage.now.rescue.now damage.now.set.now damage.now.end (first + i) ≡ Some copy }
+    ensures longest { result < most → good_copy_of damage.now.rescue.now damage.now.set.now damage.now.end (first + result) ≡ Some copy → ⊥ }
 {
     let mut count = 1;
     while count < most {

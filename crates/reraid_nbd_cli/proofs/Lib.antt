@@ -5,4 +5,5 @@ pub mod Ran
 pub mod Served
 pub mod OneWord
 pub mod Mapped
+pub mod Mended
 pub mod Behind

@@ -1,5 +1,5 @@
 -- How a damaged volume is shown: by what was read of its maps, and over the images once they are attached.
-use Rattle.std.proofs.Common.{◌≡◌, ℕ, ◌≤◌, min, false, List, length, Option, None, Some, Result, Ok, Err, IfSome, IsErrOf, refl, sym, ap, ◌∙◌, subst}
+use Rattle.std.proofs.Common.{◌≡◌, ℕ, ◌≤◌, ◌<◌, min, false, List, length, Option, None, Some, Result, Ok, Err, IfSome, IsErrOf, refl, sym, ap, ◌∙◌, subst, arith}
 use Rattle.std.proofs.lemmas.Option.{IfSome_then}
 use Rattle.block_device.specs.Reading.{Asked, Counts}
 use Rattle.damaged_device.specs.Cost.{damaged_cost}
@@ -21,11 +21,11 @@ use Rattle.run_ends.specs.Source.{TakesFew}
 use Rattle.run_ends.specs.declared.stop.Refusal.{Refusal}
 use Rattle.run_ends.specs.declared.stop.Stop.{Stop}
 use Rattle.run_ends.specs.declared.stop.Stop.TheVariants.{Refused as RefusedStop, ImageFault as ImageStop, SourceFault as SourceStop, OutFault as OutStop, OutOfMemory as MemoryStop}
-use Rattle.salvage_job.specs.Salvaging.{IsReady, IsUnready, images_refusal, salvage_output, salvage_refusal}
+use Rattle.salvage_job.specs.Salvaging.{IsReady, IsUnready, salvage_output, salvage_refusal}
 use Rattle.salvage_job.specs.declared.salvaging.Ready.{Ready}
 use Rattle.set_jobs.specs.Writing.{told_for, volume_reads}
 use Rattle.reraid_nbd_cli.specs.Ends.{end_of_stop}
-use Rattle.reraid_nbd_cli.specs.Mapped.{EndsByText, EndsMapped, RunsSet, ShowsMapped, TakesMaps, mapped_cost, mapped_volume}
+use Rattle.reraid_nbd_cli.specs.Mapped.{CannotBegin, DamagedVolume, EndsByText, EndsMapped, RunsDamaged, ShowsMapped, TakesMaps, damaged_set, mapped_cost}
 use Rattle.reraid_nbd_cli.specs.Runs.{Ends, Place, Shows, place}
 use Rattle.reraid_nbd_cli.specs.declared.ends.NbdEnd.{NbdEnd}
 use Rattle.reraid_nbd_cli.specs.declared.ends.NbdEnd.TheVariants.{Refused, ImageFault, MapsFault, Long, Stopped}
@@ -39,34 +39,33 @@ always (Some x) all = all x
 
 -- ---- the maps were read
 
+-- what the text says of a set
 ends_by : (set : Wide) (end : Option ℕ) (names : ℕ) (attached : List Image) (text : List ℕ) (ready : Ready) (old new : Place) (r : Result (Unit {0}) NbdEnd) →
     ready.end ≡ end_of end attached → salvage_refusal set end text names attached ≡ None → rescue_sections names text ≡ Ok ready.rescue →
     Ends None (volume_sectors set.geo.head ready.end) (salvaged_told (told_for set attached) ready.rescue set ready.end) (damaged_cost ready.rescue set) old new r →
-    EndsByText set end (named names attached) old new r text
+    EndsByText (damaged_set set end (named names attached)) old new r text
 ends_by set end names attached text ready old new r is allowed sections ends =
-    subst (λ (f : Option Refusal). Ends f (volume_reads set end attached) (mapped_volume set end (named names attached) text) (mapped_cost (rescue_sections names text) set) old new r) (sym allowed)
-    (subst (λ (s : Result (List Section) RescueFault). Ends None (volume_reads set end attached) (salvage_output set false end attached s) (mapped_cost s set) old new r) (sym sections)
+    subst (λ (f : Option Refusal). Ends f (volume_reads set end attached) (salvage_output set false end attached (rescue_sections names text)) (mapped_cost (λ rescue. damaged_cost rescue set) (rescue_sections names text)) old new r) (sym allowed)
+    (subst (λ (s : Result (List Section) RescueFault). Ends None (volume_reads set end attached) (salvage_output set false end attached s) (mapped_cost (λ rescue. damaged_cost rescue set) s) old new r) (sym sections)
     (subst (λ (e : ℕ). Ends None (volume_sectors set.geo.head e) (salvaged_told (told_for set attached) ready.rescue set e) (damaged_cost ready.rescue set) old new r) is ends))
 
-by_left : (set : Wide) (end : Option ℕ) (names : ℕ) (attached : List Image) (left : Option (List ℕ)) (ready : Ready) (old new : Place) (r : Result (Unit {0}) NbdEnd) → IsReady set end names attached left ready →
+pub by_set : (set : Wide) (end : Option ℕ) (names : ℕ) (attached : List Image) (left : Option (List ℕ)) (ready : Ready) (old new : Place) (r : Result (Unit {0}) NbdEnd) → IsReady set end names attached left ready →
     Ends None (volume_sectors set.geo.head ready.end) (salvaged_told (told_for set attached) ready.rescue set ready.end) (damaged_cost ready.rescue set) old new r →
-    IfSome left (EndsByText set end (named names attached) old new r)
-by_left set end names attached None ready old new r is ends = tt
-by_left set end names attached (Some text) ready old new r is ends = ends_by set end names attached text ready old new r is.end_is is.allowed is.sections ends
+    IfSome left (EndsByText (damaged_set set end (named names attached)) old new r)
+by_set set end names attached None ready old new r is ends = tt
+by_set set end names attached (Some text) ready old new r is ends = ends_by set end names attached text ready old new r is.end_is is.allowed is.sections ends
 
-ready_ends : (set : Wide) (end : Option ℕ) (names : ℕ) (attached : List Image) (left : Option (List ℕ)) (ready : Ready) (old new : Place) (r : Result (Unit {0}) NbdEnd) → IsReady set end names attached left ready →
-    (IsErrOf r ImageFault → ⊥) → Ends None (volume_sectors set.geo.head ready.end) (salvaged_told (told_for set attached) ready.rescue set ready.end) (damaged_cost ready.rescue set) old new r →
-    EndsMapped set end (named names attached) left old new r
-ready_ends set end names attached left ready old new (Ok done) is none ends = by_left set end names attached left ready old new (Ok done) is ends
-ready_ends set end names attached left ready old new (Err (Refused why)) is none ends = by_left set end names attached left ready old new (Err (Refused why)) is ends
-ready_ends set end names attached left ready old new (Err (Long n)) is none ends = by_left set end names attached left ready old new (Err (Long n)) is ends
-ready_ends set end names attached left ready old new (Err (Stopped SourceFault)) is none ends = by_left set end names attached left ready old new (Err (Stopped SourceFault)) is ends
-ready_ends set end names attached left ready old new (Err (Stopped OutFault)) is none ends = by_left set end names attached left ready old new (Err (Stopped OutFault)) is ends
-ready_ends set end names attached left ready old new (Err (Stopped Malformed)) is none ends = by_left set end names attached left ready old new (Err (Stopped Malformed)) is ends
-ready_ends set end names attached left ready old new (Err (Stopped OutOfMemory)) is none ends =
-    IfSome_then left (by_left set end names attached left ready old new (Err (Stopped OutOfMemory)) is ends) (λ text served. served.serves)
-ready_ends set end names attached left ready old new (Err ImageFault) is none ends = absurd (none refl)
-ready_ends set end names attached left ready old new (Err MapsFault) is none ends = absurd ends
+ready_ends : (damaged : DamagedVolume) (left : Option (List ℕ)) (old new : Place) (r : Result (Unit {0}) NbdEnd) →
+    (IsErrOf r ImageFault → ⊥) → (IsErrOf r MapsFault → ⊥) → IfSome left (EndsByText damaged old new r) → EndsMapped damaged left old new r
+ready_ends damaged left old new (Ok done) none quiet ends = ends
+ready_ends damaged left old new (Err (Refused why)) none quiet ends = ends
+ready_ends damaged left old new (Err (Long n)) none quiet ends = ends
+ready_ends damaged left old new (Err (Stopped SourceFault)) none quiet ends = ends
+ready_ends damaged left old new (Err (Stopped OutFault)) none quiet ends = ends
+ready_ends damaged left old new (Err (Stopped Malformed)) none quiet ends = ends
+ready_ends damaged left old new (Err (Stopped OutOfMemory)) none quiet ends = IfSome_then left ends (λ text served. served.serves)
+ready_ends damaged left old new (Err ImageFault) none quiet ends = absurd (none refl)
+ready_ends damaged left old new (Err MapsFault) none quiet ends = absurd (quiet refl)
 
 no_fault : (refused : Option Refusal) (size : ℕ) (content : Option (List ℕ)) (cost : Asked → Option ℕ) (old new : Place) (r : Result (Unit {0}) NbdEnd) → Ends refused size content cost old new r → IsErrOf r MapsFault → ⊥
 no_fault refused size content cost old new (Ok done) ends e = absurd (cc)
@@ -76,14 +75,14 @@ no_fault refused size content cost old new (Err (Stopped stop)) ends e = absurd 
 no_fault refused size content cost old new (Err ImageFault) ends e = absurd (cc)
 no_fault refused size content cost old new (Err MapsFault) ends e = ends
 
-pub ready_shown : (set : Wide) (end : Option ℕ) (names : ℕ) (old new : Place) (left gone : Stream) (ready : Ready) (r : Result (Unit {0}) NbdEnd) → IsReady set end names old.images.attached left.known ready →
-    EndsEarly {T = Ready} (images_refusal set end names old.images.attached) left gone (Ok ready) → TakesFew 4194304 left.known gone.known → Raises {T = Ready} SourceStop left.faults gone.faults (Ok ready) →
-    Shows None (volume_sectors set.geo.head ready.end) (salvaged_told (told_for set old.images.attached) ready.rescue set ready.end) (damaged_cost ready.rescue set) old new r →
-    ShowsMapped set end (named names old.images.attached) old new left gone r
-ready_shown set end names old new left gone ready r is early takes raises shows =
+pub ready_shown : (damaged : DamagedVolume) (size : ℕ) (content : Option (List ℕ)) (cost : Asked → Option ℕ) (old new : Place) (left gone : Stream) (ready : Ready) (r : Result (Unit {0}) NbdEnd) →
+    EndsEarly {T = Ready} damaged.early left gone (Ok ready) → TakesFew 4194304 left.known gone.known → Raises {T = Ready} SourceStop left.faults gone.faults (Ok ready) →
+    Shows None size content cost old new r → IfSome left.known (EndsByText damaged old new r) → ShowsMapped damaged old new left gone r
+ready_shown damaged size content cost old new left gone ready r early takes raises shows ends =
     let stays : gone.faults ≡ left.faults = raises.stays (λ e. absurd (cc)) in
+    let quiet = no_fault None size content cost old new r shows.ends in
     record {
-      ends = ready_ends set end names old.images.attached left.known ready old new r is shows.attaches shows.ends;
+      ends = ready_ends damaged left.known old new r shows.attaches quiet ends;
       attaches = shows.attaches;
       leaves = shows.leaves;
       attached = shows.attached;
@@ -91,7 +90,7 @@ ready_shown set end names old new left gone ready r is early takes raises shows 
         early = λ refusal why. absurd (let e = (early refusal why).0 in cc);
         takes = takes;
         faults = record {
-          rose = λ e. absurd (no_fault None (volume_sectors set.geo.head ready.end) (salvaged_told (told_for set old.images.attached) ready.rescue set ready.end) (damaged_cost ready.rescue set) old new r shows.ends e);
+          rose = λ e. absurd (quiet e);
           stays = λ none. stays;
           later = raises.later;
         };
@@ -107,10 +106,18 @@ none_of (Some refusal) none = absurd (none refusal refl)
 same_refusal : (why refusal : Refusal) → ◌≡◌ {A = Result Ready Stop} (Err (RefusedStop why)) (Err (RefusedStop refusal)) → ◌≡◌ {A = Result (Unit {0}) NbdEnd} (Err (Refused why)) (Err (Refused refusal))
 same_refusal why refusal e = let same : why ≡ refusal = cc in ap (λ (w : Refusal). Err (Refused w)) same
 
-pub unready_shown : (set : Wide) (end : Option ℕ) (names : ℕ) (old : Place) (left gone : Stream) (stop : Stop) → IsUnready set end names old.images.attached left.known stop →
-    EndsEarly {T = Ready} (images_refusal set end names old.images.attached) left gone (Err stop) → TakesFew 4194304 left.known gone.known → Raises {T = Ready} SourceStop left.faults gone.faults (Err stop) →
-    ShowsMapped set end (named names old.images.attached) old old left gone (Err (end_of_stop stop))
-unready_shown set end names old left gone (RefusedStop why) is early takes raises = record {
+-- why the work for a set does not begin
+pub unready_set : (set : Wide) (end : Option ℕ) (names : ℕ) (attached : List Image) (left : Option (List ℕ)) (stop : Stop) → IsUnready set end names attached left stop → CannotBegin (damaged_set set end (named names attached)) left stop
+unready_set set end names attached left (RefusedStop why) is = is
+unready_set set end names attached left SourceStop is = is
+unready_set set end names attached left MemoryStop is = is
+unready_set set end names attached left ImageStop is = absurd is
+unready_set set end names attached left OutStop is = absurd is
+
+pub unready_shown : (damaged : DamagedVolume) (old : Place) (left gone : Stream) (stop : Stop) → CannotBegin damaged left.known stop →
+    EndsEarly {T = Ready} damaged.early left gone (Err stop) → TakesFew 4194304 left.known gone.known → Raises {T = Ready} SourceStop left.faults gone.faults (Err stop) →
+    ShowsMapped damaged old old left gone (Err (end_of_stop stop))
+unready_shown damaged old left gone (RefusedStop why) is early takes raises = record {
   ends = IfSome_then left.known is (λ text refused. (refused, untouched old, refl));
   attaches = λ e. absurd (cc);
   leaves = still old (Refused why) (λ e. absurd (cc)) (λ e. absurd (cc));
@@ -121,8 +128,8 @@ unready_shown set end names old left gone (RefusedStop why) is early takes raise
     faults = record { rose = λ e. absurd (cc); stays = λ none. raises.stays (λ e. absurd (cc)); later = raises.later };
   };
 }
-unready_shown set end names old left gone SourceStop is early takes raises = record {
-  ends = (none_of (images_refusal set end names old.images.attached) (λ refusal e. let early_one = (early refusal e).0 in absurd (cc)), untouched old, refl);
+unready_shown damaged old left gone SourceStop is early takes raises = record {
+  ends = (none_of damaged.early (λ refusal e. let early_one = (early refusal e).0 in absurd (cc)), untouched old, refl);
   attaches = λ e. absurd (cc);
   leaves = still old MapsFault (λ e. absurd (cc)) (λ e. absurd (cc));
   attached = refl;
@@ -132,8 +139,8 @@ unready_shown set end names old left gone SourceStop is early takes raises = rec
     faults = record { rose = λ e. raises.rose refl; stays = λ none. absurd (none refl); later = raises.later };
   };
 }
-unready_shown set end names old left gone MemoryStop is early takes raises = record {
-  ends = always left.known (λ text. always (mapped_volume set end (named names old.images.attached) text) (λ bytes. refl));
+unready_shown damaged old left gone MemoryStop is early takes raises = record {
+  ends = always left.known (λ text. always (damaged.volume text) (λ bytes. refl));
   attaches = λ e. absurd (cc);
   leaves = still old (Stopped OutOfMemory) (λ e. absurd (cc)) (λ e. absurd (cc));
   attached = refl;
@@ -143,42 +150,58 @@ unready_shown set end names old left gone MemoryStop is early takes raises = rec
     faults = record { rose = λ e. absurd (cc); stays = λ none. raises.stays (λ e. absurd (cc)); later = raises.later };
   };
 }
-unready_shown set end names old left gone ImageStop is early takes raises = absurd is
-unready_shown set end names old left gone OutStop is early takes raises = absurd is
+unready_shown damaged old left gone ImageStop is early takes raises = absurd is
+unready_shown damaged old left gone OutStop is early takes raises = absurd is
 
 -- ---- once the images are attached
 
-text_before : (set : Wide) (end : Option ℕ) (given : Named) (left : Option (List ℕ)) (seen mid new : Seen) (source taken out put : Stream) (r : Result (Unit {0}) NbdEnd) → mid.faults ≡ seen.faults → mid.sectors_read ≡ seen.sectors_read →
-    IfSome left (EndsByText set end given (place mid source out) (place new taken put) r) → IfSome left (EndsByText set end given (place seen source out) (place new taken put) r)
-text_before set end given left seen mid new source taken out put r faults read ends =
-    IfSome_then left ends (λ text one. ends_before (salvage_refusal set end text given.names given.attached) (volume_reads set end given.attached) (mapped_volume set end given text) (mapped_cost (rescue_sections given.names text) set)
+text_before : (damaged : DamagedVolume) (left : Option (List ℕ)) (seen mid new : Seen) (source taken out put : Stream) (r : Result (Unit {0}) NbdEnd) → mid.faults ≡ seen.faults → mid.sectors_read ≡ seen.sectors_read →
+    IfSome left (EndsByText damaged (place mid source out) (place new taken put) r) → IfSome left (EndsByText damaged (place seen source out) (place new taken put) r)
+text_before damaged left seen mid new source taken out put r faults read ends =
+    IfSome_then left ends (λ text one. ends_before (damaged.refused text) damaged.size (damaged.volume text) (damaged.cost text)
     seen mid new source taken out put r faults read one)
 
-mapped_before : (set : Wide) (end : Option ℕ) (given : Named) (left : Option (List ℕ)) (seen mid new : Seen) (source taken out put : Stream) (r : Result (Unit {0}) NbdEnd) → mid.faults ≡ seen.faults → mid.sectors_read ≡ seen.sectors_read →
-    EndsMapped set end given left (place mid source out) (place new taken put) r → EndsMapped set end given left (place seen source out) (place new taken put) r
-mapped_before set end given left seen mid new source taken out put (Ok done) faults read ends = text_before set end given left seen mid new source taken out put (Ok done) faults read ends
-mapped_before set end given left seen mid new source taken out put (Err (Refused why)) faults read ends = text_before set end given left seen mid new source taken out put (Err (Refused why)) faults read ends
-mapped_before set end given left seen mid new source taken out put (Err (Long n)) faults read ends = text_before set end given left seen mid new source taken out put (Err (Long n)) faults read ends
-mapped_before set end given left seen mid new source taken out put (Err (Stopped SourceFault)) faults read ends = text_before set end given left seen mid new source taken out put (Err (Stopped SourceFault)) faults read ends
-mapped_before set end given left seen mid new source taken out put (Err (Stopped OutFault)) faults read ends = text_before set end given left seen mid new source taken out put (Err (Stopped OutFault)) faults read ends
-mapped_before set end given left seen mid new source taken out put (Err (Stopped Malformed)) faults read ends = text_before set end given left seen mid new source taken out put (Err (Stopped Malformed)) faults read ends
-mapped_before set end given left seen mid new source taken out put (Err (Stopped OutOfMemory)) faults read ends =
-    IfSome_then left ends (λ text one. IfSome_then (mapped_volume set end given text) one (λ bytes same. same ∙ ap (λ (c : Counts). wire source.known out.known c) (same_counts mid seen faults read)))
-mapped_before set end given left seen mid new source taken out put (Err ImageFault) faults read ends =
+mapped_before : (damaged : DamagedVolume) (left : Option (List ℕ)) (seen mid new : Seen) (source taken out put : Stream) (r : Result (Unit {0}) NbdEnd) → mid.faults ≡ seen.faults → mid.sectors_read ≡ seen.sectors_read →
+    EndsMapped damaged left (place mid source out) (place new taken put) r → EndsMapped damaged left (place seen source out) (place new taken put) r
+mapped_before damaged left seen mid new source taken out put (Ok done) faults read ends = text_before damaged left seen mid new source taken out put (Ok done) faults read ends
+mapped_before damaged left seen mid new source taken out put (Err (Refused why)) faults read ends = text_before damaged left seen mid new source taken out put (Err (Refused why)) faults read ends
+mapped_before damaged left seen mid new source taken out put (Err (Long n)) faults read ends = text_before damaged left seen mid new source taken out put (Err (Long n)) faults read ends
+mapped_before damaged left seen mid new source taken out put (Err (Stopped SourceFault)) faults read ends = text_before damaged left seen mid new source taken out put (Err (Stopped SourceFault)) faults read ends
+mapped_before damaged left seen mid new source taken out put (Err (Stopped OutFault)) faults read ends = text_before damaged left seen mid new source taken out put (Err (Stopped OutFault)) faults read ends
+mapped_before damaged left seen mid new source taken out put (Err (Stopped Malformed)) faults read ends = text_before damaged left seen mid new source taken out put (Err (Stopped Malformed)) faults read ends
+mapped_before damaged left seen mid new source taken out put (Err (Stopped OutOfMemory)) faults read ends =
+    IfSome_then left ends (λ text one. IfSome_then (damaged.volume text) one (λ bytes same. same ∙ ap (λ (c : Counts). wire source.known out.known c) (same_counts mid seen faults read)))
+mapped_before damaged left seen mid new source taken out put (Err ImageFault) faults read ends =
     (record { source = ends.0.source; out = ends.0.out; unread = ends.0.unread ∙ read }, subst (λ (n : ℕ). Rose n new.faults) faults ends.1)
-mapped_before set end given left seen mid new source taken out put (Err MapsFault) faults read ends =
+mapped_before damaged left seen mid new source taken out put (Err MapsFault) faults read ends =
     (ends.0, record { source = ends.1.source; out = ends.1.out; unread = ends.1.unread ∙ read }, ends.2 ∙ faults)
 
-pub ran_mapped : (set : Wide) (end : Option ℕ) (names : ℕ) (seen mid new : Seen) (source taken out put left gone : Stream) (r : Result (Unit {0}) NbdEnd) →
+pub ran_mapped : (damaged : Named → DamagedVolume) (names : ℕ) (seen mid new : Seen) (source taken out put left gone : Stream) (r : Result (Unit {0}) NbdEnd) →
     mid.faults ≡ seen.faults → mid.sectors_read ≡ seen.sectors_read → mid.world ≡ seen.world → length mid.attached ≡ min names 65536 →
-    ShowsMapped set end (named names mid.attached) (place mid source out) (place new taken put) left gone r → RunsSet set end (named names new.attached) (place seen source out) (place new taken put) left gone r
-ran_mapped set end names seen mid new source taken out put left gone r faults read world all shows =
-    let P : List Image → Type 0 = λ attached. EndsMapped set end (named names attached) left.known (place seen source out) (place new taken put) r in
-    let Q : List Image → Type 0 = λ attached. TakesMaps (images_refusal set end names attached) left gone r in
+    ShowsMapped (damaged (named names mid.attached)) (place mid source out) (place new taken put) left gone r → RunsDamaged (damaged (named names new.attached)) (named names new.attached) (place seen source out) (place new taken put) left gone r
+ran_mapped damaged names seen mid new source taken out put left gone r faults read world all shows =
+    let P : List Image → Type 0 = λ attached. EndsMapped (damaged (named names attached)) left.known (place seen source out) (place new taken put) r in
+    let Q : List Image → Type 0 = λ attached. TakesMaps (damaged (named names attached)).early left gone r in
     record {
-      ends = subst P (sym shows.attached) (mapped_before set end (named names mid.attached) left.known seen mid new source taken out put r faults read shows.ends);
+      ends = subst P (sym shows.attached) (mapped_before (damaged (named names mid.attached)) left.known seen mid new source taken out put r faults read shows.ends);
       leaves = record { source = shows.leaves.source; out = shows.leaves.out; later = subst (λ (n : ℕ). n ≤ new.faults) faults shows.leaves.later; world = shows.leaves.world ∙ world };
       images = has_images names new.attached r shows.attaches (ap (λ (images : List Image). length images) shows.attached ∙ all);
       maps = λ other. subst Q (sym shows.attached) shows.maps;
       alone = λ e. absurd (shows.attaches e);
     }
+
+-- an image could not be attached
+pub cut_mapped : (damaged : Named → DamagedVolume) (names : ℕ) (seen new : Seen) (source out left : Stream) → length new.attached < min names 65536 → Rose seen.faults new.faults → seen.faults ≤ new.faults → new.sectors_read ≡ seen.sectors_read → new.world ≡ seen.world →
+    RunsDamaged (damaged (named names new.attached)) (named names new.attached) (place seen source out) (place new source out) left left (Err ImageFault)
+cut_mapped damaged names seen new source out left fewer rose later unread world = record {
+  ends = (record { source = refl; out = refl; unread = unread }, rose);
+  leaves = record {
+    source = record { rose = λ e. absurd (cc); stays = λ none. refl; later = omega arith };
+    out = record { rose = λ e. absurd (cc); stays = λ none. refl; later = omega arith };
+    later = later;
+    world = world;
+  };
+  images = fewer;
+  maps = λ other. absurd (other refl);
+  alone = λ e. refl;
+}

@@ -32,10 +32,9 @@ maps_at words = maps_from 0 words
 abbrev pub without : ℕ → List (List ℕ) → List (List ℕ)
 without at words = take at words ++ drop (suc at) words
 
--- the number, counted from 1, of a word as it was typed, where the one at a place was taken out: of the others it is this one, counted with the
--- word of their command
+-- the number, counted from 1, of a word as it was typed, where the one at a place was taken out: of the others it is this one
 abbrev pub as_typed : ℕ → ℕ → ℕ
-as_typed at number = if nat_lt number (at + 2) then number - 1 else number
+as_typed at number = if nat_lt number (at + 1) then number else number + 1
 
 -- The command of `reraid` whose volume is served: `write` where these are its words, else `mirrorwrite`. Or the refused word, counted from 1: the
 -- first with which the words of neither go on, or the one after the last.
@@ -46,11 +45,11 @@ Asks words (Ok command) =
 Asks words (Err number) =
     (one : ℕ) × (other : ℕ) × IsRefusedWord (verb_word Write ∷ words) one × IsRefusedWord (verb_word MirrorWrite ∷ words) other × (number ≡ max one other - 1)
 
--- The command of `reraid` whose damaged volume is served: `write`, where these are its words without the one at a place, which names the text of
+-- The command of `reraid` whose damaged volume is served: the one that the words ask for without the one at a place, which names the text of
 -- maps. Or the refused word, counted from 1.
-abbrev pub AsksSet : ℕ → List (List ℕ) → Result Command ℕ → Type 0
-AsksSet at words (Ok command) = IsCommandLine (verb_word Write ∷ without at words) command
-AsksSet at words (Err number) = (other : ℕ) × IsRefusedWord (verb_word Write ∷ without at words) other × (number ≡ as_typed at other)
+abbrev pub AsksDamaged : ℕ → List (List ℕ) → Result Command ℕ → Type 0
+AsksDamaged at words (Ok command) = Asks (without at words) (Ok command)
+AsksDamaged at words (Err number) = (other : ℕ) × Asks (without at words) (Err other) × (number ≡ as_typed at other)
 
 -- the command is `write`
 abbrev pub PutsSet : Command → Type 0

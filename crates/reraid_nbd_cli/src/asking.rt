@@ -1,7 +1,7 @@
 //! What the words ask for.
-ghost use Rattle.std.specs.Prelude.{ℕ, List, ◌≡◌, ◌<◌, ◌^◌, ◌++◌, IfOk, OnOk, length};
+ghost use Rattle.std.specs.Prelude.{ℕ, List, ◌≡◌, ◌+◌, ◌<◌, ◌^◌, ◌++◌, IfErr, IfOk, OnOk, length};
 ghost use Rattle.command_words.specs.Commands.{IsWithin};
-ghost use Rattle.reraid_nbd_cli.specs.Words.{AreNamed, Asks, AsksSet, PutsSet, PutsVolume, is_maps_word, maps_at, without};
+ghost use Rattle.reraid_nbd_cli.specs.Words.{AreNamed, Asks, AsksDamaged, PutsVolume, as_typed as as_typed_of, is_maps_word, maps_at, without};
 
 use command_words::{Command, Verb, Word, read_words_after};
 use outside::Memory;
@@ -16,6 +16,7 @@ pub(crate) fn read_asked(words: &[Word]) -> Result<Command, u64>
     ensures volume { IfOk result PutsVolume }
     ensures within { IfOk result IsWithin }
     ensures named { IfOk result (AreNamed words.now) }
+    ensures short { IfErr result (λ number. number + 1 < 2 ^ 64) }
 {
     match read_words_after(Verb::Write, words) {
         Ok(command) => Ok(command),
@@ -74,21 +75,30 @@ pub(crate) fn words_without(
     Ok(others)
 }
 
-/// The command whose damaged volume the words ask for: without the one that names the text of maps, which stood at this place, they are those
-/// of `write`. Else the number of the refused word as it was typed, counted from 1.
+/// The number of a word as it was typed, counted from 1: without the one at this place it is this one.
+fn as_typed(place: usize, number: u64) -> u64
+    requires place { place < 2 ^ 63 }
+    requires short { number + 1 < 2 ^ 64 }
+    ensures { result ≡ as_typed_of place number }
+{
+    if number < place as u64 + 1 {
+        number
+    } else {
+        number + 1
+    }
+}
+
+/// The command whose damaged volume the words ask for, without the one that names the text of maps, which stood at this place. Else the
+/// number of the refused word as it was typed, counted from 1.
 pub(crate) fn read_damaged(others: &[Word], place: usize) -> Result<Command, u64>
     requires { place < 2 ^ 63 }
-    ensures asks { (words : List (List ℕ)) → others.now ≡ without place words → AsksSet place words result }
-    ensures set { IfOk result PutsSet }
+    ensures asks { (words : List (List ℕ)) → others.now ≡ without place words → AsksDamaged place words result }
+    ensures volume { IfOk result PutsVolume }
     ensures within { IfOk result IsWithin }
     ensures named { IfOk result (AreNamed others.now) }
 {
-    match read_words_after(Verb::Write, others) {
+    match read_asked(others) {
         Ok(command) => Ok(command),
-        Err(number) => Err(if number < place as u64 + 2 {
-            number - 1
-        } else {
-            number
-        }),
+        Err(number) => Err(as_typed(place, number)),
     }
 }

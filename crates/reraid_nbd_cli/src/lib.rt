@@ -2,7 +2,7 @@
 //!
 //! [`reraid_nbd()`] reads the words, attaches the images that they name, and serves the volume of their set by NBD, until the client ends
 //! the dialogue or the input ends; for `--help` or `--version` alone it puts a text in place of that. The words, the refusals and the
-//! volume are those of the commands `write` and `mirrorwrite` of `reraid`, and beside a word `maps=FILE` those of `salvage`; the dialogue is
+//! volume are those of the commands `write` and `mirrorwrite` of `reraid`, and beside a word `maps=FILE` those of `salvage` or of a damaged mirror; the dialogue is
 //! that of `nbd_text`.
 //!
 //! `reraid_nbd` calls it over real files, `reraid_rows` over objects in memory. Start at [`reraid_nbd()`]: its clauses are the promise.
@@ -12,6 +12,7 @@
 mod asking;
 mod ends;
 mod mapping;
+mod mending;
 mod running;
 mod showing;
 mod telling;

@@ -9,7 +9,7 @@ ghost use Rattle.run_ends.specs.Jobs.{named, stream};
 ghost use Rattle.set_jobs.specs.Writing.{told_for};
 ghost use Rattle.virtual_volume.specs.Served.{IsServed};
 ghost use Rattle.reraid_nbd_cli.specs.Ends.{end_of_stop as end_of};
-ghost use Rattle.reraid_nbd_cli.specs.Mapped.{ShowsMapped};
+ghost use Rattle.reraid_nbd_cli.specs.Mapped.{ShowsMapped, damaged_set};
 ghost use Rattle.reraid_nbd_cli.specs.Runs.{AreImages, Shows, place_of};
 
 use crate::ends::NbdEnd;
@@ -27,8 +27,8 @@ use salvage_job::{Ready, prepare};
 use std::alloc::Global;
 use volume_device::Kept;
 
-/// How a run ends where `salvage` would stop before it writes.
-fn end_of_stop(stop: Stop) -> NbdEnd
+/// How a run ends where the work for a damaged volume does not begin.
+pub(crate) fn end_of_stop(stop: Stop) -> NbdEnd
     ensures { result ≡ end_of stop }
 {
     match stop {
@@ -52,7 +52,7 @@ pub(crate) fn show_damaged<I: Images, M: Source, S: Source, K: Sink>(
 ) -> Result<(), NbdEnd>
     requires given { AreImages names (I.seen images.old).attached }
     requires end { IfSome end (λ sector. sector < 2 ^ 55) }
-    ensures { ShowsMapped set.now end (named names (I.seen images.old).attached)
+    ensures { ShowsMapped (damaged_set set.now end (named names (I.seen images.old).attached))
         (place_of I.seen S.left S.faults K.gained K.faults images.old source.old out.old)
         (place_of I.seen S.left S.faults K.gained K.faults images.new source.new out.new)
         (stream (M.left maps.old) (M.faults maps.old)) (stream (M.left maps.new) (M.faults maps.new)) result }

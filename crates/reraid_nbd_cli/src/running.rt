@@ -4,13 +4,14 @@ ghost use Rattle.outside.specs.Attached.{AreImagesOf};
 ghost use Rattle.run_ends.specs.Jobs.{named, stream};
 ghost use Rattle.command_words.specs.Commands.{IsWithin, names_after};
 ghost use Rattle.command_words.specs.declared.command.Command.{Command as CommandOf};
-ghost use Rattle.reraid_nbd_cli.specs.Mapped.{IsUnasked, RunsMapped, RunsWords};
+ghost use Rattle.reraid_nbd_cli.specs.Mapped.{IsUnasked, RunsMapped, RunsWords, ShowsMapped, damaged_of};
 ghost use Rattle.reraid_nbd_cli.specs.Runs.{AreImages, Runs, Shows, cost, place_of, refusal, sectors, volume};
-ghost use Rattle.reraid_nbd_cli.specs.Words.{AreNamed, Asks, AsksSet, PutsVolume, maps_at, without};
+ghost use Rattle.reraid_nbd_cli.specs.Words.{AreNamed, Asks, AsksDamaged, PutsVolume, maps_at, without};
 
 use crate::asking::{maps_place, read_asked, read_damaged, words_without};
 use crate::ends::NbdEnd;
 use crate::mapping::show_damaged;
+use crate::mending::show_mended;
 use crate::showing::{show_mirror, show_set};
 use crate::telling::{read_alone, tell};
 use command_words::{Command, Word};
@@ -128,7 +129,7 @@ fn run_mapped<M: Source, S: Source, I: Images, K: Sink>(
     ensures runs { IsUnasked (place_of I.seen S.left S.faults K.gained K.faults images.old source.old out.old)
         (place_of I.seen S.left S.faults K.gained K.faults images.new source.new out.new)
         (stream (M.left maps.old) (M.faults maps.old)) (stream (M.left maps.new) (M.faults maps.new)) result
-        ⊎ ((asked : Result CommandOf ℕ) × AsksSet place words.now asked ×
+        ⊎ ((asked : Result CommandOf ℕ) × AsksDamaged place words.now asked ×
         RunsMapped asked (named (length (names_after words.now)) (I.seen images.new).attached)
         (place_of I.seen S.left S.faults K.gained K.faults images.old source.old out.old)
         (place_of I.seen S.left S.faults K.gained K.faults images.new source.new out.new)
@@ -153,7 +154,7 @@ fn run_damaged<M: Source, S: Source, I: Images, K: Sink>(
     requires fresh { (I.seen images.old).attached ≡ [] }
     requires named { All (λ name. IsTrue ((I.seen images.old).world.may_attach name)) (names_after others.now) }
     requires short { place < 2 ^ 63 }
-    ensures runs { (asked : Result CommandOf ℕ) × ((words : List (List ℕ)) → others.now ≡ without place words → AsksSet place words asked) ×
+    ensures runs { (asked : Result CommandOf ℕ) × ((words : List (List ℕ)) → others.now ≡ without place words → AsksDamaged place words asked) ×
         RunsMapped asked (named (length (names_after others.now)) (I.seen images.new).attached)
         (place_of I.seen S.left S.faults K.gained K.faults images.old source.old out.old)
         (place_of I.seen S.left S.faults K.gained K.faults images.new source.new out.new)
@@ -162,13 +163,41 @@ fn run_damaged<M: Source, S: Source, I: Images, K: Sink>(
 {
     match read_damaged(others, place) {
         Err(number) => Err(NbdEnd::Refused(Refusal::Word(number))),
-        Ok(Command::Write { set, end, names }) => {
-            let names = &others[names - 1..];
+        Ok(command) => {
+            let names = names_of(&command, others);
             match attach_front(images, names) {
-                Ok(()) => show_damaged(alloc, images, names.len(), &set, end, maps, source, out),
+                Ok(()) => show_mapped(alloc, &command, images, names.len(), maps, source, out),
                 Err(_) => Err(NbdEnd::ImageFault),
             }
         }
-        Ok(_) => unreachable!(),
+    }
+}
+
+/// Serves the damaged volume of a command over the attached images, of which `names` are named.
+fn show_mapped<M: Source, S: Source, I: Images, K: Sink>(
+    alloc: Global,
+    command: &Command,
+    images: &mut I,
+    names: usize,
+    maps: &mut M,
+    source: &mut S,
+    out: &mut K,
+) -> Result<(), NbdEnd>
+    requires given { AreImages names (I.seen images.old).attached }
+    requires volume { PutsVolume command.now }
+    requires within { IsWithin command.now }
+    ensures { ShowsMapped (damaged_of command.now (named names (I.seen images.old).attached))
+        (place_of I.seen S.left S.faults K.gained K.faults images.old source.old out.old)
+        (place_of I.seen S.left S.faults K.gained K.faults images.new source.new out.new)
+        (stream (M.left maps.old) (M.faults maps.old)) (stream (M.left maps.new) (M.faults maps.new)) result }
+{
+    match command {
+        Command::Write { set, end, .. } => {
+            show_damaged(alloc, images, names, set, *end, maps, source, out)
+        }
+        Command::MirrorWrite { set, end, .. } => {
+            show_mended(alloc, images, names, set, *end, maps, source, out)
+        }
+        _ => unreachable!(),
     }
 }

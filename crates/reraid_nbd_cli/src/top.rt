@@ -21,8 +21,9 @@ use std::alloc::Global;
 /// client sent what the protocol does not allow, or the input ended inside a message. 15: the volume has 2^63 bytes or more. 20: out of
 /// memory.
 ///
-/// Where a word before `--` is `maps=FILE`, the others are those for the volume of a set, and the text of `maps` says what was read of its
-/// images, as that of `salvage` does. A sector that an image's map calls good, or that parity has, is answered. `EIO` is told for a request
+/// Where a word before `--` is `maps=FILE`, the others are those for a volume, and the text of `maps` says what was read of its images, as
+/// that of `salvage` does. A sector that an image's map calls good, or that parity has, is answered, and of a mirror one of which a copy is
+/// good, by the first such copy. `EIO` is told for a request
 /// of which a sector is lost, or in whose reading an image failed, and for no other. Without such a word nothing is taken of `maps`.
 ///
 /// Images are read only for requests. A reading that fails is told the client as `EIO`, and the dialogue goes on. All memory is taken

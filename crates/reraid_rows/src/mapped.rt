@@ -55,8 +55,9 @@ fn check<R: Abort>(rt: &R, alloc: Global, row: &Mapped) -> Result<(), Fail> {
     Ok(())
 }
 
-/// Volumes of the sectors 1, 3, 6 and 2: the first is found as 3 + 2, and is lost where the third image lacks its 2 too.
-const SERVED: [Mapped; 4] = [
+/// Volumes of the sectors 1, 3, 6 and 2: the first is found as 3 + 2, and is lost where the third image lacks its 2 too; of a mirror it is the
+/// second copy, and is lost where that is bad too.
+const SERVED: [Mapped; 6] = [
     Mapped {
         line: LINE,
         maps: ONE,
@@ -93,6 +94,24 @@ const SERVED: [Mapped; 4] = [
         out: &[GREETING, FOUR, EIO, SECOND, &[6, 2]],
         notes: "",
     },
+    Mapped {
+        line: "set=near2:1:0:0,1 maps=m -- a b",
+        maps: b"map 0\n0 + 1\n0 512 -\n512 1536 +\n",
+        failing: None,
+        images: &[&[9, 3, 6, 2], &[1, 8, 7, 8]],
+        status: 0,
+        out: &[GREETING, FOUR, FIRST, &[1, 1, 3, 3], SECOND, &[6, 2]],
+        notes: "",
+    },
+    Mapped {
+        line: "maps=m set=near2:1:0:0,1 -- a b",
+        maps: b"map 0\n0 + 1\n0 512 -\n512 1536 +\nmap 1\n0 + 1\n0 512 /\n512 1536 +\n",
+        failing: None,
+        images: &[&[9, 3, 6, 2], &[8, 8, 7, 8]],
+        status: 0,
+        out: &[GREETING, FOUR, EIO, SECOND, &[6, 2]],
+        notes: "",
+    },
 ];
 
 #[test]
@@ -123,8 +142,15 @@ fn what_is_refused_of_maps(rt: HostRuntime) -> Result<(), Fail> {
     let third = "reraid: word 3 is not understood\n";
     for row in &[
         refused("maps=m", ONE, 1, second),
-        refused("maps=m set=near2:1:0:0,1 -- a b", ONE, 1, second),
-        refused("set=near2:1:0:0,1 maps=m -- a b", ONE, 1, first),
+        refused("maps=m sector=1 set=near2:1:0:0,1 -- a b", ONE, 1, second),
+        refused("sector=1 set=near2:1:0:0,1 maps=m -- a b", ONE, 1, first),
+        refused("set=near2:1:0:0,1 maps=m sector=1 -- a b", ONE, 1, third),
+        refused(
+            "set=near2:0:0:0,1 maps=m -- a b",
+            b"map 2\n",
+            9,
+            "reraid: rescue line 1 is not understood\n",
+        ),
         refused(
             "set=5:ls:none:1:0:0,1,2 maps=m maps=m -- a b c",
             ONE,

@@ -117,10 +117,10 @@ unfolding text_refusal
 short_text names text short = ap (λ (b : Bool). cond b (Some RescueIsLong) (line_refusal (rescue_sections names text))) (le-ltb 4194304 (length text) short)
 
 -- what was read of the images
-abbrev Reads : ℕ → List Section → List ℕ → Type 0
+abbrev pub Reads : ℕ → List Section → List ℕ → Type 0
 Reads names rescue text = (length text ≤ 4194304) × (rescue_sections names text ≡ Ok rescue)
 
-read_text : (names : ℕ) (rescue : List Section) (text : List ℕ) → Reads names rescue text → text_refusal names text ≡ None
+pub read_text : (names : ℕ) (rescue : List Section) (text : List ℕ) → Reads names rescue text → text_refusal names text ≡ None
 read_text names rescue text read = short_text names text read.0 ∙ ap line_refusal read.1
 
 -- the source gives no text

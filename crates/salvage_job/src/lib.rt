@@ -6,4 +6,4 @@
 
 mod salvaging;
 
-pub use salvaging::{Ready, prepare, salvage};
+pub use salvaging::{Ready, prepare, rescue_left, salvage};

@@ -192,8 +192,8 @@ fn long_for<I: Images>(images: &I, count: usize, set: &Wide) -> Option<Disagreem
     }
 }
 
-/// What was read of so many images, by the text that a source has left. The text is let go.
-fn rescue_left<S: Source>(alloc: Global, source: &mut S, images: u8) -> Result<Rescue, Stop>
+/// What was read of so many images, by the text that a source has left: 4,194,304 bytes of it at most. The text is let go.
+pub fn rescue_left<S: Source>(alloc: Global, source: &mut S, images: u8) -> Result<Rescue, Stop>
     ensures read { IfOk result (λ rescue. IfSome (S.left source.old) (λ text. (length text ≤ 4194304) × (rescue_sections images text ≡ Ok rescue))) }
     ensures unread { IfErr result (IsUnrescued images (S.left source.old)) }
     ensures takes { TakesFew 4194304 (S.left source.old) (S.left source.new) }

@@ -1,5 +1,5 @@
 -- What is refused of a damaged mirror, and how it is shown once nothing is.
-use Rattle.std.proofs.Common.{◌≡◌, ◌≤◌, ◌<◌, ◌^◌, ℕ, min, List, [], ◌∷◌, All, length, Option, None, Some, Result, Ok, Err, IfSome, refl, sym, ap, ap₂, ◌∙◌, subst}
+use Rattle.std.proofs.Common.{◌≡◌, ℕ, List, [], ◌∷◌, Option, None, Some, Result, Ok, IfSome, refl, sym, ap, ap₂, ◌∙◌, subst}
 use Rattle.std.proofs.lemmas.Option.{IfSome_then}
 use Rattle.std.specs.Option.{option_map}
 use Rattle.block_device.specs.Reading.{Asked}
@@ -10,12 +10,11 @@ use Rattle.near_mirror.specs.Copies.{near_sectors}
 use Rattle.near_mirror.specs.declared.types.NearSet.{NearSet}
 use Rattle.near_volume.specs.Mirrored.{IsMirrored}
 use Rattle.outside.specs.Attached.{told_all}
-use Rattle.outside.specs.Seen.{Image}
 use Rattle.rescue_text.specs.RescueText.{rescue_sections}
 use Rattle.rescue_text.specs.declared.fault.RescueFault.{RescueFault}
 use Rattle.rescue_text.specs.declared.section.Section.{Section}
 use Rattle.run_ends.specs.Agreement.{end_of, limits_fault}
-use Rattle.run_ends.specs.Jobs.{Named, named}
+use Rattle.run_ends.specs.Jobs.{Named}
 use Rattle.run_ends.specs.Stops.{first_of}
 use Rattle.run_ends.specs.declared.agreement.Disagreement.{Disagreement}
 use Rattle.run_ends.specs.declared.stop.Refusal.{Refusal}

@@ -1,4 +1,4 @@
-use Rattle.std.proofs.Common.{◌≡◌, ℕ, ◌<◌, ◌^◌, ◌++◌, List, All, length, sym, ap, ◌∙◌, subst, Err, Ok, arith}
+use Rattle.std.proofs.Common.{◌≡◌, ℕ, ◌<◌, ◌^◌, ◌++◌, List, All, length, sym, ap, ◌∙◌, subst, Ok, arith}
 use Rattle.command_words.specs.Commands.{names_after}
 use Rattle.outside.specs.Seen.{Image}
 use Rattle.run_ends.specs.Jobs.{named, stream}

@@ -108,8 +108,8 @@ client hands to it (LISTEN_FDS). It only reads the images.
              in sectors of 512 bytes; in each slot the number of its image, from
              0 in the order of the names, or - for a lost disk
   maps=FILE  the maps of ddrescue as one text, as reraid salvage takes them:
-             what they call bad is found by parity, and what parity has not
-             cannot be read
+             what they call bad is found by parity, or in another copy of a
+             mirror; what neither has cannot be read
   end=END    the image sector after the last that may belong to the array; the
              shortest length, if not given
   --         what follows are images

@@ -293,6 +293,8 @@ class Damaged(unittest.TestCase):
 
     def test_blamed(self) -> None:
         self.assertEqual(damage.blamed(candidate(unsound=9), {0: 9, 1: 5, 2: 2, 3: 11}), [2, 1])
+        for sound in (0, None):
+            self.assertEqual(damage.blamed(candidate(unsound=sound), {0: 0, 1: 3}), [])
 
     def test_lesser(self) -> None:
         it = damage.lesser(candidate("6:ls-6:after-q:128:2048:0,1,2,3", unsound=9), frozenset({3}))
@@ -326,6 +328,7 @@ class OfRows(unittest.TestCase):
         self.assertEqual(rows.rows_in_words(told, Bounds()), "3 of 1000 rows unsound")
         self.assertEqual(rows.rows_in_words(told, Bounds(7, 999)), "parity holds in rows 0 to 6; 3 of 1000 rows unsound, all from row 7 on")
         self.assertEqual(rows.rows_in_words(told, Bounds(0, 12)), "3 of 1000 rows unsound, all in rows 0 to 12")
+        self.assertEqual([Bounds(0, 12).text(), Bounds(7).text(), Bounds(None, 7).text()], [", first 0 and last 12", "", ""])
 
     def test_whole(self) -> None:
         found = Rows(hunt_of(self.unsound()))

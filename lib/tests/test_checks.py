@@ -264,6 +264,12 @@ class Files(InFolder):
         long = wholes.count_long(name, 12 * SECTOR, SECTOR, SECTOR, 20)
         self.assertEqual((long.longest, long.joined), (len(one), 0))
 
+    def test_sums_behind_members_of_a_zip(self) -> None:
+        """With and without a signature, with lengths of four bytes and of eight."""
+        for signature, kind, length in ((b"", "<III", 12), (b"PK\7\x08", "<III", 16), (b"", "<IQQ", 20), (b"PK\7\x08", "<IQQ", 24)):
+            text = signature + struct.pack(kind, 0x11223344, 700, 900) + b"PK\1\2"
+            self.assertEqual(wholes.described(io.BytesIO(b"x" * 9 + text.ljust(40, b"\0")), 9), (0x11223344, length))
+
     def test_zip_that_does_not_say_where_it_ends(self) -> None:
         head = b"PK\3\4" + struct.pack("<HHH4xIIIHH", 20, 8, 0, 0, 0, 0, 1, 0) + b"a"
         told = wholes.count(self.file("a", head.ljust(4096, b"\0")))

@@ -4,7 +4,9 @@ import os
 import threading
 import time
 import unittest
+from unittest import mock
 
+from reraid_try.calls import commands as commands_module
 from reraid_try.calls.commands import Commands, Log
 from reraid_try.errors import OutsideError, Stopped
 from tests.standin import InFolder
@@ -69,6 +71,17 @@ class Runs(InFolder):
         self.assertTrue(gone(seconds))
         with self.assertRaises(Stopped):
             commands.run(["true"])
+
+    @unittest.skipUnless(os.path.exists("/proc/self/io"), "nothing tells what a process has read")
+    def test_how_much_is_read(self) -> None:
+        told: list[tuple[str, int, float]] = []
+        with mock.patch.object(commands_module, "FIRST_LOOK", 0.3), mock.patch.object(commands_module, "NEXT_LOOK", 0.1):
+            commands = Commands(progress=lambda *values: told.append(values))
+            commands.run(["sh", "-c", "read line; sleep 1"], "a" * 30000 + "\n")
+        self.assertEqual({name for name, _, _ in told}, {"sh -c"})
+        self.assertTrue(all(0.3 <= seconds < 60 for _, _, seconds in told))
+        # Besides the line a shell reads the heads of its libraries alone.
+        self.assertTrue(30000 < told[-1][1] < 100000)
 
     def test_shown(self) -> None:
         told: list[str] = []

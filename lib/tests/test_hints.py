@@ -120,6 +120,9 @@ class OnImages(InFolder):
         name = self.file("a", bytes(10 * SECTOR) + b"x" * 5 * SECTOR + bytes(10 * SECTOR) + b"y")
         filling = Filling([name], [0, 12], 14, 26)
         self.assertEqual([filling.behind(0), filling.behind(12), filling.behind(0, 11), filling.behind(5), filling.behind(40)], [4, 4, 1, 5, 0])
+        # Of what lies behind the last window, or behind the end, nothing is counted.
+        self.assertEqual(Filling([name], [0], 14, 60).behind(12), 2)
+        self.assertEqual(Filling([name], [12], 40, 26).behind(12, 50), 4)
 
 
 class Gathered(InFolder):

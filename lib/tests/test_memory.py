@@ -218,6 +218,13 @@ class Volumes(Kept):
             self.assertIsNone(self.looks(memory).known(word, origins, files))
         self.assertIsNone(self.looks(None).known(WORD, [0, 2048], True))
 
+    def test_other_maps_are_other_questions(self) -> None:
+        memory = self.memory()
+        self.addCleanup(memory.close)
+        self.looks(memory, maps="map 0\n").keep(WORD, [], True, self.found)
+        for maps, found in (("map 0\n", self.found), ("map 1\n", None), (None, None)):
+            self.assertEqual(self.looks(memory, maps=maps).known(WORD, [], True), found)
+
     def test_what_lacked_room_is_not_kept(self) -> None:
         memory = self.memory()
         self.addCleanup(memory.close)

@@ -185,6 +185,23 @@ class Families(unittest.TestCase):
             made.append([one, other, one, other])
         self.assertEqual([(it.images, it.level, it.copies) for it in told(made)], [((0, 2), "10", ((0, 2),)), ((1, 3), "10", ((1, 3),))])
 
+    def test_copies_in_nearly_all_rows(self) -> None:
+        """Two images are copies where nine in ten of the rows hold the same, and not where fewer do."""
+        for same, copies in ((18, ((0, 1),)), (17, ())):
+            made = []
+            for number in range(20):
+                one = rows.sector(self.rnd)
+                made.append([one, one if number < same else rows.sector(self.rnd)])
+            found = relations.read(rows.text(made), 1)
+            self.assertEqual(families.copies_of(found, frozenset((0, 1))), copies)
+
+    def test_a_copy_of_one_disk(self) -> None:
+        """A RAID 5 of four disks of which one was imaged twice is no array of copies."""
+        made = [[*row, row[1]] for row in rows.striped(self.rnd, 4, 5, NUMBER)]
+        found, = told(made)
+        self.assertEqual(found.images, (0, 1, 2, 3, 4))
+        self.assertNotEqual(found.level, families.COPIES)
+
     def test_turning_copies(self) -> None:
         """Copies of a RAID 10 of five disks, of which each row has other pairs, are no RAID 5."""
         made = []

@@ -18,6 +18,7 @@ class Units(unittest.TestCase):
         self.assertEqual((counted(1, "mark"), counted(2, "mark"), counted(0, "mark")), ("1 mark", "2 marks", "0 marks"))
         self.assertEqual(listed([2048, 0, 2048]), "0,2048")
         self.assertEqual((percent(1, 1000), percent(0, 10), percent(1, 3), percent(5, 5)), ("less than 1%", "0%", "33%", "100%"))
+        self.assertEqual((percent(1, 100), percent(1, 101)), ("1%", "less than 1%"))
 
 
 class Sets(unittest.TestCase):

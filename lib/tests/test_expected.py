@@ -38,7 +38,11 @@ class Expected(unittest.TestCase):
         self.assertIn("kinds are gpt,ntfs,xfs,btrfs,lvm,ext, in this order", said("survey", "kinds=zfs"))
         self.assertIn("chunks=64,128", said("survey", "chunks=128,64"))
         self.assertIn("powers of two", said("survey", "chunks=100"))
+        self.assertEqual(said("survey", "chunks=1,32768"), "")
+        self.assertIn("powers of two", said("survey", "chunks=65536"))
         self.assertIn("from 2 to 24", said("survey", "members=25"))
+        self.assertIn("from 2 to 24", said("survey", "members=1"))
+        self.assertEqual(said("survey", "members=2,24"), "")
         self.assertIn("layouts=near3,far2", said("mirrors", "layouts=far2,near3"))
         self.assertIn("is far2 meant?", said("mirrors", "layouts=f2"))
 
@@ -50,6 +54,8 @@ class Expected(unittest.TestCase):
         self.assertIn("so 128 for 64K", said("mirrorwrite", "set=far2:64K:2048:0,1,-"))
         self.assertIn("after-q or by-data or by-slot", said("nbd", "set=6:ls:none:128:2048:0,1,2,3"))
         self.assertIn("numbers of images", said("nbd", "set=5:ls:none:128:2048:a,b,c"))
+        self.assertIn("24: slots are numbers of images", said("nbd", "set=5:ls:none:128:2048:23,24,0"))
+        self.assertEqual(said("nbd", "set=5:ls:none:128:2048:23,1,0"), "")
         self.assertEqual(said("nbd", "set=5:ls:none:128:2048:0,1,-"), "")
 
     def test_maps(self) -> None:

@@ -59,6 +59,7 @@ class Data(unittest.TestCase):
         marks = [("super", k, 2048 + 16384 * k, EVERY) for k in range(4)]
         found = hints.data_disks(plan_of(("xfs", marks)), 6)
         self.assertEqual([(hint.value, hint.shown, hint.what) for hint in found], [(3, 4, What.DATA)])
+        self.assertEqual([hint.value for hint in hints.data_disks(plan_of(("xfs", marks)), 3)], [3])
         self.assertEqual(hints.data_disks(plan_of(("xfs", marks)), 2), [])
 
     def test_one_disk_is_no_array(self) -> None:
@@ -97,6 +98,10 @@ class OnImages(InFolder):
         self.assertEqual([(hint.what, hint.value) for hint in hints.logical(plan, {0: image(0, name)})], [(What.LOGICAL, 4096)])
         near = self.file("b", bytes(8 * SECTOR) + mbr((0, 0xEE, 1, 99)) + bytes(6 * SECTOR) + mbr((0, 0xEE, 1, 99)))
         self.assertEqual(hints.logical(plan, {0: image(0, near)}), [])
+        # Where as many images speak for sectors as for large blocks, nothing is told.
+        both = plan_of(("gpt", [("gpt", 0, 16, "at:1"), ("gpt", 1, 16, "at:1")]))
+        self.assertEqual(hints.logical(both, {0: image(0, name), 1: image(1, near)}), [])
+        self.assertEqual([hint.shown for hint in hints.logical(both, {0: image(0, name), 1: image(1, name)})], [2])
 
     def test_what_cannot_be_read(self) -> None:
         with self.assertRaises(OutsideError):

@@ -123,6 +123,11 @@ class InImages(InFolder):
             found = heads.find_heads(file, 3, len(data))
         self.assertEqual(set(found), {Head("mbr", 3, 5), Head("ext", 3, 7), Head("luks", 3, 20)})
 
+    def test_heads_at_the_start(self) -> None:
+        data = mbr((0, 7, 2048, 100)) + bytes(SECTOR) + ext_super() + bytes(SECTOR)
+        with open(self.file("a", data), "rb") as file:
+            self.assertEqual(set(heads.find_heads(file, 0, len(data))), {Head("mbr", 0, 0), Head("ext", 0, 0)})
+
     def test_first_and_last_data(self) -> None:
         data = bytes(3 * SECTOR) + b"x" + bytes(2 * MIB) + b"y" + bytes(5000)
         with open(self.file("a", data), "rb") as file:
@@ -137,6 +142,7 @@ class InImages(InFolder):
 
     def test_strided(self) -> None:
         self.assertEqual(reading.strided(bytes(512) + b"\1" + bytes(1023) + b"\1", 0, 1), [1, 3])
+        self.assertEqual(reading.strided(b"\0\1".ljust(512, b"\0") * 3, 1, 1), [0, 1, 2])
 
     def test_holes_are_passed_over(self) -> None:
         name = self.file("a")
@@ -197,6 +203,12 @@ class Maps(InFolder):
         self.assertEqual(found.blocks, ((0, 1024, "+"), (1024, 513, "-"), (1537, 512, "*")))
         # 513 bytes touch three sectors at most, 512 that begin inside of one touch two.
         self.assertEqual([found.unread(end) for end in (2, 3, 100)], [0, 2, 5])
+
+    def test_gaps(self) -> None:
+        """Sectors of which some byte is unread; what touches is one run."""
+        found = maps.Map("m", "", ((0, 1024, "+"), (1024, 513, "-"), (1537, 511, "*"), (2048, 512, "/"), (2560, 1024, "+"), (3584, 1, "-")))
+        self.assertEqual(found.gaps(100), [range(2, 5), range(7, 8)])
+        self.assertEqual((found.gaps(7), found.gaps(4), found.gaps(2)), ([range(2, 5)], [range(2, 4)], []))
 
     def test_no_map(self) -> None:
         for text, line in (("", "it has no lines"), ("no map\n", "line 1"), ("# x\n\n0x0 +\n", "no blocks"), ("0 +\n", "no blocks"),

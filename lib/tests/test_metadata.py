@@ -209,6 +209,10 @@ class Sets(unittest.TestCase):
         self.assertIsNone(metadata.word_of([dataclasses.replace(it, level="raid1") for it in members([0, 1], [9, 9], [0, 0])], 2))
         self.assertIsNone(metadata.word_of([], 0))
 
+    def test_a_slot_behind_the_last(self) -> None:
+        """Of three disks the slots are 0, 1 and 2."""
+        self.assertIsNone(metadata.word_of(members([0, 1, 3], [9, 9, 9], [2048] * 3), 3))
+
     def test_heads(self) -> None:
         """Levels and layouts of md in the words of a set."""
         rows = {("raid0", ""): "0:plain:none", ("raid4", ""): "5:parity-last:none", ("raid5", "right-asymmetric"): "5:ra:none",

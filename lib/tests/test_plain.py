@@ -44,6 +44,8 @@ class Shapes(unittest.TestCase):
         """Where not few rows say another number of ties, that is tried after; where rows are not tied, that one of the disks is old."""
         self.assertEqual(self.shapes(family(4, "5", 0, others=(1,))), [Shape("5", 5, 1), Shape("5", 4)])
         self.assertEqual(self.shapes(family(4, "5", 1, loose=9)), [Shape("5", 4), Shape("5", 4, 1, 1)])
+        # Where a level 5 has lost a disk already, an old one would be one too many.
+        self.assertEqual(self.shapes(family(4, "5", 0, loose=9)), [Shape("5", 5, 1)])
 
     def test_options(self) -> None:
         """Levels and members that are not asked for are not tried."""

@@ -30,7 +30,8 @@ class Handed(unittest.TestCase):
     def test_usage(self) -> None:
         """Without a command, and without a socket, it says how it is used and serves nobody."""
         own = str(os.getpid())
-        for words, count in (([], "1"), (["/bin/cat"], "0")):
+        cases: list[tuple[list[str], str]] = [([], "1"), (["/bin/cat"], "0")]
+        for words, count in cases:
             with mock.patch.dict(os.environ, {"LISTEN_PID": own, "LISTEN_FDS": count}), mock.patch.object(serve, "serve") as served, \
                     mock.patch.object(signal, "signal"), mock.patch.object(socket, "socket"), self.assertRaises(SystemExit) as ended:
                 serve.main(words)

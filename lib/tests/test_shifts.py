@@ -63,6 +63,13 @@ class Distances(unittest.TestCase):
         names = {0: self.write(0, table + self.sectors(9) + table), 1: self.write(1, self.sectors(5) + table)}
         self.assertEqual(shifts.shifts(names, 0, 60), [])
 
+    def test_places_in_later_blocks(self) -> None:
+        """Places are those of the image, in whatever block it is read."""
+        one = self.sectors(1)
+        name = self.write(0, [ZERO] * 9000 + one)
+        self.assertEqual(list(shifts.taken(name, 0, 9001, 1).values()), [9000])
+        self.assertEqual(list(shifts.taken(name, 8999, 9001, 1).values()), [9000])
+
     def test_some_taken(self) -> None:
         """Of many sectors some are taken, the same of each image."""
         same = self.sectors(512)
@@ -92,6 +99,7 @@ class Told(unittest.TestCase):
         self.assertIsNone(shifts.apart([Shift(0, 1, 8, 20), Shift(1, 2, -24, 30), Shift(0, 2, -36, 25), Shift(0, 3, -40, 25)]))
         self.assertIsNone(shifts.apart([Shift(0, 1, 0, 20)]))
         self.assertEqual([shifts.layout(128), shifts.layout(90112), shifts.layout(65536)], ["offset", "far", "far"])
+        self.assertEqual([shifts.layout(32768), shifts.layout(96)], ["offset", "far"])
 
 
 if __name__ == "__main__":

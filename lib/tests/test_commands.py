@@ -76,7 +76,7 @@ class Runs(InFolder):
     def test_how_much_is_read(self) -> None:
         told: list[tuple[str, int, float]] = []
         with mock.patch.object(commands_module, "FIRST_LOOK", 0.3), mock.patch.object(commands_module, "NEXT_LOOK", 0.1):
-            commands = Commands(progress=lambda *values: told.append(values))
+            commands = Commands(progress=lambda name, count, seconds: told.append((name, count, seconds)))
             commands.run(["sh", "-c", "read line; sleep 1"], "a" * 30000 + "\n")
         self.assertEqual({name for name, _, _ in told}, {"sh -c"})
         self.assertTrue(all(0.3 <= seconds < 60 for _, _, seconds in told))

@@ -47,6 +47,11 @@ class Heads(unittest.TestCase):
         self.assertEqual(found.detail, "aes-xts-plain64")
         self.assertEqual(found.data, 4096 * 512)
 
+    def test_luks1_apart_from_its_data(self) -> None:
+        """A head that lies elsewhere than its data tells no first byte of them."""
+        head = luks1_head()
+        self.assertIsNone(self.found(head[:104] + bytes(4) + head[108:]).data)
+
     def test_luks2(self) -> None:
         """Cipher and first byte stand in the JSON."""
         found = self.found(luks2_head({"offset": "16777216", "encryption": "aes-xts-plain64"}))
@@ -80,6 +85,7 @@ class Heads(unittest.TestCase):
         self.assertEqual(self.found(data, len(data)).kind, "GELI of FreeBSD")
         self.assertEqual(self.found(data + b"tail", len(data) + 4).kind, "GELI of FreeBSD")
         self.assertIsNone(encryption.detect(reader(data)))
+        self.assertEqual(self.found(data[8192:], 512).kind, "GELI of FreeBSD")
 
     def test_nothing(self) -> None:
         """Zeros, a short volume and a file system are not encrypted."""

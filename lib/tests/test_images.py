@@ -172,6 +172,8 @@ class InImages(InFolder):
         self.assertIn("the same as image 0", found[1].line())
         shorter = images.look_at_all([one, self.file("f", b"x" * 4600), self.file("g", b"x" * 4000 + b"z" * 1000)], MIB)
         self.assertEqual([image.like for image in shorter], [None, None, None])
+        longer = images.look_at_all([self.file("h", b"x" * 9 * SECTOR), self.file("i", b"x" * 9 * SECTOR + bytes(3 * SECTOR))], MIB)
+        self.assertEqual([image.like for image in longer], [None, None])
 
     def test_what_cannot_be_read(self) -> None:
         with self.assertRaisesRegex(OutsideError, "^image 4 .*: No such file"):

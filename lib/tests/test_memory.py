@@ -264,7 +264,8 @@ class Begun(InFolder):
         changed = os.stat(name).st_mtime_ns
         for data, time, told in ((bytes(10 * SECTOR), changed, "has 4608 bytes, not 5120"),
                                  (bytes(9 * SECTOR), changed + 10**9, "was changed at"),
-                                 (b"1".ljust(9 * SECTOR), changed, "holds other sectors")):
+                                 (b"1".ljust(9 * SECTOR), changed, "holds other sectors"),
+                                 (bytes(8 * SECTOR) + b"1".ljust(SECTOR), changed, "holds other sectors")):
             self.file("a.img", data)
             os.utime(name, ns=(time, time))
             with self.assertRaisesRegex(OutsideError, told):

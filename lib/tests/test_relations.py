@@ -58,6 +58,15 @@ class Lines(unittest.TestCase):
             with self.subTest(line), self.assertRaises(relations.Unreadable):
                 relations.read(line + "\n", 1)
 
+    def test_other_numbers(self) -> None:
+        """All that names images has their other numbers."""
+        found = relations.renumbered(relations.read(self.TEXT, 64), [10, 21, 32, 43, 54, 65, 76])
+        first, second = found.rows
+        self.assertEqual(first.ties, (relations.Tie(65, ((10, 143), (32, 1))), relations.Tie(76, ((21, 1),))))
+        self.assertEqual((second.zero, found.alone), (frozenset({10, 43}), frozenset({43, 54})))
+        self.assertEqual([(sorted(it.images), it.rows) for it in found.together], [([10, 32, 65], 2), ([21, 76], 2)])
+        self.assertEqual((found.step, found.free, found.total, found.others), (64, 1, 3, 3))
+
     def test_made_rows(self) -> None:
         """The rows that tests are made of have the ties of a RAID 6 by its definition: P is the sum of the data, Q that with the powers of 2."""
         row = rows.striped(random.Random(1), 5, 6, 1)[0]

@@ -118,6 +118,12 @@ class OfCures(unittest.TestCase):
                                  "group 2 (ntfs, 3 marks) alone", "group 0 (xfs, 2 marks) alone", "8 misfits", "badrows 256", "more offsets",
                                  "more origins", "offsets 0,2048, each image its own"])
 
+    def test_what_one_image_alone_shows(self) -> None:
+        """It is left out where others show something, and not where it is all there is."""
+        one, both = ("ext", [("ext", 1, 7426, "at:262144")]), ("xfs", [("super", 0, 2048, "at:0"), ("super", 1, 2048, "at:0")])
+        self.assertEqual([(cure.number, cure.out) for cure in cures.image_cures(plan_of(both, one))], [(1, frozenset({1}))])
+        self.assertEqual(list(cures.image_cures(plan_of(one))), [])
+
     def test_most_of_the_marks_only_where_all_is_tried(self) -> None:
         plan = plan_of(XFS, EXT)
         self.assertEqual([cure.number for cure in cures.group_cures(plan, False)], [1])
@@ -142,6 +148,8 @@ class OfCures(unittest.TestCase):
         self.assertEqual(cures.half_window(self.plan).of(BASE).get("window"), "50000")
         # 100,000 sectors: the last whole 64 KiB begin at 99,968, and controllers have some more.
         self.assertEqual(cures.before_superblock(self.plan).of(BASE).get("end"), str(99968 - 384))
+        # An end that comes earlier stays.
+        self.assertEqual(cures.before_superblock(self.plan).of(BASE.having(end=5000)).get("end"), "5000")
         large = plan_of(XFS, lengths=[(1 << 22) + 1] * 3)
         self.assertEqual(cures.before_superblock(large).of(BASE.having(end=1 << 22)).get("end"), str((1 << 22) + 1 - 65536 - 384))
         self.assertTrue(cures.no_records().of(BASE).records)

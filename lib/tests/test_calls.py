@@ -8,7 +8,7 @@ from reraid_try.calls.plans import Mark, read_plan
 from reraid_try.calls.program import LAST, MOST_LINES, SPAN, Copied, Program
 from reraid_try.calls.sets import read_word, simplest
 from reraid_try.calls.surveys import KINDS, Request, Surveys
-from reraid_try.errors import OutsideError, Refused
+from reraid_try.errors import OutsideError, Refused, said, said_of
 from reraid_try.units import counted, listed, percent
 from tests.standin import PLAN, Standin, put
 
@@ -19,6 +19,14 @@ class Units(unittest.TestCase):
         self.assertEqual(listed([2048, 0, 2048]), "0,2048")
         self.assertEqual((percent(1, 1000), percent(0, 10), percent(1, 3), percent(5, 5)), ("less than 1%", "0%", "33%", "100%"))
         self.assertEqual((percent(1, 100), percent(1, 101)), ("1%", "less than 1%"))
+
+
+class Errors(unittest.TestCase):
+    def test_what_the_system_says(self) -> None:
+        known = OSError(2, "No such file or directory", "a.img")
+        self.assertEqual((said(known), said_of(known)), ("No such file or directory", "a.img: No such file or directory"))
+        plain = OSError("cut off")
+        self.assertEqual((said(plain), said_of(plain)), ("cut off", "cut off"))
 
 
 class Sets(unittest.TestCase):

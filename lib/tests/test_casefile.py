@@ -53,6 +53,18 @@ def read(made: str) -> str:
     return " ".join(" ".join(reader.words).split())
 
 
+class Records(unittest.TestCase):
+    """What was said, in order."""
+
+    def test_images_as_they_were_said_last(self) -> None:
+        record = Record()
+        for number, name in ((1, "old"), (0, "first"), (1, "new")):
+            record.add("image", "", {"number": number, "name": name})
+        record.add("image", "one without a number", {})
+        self.assertEqual([it["name"] for it in record.images()], ["first", "new"])
+        self.assertEqual((record.last("image")["text"], record.last("none")), ("one without a number", {}))
+
+
 class Strips(unittest.TestCase):
     """Where images hold data."""
 

@@ -47,6 +47,8 @@ class Regions(unittest.TestCase):
 
     def test_turn(self) -> None:
         self.assertEqual(regions.turn(read_word("5:ls:none:8:16:0,1,2,3")), 96)
+        # Where parity stays on a slot for 16 rows of chunks, a turn is as many times as long.
+        self.assertEqual(regions.turn(read_word("5:ls*16:none:8:16:0,1,2,3")), 1536)
 
     def test_parts_begin_where_a_turn_does(self) -> None:
         word = read_word("5:ls:none:8:16:0,1,2,3")

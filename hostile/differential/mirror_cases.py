@@ -109,7 +109,7 @@ def mirrors_case(rng):
              "members": [found.members] + rng.choice([[], [], [], [2], [3], [min(MOST, found.members + 1)]]),
              "chunks": [found.chunk] + rng.choice([[], [], [1], [2], [32768]]),
              "offsets": [found.offset] + rng.choice([[], [], [0], [1], [FAR - 1], [end]]),
-             "missing": [max(0, found.lost + rng.choice([0] * 10 + [1, -1]))],
+             "missing": [min(MOST - 1, max(0, found.lost + rng.choice([0] * 10 + [1, -1])))],
              "foreign": [max(0, absent + rng.choice([0] * 10 + [1, -1]))],
              "badrows": [rng.choice([0, 0, 1, 2, 3, FAR - 1])],
              "window": [rng.choice([1, 2, max(1, area - 1), max(1, area), area + 1, max(1, found.chunk), FAR - 1])]}
@@ -118,8 +118,8 @@ def mirrors_case(rng):
     operands = [f"{name}={joined(values)}" for name, values in asked.items()
                 if rng.random() > usual[name] or name in ("missing", "foreign") and values != [0]]
     if rng.random() < 0.01:
-        operands = [word for word in operands if not word.startswith("missing=")] + ["missing=24"]
-    full = {name: sorted(set(values)) for name, values in asked.items()}
+        operands = [word for word in operands if not word.startswith("missing=")] + [f"missing={MOST}"]
+    full = {name: sorted(set(values), key=LAYOUTS.index if name == "layouts" else None) for name, values in asked.items()}
     full.update(missing=asked["missing"][0], foreign=asked["foreign"][0])
     if not any(word.startswith("layouts=") for word in operands):
         full["layouts"] = ["near2"]

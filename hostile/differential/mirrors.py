@@ -64,12 +64,6 @@ def torn(found, images, end, window, most):
     return count
 
 
-def is_whole(found, end):
-    """Whether each chunk of the volume has a copy on an image. From as many chunks as members on the slots are those of the first ones."""
-    chunks = min(found.rows(end) * found.members // 2, found.members)
-    return all(any(found.slots[slot] is not None for slot, _ in copies(found, chunk)) for chunk in range(chunks))
-
-
 def volume(found, images, end):
     """Of each sector of the volume the first copy that an image holds."""
     homes = [copies[0] for copies in held(found, end)]
@@ -136,7 +130,7 @@ def page(asked, mirrors, images, first, size, span):
             continue
         found = mirrors.set_at(rank)
         rank += 1
-        if is_whole(found, asked["end"]) and torn(found, images, asked["end"], asked["window"]) <= asked["badrows"]:
+        if bare(found, asked["end"]) is None and torn(found, images, asked["end"], asked["window"], asked["badrows"]) <= asked["badrows"]:
             lines.append((rank - 1, found))
             if len(lines) == size:
                 return lines, rank

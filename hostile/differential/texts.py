@@ -239,8 +239,8 @@ OPERANDS = {
     "sample": {"number": one(0, RANKS - 1), "set": set_word, "rows": one(1, 65536), "marks": either("none", "xfs")},
     "classes": {"images": one(1, MOST), **END},
     "salvage": {"set": set_word, "form": either("data", "lost"), **END},
-    "mirrors": {**{name: LISTS[name] for name in ("members", "chunks", "offsets", "foreign", "badrows", "window")}, "missing": one(0, MOST - 1),
-                **END, **RANGE},
+    "mirrors": {"layouts": named(LAYOUTS), **{name: LISTS[name] for name in ("members", "chunks", "offsets", "foreign", "badrows", "window")},
+                "missing": one(0, MOST - 1), **END, **RANGE},
     "mirrorwrite": {"set": mirror_word, **END},
     "relations": {"from": one(0, FAR - 1), **END, "step": one(1, FAR - 1), "offsets": places, "form": either("text", "json")},
 }

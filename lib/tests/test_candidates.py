@@ -158,6 +158,17 @@ class OfCandidates(unittest.TestCase):
                          ["some marks speak against it, and no file that was found is whole"])
         self.assertEqual(candidate(verdict=whole(), groups=(Held("xfs", 0, 12, 6),)).score, Score.WHOLE)
 
+    def test_longer_images_at_level_0(self) -> None:
+        long = Verdict([Finding("", "vfat", pieces=(Piece(0, 1024),), told=2048, there=1024)], Wholes(1, 1, 1 << 20), length=1024)
+        for text, lengths, verdict, said in (("0:plain:none:8:0:0,1", (8000, 9000), long, 2), ("0:plain:none:8:0:0,1", (8000, 8000), long, 1),
+                                             (SET, (8000, 9000), long, 1), ("0:plain:none:8:0:0,1", (8000, 9000), whole(), 0)):
+            hunt = hunt_of()
+            evidence = types.SimpleNamespace(images=[Image("i", k, length) for k, length in enumerate(lengths)], filled=1000)
+            setattr(hunt, "evidence", evidence)
+            it = candidate(text, verdict, hunt=hunt)
+            self.assertEqual((len(it.doubts), it.score), (said, Score.KNOWN if said else Score.WHOLE))
+            self.assertEqual([doubt for doubt in it.doubts if doubt.startswith("the images differ")], it.doubts[1:])
+
     def test_end_of_far_copies(self) -> None:
         """What was asked for with another end than that of the images is read with it, where the volume depends on it."""
         ends = []

@@ -452,6 +452,26 @@ class Looks(InFolder):
         self.assertEqual(seen[1:], [4 * MIB])
         self.assertEqual((lacking(100, 75), lacking(100, 74), lacking(100, 200)), (25, 0, 0))
 
+    def test_file_system_that_is_longer_than_its_volume(self) -> None:
+        """There is no sign for one that says of itself that it is longer than what is there, of whatever kind, unless its checker is content with
+        zeros at its end."""
+        for kind in ("vfat", "exfat", "ntfs", "btrfs", "ext4", "xfs"):
+            for told, lacks, clean, score in ((1024, 0, None, Score.WHOLE), (1536, 0, None, Score.KNOWN), (1536, 512, None, Score.KNOWN),
+                                              (1536, 0, True, Score.KNOWN), (1536, 512, True, Score.WHOLE), (0, 0, None, Score.WHOLE)):
+                finding = Finding("", kind, clean, pieces=(Piece(0, 1024),), lacks=lacks, told=told, there=1024)
+                verdict = Verdict([finding], Wholes(1, 1, 1 << 20), length=1024, chunk=10, row=100)
+                self.assertEqual((verdict.score, verdict.doubts), (score, [f"{kind} says that it has 3 sectors, and 2 are there"]
+                                                                   if score is Score.KNOWN else []))
+
+    def test_how_long_it_says_that_it_is(self) -> None:
+        head = bytearray(SECTOR)
+        head[11:13], head[32:36], head[54:62], head[82:90] = b"\0\2", struct.pack("<I", 9000), b"FAT16   ", b"FAT32   "
+        head[0:3], head[510:] = b"\xeb\x58\x90", b"\x55\xaa"
+        found = self.checkers(there=())
+        with mock.patch.object(found, "kind_of", lambda _path, region: None if region.first else "vfat"):
+            finding = found.look(self.volume((0, bytes(head))), [], 4096, 8192).findings[0]
+        self.assertEqual((finding.told, finding.there, finding.lacks), (9000 * SECTOR, 4 * MIB, 9000 * SECTOR - 4 * MIB))
+
     def test_ntfs_sees_no_more_than_it_has(self) -> None:
         seen: list[int] = []
 

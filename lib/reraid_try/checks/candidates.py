@@ -15,6 +15,8 @@ from .verdicts import Score, Verdict
 MOST_UNSOUND = 2
 # Why a set has no sign that marks speak against.
 AGAINST = "some marks speak against it, and no file that was found is whole"
+# What is said where a volume at level 0 ends too soon and its images differ in length.
+UNEQUAL = "the images differ in length, and RAID 0 that goes on over the longer disks alone is not searched"
 # So many sets of one volume are said in words.
 MOST_ALIKE = 3
 
@@ -87,7 +89,14 @@ class Candidate:
         kept = self.left_most and self.found.in_order
         left = ["a group with most of the marks was left out"] * (self.left_most and not kept)
         against = [AGAINST] * (self.spoken_against and self.found.score >= Score.CHECKED)
-        return self.found.doubts + left + against + ([self.rivalled] if self.rivalled else [])
+        return self.found.doubts + [UNEQUAL] * self.unequal + left + against + ([self.rivalled] if self.rivalled else [])
+
+    @property
+    def unequal(self) -> bool:
+        """At level 0 a file system is longer than the volume, and the images differ in length: the longer ones may go on in rows of fewer disks."""
+        if self.word.level != "0" or not self.found.doubts or not any(finding.too_long for finding in self.found.findings):
+            return False
+        return len({image.sectors for image in self.hunt.evidence.images}) > 1
 
     @property
     def alike_said(self) -> str:

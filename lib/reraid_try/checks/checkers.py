@@ -115,7 +115,8 @@ class Checkers:
         system, volume = system_of(kind), it.volume
         told = system.length_of(read_at(volume.path, region.first, LENGTH_BYTES))
         there = region.there(volume.length)
-        finding = Finding(region.name, kind, pieces=region.up_to(min(told or there, there)), lacks=lacking(told or region.length, there))
+        finding = Finding(region.name, kind, pieces=region.up_to(min(told or there, there)), lacks=lacking(told or region.length, there), told=told,
+                          there=there)
         if system.tool is None or system.tool not in self.there:
             finding.said = f"no {system.tool} here" if system.tool else "encrypted" if system.opened else ""
             return finding, []

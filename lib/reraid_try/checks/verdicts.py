@@ -4,7 +4,7 @@ import dataclasses
 import enum
 from collections.abc import Sequence
 
-from ..units import percent
+from ..units import SECTOR, counted, percent
 from .lvm import Piece
 from .systems import System, system_of
 from .wholes import Wholes
@@ -31,7 +31,8 @@ class Score(enum.IntEnum):
 @dataclasses.dataclass
 class Finding:
     """A region that holds something: what it is called, its type, and what its checker said. `clean` is None where none was asked. `pieces` are
-    where it lies, as far as it says that it is long; `lacks` how many of its bytes lie behind the end of the volume; `table` says that it is a
+    where it lies, as far as it says that it is long; `lacks` how many of its bytes lie behind the end of the volume, as zeros are put there; `told`
+    and `there` how many bytes it says that it has, 0 where that is not told, and how many of the volume there are for it; `table` says that it is a
     partition table."""
 
     region: str
@@ -40,6 +41,8 @@ class Finding:
     said: str = ""
     pieces: tuple[Piece, ...] = ()
     lacks: int = 0
+    told: int = 0
+    there: int = 0
     table: bool = False
 
     @property
@@ -61,6 +64,13 @@ class Finding:
     def summed(self) -> bool:
         """All its data are right by their sums."""
         return self.system.sums and bool(self.clean)
+
+    @property
+    def too_long(self) -> str:
+        """That it says itself that it is longer than the volume; nothing where it is not, or where its checker is content with zeros at its end."""
+        if self.told <= self.there or self.lacks and self.clean:
+            return ""
+        return f"{self.kind} says that it has {counted(self.told // SECTOR, 'sector')}, and {self.there // SECTOR} are there"
 
     def text(self) -> str:
         """What is said of it."""
@@ -176,6 +186,7 @@ class Verdict:
         said: list[str] = []
         if self.refuted or self.empty:
             return said
+        said += filter(None, (finding.too_long for finding in self.findings))
         if self.inner and LITTLE * self.covers < self.length:
             said.append(f"what was found covers {percent(self.covers, self.length)} of the volume")
         if self.within_chunks and not self.wholly_summed:

@@ -313,6 +313,25 @@ class Damaged(unittest.TestCase):
         self.assertEqual((it.trial.loosened, it.trial.shape.missing, it.unsound, it.whole and it.whole.unsound), (["without image 3"], 1, None, 9))
 
 
+    def test_no_sign_beside_one_without_unsound_rows(self) -> None:
+        """A set has no sign where it has none of its unsound rows without an image, as long as parity still tells, and no less speaks for that."""
+        for text, without, unsound, verdict, signs in (("6:ls:after-q:128:2048:0,1,2,3", 2, 0, whole(), ("", "++")),
+                                                       ("6:ls:after-q:128:2048:0,1,2,3", 2, 1, whole(), ("++", "++")),
+                                                       ("6:ls:after-q:128:2048:0,1,2,3", 2, 0, whole(longest=0), ("++", "+")),
+                                                       (SET, 2, 0, whole(), ("++", "++"))):
+            it = candidate(text, whole(), unsound=7)
+            lesser = damage.lesser(it, frozenset({without}))
+            lesser.verdict, lesser.unsound = verdict, unsound
+            self.assertEqual(damage.is_sounder(lesser, it), signs[0] == "")
+            kin.in_order([it, lesser], Known.images)
+            self.assertEqual((it.score.sign, lesser.score.sign), signs)
+        it = candidate("6:ls:after-q:128:2048:0,1,2,3", whole(), unsound=7)
+        lesser = damage.lesser(it, frozenset({2}))
+        lesser.verdict, lesser.unsound = whole(), 0
+        kin.in_order([it, lesser], Known.images)
+        self.assertEqual(it.doubts, ["7 unsound rows, and none without image 2, which is old or damaged there"])
+
+
 class OfRows(unittest.TestCase):
     @staticmethod
     def unsound(*bad: int) -> tuple[str, object]:
@@ -361,6 +380,17 @@ class OfRows(unittest.TestCase):
         # With another one missing at level 5 parity tells nothing; where most rows are unsound, or none is, the image is not old.
         self.assertEqual(Rows(hunt_of(self.unsound())).old(candidate("6:ls:by-data:128:2048:0,-,1,2")), [])
         self.assertEqual(Rows(hunt_of(self.unsound(*range(500)))).old(candidate("6:ls:by-data:128:2048:0,-,1,2")), [])
+
+    def test_image_that_was_being_rebuilt(self) -> None:
+        """Rows are unsound up to where the other images end to hold something, within a chunk."""
+        for last, end in ((2048 + 828, True), (2048 + 829, False)):
+            hunt = hunt_of(self.unsound(600, 601, 700))
+            images = tuple(Image(f"i{k}", k, 8000, last=7000 if k == 3 else last) for k in range(4))
+            setattr(hunt, "evidence", types.SimpleNamespace(images=images, filled=1000, window=8000, end=8000))
+            found = Rows(hunt).old(candidate("6:ls:by-data:128:2048:0,-,1,2"))
+            said = "the first of them row 600; perhaps it was being rebuilt, up to there"
+            self.assertEqual([it.text("abcd").endswith(said) for it in found], [end])
+        self.assertNotIn("rebuilt", rows.Old(3, 1, Checked(3, 1000), Bounds(0, 900), True).text("abcd"))
 
     def test_reshape(self) -> None:
         marks = [("super", 0, 2048 + 1280 * k, "every:49152:4:0") for k in range(8)]
@@ -519,6 +549,20 @@ class Tested(InFolder):
         self.assertEqual(self.over().left_out(it), [frozenset({0, 1})])
         self.assertIn("9 rows are unsound, 7 by image 0, 4 by image 1", self.report.text)
         self.assertEqual(self.over().left_out(candidate(unsound=9)), [frozenset({image}) for image in range(3)])
+
+    def test_sound_without_an_image(self) -> None:
+        """What has no unsound row without an image is kept, also where no more files are whole then."""
+        def told(answered: list[str], _: str) -> Answer:
+            return put(f"unsound {0 if '0,1,-,3' in answered[2] else 9} of 9\nfail\n")
+        it = candidate("6:ls:by-data:8:0:0,1,2,3", whole(), hunt=hunt_of(("reraid check", told)), unsound=9)
+        tests = self.over()
+
+        def read(one: Candidate, _files: bool = True) -> Candidate:
+            one.verdict = whole()
+            tests.ask(one)
+            return one
+        with mock.patch.object(tests, "read", read):
+            self.assertEqual([one.listed and one.listed.text for one in tests.without_damaged([it])], ["6:ls:by-data:8:0:0,1,-,3"])
 
     def test_told_once(self) -> None:
         tests = self.over()

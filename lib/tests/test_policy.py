@@ -432,6 +432,14 @@ class Hunts(InFolder):
         self.assertEqual(plan and len(plan.groups), 2)
         self.assertIsNone(hunt.checked_by(Trial(Shape("10", 4))))
 
+    def test_checked_over_the_whole_window(self) -> None:
+        """What was listed by half of the window is checked over all of it."""
+        hunt, _ = self.hunt(lambda *_: put(""))
+        half = cures.half_window(hunt.plan)
+        request = half.of(hunt.asking.request(Shape("5", 3)))
+        plan = hunt.checked_by(Trial(Shape("5", 3), (half,), request))
+        self.assertEqual((2 * request.number("window"), plan and int(plan.values["window"])), (hunt.evidence.window, hunt.evidence.window))
+
     def test_mirrors(self) -> None:
         hunt, _ = self.hunt(lambda *_: put(""))
         standin = Standin(("reraid mirrors", put("5 near2:8:2048:0,1,2,-\n7 near2:8:4096:1,0,-,2\nnext 9 of 9\n")))

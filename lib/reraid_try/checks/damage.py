@@ -29,6 +29,12 @@ def blamed(candidate: Candidate, counts: Mapping[int, int]) -> list[int]:
     return sorted((image for image, count in counts.items() if count < (candidate.unsound or 0)), key=lambda image: counts[image])
 
 
+def is_sounder(candidate: Candidate, whole: Candidate) -> bool:
+    """A set with unsound rows has none without an image, though parity still tells, and as much speaks for its volume then: what that image has is
+    wrong in these rows."""
+    return bool(whole.unsound) and candidate.unsound == 0 and candidate.word.spare > 0 and candidate.found.score >= whole.found.score
+
+
 def lesser(candidate: Candidate, images: frozenset[int]) -> Candidate:
     """A candidate without these images."""
     word, trial = (candidate.listed or candidate.word).without(images), candidate.trial

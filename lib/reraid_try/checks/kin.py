@@ -7,8 +7,9 @@ from collections.abc import Hashable, Mapping, Sequence
 from ..calls.sets import LAST_Q, Word, simplest
 from ..evidence.images import Image
 from ..policy.plans import LEAST_BAD, MOST_BAD
-from ..units import SECTOR
+from ..units import SECTOR, counted
 from .candidates import Candidate, Inside
+from .damage import is_sounder
 from .verdicts import Score
 
 # By how many slots the order of the disks is turned from one row to the next.
@@ -92,6 +93,8 @@ def rivalled(it: Candidate, other: Candidate, same: Mapping[int, int]) -> str:
     rows = rows_before(it, other, same)
     if rows:
         return f"what is found in it begins behind its first {rows} rows of chunks, where the volume of another set begins"
+    if other.whole is it and is_sounder(other, it):
+        return f"{counted(it.unsound or 0, 'unsound row')}, and none {other.trial.loosened[-1]}, which is old or damaged there"
     if it is other or other.score is not Score.WHOLE or not contradict(it, other, same):
         return ""
     if it.score is Score.CHECKED:

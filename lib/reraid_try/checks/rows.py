@@ -104,18 +104,21 @@ def halved(low: int, high: int, holds: Callable[[int], bool | None]) -> int | No
 
 @dataclasses.dataclass(frozen=True)
 class Old:
-    """An image in no slot that belongs into an empty one, where parity holds with it but in some rows: there it is old, or damaged."""
+    """An image in no slot that belongs into an empty one, where parity holds with it but in some rows: there it is old, or damaged. `to_end` says
+    that these go on to where the other images end to hold something."""
 
     image: int
     slot: int
     told: Checked
     bounds: Bounds
+    to_end: bool = False
 
     def text(self, names: Sequence[str]) -> str:
         """What is said of it."""
         where = f", the first of them row {self.bounds.first}" if self.bounds.first is not None else ""
+        rebuilt = "; perhaps it was being rebuilt, up to there" if self.bounds.first and self.to_end else ""
         return (f"{names[self.image]} is old or damaged: as slot {self.slot} parity holds with it in all rows but {self.told.unsound} of "
-                f"{self.told.rows}{where}")
+                f"{self.told.rows}{where}{rebuilt}")
 
 
 @dataclasses.dataclass(frozen=True)
@@ -191,7 +194,10 @@ class Rows:
         near = Near(word.text, self.window(request))
         if word.spare < 1 or not self.ask(near) or not 0 < MOST_OLD * near.told.unsound < self.hunt.evidence.filled:
             return []
-        return [Old(image, slot, near.told, self.bounds(near))]
+        bounds, images = self.bounds(near), self.hunt.evidence.images
+        lasts = [last for other in word.images if other != image and (last := images[other].last) is not None]
+        to_end = bounds.last is not None and bool(lasts) and max(lasts) - word.offset <= bounds.last + word.chunk
+        return [Old(image, slot, near.told, bounds, to_end)]
 
     def turned(self, near: Near) -> Turned | None:
         """The row before which the marks of a group fit and behind which none does; None for most sets."""

@@ -100,12 +100,13 @@ class Tests:
         return told.unsound if told else candidate.unsound or 0
 
     def without_damaged(self, tested: Sequence[Candidate]) -> list[Candidate]:
-        """The candidates with the fewest unsound rows once more, without the images that make these unsound; those that gain by it."""
+        """The candidates with the fewest unsound rows once more, without the images that make these unsound; those that gain by it, or of which all
+        rows are sound then."""
         found = []
         for it in damage.doubted(tested, bool(self.maps)):
             lesser = [damage.lesser(it, images) for images in self.left_out(it)]
             self.side_by_side(self.read, lesser, "looks at the candidates without damaged images")
-            found += [one for one in lesser if one.found.gain > it.found.gain]
+            found += [one for one in lesser if one.found.gain > it.found.gain or damage.is_sounder(one, it)]
         return found
 
     def left_out(self, candidate: Candidate) -> list[frozenset[int]]:

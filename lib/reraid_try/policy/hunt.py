@@ -15,7 +15,7 @@ from ..evidence.images import Image
 from ..evidence.places import Places
 from ..options import Options
 from ..units import listed
-from .cures import Cure, choices, loosened
+from .cures import Cure, Family, choices, loosened
 from .plans import Asking
 from .questions import Late, Questions
 from .shapes import Shape, Shapes
@@ -126,5 +126,10 @@ class Hunt:
         return mirrored(Copying(NEAR, pairs.copies), word.chunk, word.offset, tuple(slots))
 
     def checked_by(self, trial: Trial) -> Plan | None:
-        """The plan with which `check` is asked of a candidate of a trial: with all groups, whatever was left out; None for RAID 10."""
-        return self.surveys.plan(dataclasses.replace(trial.request, out=())) if trial.request else None
+        """The plan with which `check` is asked of a candidate of a trial: with all groups, whatever was left out, and over the whole window, where a
+        half was listed by; None for RAID 10."""
+        if trial.request is None:
+            return None
+        request = dataclasses.replace(trial.request, out=())
+        halved = any(cure.family is Family.WINDOW for cure in trial.cures)
+        return self.surveys.plan(request.having(window=self.evidence.window) if halved else request)

@@ -250,6 +250,9 @@ class Kin(unittest.TestCase):
                    "0:plain:none:128:2048:3,4")
         self.assertEqual(self.signs(SET, *related), ["+"] * 6)
         self.assertEqual(self.signs(SET, *others, start=8000), ["+"] * 5)
+        # An image that stands in another slot, and the same with fewer images.
+        self.assertEqual(self.signs("5:ls:none:128:2048:0,1,-,2", "5:ls:none:128:2048:0,1,2,-", "5:ls:none:128:2048:0,-,1,2"), ["", ""])
+        self.assertEqual(self.signs("6:ls:after-q:128:2048:0,1,-,2", "6:ls:after-q:128:2048:0,1,-,-", "6:ls:after-q:128:2048:0,1,3,-"), ["+", "+"])
         doubted = candidate("5:rs:none:128:2048:0,1,2", Verdict([Finding("", "xfs", True, "said", (Piece(0, 1000),))], length=1000))
         kin.in_order([doubted, candidate(SET, whole())], self.images)
         self.assertEqual((doubted.score, doubted.doubts), (Score.KNOWN, ["another set of these images, which contradicts it, has long whole files"]))

@@ -125,9 +125,11 @@ def contradict(one: Candidate, other: Candidate, same: Mapping[int, int]) -> boo
 
 
 def is_lesser(one: Key, other: Key) -> bool:
-    """Two sets are the same but for slots that are empty in one of them."""
+    """Two sets are the same but for slots that are empty in one of them: what both name stands in the same slot."""
     alike = (one.layout, one.chunk, one.offsets, len(one.slots)) == (other.layout, other.chunk, other.offsets, len(other.slots))
-    return alike and all(left == right or left is None or right is None for left, right in zip(one.slots, other.slots))
+    met = {left for left, right in zip(one.slots, other.slots) if left == right}
+    moved = set(one.slots) & set(other.slots) - met - {None}
+    return alike and not moved and all(left == right or left is None or right is None for left, right in zip(one.slots, other.slots))
 
 
 def text(it: Candidate) -> str:

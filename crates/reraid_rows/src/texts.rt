@@ -20,7 +20,7 @@ static USES: [&str; 14] = [
     "  rebuild set=SET slot=SLOT [end=END] -- IMAGE..  > MEMBER",
     "  sample number=NUMBER set=SET rows=ROWS [marks=MARKS] --",
     "  classes images=IMAGES end=END --  < LINES",
-    "  mirrors [members=LIST] [chunks=LIST] [offsets=LIST] [missing=M] [foreign=F]",
+    "  mirrors [layouts=LIST] [members=LIST] [chunks=LIST] [offsets=LIST]",
     "  mirrorwrite set=NEARSET [end=END] -- IMAGE..  > VOLUME",
     "  salvage set=SET [form=FORM] [end=END] -- IMAGE..  < MAPS",
     "The manual: reraid(1), and USING.md, FORMATS.md and more in share/doc/reraid.",

@@ -14,7 +14,7 @@ disks 6 128 random a b c d e f g h
 disks 6 128 random m n o p q r s t u v w y
 disks 6 128 random A B C D E F G H I J K L M N O P
 disks 5 128 other Q R S T U V W X Y Z
-disks 6 128 other A2 B2 C2 D2 E2 F2 G2 H2
+disks 6 128 other aa bb cc dd ee ff gg hh
 for name in x z; do head -c "$(stat -c %s m)" /dev/urandom >$name; done
 # An image of which 3% of the rows are wrong, and disks of which 1% of the rows are no zeros.
 cp m wrong
@@ -64,7 +64,7 @@ searched "sixteen images, 702 heads" "A B C D E F G H I J K L M N O P" $all
 searched "twelve members, at most one lost, thirteen images, 702 heads" "m n o p q r x s t u z v w" members=12 missing=1 foreign=2 $all
 searched "eight members, at most one lost, and nine of ten of a RAID 5, 702 heads" "a Q b R c S d T e U f V g W X Y" members=8 missing=1 foreign=9 $all
 searched "eight members among eight of one RAID 6 and eight of another, one chunk and offset" \
-    "a A2 b B2 c C2 d D2 e E2 f F2 g G2 h H2" members=8 foreign=8 offsets=2048 chunks=128
+    "a aa b bb c cc d dd e ee f ff g gg h hh" members=8 foreign=8 offsets=2048 chunks=128
 window=4096
 searched "one of twelve lost, 3% of the rows of one wrong, 702 heads" "wrong n o p q r s t u v w" members=12 missing=1 badrows=128 $all
 window=10240

@@ -40,6 +40,16 @@ pub struct Mark {
 /// Marks in their order.
 pub type Marks = ListOf<Mark>;
 
+/// How many marks of a group may lie where their rules do not let them, and how many have to lie where they do.
+#[derive(Clone, Copy, Debug, PartialEq, Eq)]
+pub struct MarkBounds {
+    /// The most marks of a group that may lie where their rules do not let them.
+    pub misfits: u64,
+    /// The fewest marks of a group that have to lie where their rules let them; all of them, in a group with
+    /// fewer.
+    pub least: u64,
+}
+
 /// The marks of one partition table or file system.
 #[derive(Drop)]
 pub struct Group {
@@ -47,6 +57,8 @@ pub struct Group {
     pub kind: GroupKind,
     /// The marks, by sector, and on one sector by image.
     pub marks: Marks,
+    /// The bounds of this group alone, which take the place of those that are asked of all groups.
+    pub bounds: Option<MarkBounds>,
 }
 
 /// Groups in their order.
@@ -57,10 +69,10 @@ pub type Groups = ListOf<Group>;
 pub struct MarkTests {
     /// The sectors of the volume at which a file system may begin.
     pub origins: ArrayVec<u64, MOST_ORIGINS>,
-    /// The most marks of a group that may lie where their rules do not let them.
+    /// The most marks of a group without bounds of its own that may lie where their rules do not let them.
     pub misfits: u64,
-    /// The fewest marks of a group that have to lie where their rules let them; all of them, in a group with
-    /// fewer.
+    /// The fewest marks of a group without bounds of its own that have to lie where their rules let them; all of
+    /// them, in a group with fewer.
     pub least: u64,
 }
 

@@ -1,10 +1,10 @@
 //! The landmark test.
 ghost use Rattle.std.specs.Prelude.{◌≡◌, ◌<◌, ◌^◌, ℕ, find, true};
 ghost use Rattle.raid_params.specs.Validity.{is_shaped};
-ghost use Rattle.landmark_rules.specs.Groups.{groups_hold as all_hold, held_origin as first_origin, holds_at as group_holds_at, origins_for as origins_of_kind};
+ghost use Rattle.landmark_rules.specs.Groups.{bounds_of, groups_hold as all_hold, held_origin as first_origin, holds_at as group_holds_at, origins_for as origins_of_kind};
 
 use crate::counting::tally;
-use crate::marks::{Group, Groups, MarkTests};
+use crate::marks::{Group, Groups, MarkBounds, MarkTests};
 use mark_kinds::{Begin, GroupKind};
 use raid_params::Geometry;
 
@@ -16,6 +16,19 @@ pub fn origins_for(tests: &MarkTests, kind: GroupKind) -> &[u64]
     match kind.begin() {
         Begin::WithVolume => &[0],
         Begin::AtOrigins => &tests.origins,
+    }
+}
+
+/// The bounds of a group: its own, or those of `tests` where it has none.
+pub fn bounds_for(tests: &MarkTests, group: &Group) -> MarkBounds
+    ensures { result ≡ bounds_of tests.now group.now }
+{
+    match group.bounds {
+        Some(own) => own,
+        None => MarkBounds {
+            misfits: tests.misfits,
+            least: tests.least,
+        },
     }
 }
 
@@ -58,8 +71,9 @@ fn holds_at(geo: &Geometry, end: u64, group: &Group, tests: &MarkTests, origin: 
     ensures { result ≡ group_holds_at geo.now end tests.now group.now origin }
 {
     let count = tally(geo, end, &group.marks, origin);
-    let asked = tests.least.min(group.marks.as_slice().len() as u64);
-    count.misfits <= tests.misfits && asked <= count.fits
+    let bounds = bounds_for(tests, group);
+    let asked = bounds.least.min(group.marks.as_slice().len() as u64);
+    count.misfits <= bounds.misfits && asked <= count.fits
 }
 
 /// Whether each group holds at one of its origins.

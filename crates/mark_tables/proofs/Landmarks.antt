@@ -6,7 +6,7 @@ use Rattle.std.specs.Option.{is_some}
 use Rattle.raid_params.specs.Slots.{is_distinct}
 use Rattle.raid_params.specs.declared.types.Geometry.{Geometry}
 use Rattle.slot_math.specs.Ways.{AllImages}
-use Rattle.landmark_rules.specs.Groups.{fits_asked, fits_of, groups_hold, held_origin, holds_at, misfits_of, origins_for}
+use Rattle.landmark_rules.specs.Groups.{bounds_of, fits_asked, fits_of, groups_hold, held_origin, holds_at, misfits_of, origins_for}
 use Rattle.landmark_rules.specs.declared.marks.Group.{Group}
 use Rattle.search_plan.specs.declared.plan.Plan.{Plan}
 use Rattle.mark_tables.specs.Marks.{counted_in, fits_at, groups_may_hold, may_hold, may_hold_at, misfits_at, reserves}
@@ -31,10 +31,10 @@ group_at plan geo count group origin are holds =
     let later = drop count geo.slots.items in
     let fit = fits_at geo.head plan.end group.marks origin in
     let misfit = misfits_at geo.head plan.end group.marks origin in
-    let parts = and_parts (nat_le (misfits_of geo plan.end group.marks origin) plan.tests.misfits)
-    (nat_le (fits_asked plan.tests group.marks) (fits_of geo plan.end group.marks origin)) holds in
-    let few : misfits_of geo plan.end group.marks origin ≤ plan.tests.misfits = leb-true (misfits_of geo plan.end group.marks origin) plan.tests.misfits parts.0 in
-    let enough : fits_asked plan.tests group.marks ≤ fits_of geo plan.end group.marks origin = leb-true (fits_asked plan.tests group.marks) (fits_of geo plan.end group.marks origin) parts.1 in
+    let parts = and_parts (nat_le (misfits_of geo plan.end group.marks origin) (bounds_of plan.tests group).misfits)
+    (nat_le (fits_asked plan.tests group) (fits_of geo plan.end group.marks origin)) holds in
+    let few : misfits_of geo plan.end group.marks origin ≤ (bounds_of plan.tests group).misfits = leb-true (misfits_of geo plan.end group.marks origin) (bounds_of plan.tests group).misfits parts.0 in
+    let enough : fits_asked plan.tests group ≤ fits_of geo plan.end group.marks origin = leb-true (fits_asked plan.tests group) (fits_of geo plan.end group.marks origin) parts.1 in
     let split : geo.slots.items ≡ take count geo.slots.items ++ drop count geo.slots.items = sym (whole geo count) in
     let all : AllImages (length plan.lengths.items) (take count geo.slots.items ++ drop count geo.slots.items) = subst (AllImages (length plan.lengths.items)) split are.images in
     let apart : is_distinct (take count geo.slots.items ++ drop count geo.slots.items) ≡ true = ap is_distinct (whole geo count) ∙ are.apart in
@@ -50,8 +50,8 @@ group_at plan geo count group origin are holds =
     let f_is : placed ◌+◌ (fits_at geo.head plan.end group.marks origin) 0 (take count geo.slots.items ++ drop count geo.slots.items) ≡ fits_of geo plan.end group.marks origin
     = ap (placed ◌+◌ (fits_at geo.head plan.end group.marks origin) 0) (whole geo count) ∙ fits_placed geo plan.end group.marks origin are.apart in
     true_and _ _
-    (le-leb (counted_in (misfits_at geo.head plan.end group.marks origin) (take count geo.slots.items)) plan.tests.misfits (omega arith))
-    (le-leb (fits_asked plan.tests group.marks)
+    (le-leb (counted_in (misfits_at geo.head plan.end group.marks origin) (take count geo.slots.items)) (bounds_of plan.tests group).misfits (omega arith))
+    (le-leb (fits_asked plan.tests group)
     (counted_in (fits_at geo.head plan.end group.marks origin) (take count geo.slots.items)
     + reserves (fits_at geo.head plan.end group.marks origin) (length plan.lengths.items) geo.head.members (take count geo.slots.items)) (omega arith))
 
@@ -76,7 +76,7 @@ whole_at plan geo group origin are =
     = whole_reserves (fits_at geo.head plan.end group.marks origin) (length plan.lengths.items) geo.head.members geo.slots.items are.long in
     let s : counted_in (fits_at geo.head plan.end group.marks origin) geo.slots.items
     + reserves (fits_at geo.head plan.end group.marks origin) (length plan.lengths.items) geo.head.members geo.slots.items ≡ fits_of geo plan.end group.marks origin = omega arith in
-    ap₂ (λ (a b : ℕ). nat_le a plan.tests.misfits && nat_le (fits_asked plan.tests group.marks) b) m s
+    ap₂ (λ (a b : ℕ). nat_le a (bounds_of plan.tests group).misfits && nat_le (fits_asked plan.tests group) b) m s
 
 pub whole_groups : (plan : Plan) (geo : Geometry) → AreSlots plan geo → groups_may_hold plan geo.head geo.slots.items ≡ groups_hold geo plan.end plan.tests plan.groups
 unfolding groups_hold groups_may_hold may_hold held_origin

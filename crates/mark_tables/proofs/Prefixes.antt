@@ -7,7 +7,7 @@ use Rattle.std.specs.Option.{option_map_or}
 use Rattle.raid_params.specs.Slots.{stands}
 use Rattle.raid_params.specs.declared.limits.TheConstants.{MOST}
 use Rattle.raid_params.specs.declared.types.Head.{Head}
-use Rattle.landmark_rules.specs.Groups.{fits_asked}
+use Rattle.landmark_rules.specs.Groups.{bounds_of, fits_asked}
 use Rattle.landmark_rules.specs.declared.marks.Group.{Group}
 use Rattle.slot_math.specs.Ways.{AllImages, IsPrefixOf}
 use Rattle.search_plan.specs.Plans.{IsPlan}
@@ -98,8 +98,8 @@ pub holds_from : (plan : Plan) (head : Head) (prefix : List (Option ℕ)) (group
     IsPlan plan → IsPrefixOf (length plan.lengths.items) head.members prefix → IsOriginTable head plan.end group.marks origin table → AreStanding prefix standing →
     fits ≡ counted_in (λ slot image. (count_at table slot image).fits) prefix → misfits ≡ counted_in (λ slot image. (count_at table slot image).misfits) prefix →
     (length prefix < head.members → reserve ≡ sum_by (λ image. if get_or standing image false then 0 else (count_at table (length prefix) image).most) (range_with_len 0 (length plan.lengths.items))) →
-    (head.members ≤ length prefix → reserve ≡ 0) → asked ≡ min plan.tests.least (length group.marks) →
-    (nat_le misfits plan.tests.misfits && nat_le asked (fits + reserve)) ≡ may_hold_at plan head prefix group origin
+    (head.members ≤ length prefix → reserve ≡ 0) → asked ≡ min (bounds_of plan.tests group).least (length group.marks) →
+    (nat_le misfits (bounds_of plan.tests group).misfits && nat_le asked (fits + reserve)) ≡ may_hold_at plan head prefix group origin
 holds_from plan head prefix group origin table standing fits misfits reserve asked is_plan is known stand fit misfit some none ask =
     let short = is.short in
     let most = is_plan.lengths.most in
@@ -119,8 +119,8 @@ holds_from plan head prefix group origin table standing fits misfits reserve ask
           (λ image below. ap₂ (λ (b : Bool) (n : ℕ). if b then 0 else n) (stand image (omega arith)) ((known (length prefix) lt).1 image nothing_counted (omega arith)))
       | inr le ↦ none le ∙ sym (whole_reserves (fits_at head plan.end group.marks origin) (length plan.lengths.items) head.members prefix (omega arith))
     ] in
-    ap₂ (λ (a b : ℕ). nat_le a plan.tests.misfits && nat_le b (fits + reserve)) m ask
-    ∙ ap₂ (λ (a b : ℕ). nat_le (counted_in (misfits_at head plan.end group.marks origin) prefix) plan.tests.misfits && nat_le (fits_asked plan.tests group.marks) (a + b)) f r
+    ap₂ (λ (a b : ℕ). nat_le a (bounds_of plan.tests group).misfits && nat_le b (fits + reserve)) m ask
+    ∙ ap₂ (λ (a b : ℕ). nat_le (counted_in (misfits_at head plan.end group.marks origin) prefix) (bounds_of plan.tests group).misfits && nat_le (fits_asked plan.tests group) (a + b)) f r
 
 -- what stands in a list that was mapped
 pub mapped_at : {A B : Type 0} (f : A → B) (xs : List A) (i : ℕ) (x : A) (d : B) → i < length xs → x ≡ get_or xs i x → get_or (map f xs) i d ≡ f x

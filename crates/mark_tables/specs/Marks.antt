@@ -6,7 +6,7 @@ use Rattle.std.specs.declared.option.Option.{Option}
 use Rattle.std.specs.declared.option.Option.TheVariants.{None}
 use Rattle.raid_params.specs.Slots.{stands}
 use Rattle.raid_params.specs.declared.types.Head.{Head}
-use Rattle.landmark_rules.specs.Groups.{fits_asked, origins_for}
+use Rattle.landmark_rules.specs.Groups.{bounds_of, fits_asked, origins_for}
 use Rattle.landmark_rules.specs.Marks.{sector_in}
 use Rattle.landmark_rules.specs.Rules.{is_fit}
 use Rattle.landmark_rules.specs.declared.marks.Group.{Group}
@@ -44,8 +44,8 @@ reserves count images members prefix =
 -- the most that the other images can add, are as many as are asked
 abbrev pub may_hold_at : Plan → Head → List (Option ℕ) → Group → ℕ → Bool
 may_hold_at plan head prefix group origin =
-    nat_le (counted_in (misfits_at head plan.end group.marks origin) prefix) plan.tests.misfits
-    && nat_le (fits_asked plan.tests group.marks)
+    nat_le (counted_in (misfits_at head plan.end group.marks origin) prefix) (bounds_of plan.tests group).misfits
+    && nat_le (fits_asked plan.tests group)
     (counted_in (fits_at head plan.end group.marks origin) prefix
     + reserves (fits_at head plan.end group.marks origin) (length plan.lengths.items) head.members prefix)
 

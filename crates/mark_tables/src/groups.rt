@@ -11,7 +11,7 @@ ghost use Rattle.mark_tables.specs.Tables.{count_at, image_count, nothing_counte
 
 use crate::counts::{ImageCounts, OriginTable, SlotCount};
 use crate::mark_table::MarkTable;
-use landmark_rules::{Group, MarkCount};
+use landmark_rules::{Group, MarkCount, bounds_for};
 use raid_params::{Head, MOST};
 use search_plan::Plan;
 
@@ -93,11 +93,8 @@ fn may_hold_from(beginning: &Beginning, table: &OriginTable, group: &Group) -> b
         result ≡ may_hold_at beginning.now.plan.now beginning.now.head.now beginning.now.prefix.now group.now origin }
 {
     let count = count_placed(table, beginning.prefix);
-    let asked = beginning
-        .plan
-        .tests
-        .least
-        .min(group.marks.as_slice().len() as u64);
+    let bounds = bounds_for(&beginning.plan.tests, group);
+    let asked = bounds.least.min(group.marks.as_slice().len() as u64);
     let reserves = reserves(
         table,
         beginning.prefix.len(),
@@ -105,7 +102,7 @@ fn may_hold_from(beginning: &Beginning, table: &OriginTable, group: &Group) -> b
         beginning.plan.lengths.len(),
         &beginning.standing,
     );
-    count.misfits <= beginning.plan.tests.misfits && asked <= count.fits + reserves
+    count.misfits <= bounds.misfits && asked <= count.fits + reserves
 }
 
 /// The marks that fit where the prefix puts their images, and those that misfit.

@@ -5,15 +5,17 @@ use Rattle.std.proofs.lemmas.List.{append_cancel_left}
 use Rattle.mark_kinds.specs.declared.groups.GroupKind.{GroupKind}
 use Rattle.mark_kinds.specs.declared.sectors.Kind.{Kind}
 use Rattle.landmark_rules.specs.declared.marks.Mark.{Mark}
+use Rattle.landmark_rules.specs.declared.marks.MarkBounds.{MarkBounds}
+use Rattle.landmark_rules.specs.Groups.{AreMarkBounds}
 use Rattle.landmark_rules.specs.declared.marks.Rule.{Rule}
 use Rattle.landmark_rules.specs.declared.marks.Rule.TheVariants.{At, Either, Every}
 use Rattle.landmark_rules.specs.Rules.{IsRule}
 use Rattle.plan_text.specs.declared.entry.Entry.{Entry}
-use Rattle.plan_text.specs.declared.entry.Entry.TheVariants.{Done, Group as GroupEntry, Mark as MarkEntry}
+use Rattle.plan_text.specs.declared.entry.Entry.TheVariants.{Bounds as BoundsEntry, Done, Group as GroupEntry, Mark as MarkEntry}
 use Rattle.plan_text.specs.Drafts.{IsEntry, IsSpelledMark, entry_line}
 use Rattle.value_text.specs.NameLaws.{byte_law, number_law}
 use Rattle.landmark_text.specs.KindLaws.{group_law, kind_law}
-use Rattle.plan_text.specs.PlanText.{mark_text, rule_text}
+use Rattle.plan_text.specs.PlanText.{bounds_text, mark_text, rule_text}
 use Rattle.landmark_text.specs.Names.{group_name, kind_name}
 use Rattle.value_text.proofs.Spellings.{next_value}
 
@@ -125,29 +127,65 @@ same_mark m n p q e =
     let three = after_sector n q (decimal m.sector ++ 32 ∷ rule_text m.rule) m.sector (rule_text m.rule) (p.sector, refl) two.1 in
     eq_mark m n one.0 two.0 three.0 (same_rule m.rule n.rule p.rule q.rule three.1)
 
+-- the numbers of bounds, one after the other
+pub after_misfits : (bounds : MarkBounds) → AreMarkBounds bounds → (text : List ℕ) (misfits : ℕ) (rest : List ℕ) → (misfits < 2 ^ 64) × (text ≡ decimal misfits ++ 32 ∷ rest) → text ≡ bounds_text bounds →
+    (misfits ≡ bounds.misfits) × (rest ≡ decimal bounds.least)
+after_misfits bounds are text misfits rest read e =
+    let small = are.misfits in
+    next_value decimal (λ n. n < 2 ^ 64) number_law 32 text misfits bounds.misfits rest _ refl read (omega arith) e
+
+bounds_with : ℕ → ℕ → MarkBounds
+bounds_with misfits least = record { misfits = misfits; least = least }
+
+eq_bounds : (b d : MarkBounds) → b.misfits ≡ d.misfits → b.least ≡ d.least → b ≡ d
+unfolding bounds_with
+eq_bounds b d m l = let same : bounds_with b.misfits b.least ≡ bounds_with d.misfits d.least = cc in same
+
+pub same_bounds : (b d : MarkBounds) → AreMarkBounds b → AreMarkBounds d → bounds_text b ≡ bounds_text d → b ≡ d
+same_bounds b d p q e =
+    let small = p.misfits in
+    let one = after_misfits d q (bounds_text b) b.misfits (decimal b.least) (omega arith, refl) e in
+    eq_bounds b d one.0 (same_last b.least d.least p.least q.least one.1)
+
 pub same_entry : (d e : Entry) → IsEntry d → IsEntry e → entry_line d ≡ entry_line e → d ≡ e
 same_entry Done Done p q h = refl
 same_entry Done (GroupEntry k) p q h = let no : Same 100 103 = ap (byte_at 0) h in absurd (omega arith)
+same_entry Done (BoundsEntry b) p q h = let no : Same 100 98 = ap (byte_at 0) h in absurd (omega arith)
 same_entry Done (MarkEntry m) p q h = let no : Same 100 109 = ap (byte_at 0) h in absurd (omega arith)
 same_entry (GroupEntry k) Done p q h = let no : Same 103 100 = ap (byte_at 0) h in absurd (omega arith)
 same_entry (GroupEntry k) (GroupEntry l) p q h = ap GroupEntry (same_group k l (append_cancel_left (codes "group ") (group_name k) (group_name l) h))
+same_entry (GroupEntry k) (BoundsEntry b) p q h = let no : Same 103 98 = ap (byte_at 0) h in absurd (omega arith)
 same_entry (GroupEntry k) (MarkEntry m) p q h = let no : Same 103 109 = ap (byte_at 0) h in absurd (omega arith)
+same_entry (BoundsEntry b) Done p q h = let no : Same 98 100 = ap (byte_at 0) h in absurd (omega arith)
+same_entry (BoundsEntry b) (GroupEntry k) p q h = let no : Same 98 103 = ap (byte_at 0) h in absurd (omega arith)
+same_entry (BoundsEntry b) (BoundsEntry d) p q h = ap BoundsEntry (same_bounds b d p q (append_cancel_left (codes "bounds ") (bounds_text b) (bounds_text d) h))
+same_entry (BoundsEntry b) (MarkEntry m) p q h = let no : Same 98 109 = ap (byte_at 0) h in absurd (omega arith)
 same_entry (MarkEntry m) Done p q h = let no : Same 109 100 = ap (byte_at 0) h in absurd (omega arith)
 same_entry (MarkEntry m) (GroupEntry k) p q h = let no : Same 109 103 = ap (byte_at 0) h in absurd (omega arith)
+same_entry (MarkEntry m) (BoundsEntry b) p q h = let no : Same 109 98 = ap (byte_at 0) h in absurd (omega arith)
 same_entry (MarkEntry m) (MarkEntry n) p q h = ap MarkEntry (same_mark m n p q (append_cancel_left (codes "mark ") (mark_text m) (mark_text n) h))
 
 -- a line that is none of groups
 pub no_group : (line name : List ℕ) → line ≡ codes "group " ++ name → ((kind : GroupKind) → name ≢ group_name kind) → (entry : Entry) → IsEntry entry → line ≢ entry_line entry
 no_group line name w none Done is e = let no : Same 103 100 = ap (byte_at 0) (sym w ∙ e) in absurd (omega arith)
 no_group line name w none (GroupEntry kind) is e = none kind (append_cancel_left (codes "group ") name (group_name kind) (sym w ∙ e))
+no_group line name w none (BoundsEntry bounds) is e = let no : Same 103 98 = ap (byte_at 0) (sym w ∙ e) in absurd (omega arith)
 no_group line name w none (MarkEntry mark) is e = let no : Same 103 109 = ap (byte_at 0) (sym w ∙ e) in absurd (omega arith)
+
+pub no_bounds : (line text : List ℕ) → line ≡ codes "bounds " ++ text → ((bounds : MarkBounds) → AreMarkBounds bounds → text ≢ bounds_text bounds) → (entry : Entry) → IsEntry entry → line ≢ entry_line entry
+no_bounds line text w none Done is e = let no : Same 98 100 = ap (byte_at 0) (sym w ∙ e) in absurd (omega arith)
+no_bounds line text w none (GroupEntry kind) is e = let no : Same 98 103 = ap (byte_at 0) (sym w ∙ e) in absurd (omega arith)
+no_bounds line text w none (BoundsEntry bounds) is e = none bounds is (append_cancel_left (codes "bounds ") text (bounds_text bounds) (sym w ∙ e))
+no_bounds line text w none (MarkEntry mark) is e = let no : Same 98 109 = ap (byte_at 0) (sym w ∙ e) in absurd (omega arith)
 
 pub no_mark : (line text : List ℕ) → line ≡ codes "mark " ++ text → ((mark : Mark) → IsSpelledMark mark → text ≢ mark_text mark) → (entry : Entry) → IsEntry entry → line ≢ entry_line entry
 no_mark line text w none Done is e = let no : Same 109 100 = ap (byte_at 0) (sym w ∙ e) in absurd (omega arith)
 no_mark line text w none (GroupEntry kind) is e = let no : Same 109 103 = ap (byte_at 0) (sym w ∙ e) in absurd (omega arith)
+no_mark line text w none (BoundsEntry bounds) is e = let no : Same 109 98 = ap (byte_at 0) (sym w ∙ e) in absurd (omega arith)
 no_mark line text w none (MarkEntry mark) is e = none mark is (append_cancel_left (codes "mark ") text (mark_text mark) (sym w ∙ e))
 
-pub no_entry : (line : List ℕ) → line ≢ codes "done" → ((rest : List ℕ) → line ≢ codes "group " ++ rest) → ((rest : List ℕ) → line ≢ codes "mark " ++ rest) → (entry : Entry) → IsEntry entry → line ≢ entry_line entry
-no_entry line a b c Done is e = a e
-no_entry line a b c (GroupEntry kind) is e = b (group_name kind) e
-no_entry line a b c (MarkEntry mark) is e = c (mark_text mark) e
+pub no_entry : (line : List ℕ) → line ≢ codes "done" → ((rest : List ℕ) → line ≢ codes "group " ++ rest) → ((rest : List ℕ) → line ≢ codes "bounds " ++ rest) → ((rest : List ℕ) → line ≢ codes "mark " ++ rest) → (entry : Entry) → IsEntry entry → line ≢ entry_line entry
+no_entry line a b c d Done is e = a e
+no_entry line a b c d (GroupEntry kind) is e = b (group_name kind) e
+no_entry line a b c d (BoundsEntry bounds) is e = c (bounds_text bounds) e
+no_entry line a b c d (MarkEntry mark) is e = d (mark_text mark) e

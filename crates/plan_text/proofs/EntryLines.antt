@@ -2,17 +2,18 @@
 use Rattle.std.proofs.Common.{◌≢◌, ◌<◌, ◌^◌, ℕ, List, ◌∷◌, ◌++◌, codes, decimal, refl, arith}
 use Rattle.std.proofs.lemmas.List.Elements.{All-cons, All-append}
 use Rattle.mark_kinds.specs.declared.groups.GroupKind.{GroupKind}
-use Rattle.mark_kinds.specs.declared.groups.GroupKind.TheVariants.{Gpt as GptGroup, Ntfs, Xfs, Btrfs, Lvm, Ext}
 use Rattle.landmark_rules.specs.declared.marks.Mark.{Mark}
+use Rattle.landmark_rules.specs.declared.marks.MarkBounds.{MarkBounds}
+use Rattle.landmark_rules.specs.Groups.{AreMarkBounds}
 use Rattle.landmark_rules.specs.declared.marks.Rule.{Rule}
 use Rattle.landmark_rules.specs.declared.marks.Rule.TheVariants.{At, Either, Every}
 use Rattle.landmark_rules.specs.Rules.{IsRule}
 use Rattle.plan_text.specs.declared.entry.Entry.{Entry}
-use Rattle.plan_text.specs.declared.entry.Entry.TheVariants.{Done, Group as GroupEntry, Mark as MarkEntry}
+use Rattle.plan_text.specs.declared.entry.Entry.TheVariants.{Bounds as BoundsEntry, Done, Group as GroupEntry, Mark as MarkEntry}
 use Rattle.plan_text.specs.Drafts.{IsEntry, IsSpelledMark, entry_line}
 use Rattle.value_text.specs.NameLaws.{without_separator}
-use Rattle.landmark_text.specs.KindLaws.{kind_law}
-use Rattle.plan_text.specs.PlanText.{IsLine, mark_text, rule_text}
+use Rattle.landmark_text.specs.KindLaws.{group_law, kind_law}
+use Rattle.plan_text.specs.PlanText.{IsLine, bounds_line, mark_text, rule_text}
 use Rattle.value_text.specs.Spelling.{named}
 use Rattle.landmark_text.specs.Names.{group_name, kind_name}
 use Rattle.value_text.proofs.Lists.{decimal_line}
@@ -48,14 +49,15 @@ a_mark_line mark is =
     (joined (decimal mark.sector) (rule_text mark.rule) 32 space (decimal_line mark.sector is.sector) (rule_line mark.rule is.rule)))
 
 a_group_line : (kind : GroupKind) → IsLine (named (codes "group") (group_name kind))
-a_group_line GptGroup = a_line (codes "group gpt") refl
-a_group_line Ntfs = a_line (codes "group ntfs") refl
-a_group_line Xfs = a_line (codes "group xfs") refl
-a_group_line Btrfs = a_line (codes "group btrfs") refl
-a_group_line Lvm = a_line (codes "group lvm") refl
-a_group_line Ext = a_line (codes "group ext") refl
+a_group_line kind = joined (codes "group") (group_name kind) 32 space (a_line (codes "group") refl) (without_separator 10 (group_name kind) refl (group_law.has_no_separator kind tt))
+
+a_bounds_line : (bounds : MarkBounds) → AreMarkBounds bounds → IsLine (bounds_line bounds)
+a_bounds_line bounds are =
+    joined (codes "bounds") (decimal bounds.misfits ++ 32 ∷ decimal bounds.least) 32 space (a_line (codes "bounds") refl)
+    (joined (decimal bounds.misfits) (decimal bounds.least) 32 space (number bounds.misfits are.misfits) (number bounds.least are.least))
 
 pub an_entry_line : (entry : Entry) → IsEntry entry → IsLine (entry_line entry)
 an_entry_line Done is = a_line (codes "done") refl
 an_entry_line (GroupEntry kind) is = a_group_line kind
+an_entry_line (BoundsEntry bounds) is = a_bounds_line bounds is
 an_entry_line (MarkEntry mark) is = joined (codes "mark") (mark_text mark) 32 space (a_line (codes "mark") refl) (a_mark_line mark is)

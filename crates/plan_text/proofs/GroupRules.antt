@@ -1,5 +1,5 @@
 -- When groups of a plan go on with a group or a mark.
-use Rattle.std.proofs.Common.{◌≡◌, ◌≢◌, ◌<◌, ◌≤◌, ◌+◌, ◌-◌, ◌==◌, ℕ, Bool, true, false, cond, List, [], ◌∷◌, ◌++◌, All, get_or, set, length, map, count_by, refl, sym, ap, subst, ◌∙◌, arith, append_assoc, append-nil, length-append, Option, None, Some, inl, inr}
+use Rattle.std.proofs.Common.{◌≡◌, ◌≢◌, ◌<◌, ◌≤◌, ◌+◌, ◌-◌, ◌==◌, ℕ, Bool, true, false, cond, List, [], ◌∷◌, ◌++◌, All, get_or, set, length, map, count_by, refl, sym, ap, subst, ◌∙◌, arith, append_assoc, append-nil, length-append, Option, None, Some, IfSome, inl, inr}
 use Rattle.std.specs.List.Sorted.{IsNonDecreasing, IsStrictlyIncreasing}
 use Rattle.std.proofs.lemmas.Bool.{cases_Bool, cases_lt, eqb-true}
 use Rattle.std.proofs.lemmas.Bool.Decides.{nat_tests}
@@ -14,10 +14,11 @@ use Rattle.raid_params.specs.declared.limits.TheConstants.{MOST}
 use Rattle.landmark_rules.specs.declared.marks.Group.{Group}
 use Rattle.mark_kinds.specs.declared.groups.GroupKind.{GroupKind}
 use Rattle.landmark_rules.specs.declared.marks.Mark.{Mark}
+use Rattle.landmark_rules.specs.declared.marks.MarkBounds.{MarkBounds}
 use Rattle.mark_kinds.proofs.Places.{same_group, group_below, kind_below}
-use Rattle.landmark_rules.specs.Groups.{AreGroups, IsMark, group_place, kind_place, mark_place, marks_in, most_groups}
+use Rattle.landmark_rules.specs.Groups.{AreGroups, AreMarkBounds, IsMark, group_place, kind_place, mark_place, marks_in, most_groups}
 use Rattle.plan_text.specs.declared.draft.Draft.{Draft}
-use Rattle.plan_text.specs.Drafts.{IsBefore, IsDraft, MayAddTo, MayBegin, empty_group, with_mark, with_open}
+use Rattle.plan_text.specs.Drafts.{IsBefore, IsDraft, MayAddTo, MayBegin, empty_group, with_bounds, with_mark, with_open}
 use Rattle.plan_text.proofs.Grouping.{group_with}
 
 -- numbers in order
@@ -119,12 +120,15 @@ place_of group = group_place group.kind
 abbrev AreOf : List ℕ → Group → Type 0
 AreOf lengths group = All (IsMark lengths group.kind) group.marks
 
+abbrev AreBound : Group → Type 0
+AreBound group = IfSome group.bounds AreMarkBounds
+
 abbrev Rise : Group → Type 0
 Rise group = IsStrictlyIncreasing (map mark_place group.marks)
 
-bits : (kind : GroupKind) (place : ℕ) (ms ns : List Mark) → bit (is_of place) (group_with kind ms) ≡ bit (is_of place) (group_with kind ns)
+bits : (kind : GroupKind) (place : ℕ) (b d : Option MarkBounds) (ms ns : List Mark) → bit (is_of place) (group_with kind b ms) ≡ bit (is_of place) (group_with kind d ns)
 unfolding bit
-bits kind place ms ns = refl
+bits kind place b d ms ns = refl
 
 -- marks in groups
 marks_more : (gs : List Group) (g : Group) (hs : List Group) → marks_in (gs ++ g ∷ hs) ≡ marks_in gs ++ (g.marks ++ marks_in hs)
@@ -136,28 +140,30 @@ marks_push p gs g =
     ∙ count_append p (marks_in gs) (g.marks ++ [])
     ∙ ap (λ (ms : List Mark). count_by p (marks_in gs) + count_by p ms) (append-nil g.marks)
 
--- a prefix of the groups of a plan, with a prefix of the marks of its last group
-pub front : (lengths : List ℕ) (closed : List Group) (kind : GroupKind) (marks more : List Mark) (rest : List Group) → AreGroups lengths (closed ++ group_with kind (marks ++ more) ∷ rest) → AreGroups lengths (closed ++ group_with kind marks ∷ [])
-front lengths closed kind marks more rest are = record {
+-- a prefix of the groups of a plan, with a prefix of the marks of its last group, and with these bounds
+pub front : (lengths : List ℕ) (closed : List Group) (kind : GroupKind) (from to : Option MarkBounds) (marks more : List Mark) (rest : List Group) → IfSome to AreMarkBounds → AreGroups lengths (closed ++ group_with kind from (marks ++ more) ∷ rest) →
+    AreGroups lengths (closed ++ group_with kind to marks ∷ [])
+front lengths closed kind from to marks more rest bound are = record {
   order =
-      let whole : map place_of (closed ++ group_with kind (marks ++ more) ∷ rest) ≡ map place_of (closed ++ group_with kind marks ∷ []) ++ map place_of rest =
-      map-append place_of closed (group_with kind (marks ++ more) ∷ rest) ∙ sym (append_assoc (map place_of closed) (group_place kind ∷ []) (map place_of rest)) ∙ ap (λ (ns : List ℕ). ns ++ map place_of rest) (sym (map-append place_of closed (group_with kind marks ∷ []))) in
-      nd_front (map place_of (closed ++ group_with kind marks ∷ [])) (map place_of rest) (subst IsNonDecreasing whole are.order);
+      let whole : map place_of (closed ++ group_with kind from (marks ++ more) ∷ rest) ≡ map place_of (closed ++ group_with kind to marks ∷ []) ++ map place_of rest =
+      map-append place_of closed (group_with kind from (marks ++ more) ∷ rest) ∙ sym (append_assoc (map place_of closed) (group_place kind ∷ []) (map place_of rest)) ∙ ap (λ (ns : List ℕ). ns ++ map place_of rest) (sym (map-append place_of closed (group_with kind to marks ∷ []))) in
+      nd_front (map place_of (closed ++ group_with kind to marks ∷ [])) (map place_of rest) (subst IsNonDecreasing whole are.order);
   few = λ k.
-      let a = count_more (is_of (group_place k)) closed (group_with kind (marks ++ more)) rest in
-      let b = count_push (is_of (group_place k)) closed (group_with kind marks) in
-      let same : bit (is_of (group_place k)) (group_with kind (marks ++ more)) ≡ bit (is_of (group_place k)) (group_with kind marks) = bits kind (group_place k) (marks ++ more) marks in
+      let a = count_more (is_of (group_place k)) closed (group_with kind from (marks ++ more)) rest in
+      let b = count_push (is_of (group_place k)) closed (group_with kind to marks) in
+      let same : bit (is_of (group_place k)) (group_with kind from (marks ++ more)) ≡ bit (is_of (group_place k)) (group_with kind to marks) = bits kind (group_place k) from to (marks ++ more) marks in
       let most = are.few k in
       omega (arith, a, b, same, most);
-  marks = All-push (AreOf lengths) closed (group_with kind marks) (all_front (AreOf lengths) closed (group_with kind (marks ++ more) ∷ rest) are.marks) (all_front (IsMark lengths kind) marks more (all_at (AreOf lengths) closed (group_with kind (marks ++ more)) rest are.marks));
-  rising = All-push Rise closed (group_with kind marks) (all_front Rise closed (group_with kind (marks ++ more) ∷ rest) are.rising)
-      (si_front (map mark_place marks) (map mark_place more) (subst IsStrictlyIncreasing (map-append mark_place marks more) (all_at Rise closed (group_with kind (marks ++ more)) rest are.rising)));
+  marks = All-push (AreOf lengths) closed (group_with kind to marks) (all_front (AreOf lengths) closed (group_with kind from (marks ++ more) ∷ rest) are.marks) (all_front (IsMark lengths kind) marks more (all_at (AreOf lengths) closed (group_with kind from (marks ++ more)) rest are.marks));
+  rising = All-push Rise closed (group_with kind to marks) (all_front Rise closed (group_with kind from (marks ++ more) ∷ rest) are.rising)
+      (si_front (map mark_place marks) (map mark_place more) (subst IsStrictlyIncreasing (map-append mark_place marks more) (all_at Rise closed (group_with kind from (marks ++ more)) rest are.rising)));
+  bounds = All-push AreBound closed (group_with kind to marks) (all_front AreBound closed (group_with kind from (marks ++ more) ∷ rest) are.bounds) bound;
   few_marks = λ k.
       let p = is_at (kind_place k) in
-      let a : count_by p (marks_in (closed ++ group_with kind (marks ++ more) ∷ rest)) ≡ count_by p (marks_in closed) + (count_by p marks + count_by p more + count_by p (marks_in rest)) =
-      ap (λ (ms : List Mark). count_by p ms) (marks_more closed (group_with kind (marks ++ more)) rest) ∙ count_append p (marks_in closed) ((marks ++ more) ++ marks_in rest)
+      let a : count_by p (marks_in (closed ++ group_with kind from (marks ++ more) ∷ rest)) ≡ count_by p (marks_in closed) + (count_by p marks + count_by p more + count_by p (marks_in rest)) =
+      ap (λ (ms : List Mark). count_by p ms) (marks_more closed (group_with kind from (marks ++ more)) rest) ∙ count_append p (marks_in closed) ((marks ++ more) ++ marks_in rest)
       ∙ ap (λ (n : ℕ). count_by p (marks_in closed) + n) (count_append p (marks ++ more) (marks_in rest) ∙ ap (λ (n : ℕ). n + count_by p (marks_in rest)) (count_append p marks more)) in
-      let b = marks_push p closed (group_with kind marks) in
+      let b = marks_push p closed (group_with kind to marks) in
       let most = are.few_marks k in
       omega (arith, a, b, most);
 }
@@ -180,42 +186,57 @@ last_place closed g =
     ap (λ (k : ℕ). get_or (map place_of (closed ++ g ∷ [])) k 0) at ∙ ap (λ (ns : List ℕ). get_or ns (length (map place_of closed)) 0) whole ∙ get_or-append_seam (map place_of closed) (group_place g.kind) [] 0
 
 -- a group of no marks after others
-started : (lengths : List ℕ) (gs : List Group) (kind : GroupKind) → AreGroups lengths gs → (0 < length (map place_of gs) → get_or (map place_of gs) (length (map place_of gs) - 1) 0 ≤ group_place kind) → count_by (is_of (group_place kind)) gs < most_groups kind → AreGroups lengths (gs ++ empty_group kind ∷ [])
-started lengths gs kind are order few = record {
-  order = subst IsNonDecreasing (sym (map-append place_of gs (empty_group kind ∷ []))) (IsNonDecreasingBy-push (λ (n : ℕ). n) (map place_of gs) (group_place kind) are.order (λ d some. let a = get_or_any (map place_of gs) (length (map place_of gs) - 1) d 0 (omega arith) in let b = order some in omega (arith, a, b)));
+started : (lengths : List ℕ) (gs : List Group) (kind : GroupKind) (bounds : Option MarkBounds) → IfSome bounds AreMarkBounds → AreGroups lengths gs → (0 < length (map place_of gs) → get_or (map place_of gs) (length (map place_of gs) - 1) 0 ≤ group_place kind) →
+    count_by (is_of (group_place kind)) gs < most_groups kind → AreGroups lengths (gs ++ group_with kind bounds [] ∷ [])
+started lengths gs kind bounds bound are order few = record {
+  order = subst IsNonDecreasing (sym (map-append place_of gs (group_with kind bounds [] ∷ []))) (IsNonDecreasingBy-push (λ (n : ℕ). n) (map place_of gs) (group_place kind) are.order (λ d some. let a = get_or_any (map place_of gs) (length (map place_of gs) - 1) d 0 (omega arith) in let b = order some in omega (arith, a, b)));
   few = λ k.
-      let a = count_push (is_of (group_place k)) gs (empty_group kind) in
+      let a = count_push (is_of (group_place k)) gs (group_with kind bounds []) in
       elim (cases_Bool (group_place kind == group_place k)) [
         | inl equal ↦ (
             let same : kind ≡ k = same_group kind k (eqb-true (group_place kind) (group_place k) equal) in
-            let one = bit_yes (is_of (group_place k)) (empty_group kind) equal in
+            let one = bit_yes (is_of (group_place k)) (group_with kind bounds []) equal in
             let below : count_by (is_of (group_place k)) gs < most_groups k = subst (λ (l : GroupKind). count_by (is_of (group_place l)) gs < most_groups l) same few in
             omega (arith, a, one, below)
             )
-        | inr other ↦ (let none = bit_no (is_of (group_place k)) (empty_group kind) other in let most = are.few k in omega (arith, a, none, most))
+        | inr other ↦ (let none = bit_no (is_of (group_place k)) (group_with kind bounds []) other in let most = are.few k in omega (arith, a, none, most))
       ];
-  marks = All-push (AreOf lengths) gs (empty_group kind) are.marks (All-nil (IsMark lengths kind));
-  rising = All-push Rise gs (empty_group kind) are.rising (λ k lt. absurd (omega arith));
-  few_marks = λ k. let a = marks_push (is_at (kind_place k)) gs (empty_group kind) in let most = are.few_marks k in omega (arith, a, most);
+  marks = All-push (AreOf lengths) gs (group_with kind bounds []) are.marks (All-nil (IsMark lengths kind));
+  rising = All-push Rise gs (group_with kind bounds []) are.rising (λ k lt. absurd (omega arith));
+  bounds = All-push AreBound gs (group_with kind bounds []) are.bounds bound;
+  few_marks = λ k. let a = marks_push (is_at (kind_place k)) gs (group_with kind bounds []) in let most = are.few_marks k in omega (arith, a, most);
 }
+
+pub no_groups : (lengths : List ℕ) → AreGroups lengths []
+no_groups lengths = record {
+  order = λ i j d le lt. absurd (omega arith);
+  few = λ k. omega arith;
+  marks = λ k d lt. absurd (omega arith);
+  rising = λ k d lt. absurd (omega arith);
+  bounds = λ k d lt. absurd (omega arith);
+  few_marks = λ k. omega arith;
+}
+
+pub one_group : (lengths : List ℕ) (kind : GroupKind) (bounds : Option MarkBounds) → IfSome bounds AreMarkBounds → 0 < most_groups kind → AreGroups lengths (group_with kind bounds [] ∷ [])
+one_group lengths kind bounds bound few = started lengths [] kind bounds bound (no_groups lengths) (λ some. absurd (omega arith)) few
 
 -- a draft, by its parts
 abbrev pub draft_with : List Group → Option Group → List ℕ → List ℕ → Draft
 draft_with closed last groups marks = record { closed = closed; last = last; groups = groups; marks = marks }
 
-pub may_begin : (lengths : List ℕ) (closed : List Group) (last : Option Group) (groups marks : List ℕ) (kind : GroupKind) → IsDraft (draft_with closed last groups marks) → AreGroups lengths (with_open closed last) → MayBegin (draft_with closed last groups marks) kind →
-    AreGroups lengths (with_open closed last ++ empty_group kind ∷ [])
-may_begin lengths closed None groups marks kind draft are may =
+pub may_begin : (lengths : List ℕ) (closed : List Group) (last : Option Group) (groups marks : List ℕ) (kind : GroupKind) (bounds : Option MarkBounds) → IfSome bounds AreMarkBounds →
+    IsDraft (draft_with closed last groups marks) → AreGroups lengths (with_open closed last) → MayBegin (draft_with closed last groups marks) kind → AreGroups lengths (with_open closed last ++ group_with kind bounds [] ∷ [])
+may_begin lengths closed None groups marks kind bounds bound draft are may =
     let none : closed ≡ [] = draft.none refl in
     let count = draft.groups (group_place kind) (group_below kind) in
     let few = may.few in
-    started lengths closed kind are (λ some. let empty = ap (λ (gs : List Group). length (map place_of gs)) none in absurd (omega (arith, some, empty))) (omega (arith, count, few))
-may_begin lengths closed (Some g) groups marks kind draft are may =
+    started lengths closed kind bounds bound are (λ some. let empty = ap (λ (gs : List Group). length (map place_of gs)) none in absurd (omega (arith, some, empty))) (omega (arith, count, few))
+may_begin lengths closed (Some g) groups marks kind bounds bound draft are may =
     let count = draft.groups (group_place kind) (group_below kind) in
     let few = may.few in
     let order = may.order in
     let at = last_place closed g in
-    started lengths (closed ++ g ∷ []) kind are (λ some. omega (arith, at, order)) (omega (arith, count, few))
+    started lengths (closed ++ g ∷ []) kind bounds bound are (λ some. omega (arith, at, order)) (omega (arith, count, few))
 
 begun : (lengths : List ℕ) (gs : List Group) (kind : GroupKind) → AreGroups lengths (gs ++ empty_group kind ∷ []) → (0 < length (map place_of gs) → get_or (map place_of gs) (length (map place_of gs) - 1) 0 ≤ group_place kind) × (count_by (is_of (group_place kind)) gs < most_groups kind)
 begun lengths gs kind are = (
@@ -241,6 +262,21 @@ had_begun lengths closed (Some g) groups marks kind draft are =
     let order = both.0 (omega (arith, many)) in
     record { order = omega (arith, at, order); few = omega (arith, count, both.1) }
 
+-- the same, where the last group of the draft went on with marks
+pub had_gone_on : (lengths : List ℕ) (closed : List Group) (g : Group) (ms : List Mark) (groups marks : List ℕ) (kind : GroupKind) → IsDraft (draft_with closed (Some g) groups marks) → AreGroups lengths ((closed ++ group_with g.kind g.bounds ms ∷ []) ++ empty_group kind ∷ []) →
+    MayBegin (draft_with closed (Some g) groups marks) kind
+had_gone_on lengths closed g ms groups marks kind draft are =
+    let other = group_with g.kind g.bounds ms in
+    let both = begun lengths (closed ++ other ∷ []) kind are in
+    let count = draft.groups (group_place kind) (group_below kind) in
+    let a = count_push (is_of (group_place kind)) closed g in
+    let b = count_push (is_of (group_place kind)) closed other in
+    let same : bit (is_of (group_place kind)) g ≡ bit (is_of (group_place kind)) other = bits g.kind (group_place kind) g.bounds g.bounds g.marks ms in
+    let at = last_place closed other in
+    let many : length (map place_of (closed ++ other ∷ [])) ≡ length closed + 1 = length-map (closed ++ other ∷ []) place_of ∙ length-append closed (other ∷ []) in
+    let order = both.0 (omega (arith, many)) in
+    record { order = omega (arith, at, order); few = omega (arith, count, both.1, a, b, same) }
+
 -- marks in order, by their places
 last_mark : (ms : List Mark) (d : Mark) → 0 < length ms → get_or (map mark_place ms) (length (map mark_place ms) - 1) 0 ≡ mark_place (get_or ms (length ms - 1) d)
 last_mark ms d some =
@@ -262,7 +298,7 @@ may_add lengths closed g groups marks m draft are may = record {
   few = λ k.
       let a = count_push (is_of (group_place k)) closed g in
       let b = count_push (is_of (group_place k)) closed (with_mark g m) in
-      let same : bit (is_of (group_place k)) g ≡ bit (is_of (group_place k)) (with_mark g m) = bits g.kind (group_place k) g.marks (g.marks ++ m ∷ []) in
+      let same : bit (is_of (group_place k)) g ≡ bit (is_of (group_place k)) (with_mark g m) = bits g.kind (group_place k) g.bounds g.bounds g.marks (g.marks ++ m ∷ []) in
       let most = are.few k in
       omega (arith, a, b, same, most);
   marks = All-push (AreOf lengths) closed (with_mark g m) (all_front (AreOf lengths) closed (g ∷ []) are.marks) (All-push (IsMark lengths g.kind) g.marks m (all_at (AreOf lengths) closed g [] are.marks) may.is_mark);
@@ -275,6 +311,7 @@ may_add lengths closed g groups marks m draft are may = record {
       let is = all_at (AreOf lengths) closed g [] are.marks (length g.marks - 1) m (omega arith) in
       let less = place_before last m is.image may.is_mark.image (may.rises some_marks) in
       omega (arith, at, less))));
+  bounds = All-push AreBound closed (with_mark g m) (all_front AreBound closed (g ∷ []) are.bounds) (all_at AreBound closed g [] are.bounds);
   few_marks = λ k.
       let p = is_at (kind_place k) in
       let a = marks_push p closed g in
@@ -291,6 +328,44 @@ may_add lengths closed g groups marks m draft are may = record {
             )
         | inr other ↦ (let none = bit_no p m other in let most = are.few_marks k in omega (arith, a, b, c, none, most))
       ];
+}
+
+-- the last group, with bounds of its own
+pub may_bound : (lengths : List ℕ) (closed : List Group) (g : Group) (bounds : MarkBounds) → AreMarkBounds bounds → AreGroups lengths (closed ++ g ∷ []) → AreGroups lengths (closed ++ with_bounds g bounds ∷ [])
+may_bound lengths closed g bounds bound are = record {
+  order = subst IsNonDecreasing (map-append place_of closed (g ∷ []) ∙ sym (map-append place_of closed (with_bounds g bounds ∷ []))) are.order;
+  few = λ k.
+      let a = count_push (is_of (group_place k)) closed g in
+      let b = count_push (is_of (group_place k)) closed (with_bounds g bounds) in
+      let same : bit (is_of (group_place k)) g ≡ bit (is_of (group_place k)) (with_bounds g bounds) = bits g.kind (group_place k) g.bounds (Some bounds) g.marks g.marks in
+      let most = are.few k in
+      omega (arith, a, b, same, most);
+  marks = All-push (AreOf lengths) closed (with_bounds g bounds) (all_front (AreOf lengths) closed (g ∷ []) are.marks) (all_at (AreOf lengths) closed g [] are.marks);
+  rising = All-push Rise closed (with_bounds g bounds) (all_front Rise closed (g ∷ []) are.rising) (all_at Rise closed g [] are.rising);
+  bounds = All-push AreBound closed (with_bounds g bounds) (all_front AreBound closed (g ∷ []) are.bounds) bound;
+  few_marks = λ k.
+      let p = is_at (kind_place k) in
+      let a = marks_push p closed g in
+      let b = marks_push p closed (with_bounds g bounds) in
+      let most = are.few_marks k in
+      omega (arith, a, b, most);
+}
+
+pub draft_bound : (closed : List Group) (g : Group) (groups marks : List ℕ) (bounds : MarkBounds) → IsDraft (draft_with closed (Some g) groups marks) → IsDraft (draft_with closed (Some (with_bounds g bounds)) groups marks)
+draft_bound closed g groups marks bounds draft = record {
+  none = λ e. absurd (let no : ⊥ = cc in no);
+  kinds = draft.kinds;
+  groups = λ place lt.
+      let before = draft.groups place lt in
+      let a = count_push (is_of place) closed g in
+      let b = count_push (is_of place) closed (with_bounds g bounds) in
+      let same : bit (is_of place) g ≡ bit (is_of place) (with_bounds g bounds) = bits g.kind place g.bounds (Some bounds) g.marks g.marks in
+      omega (arith, before, a, b, same);
+  marks = λ place lt.
+      let before = draft.marks place lt in
+      let a = marks_push (is_at place) closed g in
+      let b = marks_push (is_at place) closed (with_bounds g bounds) in
+      omega (arith, before, a, b);
 }
 
 pub had_added : (lengths : List ℕ) (closed : List Group) (g : Group) (groups marks : List ℕ) (m : Mark) → IsDraft (draft_with closed (Some g) groups marks) → AreGroups lengths (closed ++ with_mark g m ∷ []) → MayAddTo lengths (draft_with closed (Some g) groups marks) g m
@@ -323,7 +398,7 @@ groups_added : (place : ℕ) (closed : List Group) (g : Group) (m : Mark) → co
 groups_added place closed g m =
     let a = count_push (is_of place) closed g in
     let b = count_push (is_of place) closed (with_mark g m) in
-    let same : bit (is_of place) g ≡ bit (is_of place) (with_mark g m) = bits g.kind place g.marks (g.marks ++ m ∷ []) in
+    let same : bit (is_of place) g ≡ bit (is_of place) (with_mark g m) = bits g.kind place g.bounds g.bounds g.marks (g.marks ++ m ∷ []) in
     omega (arith, a, b, same)
 
 marks_added : (place : ℕ) (closed : List Group) (g : Group) (m : Mark) → count_by (is_at place) (marks_in (closed ++ with_mark g m ∷ [])) ≡ count_by (is_at place) (marks_in (closed ++ g ∷ [])) + bit (is_at place) m

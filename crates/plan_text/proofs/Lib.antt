@@ -10,6 +10,7 @@ pub mod EntryLines
 pub mod Grouping
 pub mod GroupRules
 pub mod GroupSteps
+pub mod Going
 pub mod PlanLines
 pub mod RefusedLines
 pub mod PlanEnds

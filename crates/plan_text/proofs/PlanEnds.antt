@@ -15,13 +15,14 @@ use Rattle.search_plan.specs.Plans.{IsPlan}
 use Rattle.plan_text.specs.declared.fault.PlanFault.{PlanFault}
 use Rattle.plan_text.specs.declared.fault.PlanFault.TheVariants.{Line}
 use Rattle.value_text.specs.NameLaws.{in_lists, level_law, pattern_law, syndrome_law, byte_law, number_law}
-use Rattle.plan_text.specs.PlanText.{IsFault, IsRefusedLine, groups_lines, image_lines, plan_lines, plan_text, search_lines}
+use Rattle.plan_text.specs.PlanText.{IsFault, IsRefusedLine, groups_lines, image_lines, plan_lines, plan_text, search_lines, some_bounds, version_lines}
 use Rattle.plan_text.specs.Reading.{Cursor, followed}
 use Rattle.value_text.specs.Spelling.{IsFieldName, level_name, pattern_name, syndrome_name, commas}
 use Rattle.value_text.proofs.Fits.{members_are_bytes, chunks_are_short, offsets_are_short}
 use Rattle.plan_text.proofs.GroupSteps.{are_spelled}
 use Rattle.value_text.proofs.Lists.{some_value}
-use Rattle.plan_text.proofs.PlanLines.{one_end, rest_of, same_groups, same_images, version_of}
+use Rattle.plan_text.proofs.PlanLines.{one_end, same_groups, same_images}
+use Rattle.plan_text.proofs.Versions.{same_version}
 use Rattle.plan_text.proofs.RefusedLines.{IsOther, end_is_short, following, plain_lines, refused_line, text_of}
 use Rattle.plan_text.proofs.Refusals.{Went}
 use Rattle.value_text.proofs.Spellings.{same_list}
@@ -32,7 +33,7 @@ no_more p q l ls is_p is_q e =
     let images_p = image_lines p.lengths.items in
     let search_p = search_lines p.end p.bounds p.limits p.tests in
     let search_q = search_lines q.end q.bounds q.limits q.tests in
-    let both = same_images q.lengths.items p.lengths.items (search_q ++ groups_lines q.groups) ((search_p ++ groups_lines p.groups) ++ l ∷ ls) is_q.lengths is_p.lengths (rest_of q.each p.each _ ((images_p ++ (search_p ++ groups_lines p.groups)) ++ l ∷ ls) e ∙ append_assoc images_p (search_p ++ groups_lines p.groups) (l ∷ ls)) in
+    let both = same_images q.lengths.items p.lengths.items (search_q ++ groups_lines q.groups) ((search_p ++ groups_lines p.groups) ++ l ∷ ls) is_q.lengths is_p.lengths ((same_version q.each (some_bounds q.groups) p.each (some_bounds p.groups) _ _ (e ∙ append_assoc (version_lines p.each (some_bounds p.groups)) (images_p ++ (search_p ++ groups_lines p.groups)) (l ∷ ls))).2 ∙ append_assoc images_p (search_p ++ groups_lines p.groups) (l ∷ ls)) in
     let rest : groups_lines q.groups ≡ groups_lines p.groups ++ l ∷ ls = ap (λ (xs : List (List ℕ)). drop 14 xs) both.1 in
     one_end q.groups p.groups l ls (are_spelled q.lengths.items q.groups is_q.lengths is_q.groups) (are_spelled p.lengths.items p.groups is_p.lengths is_p.groups) rest
 
@@ -121,7 +122,8 @@ one_spelling p q is_p is_q e =
     let lines : plan_lines q ≡ plan_lines p = after.1 ∙ ap (λ (ls : List (List ℕ)). plan_lines p ++ ls) none ∙ append-nil (plan_lines p) in
     let search_p = search_lines p.end p.bounds p.limits p.tests in
     let search_q = search_lines q.end q.bounds q.limits q.tests in
-    let both = same_images p.lengths.items q.lengths.items (search_p ++ groups_lines p.groups) (search_q ++ groups_lines q.groups) is_p.lengths is_q.lengths (rest_of p.each q.each _ _ (sym lines)) in
+    let version = same_version p.each (some_bounds p.groups) q.each (some_bounds q.groups) _ _ (sym lines) in
+    let both = same_images p.lengths.items q.lengths.items (search_p ++ groups_lines p.groups) (search_q ++ groups_lines q.groups) is_p.lengths is_q.lengths version.2 in
     let search : search_p ≡ search_q = ap (λ (ls : List (List ℕ)). take 14 ls) both.1 in
     let groups : groups_lines p.groups ≡ groups_lines q.groups = ap (λ (ls : List (List ℕ)). drop 14 ls) both.1 in
     let a = is_p.tests in
@@ -132,7 +134,7 @@ one_spelling p q is_p is_q e =
     (listed decimal (λ n. n < 2 ^ 64) number_law (codes "origins ") p.tests.origins.items q.tests.origins.items a.origins.some b.origins.some (offsets_are_short p.tests.origins.items a.near_origins) (offsets_are_short q.tests.origins.items b.near_origins) (ap (line_at 7) search))
     (number (codes "misfits ") p.tests.misfits q.tests.misfits a.misfits b.misfits (ap (line_at 12) search)) (number (codes "least ") p.tests.least q.tests.least a.least b.least (ap (line_at 13) search)))
     (same_groups p.groups q.groups (are_spelled p.lengths.items p.groups is_p.lengths is_p.groups) (are_spelled q.lengths.items q.groups is_q.lengths is_q.groups) groups)
-    (version_of p.each q.each _ _ (sym lines))
+    version.0
   where
     nothing : (others : List (List ℕ)) → [] ≡ followed others [] → others ≡ []
     nothing [] e = refl

@@ -1,22 +1,26 @@
 -- The lines of plans: those before the groups are of one plan alone, and none has a line feed.
-use Rattle.std.proofs.Common.{◌≡◌, ◌<◌, ◌≤◌, ◌^◌, ℕ, Bool, List, [], ◌∷◌, ◌++◌, All, drop, get_or, length, map, codes, decimal, refl, sym, ap, subst, ◌∙◌, arith, append_assoc, append-nil, inl, inr, min}
+use Rattle.std.proofs.Common.{◌≡◌, ◌<◌, ◌≤◌, ◌^◌, ℕ, Bool, List, [], ◌∷◌, ◌++◌, All, drop, get_or, length, map, codes, decimal, refl, sym, ap, subst, ◌∙◌, arith, append_assoc, append-nil, inl, inr, min, true, false, lit<, Some}
 use Rattle.std.specs.List.{flat_map}
 use Rattle.std.proofs.lemmas.List.{append_cancel_left}
 use Rattle.std.proofs.lemmas.List.Elements.{All-head, All-tail, All-nil, All-cons}
 use Rattle.landmark_rules.specs.declared.marks.Group.{Group}
 use Rattle.landmark_rules.specs.Groups.{AreGroups}
+use Rattle.mark_kinds.specs.declared.groups.GroupKind.TheVariants.{Gpt as GptGroup}
 use Rattle.search_plan.specs.declared.plan.Plan.{Plan}
 use Rattle.search_plan.specs.Plans.{AreLengths, IsPlan}
 use Rattle.plan_text.specs.declared.parts.Search.{Search}
 use Rattle.value_text.specs.NameLaws.{number_law}
 use Rattle.plan_text.specs.Parts.{AreImages, IsSearch, lines_of_search, sectors_end}
-use Rattle.plan_text.specs.PlanText.{group_lines, groups_lines, image_lines, plan_lines, version_line}
-use Rattle.plan_text.proofs.GroupSteps.{are_spelled}
-use Rattle.plan_text.proofs.Grouping.{AreSpelled, goes}
+use Rattle.plan_text.specs.PlanText.{group_lines, groups_lines, image_lines, plan_lines, some_bounds, version_lines}
+use Rattle.plan_text.specs.declared.version.Version.{Version}
+use Rattle.plan_text.specs.Drafts.{AreGroupsWith}
+use Rattle.plan_text.proofs.GroupSteps.{are_no_bounds, are_spelled, no_bounds}
+use Rattle.plan_text.proofs.GroupRules.{no_groups, one_group}
+use Rattle.plan_text.proofs.Grouping.{AreSpelled, goes, group_with}
 use Rattle.plan_text.proofs.ImageLines.{Lengths, are_images as images_of, images_line, length_line, same_count}
-use Rattle.plan_text.proofs.Refusals.{StandsIn, one_line}
+use Rattle.plan_text.proofs.Refusals.{StandsIn}
 use Rattle.plan_text.proofs.SearchLines.{search_of_none, is_search_of_none}
-use Rattle.plan_text.proofs.Versions.{movable, near_offsets, own_images, same_version, short_lengths, some_sectors}
+use Rattle.plan_text.proofs.Versions.{lines_of_version, movable, near_offsets, own_images, same_version, short_lengths, some_sectors, version_with}
 
 abbrev Same : ℕ → ℕ → Type 0
 Same m n = m ≡ n
@@ -87,14 +91,15 @@ is_search shortest plan least is = record {
 pub are_images : (plan : Plan) → IsPlan plan → AreImages plan.each plan.lengths.items
 are_images plan is = (is.lengths, short_lengths plan.each plan.lengths.items plan.bounds is.lengths is.each)
 
-pub no_groups : (lengths : List ℕ) → AreGroups lengths []
-no_groups lengths = record {
-  order = λ i j d le lt. absurd (omega arith);
-  few = λ k. omega arith;
-  marks = λ k d lt. absurd (omega arith);
-  rising = λ k d lt. absurd (omega arith);
-  few_marks = λ k. omega arith;
-}
+-- groups of which one has bounds of its own, and none
+pub example : Bool → List Group
+example false = []
+example true = group_with GptGroup (Some no_bounds) [] ∷ []
+
+pub are_example : (own : Bool) (lengths : List ℕ) → AreGroupsWith own lengths (example own)
+unfolding example
+are_example false lengths = (no_groups lengths, refl)
+are_example true lengths = (one_group lengths GptGroup (Some no_bounds) are_no_bounds (lit< tt), refl)
 
 least_of : (ls : List ℕ) → 1 ≤ length ls → (n : ℕ) × IsShortest ls n
 least_of [] some = absurd (omega arith)
@@ -114,8 +119,11 @@ one_end x y m more p q e =
     elim (goes y x (codes "done" ∷ m ∷ more) q p (e ∙ append_assoc (flat_map group_lines y) (codes "done" ∷ []) (m ∷ more))) [
       | inl h ↦ (let many = ap length h.1 in absurd (omega arith))
       | inr h ↦ elim h [
-        | inl g ↦ (let first : Same 100 103 = ap (λ (ls : List (List ℕ)). get_or (get_or ls 0 []) 0 0) g.5 in absurd (omega arith))
-        | inr g ↦ (let first : Same 100 109 = ap (λ (ls : List (List ℕ)). get_or (get_or ls 0 []) 0 0) g.8 in absurd (omega arith))
+        | inl g ↦ (let first : Same 100 103 = ap (λ (ls : List (List ℕ)). get_or (get_or ls 0 []) 0 0) g.6 in absurd (omega arith))
+        | inr g ↦ elim g [
+          | inl b ↦ (let first : Same 100 98 = ap (λ (ls : List (List ℕ)). get_or (get_or ls 0 []) 0 0) b.8 in absurd (omega arith))
+          | inr m ↦ (let first : Same 100 109 = ap (λ (ls : List (List ℕ)). get_or (get_or ls 0 []) 0 0) m.8 in absurd (omega arith))
+        ]
       ]
     ]
 
@@ -125,69 +133,84 @@ same_groups x y p q e =
     elim (goes y x (codes "done" ∷ []) q p e) [
       | inl h ↦ h.0
       | inr h ↦ elim h [
-        | inl g ↦ (let first : Same 100 103 = ap (λ (ls : List (List ℕ)). get_or (get_or ls 0 []) 0 0) g.5 in absurd (omega arith))
-        | inr g ↦ (let first : Same 100 109 = ap (λ (ls : List (List ℕ)). get_or (get_or ls 0 []) 0 0) g.8 in absurd (omega arith))
+        | inl g ↦ (let first : Same 100 103 = ap (λ (ls : List (List ℕ)). get_or (get_or ls 0 []) 0 0) g.6 in absurd (omega arith))
+        | inr g ↦ elim g [
+          | inl b ↦ (let first : Same 100 98 = ap (λ (ls : List (List ℕ)). get_or (get_or ls 0 []) 0 0) b.8 in absurd (omega arith))
+          | inr m ↦ (let first : Same 100 109 = ap (λ (ls : List (List ℕ)). get_or (get_or ls 0 []) 0 0) m.8 in absurd (omega arith))
+        ]
       ]
     ]
-
--- texts that begin with the lines of versions
-pub version_of : (a b : Bool) (x y : List (List ℕ)) → version_line a ∷ x ≡ version_line b ∷ y → a ≡ b
-version_of a b x y e = same_version a b (ap (λ (ls : List (List ℕ)). get_or ls 0 []) e)
-
-pub rest_of : (a b : Bool) (x y : List (List ℕ)) → version_line a ∷ x ≡ version_line b ∷ y → x ≡ y
-rest_of a b x y e = ap (λ (ls : List (List ℕ)). drop 1 ls) e
 
 one_image : (each : Bool) → AreImages each (0 ∷ [])
 one_image each = images_of each (0 ∷ []) 1 refl (omega arith) (omega arith) (All-cons (λ n. n < sectors_end each) 0 [] (some_sectors each) (All-nil (λ n. n < sectors_end each)))
 
+-- the lines of a plan of parts
+pub lines_of_parts : (each own : Bool) (lengths : Lengths) (search : Search) (groups : List Group) → some_bounds groups ≡ own →
+    plan_lines (plan_of each lengths search groups) ≡ version_lines each own ++ (image_lines lengths.items ++ (lines_of_search search ++ groups_lines groups))
+lines_of_parts each own lengths search groups is =
+    ap (λ (b : Bool). version_lines each b ++ (image_lines lengths.items ++ (lines_of_search search ++ groups_lines groups))) is
+
 -- the parts of a plan's text, each refused in the plan
-pub stands_images : (each : Bool) → StandsIn {X = Lengths} (λ xs. AreImages each xs.items) (λ xs. image_lines xs.items) IsPlan plan_lines (version_line each ∷ [])
-stands_images each = record {
+pub stands_images : (each own : Bool) → StandsIn {X = Lengths} (λ xs. AreImages each xs.items) (λ xs. image_lines xs.items) IsPlan plan_lines (version_lines each own)
+stands_images each own = record {
   made = λ x p.
       let least = least_of x.items p.0.some in (
-        plan_of each x search_of_none [],
-        lines_of_search search_of_none ++ groups_lines [],
-        is_plan each x least.0 search_of_none [] p least.1 (is_search_of_none least.0 each) (no_groups x.items),
-        refl,
+        plan_of each x search_of_none (example own),
+        lines_of_search search_of_none ++ groups_lines (example own),
+        is_plan each x least.0 search_of_none (example own) p least.1 (is_search_of_none least.0 each) (are_example own x.items).0,
+        lines_of_parts each own x search_of_none (example own) (are_example own x.items).1,
       );
   shape = λ w tail is e.
-      let version = version_of w.each each _ tail e in
-      (w.lengths, _, subst (λ (b : Bool). AreImages b w.lengths.items) version (are_images w is), sym (rest_of w.each each _ tail e));
+      let same = same_version w.each (some_bounds w.groups) each own _ tail e in
+      (w.lengths, _, subst (λ (b : Bool). AreImages b w.lengths.items) same.0 (are_images w is), sym same.2);
   apart = λ x y m more p q e. let same = (same_images x.items y.items [] (m ∷ more) p.0 q.0 (append-nil (image_lines x.items) ∙ e)).1 in let many = ap length same in absurd (omega arith);
 }
 
-pub stands_version : StandsIn (λ (each : Bool). Unit {0}) (λ each. version_line each ∷ []) IsPlan plan_lines []
+pub stands_version : StandsIn (λ (version : Version). Unit {0}) lines_of_version IsPlan plan_lines []
 stands_version = record {
-  made = λ each p. let made = (stands_images each).made (record { items = 0 ∷ [] }) (one_image each) in (made.0, image_lines (0 ∷ []) ++ made.1, made.2, made.3);
-  shape = λ w tail is e. (w.each, _, tt, sym e);
-  apart = λ x y m more p q e. one_line version_line x y m more e;
+  made = λ version p. let made = (stands_images version.each version.own).made (record { items = 0 ∷ [] }) (one_image version.each) in (made.0, image_lines (0 ∷ []) ++ made.1, made.2, made.3);
+  shape = λ w tail is e. (version_with w.each (some_bounds w.groups), _, tt, sym e);
+  apart = λ x y m more p q e. (
+      let same = same_version x.each x.own y.each y.own [] (m ∷ more) (append-nil (lines_of_version x) ∙ e) in
+      let many = ap length same.2 in
+      absurd (omega arith)
+      );
 }
 
-pub stands_search : (each : Bool) (lengths : Lengths) (shortest : ℕ) → AreImages each lengths.items → IsShortest lengths.items shortest → StandsIn (IsSearch shortest each) lines_of_search IsPlan plan_lines (version_line each ∷ image_lines lengths.items)
-stands_search each lengths shortest p least = record {
-  made = λ x q. (plan_of each lengths x [], groups_lines [], is_plan each lengths shortest x [] p least q (no_groups lengths.items), refl);
+pub stands_search : (each own : Bool) (lengths : Lengths) (shortest : ℕ) → AreImages each lengths.items → IsShortest lengths.items shortest → StandsIn (IsSearch shortest each) lines_of_search IsPlan plan_lines (version_lines each own ++ image_lines lengths.items)
+stands_search each own lengths shortest p least = record {
+  made = λ x q. (
+    plan_of each lengths x (example own),
+    groups_lines (example own),
+    is_plan each lengths shortest x (example own) p least q (are_example own lengths.items).0,
+    lines_of_parts each own lengths x (example own) (are_example own lengths.items).1 ∙ sym (append_assoc (version_lines each own) (image_lines lengths.items) (lines_of_search x ++ groups_lines (example own))),
+  );
   shape = λ w tail is e.
-      let version = version_of w.each each _ (image_lines lengths.items ++ tail) e in
-      let both = same_images w.lengths.items lengths.items (lines_of_search (search_of w) ++ groups_lines w.groups) tail is.lengths p.0 (rest_of w.each each _ (image_lines lengths.items ++ tail) e) in
+      let same = same_version w.each (some_bounds w.groups) each own _ (image_lines lengths.items ++ tail) (e ∙ append_assoc (version_lines each own) (image_lines lengths.items) tail) in
+      let both = same_images w.lengths.items lengths.items (lines_of_search (search_of w) ++ groups_lines w.groups) tail is.lengths p.0 same.2 in
       let least_w : IsShortest w.lengths.items shortest = subst (λ (ls : List ℕ). IsShortest ls shortest) (sym both.0) least in
-      (search_of w, groups_lines w.groups, subst (λ (b : Bool). IsSearch shortest b (search_of w)) version (is_search shortest w least_w is), sym both.1);
+      (search_of w, groups_lines w.groups, subst (λ (b : Bool). IsSearch shortest b (search_of w)) same.0 (is_search shortest w least_w is), sym both.1);
   apart = λ x y m more p q e. let same = ap length e in absurd (omega arith);
 }
 
-pub stands_groups : (each : Bool) (lengths : Lengths) (shortest : ℕ) (search : Search) → AreImages each lengths.items → IsShortest lengths.items shortest → IsSearch shortest each search →
-    StandsIn (AreGroups lengths.items) groups_lines IsPlan plan_lines (version_line each ∷ (image_lines lengths.items ++ lines_of_search search))
-stands_groups each lengths shortest search p least q = record {
+all_lines : (each own : Bool) (lengths : Lengths) (search : Search) (rest : List (List ℕ)) → version_lines each own ++ (image_lines lengths.items ++ (lines_of_search search ++ rest)) ≡ (version_lines each own ++ (image_lines lengths.items ++ lines_of_search search)) ++ rest
+all_lines each own lengths search rest =
+    ap (λ (ls : List (List ℕ)). version_lines each own ++ ls) (sym (append_assoc (image_lines lengths.items) (lines_of_search search) rest))
+    ∙ sym (append_assoc (version_lines each own) (image_lines lengths.items ++ lines_of_search search) rest)
+
+pub stands_groups : (each own : Bool) (lengths : Lengths) (shortest : ℕ) (search : Search) → AreImages each lengths.items → IsShortest lengths.items shortest → IsSearch shortest each search →
+    StandsIn (AreGroupsWith own lengths.items) groups_lines IsPlan plan_lines (version_lines each own ++ (image_lines lengths.items ++ lines_of_search search))
+stands_groups each own lengths shortest search p least q = record {
   made = λ x r. (
     plan_of each lengths search x,
     [],
-    is_plan each lengths shortest search x p least q r,
-    ap (λ (ls : List (List ℕ)). version_line each ∷ ls)
-        (sym (append_assoc (image_lines lengths.items) (lines_of_search search) (groups_lines x)) ∙ ap (λ (ls : List (List ℕ)). (image_lines lengths.items ++ lines_of_search search) ++ ls) (sym (append-nil (groups_lines x)))),
+    is_plan each lengths shortest search x p least q r.0,
+    lines_of_parts each own lengths search x r.1 ∙ all_lines each own lengths search (groups_lines x) ∙ ap (λ (ls : List (List ℕ)). (version_lines each own ++ (image_lines lengths.items ++ lines_of_search search)) ++ ls) (sym (append-nil (groups_lines x))),
   );
   shape = λ w tail is e.
-      let after = rest_of w.each each _ ((image_lines lengths.items ++ lines_of_search search) ++ tail) e in
-      let both = same_images w.lengths.items lengths.items (lines_of_search (search_of w) ++ groups_lines w.groups) (lines_of_search search ++ tail) is.lengths p.0 (after ∙ append_assoc (image_lines lengths.items) (lines_of_search search) tail) in
+      let same = same_version w.each (some_bounds w.groups) each own _ (image_lines lengths.items ++ (lines_of_search search ++ tail)) (e ∙ sym (all_lines each own lengths search tail)) in
+      let both = same_images w.lengths.items lengths.items (lines_of_search (search_of w) ++ groups_lines w.groups) (lines_of_search search ++ tail) is.lengths p.0 same.2 in
       let rest : groups_lines w.groups ≡ tail = ap (λ (ls : List (List ℕ)). drop 14 ls) both.1 in
-      (w.groups, [], subst (λ (ls : List ℕ). AreGroups ls w.groups) both.0 is.groups, sym rest ∙ sym (append-nil (groups_lines w.groups)));
-  apart = λ x y m more r s e. one_end x y m more (are_spelled lengths.items x p.0 r) (are_spelled lengths.items y p.0 s) e;
+      (w.groups, [], (subst (λ (ls : List ℕ). AreGroups ls w.groups) both.0 is.groups, same.1), sym rest ∙ sym (append-nil (groups_lines w.groups)));
+  apart = λ x y m more r s e. one_end x y m more (are_spelled lengths.items x p.0 r.0) (are_spelled lengths.items y p.0 s.0) e;
 }

@@ -1,5 +1,5 @@
 -- The refused line of a text.
-use Rattle.std.proofs.Common.{◌≡◌, ◌≢◌, ◌<◌, ◌+◌, ◌^◌, ℕ, Bool, true, false, List, [], ◌∷◌, ◌++◌, All, take, drop, length, map, codes, decimal, refl, sym, ap, subst, ◌∙◌, arith, append_assoc, append-nil, length-append, length-take, inl, inr}
+use Rattle.std.proofs.Common.{◌≡◌, ◌≢◌, ◌<◌, ◌+◌, ◌^◌, ℕ, Bool, true, false, List, [], ◌∷◌, ◌++◌, All, take, drop, length, map, codes, decimal, refl, sym, ap, subst, ◌∙◌, arith, append_assoc, append-nil, length-append, length-take, inl, inr, Option, None, Some, IfSome}
 use Rattle.std.specs.List.{flat_map}
 use Rattle.std.proofs.lemmas.Bool.{cases_lt}
 use Rattle.std.proofs.lemmas.List.{take-append-drop}
@@ -7,16 +7,18 @@ use Rattle.std.proofs.lemmas.List.Concat.{flat_map-append}
 use Rattle.std.proofs.lemmas.List.Elements.{All-head, All-tail, All-nil, All-cons, All-append}
 use Rattle.landmark_rules.specs.declared.marks.Group.{Group}
 use Rattle.landmark_rules.specs.declared.marks.Mark.{Mark}
+use Rattle.landmark_rules.specs.declared.marks.MarkBounds.{MarkBounds}
+use Rattle.landmark_rules.specs.Groups.{AreMarkBounds}
 use Rattle.search_plan.specs.declared.plan.Plan.{Plan}
 use Rattle.search_plan.specs.Plans.{AreLengths, IsPlan}
 use Rattle.plan_text.specs.declared.fault.PlanFault.{PlanFault}
 use Rattle.plan_text.specs.declared.fault.PlanFault.TheVariants.{Line, Memory}
-use Rattle.plan_text.specs.Drafts.{IsSpelledMark}
+use Rattle.plan_text.specs.Drafts.{IsSpelledMark, entry_line}
 use Rattle.value_text.specs.NameLaws.{level_law, pattern_law, syndrome_law, byte_law, number_law}
-use Rattle.plan_text.specs.PlanText.{Begins, IsFault, IsLine, IsRefusedLine, group_lines, groups_lines, image_lines, mark_line, plan_lines, plan_text, search_lines, version_line}
+use Rattle.plan_text.specs.PlanText.{Begins, IsFault, IsLine, IsRefusedLine, bounds_line, bounds_lines, group_lines, groups_lines, image_lines, mark_line, mode_line, older_number, plan_lines, plan_text, search_lines, some_bounds, version_lines}
 use Rattle.plan_text.specs.Reading.{Cursor, IsOff, IsRefusal, followed}
-use Rattle.value_text.specs.Spelling.{level_name, pattern_name, syndrome_name, line}
-use Rattle.plan_text.specs.declared.entry.Entry.TheVariants.{Done, Group as GroupEntry, Mark as MarkEntry}
+use Rattle.value_text.specs.Spelling.{level_name, pattern_name, syndrome_name, line, named}
+use Rattle.plan_text.specs.declared.entry.Entry.TheVariants.{Bounds as BoundsEntry, Done, Group as GroupEntry, Mark as MarkEntry}
 use Rattle.plan_text.proofs.EntryLines.{an_entry_line}
 use Rattle.value_text.proofs.Fits.{members_are_bytes, chunks_are_short, offsets_are_short}
 use Rattle.plan_text.proofs.GroupSteps.{are_spelled}
@@ -73,9 +75,19 @@ lengths_plain (l ∷ ls) short = (number_line (codes "length ") (a_line (codes "
 image_plain : (ls : List ℕ) → AreLengths ls → All IsLine (image_lines ls)
 image_plain ls are = all_plain (image_lines ls) (number_line (codes "images ") (a_line (codes "images ") refl) (length ls) (let most = are.most in omega arith), lengths_plain ls are.short)
 
-version_plain : (each : Bool) → IsLine (version_line each)
-version_plain false = number_line (codes "reraid-plan ") (a_line (codes "reraid-plan ") refl) 1 (omega arith)
-version_plain true = number_line (codes "reraid-plan ") (a_line (codes "reraid-plan ") refl) 2 (omega arith)
+older_plain : (each : Bool) → IsLine (named (codes "reraid-plan") (decimal (older_number each)))
+older_plain false = number_line (codes "reraid-plan ") (a_line (codes "reraid-plan ") refl) 1 (omega arith)
+older_plain true = number_line (codes "reraid-plan ") (a_line (codes "reraid-plan ") refl) 2 (omega arith)
+
+pub mode_plain : (each : Bool) → IsLine (mode_line each)
+mode_plain false = a_line (codes "mode common") refl
+mode_plain true = a_line (codes "mode each") refl
+
+version_plain : (each own : Bool) → All IsLine (version_lines each own)
+version_plain each false = All-cons IsLine (named (codes "reraid-plan") (decimal (older_number each))) [] (older_plain each) (All-nil IsLine)
+version_plain each true =
+    All-cons IsLine (named (codes "reraid-plan") (decimal 3)) (mode_line each ∷ []) (number_line (codes "reraid-plan ") (a_line (codes "reraid-plan ") refl) 3 (omega arith))
+    (All-cons IsLine (mode_line each) [] (mode_plain each) (All-nil IsLine))
 
 pub end_is_short : (plan : Plan) → IsPlan plan → plan.end < 2 ^ 55
 end_is_short plan is =
@@ -137,14 +149,22 @@ marks_plain : (ms : List Mark) → All IsSpelledMark ms → ArePlain (map mark_l
 marks_plain [] q = tt
 marks_plain (m ∷ ms) q = (an_entry_line (MarkEntry m) (All-head IsSpelledMark m ms q), marks_plain ms (All-tail IsSpelledMark m ms q))
 
+bounds_plain : (bounds : Option MarkBounds) → IfSome bounds AreMarkBounds → All IsLine (bounds_lines bounds)
+bounds_plain None are = All-nil IsLine
+bounds_plain (Some b) are = All-cons IsLine (bounds_line b) [] (an_entry_line (BoundsEntry b) are) (All-nil IsLine)
+
 groups_plain : (gs : List Group) → All AreSpelled gs → All IsLine (flat_map group_lines gs)
 groups_plain [] p = All-nil IsLine
 groups_plain (g ∷ gs) p =
-    All-append IsLine (group_lines g) (flat_map group_lines gs) (all_plain (group_lines g) (an_entry_line (GroupEntry g.kind) tt, marks_plain g.marks (All-head AreSpelled g gs p))) (groups_plain gs (All-tail AreSpelled g gs p))
+    let spelled = All-head AreSpelled g gs p in
+    All-append IsLine (group_lines g) (flat_map group_lines gs)
+    (All-cons IsLine (entry_line (GroupEntry g.kind)) (bounds_lines g.bounds ++ map mark_line g.marks) (an_entry_line (GroupEntry g.kind) tt)
+    (All-append IsLine (bounds_lines g.bounds) (map mark_line g.marks) (bounds_plain g.bounds spelled.1) (all_plain (map mark_line g.marks) (marks_plain g.marks spelled.0))))
+    (groups_plain gs (All-tail AreSpelled g gs p))
 
 pub plain_lines : (plan : Plan) → IsPlan plan → All IsLine (plan_lines plan)
 plain_lines plan is =
-    All-cons IsLine (version_line plan.each) (image_lines plan.lengths.items ++ (search_lines plan.end plan.bounds plan.limits plan.tests ++ groups_lines plan.groups)) (version_plain plan.each)
+    All-append IsLine (version_lines plan.each (some_bounds plan.groups)) (image_lines plan.lengths.items ++ (search_lines plan.end plan.bounds plan.limits plan.tests ++ groups_lines plan.groups)) (version_plain plan.each (some_bounds plan.groups))
     (All-append IsLine (image_lines plan.lengths.items) (search_lines plan.end plan.bounds plan.limits plan.tests ++ groups_lines plan.groups) (image_plain plan.lengths.items is.lengths)
     (All-append IsLine (search_lines plan.end plan.bounds plan.limits plan.tests) (groups_lines plan.groups) (search_plain plan is)
     (All-append IsLine (flat_map group_lines plan.groups) (codes "done" ∷ []) (groups_plain plan.groups (are_spelled plan.lengths.items plan.groups is.lengths is.groups)) (All-cons IsLine (codes "done") [] (an_entry_line Done tt) (All-nil IsLine)))))

@@ -1,28 +1,36 @@
 -- Groups as they are read, and which line may come next.
-use Rattle.std.specs.Prelude.{ℕ, ◌≡◌, ◌^◌, ◌<◌, ◌≤◌, ◌-◌, ◌⊎◌, ◌==◌, List, [], ◌∷◌, ◌++◌, codes, count_by, length, slice_index, slice_index_or, IfSome, MatchOption}
+use Rattle.std.specs.Prelude.{ℕ, Bool, true, ◌≡◌, ◌^◌, ◌<◌, ◌≤◌, ◌-◌, ◌⊎◌, ◌==◌, List, [], ◌∷◌, ◌++◌, codes, count_by, length, slice_index, slice_index_or, IfSome, MatchOption}
 use Rattle.std.specs.declared.option.Option.{Option}
 use Rattle.std.specs.declared.option.Option.TheVariants.{None, Some}
 use Rattle.landmark_rules.specs.declared.marks.Group.{Group}
 use Rattle.mark_kinds.specs.declared.groups.GroupKind.{GroupKind}
 use Rattle.landmark_rules.specs.declared.marks.Mark.{Mark}
-use Rattle.landmark_rules.specs.Groups.{IsMark, group_place, kind_place, marks_in, most_groups}
+use Rattle.landmark_rules.specs.declared.marks.MarkBounds.{MarkBounds}
+use Rattle.landmark_rules.specs.Groups.{AreGroups, AreMarkBounds, IsMark, group_place, kind_place, marks_in, most_groups}
 use Rattle.landmark_rules.specs.Rules.{IsRule}
 use Rattle.mark_kinds.specs.declared.groups.TheConstants.{GROUP_COUNT}
 use Rattle.mark_kinds.specs.declared.sectors.TheConstants.{KIND_COUNT}
 use Rattle.plan_text.specs.declared.draft.Draft.{Draft}
 use Rattle.plan_text.specs.declared.entry.Entry.{Entry}
-use Rattle.plan_text.specs.declared.entry.Entry.TheVariants.{Done, Group as GroupEntry, Mark as MarkEntry}
-use Rattle.plan_text.specs.PlanText.{mark_line}
+use Rattle.plan_text.specs.declared.entry.Entry.TheVariants.{Bounds as BoundsEntry, Done, Group as GroupEntry, Mark as MarkEntry}
+use Rattle.plan_text.specs.PlanText.{bounds_line, mark_line, some_bounds}
 use Rattle.value_text.specs.Spelling.{named}
 use Rattle.landmark_text.specs.Names.{group_name}
 
+-- groups of a plan over images of these lengths, of which some have bounds of their own or none has
+abbrev pub AreGroupsWith : Bool → List ℕ → List Group → Type 0
+AreGroupsWith own lengths groups = AreGroups lengths groups × (some_bounds groups ≡ own)
+
 -- a group of no marks
 abbrev pub empty_group : GroupKind → Group
-empty_group kind = record { kind = kind; marks = [] }
+empty_group kind = record { kind = kind; marks = []; bounds = None }
 
--- a group with one more mark
+-- a group with one more mark, and with bounds of its own
 abbrev pub with_mark : Group → Mark → Group
-with_mark group mark = record { kind = group.kind; marks = group.marks ++ mark ∷ [] }
+with_mark group mark = record { kind = group.kind; marks = group.marks ++ mark ∷ []; bounds = group.bounds }
+
+abbrev pub with_bounds : Group → MarkBounds → Group
+with_bounds group bounds = record { kind = group.kind; marks = group.marks; bounds = Some bounds }
 
 -- groups, and one that is open
 abbrev pub with_open : List Group → Option Group → List Group
@@ -49,12 +57,14 @@ pub record IsSpelledMark (mark : Mark) : Type 0 where
 abbrev pub IsEntry : Entry → Type 0
 IsEntry Done = Unit {0}
 IsEntry (GroupEntry kind) = Unit {0}
+IsEntry (BoundsEntry bounds) = AreMarkBounds bounds
 IsEntry (MarkEntry mark) = IsSpelledMark mark
 
 -- the line of an entry
 abbrev pub entry_line : Entry → List ℕ
 entry_line Done = codes "done"
 entry_line (GroupEntry kind) = named (codes "group") (group_name kind)
+entry_line (BoundsEntry bounds) = bounds_line bounds
 entry_line (MarkEntry mark) = mark_line mark
 
 -- a group of this kind may begin: kinds come in order, and each has a limit
@@ -75,8 +85,25 @@ pub record MayAddTo (lengths : List ℕ) (draft : Draft) (group : Group) (mark :
 abbrev pub MayAdd : List ℕ → Draft → Mark → Type 0
 MayAdd lengths draft mark = MatchOption draft.last ⊥ (λ group. MayAddTo lengths draft group mark)
 
--- an entry may follow the groups of a draft
-abbrev pub MayFollow : List ℕ → Draft → Entry → Type 0
-MayFollow lengths draft Done = Unit {0}
-MayFollow lengths draft (GroupEntry kind) = MayBegin draft kind
-MayFollow lengths draft (MarkEntry mark) = MayAdd lengths draft mark
+-- bounds may be given to the open group: it has neither bounds nor marks yet
+pub record IsFresh (group : Group) : Type 0 where
+  pub bare : group.bounds ≡ None
+  pub empty : group.marks ≡ []
+
+abbrev pub MayBound : Draft → Type 0
+MayBound draft = MatchOption draft.last ⊥ IsFresh
+
+-- a group of some kind may begin
+abbrev pub MayGoOn : Draft → Type 0
+MayGoOn draft = (kind : GroupKind) × MayBegin draft kind
+
+-- where some group has to have bounds of its own, one has, or one may still begin
+abbrev pub MayEnd : Bool → Draft → Type 0
+MayEnd own draft = own ≡ true → (some_bounds (drafted draft) ≡ true) ⊎ MayGoOn draft
+
+-- an entry may follow the groups of a draft, where some group has to have bounds of its own or none may
+abbrev pub MayFollow : Bool → List ℕ → Draft → Entry → Type 0
+MayFollow own lengths draft Done = some_bounds (drafted draft) ≡ own
+MayFollow own lengths draft (GroupEntry kind) = MayBegin draft kind
+MayFollow own lengths draft (BoundsEntry bounds) = (own ≡ true) × MayBound draft
+MayFollow own lengths draft (MarkEntry mark) = MayAdd lengths draft mark × MayEnd own draft

@@ -1,9 +1,13 @@
 -- The one text of a plan, and the line at which a text that is no plan's is refused.
 use Rattle.std.specs.Prelude.{ℕ, Bool, true, false, ◌≡◌, ◌≢◌, ◌+◌, List, [], ◌∷◌, ◌++◌, length, map, All, codes, decimal, Result, IfOk, IfErr}
-use Rattle.std.specs.List.{flat_map}
+use Rattle.std.specs.List.{flat_map, list_any}
+use Rattle.std.specs.Option.{is_some}
+use Rattle.std.specs.declared.option.Option.{Option}
+use Rattle.std.specs.declared.option.Option.TheVariants.{None, Some}
 use Rattle.raid_params.specs.declared.types.Bounds.{Bounds}
 use Rattle.landmark_rules.specs.declared.marks.Group.{Group}
 use Rattle.landmark_rules.specs.declared.marks.Mark.{Mark}
+use Rattle.landmark_rules.specs.declared.marks.MarkBounds.{MarkBounds}
 use Rattle.landmark_rules.specs.declared.marks.MarkTests.{MarkTests}
 use Rattle.landmark_rules.specs.declared.marks.Rule.{Rule}
 use Rattle.landmark_rules.specs.declared.marks.Rule.TheVariants.{At, Either, Every}
@@ -15,13 +19,34 @@ use Rattle.plan_text.specs.declared.fault.PlanFault.TheVariants.{Line, Memory}
 use Rattle.value_text.specs.Spelling.{level_name, pattern_name, syndrome_name, commas, colons, spaces, named, line}
 use Rattle.landmark_text.specs.Names.{group_name, kind_name}
 
--- the version of the text: 2 where each image has an offset of its own, and 1 where all share one
-abbrev pub version_number : Bool → ℕ
-version_number false = 1
-version_number true = 2
+-- some group has bounds of its own
+abbrev pub some_bounds : List Group → Bool
+some_bounds groups = list_any (λ group. is_some group.bounds) groups
 
-abbrev pub version_line : Bool → List ℕ
-version_line each = named (codes "reraid-plan") (decimal (version_number each))
+-- the version of the text: 2 where each image has an offset of its own, and 1 where all share one
+abbrev pub older_number : Bool → ℕ
+older_number false = 1
+older_number true = 2
+
+-- but 3 where a group has bounds of its own
+abbrev pub version_number : Bool → Bool → ℕ
+version_number each true = 3
+version_number each false = older_number each
+
+abbrev pub mode_name : Bool → List ℕ
+mode_name false = codes "common"
+mode_name true = codes "each"
+
+abbrev pub mode_line : Bool → List ℕ
+mode_line each = named (codes "mode") (mode_name each)
+
+-- in version 3 a line of its own says whether each image has an offset of its own
+abbrev pub mode_lines : Bool → Bool → List (List ℕ)
+mode_lines each true = mode_line each ∷ []
+mode_lines each false = []
+
+abbrev pub version_lines : Bool → Bool → List (List ℕ)
+version_lines each own = named (codes "reraid-plan") (decimal (version_number each own)) ∷ mode_lines each own
 
 -- the number of images, and the length of each
 abbrev pub image_lines : List ℕ → List (List ℕ)
@@ -75,9 +100,20 @@ mark_text mark = spaces (kind_name mark.kind ∷ decimal mark.image ∷ decimal 
 abbrev pub mark_line : Mark → List ℕ
 mark_line mark = named (codes "mark") (mark_text mark)
 
--- a group and its marks
+-- the bounds of a group, where it has its own
+abbrev pub bounds_text : MarkBounds → List ℕ
+bounds_text bounds = spaces (decimal bounds.misfits ∷ decimal bounds.least ∷ [])
+
+abbrev pub bounds_line : MarkBounds → List ℕ
+bounds_line bounds = named (codes "bounds") (bounds_text bounds)
+
+abbrev pub bounds_lines : Option MarkBounds → List (List ℕ)
+bounds_lines None = []
+bounds_lines (Some bounds) = bounds_line bounds ∷ []
+
+-- a group, its bounds and its marks
 abbrev pub group_lines : Group → List (List ℕ)
-group_lines group = named (codes "group") (group_name group.kind) ∷ map mark_line group.marks
+group_lines group = named (codes "group") (group_name group.kind) ∷ (bounds_lines group.bounds ++ map mark_line group.marks)
 
 -- groups, and the last line
 abbrev pub groups_lines : List Group → List (List ℕ)
@@ -85,7 +121,8 @@ groups_lines groups = flat_map group_lines groups ++ codes "done" ∷ []
 
 -- the lines of a plan
 abbrev pub plan_lines : Plan → List (List ℕ)
-plan_lines plan = version_line plan.each ∷ (image_lines plan.lengths.items ++ (search_lines plan.end plan.bounds plan.limits plan.tests ++ groups_lines plan.groups))
+plan_lines plan =
+    version_lines plan.each (some_bounds plan.groups) ++ (image_lines plan.lengths.items ++ (search_lines plan.end plan.bounds plan.limits plan.tests ++ groups_lines plan.groups))
 
 -- the text of a plan: its lines, each ended by a line feed
 abbrev pub plan_text : Plan → List ℕ

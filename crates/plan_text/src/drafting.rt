@@ -1,14 +1,15 @@
 //! Which line may follow the groups that were read, and what it adds to them.
-ghost use Rattle.std.specs.Prelude.{◌≡◌, ◌<◌, ◌≤◌, ◌-◌, ◌↔◌, ◌∷◌, ◌++◌, [], IsTrue, OnOk, IfOk, IfSome, IsSomeAnd, Some, length, slice_get, slice_index, slice_index_or, option_map};
+ghost use Rattle.std.specs.Prelude.{◌≡◌, ◌<◌, ◌≤◌, ◌-◌, ◌↔◌, ◌∷◌, ◌++◌, [], IsTrue, OnOk, IfOk, IfSome, IsSomeAnd, Some, length, slice_get, slice_index, slice_index_or, option_map, All, MatchOption};
 ghost use Rattle.search_plan.specs.Plans.{AreLengths};
 ghost use Rattle.landmark_rules.specs.Groups.{IsMark, group_place, kind_place};
 ghost use Rattle.landmark_rules.specs.Rules.{IsRule};
-ghost use Rattle.plan_text.specs.Drafts.{IsBefore, IsDraft, IsEntry, MayAdd, MayBegin, MayFollow, drafted, empty_group, with_mark, with_open};
+ghost use Rattle.plan_text.specs.Drafts.{IsBefore, IsDraft, IsEntry, IsFresh, MayAdd, MayBegin, MayEnd, MayFollow, MayGoOn, drafted, empty_group, with_bounds, with_mark, with_open};
+ghost use Rattle.plan_text.specs.PlanText.{some_bounds};
 
 use crate::draft::Draft;
 use crate::entry::Entry;
-use landmark_rules::{Group, Groups, MOST_MARKS, Mark, Marks};
-use mark_kinds::{GROUP_COUNT, GroupKind, KIND_COUNT};
+use landmark_rules::{Group, Groups, MOST_MARKS, Mark, MarkBounds, Marks};
+use mark_kinds::{GROUP_COUNT, GROUPS, GroupKind, KIND_COUNT};
 use outside::Memory;
 use std::alloc::Global;
 
@@ -25,17 +26,73 @@ pub fn no_groups(alloc: Global) -> Draft
     }
 }
 
+/// Which groups of a plan have bounds of their own.
+#[derive(Clone, Copy)]
+pub struct Bounding {
+    /// Whether some group has to have them; otherwise none may.
+    pub own: bool,
+    /// Whether one of those that were read has.
+    pub some: bool,
+}
+
 /// Whether an entry may follow the groups of a draft.
-pub fn may_follow(draft: &Draft, lengths: &[u64], entry: &Entry) -> bool
+pub fn may_follow(draft: &Draft, bounding: Bounding, lengths: &[u64], entry: &Entry) -> bool
     requires lengths { AreLengths lengths.now }
     requires draft { IsDraft draft.now }
+    requires some { bounding.some ≡ some_bounds (drafted draft.now) }
     requires entry { IsEntry entry.now }
-    ensures { IsTrue result ↔ MayFollow lengths.now draft.now entry.now }
+    ensures { IsTrue result ↔ MayFollow bounding.own lengths.now draft.now entry.now }
 {
     match entry {
-        Entry::Done => true,
+        Entry::Done => bounding.some == bounding.own,
         Entry::Group(kind) => may_begin(draft, *kind),
-        Entry::Mark(mark) => may_add(draft, lengths, mark),
+        Entry::Bounds(_) => bounding.own && may_bound(&draft.last),
+        Entry::Mark(mark) => may_add(draft, lengths, mark) && may_end(draft, bounding),
+    }
+}
+
+/// Whether the groups of a draft may end as they have to: where some group has to have bounds, one has, or one may still
+/// begin.
+fn may_end(draft: &Draft, bounding: Bounding) -> bool
+    requires draft { IsDraft draft.now }
+    requires some { bounding.some ≡ some_bounds (drafted draft.now) }
+    ensures { IsTrue result ↔ MayEnd bounding.own draft.now }
+{
+    if bounding.own && !bounding.some {
+        may_go_on(draft)
+    } else {
+        true
+    }
+}
+
+/// Whether a group of some kind may begin.
+fn may_go_on(draft: &Draft) -> bool
+    requires { IsDraft draft.now }
+    ensures { IsTrue result ↔ MayGoOn draft.now }
+{
+    next_kind(draft, &GROUPS).is_some()
+}
+
+/// The first of these kinds of which a group may begin.
+fn next_kind(draft: &Draft, kinds: &[GroupKind]) -> Option<GroupKind>
+    requires { IsDraft draft.now }
+    ensures { MatchOption result (All (λ kind. MayBegin draft.now kind → ⊥) kinds.now) (λ kind. MayBegin draft.now kind) }
+{
+    for kind in kinds {
+        if may_begin(draft, *kind) {
+            return Some(*kind);
+        }
+    }
+    None
+}
+
+/// Whether bounds may be given to the open group: it has neither bounds nor marks yet.
+fn may_bound(last: &Option<Group>) -> bool
+    ensures { IsTrue result ↔ MatchOption last.now ⊥ IsFresh }
+{
+    match last {
+        None => false,
+        Some(group) => group.bounds.is_none() && group.marks.as_slice().is_empty(),
     }
 }
 
@@ -128,6 +185,7 @@ pub fn begin(draft: &mut Draft, alloc: Global, kind: GroupKind) -> Result<(), Me
     let group = Group {
         kind,
         marks: Marks::new(alloc),
+        bounds: None,
     };
     let last = draft.last.replace(group);
     close(&mut draft.closed, last)?;
@@ -145,12 +203,26 @@ fn close(groups: &mut Groups, last: Option<Group>) -> Result<(), Memory>
     }
 }
 
+/// Gives the open group bounds of its own.
+pub fn bound(draft: &mut Draft, bounds: MarkBounds)
+    requires draft { IsDraft draft.old }
+    ensures draft { IsDraft draft.new }
+    ensures closed { draft.new.closed ≡ draft.old.closed }
+    ensures groups { draft.new.groups ≡ draft.old.groups }
+    ensures last { draft.new.last ≡ option_map (λ group. with_bounds group bounds) draft.old.last }
+{
+    if let Some(group) = &mut draft.last {
+        group.bounds = Some(bounds);
+    }
+}
+
 /// Adds a mark to the open group.
 pub fn add(draft: &mut Draft, mark: Mark) -> Result<(), Memory>
     requires draft { IsDraft draft.old }
     requires room { slice_index draft.old.marks (kind_place mark.kind) < MOST_MARKS }
     ensures draft { OnOk result (IsDraft draft.new) }
     ensures closed { OnOk result (draft.new.closed ≡ draft.old.closed) }
+    ensures groups { OnOk result (draft.new.groups ≡ draft.old.groups) }
     ensures last { OnOk result (draft.new.last ≡ option_map (λ group. with_mark group mark) draft.old.last) }
 {
     if let Some(group) = &mut draft.last {

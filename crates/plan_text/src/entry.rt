@@ -1,5 +1,5 @@
 //! A line of the groups of a plan.
-use landmark_rules::{GroupKind, Mark};
+use landmark_rules::{GroupKind, Mark, MarkBounds};
 
 /// A line of the groups of a plan.
 #[derive(Clone, Copy)]
@@ -8,6 +8,8 @@ pub enum Entry {
     Done,
     /// The line that begins a group.
     Group(GroupKind),
+    /// The bounds of the group that was begun last.
+    Bounds(MarkBounds),
     /// A mark of the group that was begun last.
     Mark(Mark),
 }

@@ -1,14 +1,13 @@
 //! The groups of a plan, to its last line.
 ghost use Rattle.std.specs.Prelude.{◌≡◌, ◌≢◌, ◌∷◌, [], MatchOption};
-ghost use Rattle.landmark_rules.specs.Groups.{AreGroups};
 ghost use Rattle.search_plan.specs.Plans.{AreLengths};
 ghost use Rattle.plan_text.specs.declared.entry.Entry.{Entry as EntryOf};
-ghost use Rattle.plan_text.specs.Drafts.{IsDraft, IsEntry, MayFollow, entry_line};
-ghost use Rattle.plan_text.specs.PlanText.{groups_lines};
+ghost use Rattle.plan_text.specs.Drafts.{AreGroupsWith, IsDraft, IsEntry, MayFollow, drafted, entry_line};
+ghost use Rattle.plan_text.specs.PlanText.{groups_lines, some_bounds};
 ghost use Rattle.plan_text.specs.Reading.{Reads};
 
 use crate::draft::Draft;
-use crate::drafting::{add, begin, finish, may_follow, no_groups};
+use crate::drafting::{Bounding, add, begin, bound, finish, may_follow, no_groups};
 use crate::entry::Entry;
 use crate::fault::PlanFault;
 use crate::marks::read_entry;
@@ -17,42 +16,56 @@ use landmark_rules::Groups;
 use std::alloc::Global;
 
 impl<'a> PlanReader<'a> {
-    /// The groups of a plan over images of these lengths, to the line after them.
-    pub fn groups(&mut self, alloc: Global, lengths: &[u64]) -> Result<Groups, PlanFault>
+    /// The groups of a plan over images of these lengths, to the line after them. Some of them have bounds of their own where
+    /// `own` says so, and otherwise none has.
+    pub fn groups(&mut self, alloc: Global, lengths: &[u64], own: bool) -> Result<Groups, PlanFault>
         requires { AreLengths lengths.now }
-        ensures { Reads (AreGroups lengths.entry.now) groups_lines self.old self.new result }
+        ensures { Reads (AreGroupsWith own lengths.entry.now) groups_lines self.old self.new result }
     {
         let mut draft = no_groups(alloc);
+        let mut some = false;
         loop {
-            match self.entry(lengths, &draft)? {
+            match self.entry(lengths, &draft, Bounding { own, some })? {
                 Entry::Done => return Ok(finish(draft)?),
                 Entry::Group(kind) => begin(&mut draft, alloc, kind)?,
+                Entry::Bounds(bounds) => {
+                    bound(&mut draft, bounds);
+                    some = true;
+                }
                 Entry::Mark(mark) => add(&mut draft, mark)?,
             }
         }
     }
 
     /// The next line of the groups.
-    fn entry(&mut self, lengths: &[u64], draft: &Draft) -> Result<Entry, PlanFault>
+    fn entry(
+        &mut self,
+        lengths: &[u64],
+        draft: &Draft,
+        bounding: Bounding,
+    ) -> Result<Entry, PlanFault>
         requires lengths { AreLengths lengths.now }
         requires draft { IsDraft draft.now }
-        ensures { Reads (λ entry. IsEntry entry × MayFollow lengths.now draft.now entry) (λ entry. entry_line entry ∷ []) self.old self.new result }
+        requires some { bounding.some ≡ some_bounds (drafted draft.now) }
+        requires one { (entry : EntryOf) × (IsEntry entry × MayFollow bounding.own lengths.now draft.now entry) }
+        ensures { Reads (λ entry. IsEntry entry × MayFollow bounding.own lengths.now draft.now entry) (λ entry. entry_line entry ∷ []) self.old self.new result }
     {
         let line = self.next_line()?;
-        entry_after(line, lengths, draft).ok_or(self.refusal())
+        entry_after(line, lengths, draft, bounding).ok_or(self.refusal())
     }
 }
 
 /// The entry that a line is, where it may follow the groups of a draft.
-fn entry_after(line: &[u8], lengths: &[u64], draft: &Draft) -> Option<Entry>
+fn entry_after(line: &[u8], lengths: &[u64], draft: &Draft, bounding: Bounding) -> Option<Entry>
     requires lengths { AreLengths lengths.now }
     requires draft { IsDraft draft.now }
+    requires some { bounding.some ≡ some_bounds (drafted draft.now) }
     ensures { MatchOption result
-        ((entry : EntryOf) → IsEntry entry × MayFollow lengths.now draft.now entry → line.now ≢ entry_line entry)
-        (λ entry. (IsEntry entry × MayFollow lengths.now draft.now entry) × (line.now ≡ entry_line entry)) }
+        ((entry : EntryOf) → IsEntry entry × MayFollow bounding.own lengths.now draft.now entry → line.now ≢ entry_line entry)
+        (λ entry. (IsEntry entry × MayFollow bounding.own lengths.now draft.now entry) × (line.now ≡ entry_line entry)) }
 {
     let entry = read_entry(line)?;
-    if may_follow(draft, lengths, &entry) {
+    if may_follow(draft, bounding, lengths, &entry) {
         Some(entry)
     } else {
         None

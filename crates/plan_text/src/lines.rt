@@ -1,13 +1,29 @@
 //! The value that a line spells after its name.
-ghost use Rattle.std.specs.Prelude.{◌≡◌, ◌≢◌, ◌≤◌, ◌<◌, ◌++◌, ◌↔◌, ℕ, List, All, IsTrue, decimal, length, map, MatchOption};
+ghost use Rattle.std.specs.Prelude.{◌≡◌, ◌≢◌, ◌≤◌, ◌<◌, ◌++◌, ◌↔◌, ℕ, Bool, List, All, IsTrue, decimal, length, map, MatchOption};
 ghost use Rattle.search_plan.specs.Plans.{AreRising};
 ghost use Rattle.value_text.specs.Bounded.{AreChunks, AreMembers};
 ghost use Rattle.plan_text.specs.Parts.{AreBelow};
 ghost use Rattle.value_text.specs.Spelling.{commas};
+ghost use Rattle.plan_text.specs.PlanText.{mode_line};
 
 use arrayvec::ArrayVec;
 use raid_params::{MOST_CHUNKS, MOST_LESS_ONE};
 use value_text::{Listed, after, read_chunks, read_members, read_number, read_sectors, rising};
+
+/// Whether each image has an offset of its own, as a line says that is one of the mode.
+pub fn mode_after(line: &[u8]) -> Option<bool>
+    ensures { MatchOption result
+        ((each : Bool) → line.now ≢ mode_line each)
+        (λ each. line.now ≡ mode_line each) }
+{
+    if line == b"mode common".as_slice() {
+        Some(false)
+    } else if line == b"mode each".as_slice() {
+        Some(true)
+    } else {
+        None
+    }
+}
 
 /// The number from `least` to `most` that a line spells after the word.
 pub fn number_after(line: &[u8], word: &[u8], least: u64, most: u64) -> Option<u64>

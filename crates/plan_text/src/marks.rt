@@ -1,15 +1,17 @@
 //! Marks and their rules.
 ghost use Rattle.std.specs.Prelude.{◌≡◌, ◌≢◌, ◌<◌, ◌^◌, ◌↔◌, ◌∷◌, ◌++◌, ◌*◌, ◌+◌, ℕ, List, IsTrue, decimal, MatchOption};
 ghost use Rattle.landmark_rules.specs.declared.marks.Mark.{Mark as MarkOf};
+ghost use Rattle.landmark_rules.specs.declared.marks.MarkBounds.{MarkBounds as BoundsOf};
+ghost use Rattle.landmark_rules.specs.Groups.{AreMarkBounds};
 ghost use Rattle.landmark_rules.specs.declared.marks.Rule.{Rule as RuleOf};
 ghost use Rattle.landmark_rules.specs.declared.marks.Rule.TheVariants.{Either as EitherOf, Every as EveryOf};
 ghost use Rattle.landmark_rules.specs.Rules.{IsRule};
 ghost use Rattle.plan_text.specs.declared.entry.Entry.{Entry as EntryOf};
 ghost use Rattle.plan_text.specs.Drafts.{IsEntry, IsSpelledMark, entry_line};
-ghost use Rattle.plan_text.specs.PlanText.{mark_text, rule_text};
+ghost use Rattle.plan_text.specs.PlanText.{bounds_text, mark_text, rule_text};
 
 use crate::entry::Entry;
-use landmark_rules::{Mark, Rule};
+use landmark_rules::{Mark, MarkBounds, Rule};
 use landmark_text::{kind_until, read_group};
 use raid_params::SECTORS_END;
 use value_text::{after, read_number, value_until};
@@ -26,8 +28,26 @@ pub fn read_entry(line: &[u8]) -> Option<Entry>
     if let Some(name) = after(line, b"group ") {
         return Some(Entry::Group(read_group(name)?));
     }
+    if let Some(text) = after(line, b"bounds ") {
+        return Some(Entry::Bounds(read_bounds(text)?));
+    }
     let text = after(line, b"mark ")?;
     Some(Entry::Mark(read_mark(text)?))
+}
+
+/// The bounds that a text spells.
+fn read_bounds(text: &[u8]) -> Option<MarkBounds>
+    ensures { MatchOption result
+        ((bounds : BoundsOf) → AreMarkBounds bounds → text.now ≢ bounds_text bounds)
+        (λ bounds. AreMarkBounds bounds × (text.now ≡ bounds_text bounds)) }
+{
+    let (misfits, after_misfits) = value_until::<u64>(text, b' ')?;
+    let least = read_sectors(after_misfits)?;
+    if misfits < SECTORS_END {
+        Some(MarkBounds { misfits, least })
+    } else {
+        None
+    }
 }
 
 /// The mark that a text spells.

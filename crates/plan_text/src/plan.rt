@@ -16,10 +16,11 @@ pub fn read_plan(alloc: Global, text: &[u8]) -> Result<Plan, PlanFault>
     ensures { ReadsPlan text.now result }
 {
     let mut reader = PlanReader::new(text);
-    let each = reader.version()?;
+    let version = reader.version()?;
+    let each = version.each;
     let lengths = reader.images(each)?;
     let search = reader.search(shortest(&lengths), each)?;
-    let groups = reader.groups(alloc, &lengths)?;
+    let groups = reader.groups(alloc, &lengths, version.own)?;
     reader.end()?;
     Ok(Plan {
         lengths,

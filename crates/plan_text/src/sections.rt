@@ -3,15 +3,17 @@ ghost use Rattle.std.specs.Prelude.{◌≡◌, ◌≤◌, ◌++◌, ◌∷◌, [
 ghost use Rattle.search_plan.specs.Plans.{AreRising};
 ghost use Rattle.plan_text.specs.Parts.{AreArrays, AreBelow, AreCounts, AreImages, AreSizes, IsSearch, lines_of_arrays, lines_of_sizes, lines_of_counts, lines_of_search};
 ghost use Rattle.value_text.specs.Bounded.{AreMembers, AreChunks};
-ghost use Rattle.plan_text.specs.PlanText.{image_lines, version_line};
+ghost use Rattle.plan_text.specs.PlanText.{image_lines, mode_line, version_lines};
 ghost use Rattle.plan_text.specs.Reading.{Reads, is_line};
 ghost use Rattle.value_text.specs.Spelling.{commas, named};
 
 use crate::fault::PlanFault;
-use crate::lines::{chunks_after, list_after, members_after, number_after, sectors_after};
+use crate::lines::{
+    chunks_after, list_after, members_after, mode_after, number_after, sectors_after,
+};
 use crate::parts::{Arrays, Counts, Search, Sizes};
 use crate::reader::PlanReader;
-use crate::version::{most_foreign, sectors_end};
+use crate::version::{Version, most_foreign, sectors_end};
 use arrayvec::ArrayVec;
 use landmark_rules::MarkTests;
 use raid_params::{Bounds, MOST, MOST_CHUNKS, MOST_LESS_ONE, MOST_MISSING, SECTORS_END};
@@ -19,12 +21,29 @@ use search_plan::Limits;
 use value_text::{Field, Listed};
 
 impl<'a> PlanReader<'a> {
-    /// Whether each image has an offset of its own, as the version of the text says.
-    pub fn version(&mut self) -> Result<bool, PlanFault>
-        ensures { Reads (λ _. Unit {0}) (λ each. version_line each ∷ []) self.old self.new result }
+    /// What the version of the text says: whether each image has an offset of its own, and whether some group has bounds of its
+    /// own.
+    pub fn version(&mut self) -> Result<Version, PlanFault>
+        ensures { Reads (λ _. Unit {0}) (λ version. version_lines version.each version.own) self.old self.new result }
     {
-        let version = self.number(b"reraid-plan ", 1, 2)?;
-        Ok(version == 2)
+        let number = self.number(b"reraid-plan ", 1, 3)?;
+        if number == 3 {
+            let each = self.mode()?;
+            Ok(Version { each, own: true })
+        } else {
+            Ok(Version {
+                each: number == 2,
+                own: false,
+            })
+        }
+    }
+
+    /// Whether each image has an offset of its own, as the line of the mode says.
+    fn mode(&mut self) -> Result<bool, PlanFault>
+        ensures { Reads (λ _. Unit {0}) (λ each. mode_line each ∷ []) self.old self.new result }
+    {
+        let line = self.next_line()?;
+        mode_after(line).ok_or(self.refusal())
     }
 
     /// The number of images, from 1 to `MOST`, and their lengths in sectors.

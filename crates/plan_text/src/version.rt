@@ -1,18 +1,41 @@
 //! The versions of the text of plans.
 ghost use Rattle.std.specs.Prelude.{◌≡◌};
 ghost use Rattle.plan_text.specs.Parts.{most_foreign as most_foreign_of, sectors_end as sectors_end_of};
-ghost use Rattle.plan_text.specs.PlanText.{version_number as version_number_of};
+ghost use Rattle.plan_text.specs.PlanText.{mode_name as mode_name_of, version_number as version_number_of};
 
 use raid_params::{MOST, SECTORS_END};
 
 /// The end of the lengths and offsets of images that can be moved: 2^54.
 const MOVABLE_END: u64 = 1 << 54;
 
-/// The version of the text of a plan: 2 where each image has an offset of its own, and 1 where all share one.
-pub fn version_number(each: bool) -> u64
-    ensures { result ≡ version_number_of each }
+/// What the version of a text says of its plan.
+#[derive(Clone, Copy)]
+pub struct Version {
+    /// Whether each image has an offset of its own.
+    pub each: bool,
+    /// Whether some group has bounds of its own.
+    pub own: bool,
+}
+
+/// The version of the text of a plan: 3 where a group has bounds of its own, otherwise 2 where each image has an offset of
+/// its own, and 1 where all share one.
+pub fn version_number(version: Version) -> u64
+    ensures { result ≡ version_number_of version.each version.own }
 {
-    if each { 2 } else { 1 }
+    if version.own {
+        3
+    } else if version.each {
+        2
+    } else {
+        1
+    }
+}
+
+/// The word of the mode: whether each image has an offset of its own.
+pub fn mode_name(each: bool) -> &'static [u8]
+    ensures { result.now ≡ mode_name_of each }
+{
+    if each { b"each" } else { b"common" }
 }
 
 /// The end of lengths and offsets. Images with offsets of their own are moved by them, so theirs are below 2^54.

@@ -1,12 +1,12 @@
 //! The text of a plan.
 ghost use Rattle.std.specs.Prelude.{◌≡◌, ◌∷◌, ◌++◌, [], IfOk, OnOk, codes, decimal, map};
 ghost use Rattle.std.specs.List.{flat_map};
-ghost use Rattle.plan_text.specs.PlanText.{plan_text, image_lines, search_lines, arrays_lines, sizes_lines, counts_lines, groups_lines, mark_line, mark_text, rule_text};
+ghost use Rattle.plan_text.specs.PlanText.{plan_text, version_lines, image_lines, search_lines, arrays_lines, sizes_lines, counts_lines, groups_lines, bounds_lines, mark_line, mark_text, mode_line, rule_text, some_bounds};
 ghost use Rattle.value_text.specs.Spelling.{commas, line as line_of, named};
 ghost use Rattle.landmark_text.specs.Names.{group_name as group_spelling};
 
-use crate::version::version_number;
-use landmark_rules::{Group, GroupKind, Mark, MarkTests, Rule};
+use crate::version::{Version, mode_name, version_number};
+use landmark_rules::{Group, GroupKind, Mark, MarkBounds, MarkTests, Rule};
 use landmark_text::group_name;
 use outside::Memory;
 use raid_params::Bounds;
@@ -19,11 +19,43 @@ pub fn write_plan(alloc: Global, plan: &Plan) -> Result<Text, Memory>
     ensures { IfOk result (λ text. text ≡ plan_text plan.now) }
 {
     let mut text = Text::new(alloc);
-    add_number_line(&mut text, b"reraid-plan ", version_number(plan.each))?;
+    add_version(&mut text, version_of(plan))?;
     add_images(&mut text, &plan.lengths)?;
     add_search(&mut text, plan)?;
     add_groups(&mut text, plan.groups.as_slice())?;
     Ok(text)
+}
+
+/// What the version of the text of a plan has to say.
+fn version_of(plan: &Plan) -> Version
+    ensures each { result.each ≡ plan.now.each }
+    ensures own { result.own ≡ some_bounds plan.now.groups }
+{
+    let groups = plan.groups.as_slice();
+    Version {
+        each: plan.each,
+        own: groups.iter().any(|group| group.bounds.is_some()),
+    }
+}
+
+/// Appends the line of the version, and that of the mode where the version has one.
+fn add_version(text: &mut Text, version: Version) -> Result<(), Memory>
+    ensures { OnOk result (text.new ≡ text.old ++ flat_map line_of (version_lines version.each version.own)) }
+{
+    add_number_line(text, b"reraid-plan ", version_number(version))?;
+    if version.own {
+        add_mode(text, version.each)?;
+    }
+    Ok(())
+}
+
+/// Appends the line of the mode.
+fn add_mode(text: &mut Text, each: bool) -> Result<(), Memory>
+    ensures { OnOk result (text.new ≡ text.old ++ line_of (mode_line each)) }
+{
+    text.extend_from_slice(b"mode ")?;
+    text.extend_from_slice(mode_name(each))?;
+    text.push(b'\n')
 }
 
 /// Appends the lines of the images.
@@ -89,6 +121,7 @@ fn add_groups(text: &mut Text, groups: &[Group]) -> Result<(), Memory>
 {
     for group in groups {
         add_group_line(text, group.kind)?;
+        add_bounds(text, group.bounds)?;
         add_marks(text, group.marks.as_slice())?;
     }
     text.extend_from_slice(b"done\n")
@@ -101,6 +134,22 @@ fn add_group_line(text: &mut Text, kind: GroupKind) -> Result<(), Memory>
     text.extend_from_slice(b"group ")?;
     text.extend_from_slice(group_name(kind).as_bytes())?;
     text.push(b'\n')
+}
+
+/// Appends the line of the bounds that a group has of its own.
+fn add_bounds(text: &mut Text, bounds: Option<MarkBounds>) -> Result<(), Memory>
+    ensures { OnOk result (text.new ≡ text.old ++ flat_map line_of (bounds_lines bounds)) }
+{
+    match bounds {
+        None => Ok(()),
+        Some(own) => {
+            text.extend_from_slice(b"bounds ")?;
+            add_number(text, own.misfits)?;
+            text.push(b' ')?;
+            add_number(text, own.least)?;
+            text.push(b'\n')
+        }
+    }
 }
 
 /// Appends the lines of marks.

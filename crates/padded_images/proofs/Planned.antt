@@ -1,5 +1,5 @@
 -- The plan of padded images is a plan.
-use Rattle.std.proofs.Common.{◌≡◌, ℕ, ◌+◌, ◌^◌, ◌≤◌, ◌<◌, ◌==◌, List, [], ◌∷◌, map, slice_get, All, IsSomeAnd, Some, None, refl, sym, ap, subst, cond, arith}
+use Rattle.std.proofs.Common.{◌≡◌, ℕ, ◌+◌, ◌^◌, ◌≤◌, ◌<◌, ◌==◌, List, [], ◌∷◌, map, slice_get, All, IfSome, IsSomeAnd, Some, None, refl, sym, ap, subst, cond, arith}
 use Rattle.std.proofs.lemmas.List.Elements.{All-nil, All-cons, All-head, All-tail, All-weaker, All-map}
 use Rattle.std.proofs.lemmas.List.Sorted.{All-permutation, sum_by-IsPermutation}
 use Rattle.std.proofs.lemmas.List.Sums.{sum_by-cons, sum_by-append}
@@ -7,7 +7,7 @@ use Rattle.std.specs.List.{sum_by}
 use Rattle.std.specs.List.Sorted.{IsNonDecreasing, IsStrictlyIncreasing}
 use Rattle.std.specs.Option.{option_map}
 use Rattle.std.specs.declared.option.Option.{Option}
-use Rattle.landmark_rules.specs.Groups.{AreGroups, IsMark, group_place, kind_place, mark_place, marks_in}
+use Rattle.landmark_rules.specs.Groups.{AreGroups, AreMarkBounds, IsMark, group_place, kind_place, mark_place, marks_in}
 use Rattle.landmark_rules.specs.declared.marks.Group.{Group}
 use Rattle.landmark_rules.specs.declared.marks.Mark.{Mark}
 use Rattle.image_padding.specs.Padded.{greatest_base, padding}
@@ -77,6 +77,7 @@ are_groups bases lengths groups are = record {
   marks = All-map (λ g. All (IsMark (lengths_to (greatest_base bases) bases lengths) g.kind) g.marks) (padded_group bases) groups
       (All-weaker (λ (g : Group). All (IsMark lengths g.kind) g.marks) (λ g. All (IsMark (lengths_to (greatest_base bases) bases lengths) g.kind) (padded_marks bases g.marks)) (λ g all. group_marks bases lengths g all) groups are.marks);
   rising = groups_rise bases groups are.rising (few_images lengths groups are.marks);
+  bounds = All-map (λ (g : Group). IfSome g.bounds AreMarkBounds) (padded_group bases) groups are.bounds;
   few_marks = λ kind. let same = sum_marks (λ (m : Mark). cond (kind_place m.kind == kind_place kind) 1 0) bases (λ m. refl) groups in let few = are.few_marks kind in omega (arith, same, few);
 }
 

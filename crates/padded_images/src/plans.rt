@@ -78,6 +78,7 @@ fn padded_groups(
         padded.push(Group {
             kind: group.kind,
             marks: padded_marks(alloc, &group.marks, bases, greatest)?,
+            bounds: group.bounds,
         })?;
     }
     Ok(padded)

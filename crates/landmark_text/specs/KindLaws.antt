@@ -1,34 +1,39 @@
 -- Proofs that each kind has a name of its own, without a separator. The implementations of `Spelled` and `Field` give
 -- them as their law, which may cite `specs` alone.
-use Rattle.std.proofs.Common.{◌≡◌, ℕ, true, List, sum, get_or, cond, eqb, refl, sym, ap, ◌∙◌}
+use Rattle.std.proofs.Common.{◌≡◌, ℕ, ◌+◌, true, List, length, sum, get_or, cond, eqb, refl, sym, ap, ◌∙◌}
 use Rattle.std.specs.List.{list_all}
 use Rattle.mark_kinds.specs.declared.groups.GroupKind.{GroupKind}
-use Rattle.mark_kinds.specs.declared.groups.GroupKind.TheVariants.{Gpt as GptGroup, Ntfs, Xfs, Btrfs as BtrfsGroup, Lvm as LvmGroup, Ext as ExtGroup}
+use Rattle.mark_kinds.specs.declared.groups.GroupKind.TheVariants.{Gpt as GptGroup, Ntfs, Xfs, Btrfs as BtrfsGroup, Lvm as LvmGroup, Ext as ExtGroup, Xfs5 as Xfs5Group}
 use Rattle.mark_kinds.specs.declared.sectors.Kind.{Kind}
-use Rattle.mark_kinds.specs.declared.sectors.Kind.TheVariants.{Gpt, Boot, FileRecord, Super, Agf, Agi, Btrfs, Lvm, Ext}
+use Rattle.mark_kinds.specs.declared.sectors.Kind.TheVariants.{Gpt, Boot, FileRecord, Super, Agf, Agi, Btrfs, Lvm, Ext, Xfs5}
 use Rattle.value_text.specs.Spelling.{is_plain, IsFieldName}
 use Rattle.landmark_text.specs.Names.{group_name, kind_name}
 
--- the kind of group with a name whose first byte this is
+-- the kind of group with a name whose first byte and length have this sum
 group_at : ℕ → GroupKind
-group_at first =
-    cond (eqb first 103) GptGroup
-    (cond (eqb first 110) Ntfs
-    (cond (eqb first 120) Xfs
-    (cond (eqb first 98) BtrfsGroup
-    (cond (eqb first 108) LvmGroup ExtGroup))))
+group_at weight =
+    cond (eqb weight 106) GptGroup
+    (cond (eqb weight 114) Ntfs
+    (cond (eqb weight 123) Xfs
+    (cond (eqb weight 103) BtrfsGroup
+    (cond (eqb weight 111) LvmGroup
+    (cond (eqb weight 104) ExtGroup Xfs5Group)))))
 
-group_back : (kind : GroupKind) → group_at (get_or (group_name kind) 0 0) ≡ kind
-unfolding group_at
+weight_of : List ℕ → ℕ
+weight_of name = get_or name 0 0 + length name
+
+group_back : (kind : GroupKind) → group_at (weight_of (group_name kind)) ≡ kind
+unfolding group_at weight_of
 group_back GptGroup = refl
 group_back Ntfs = refl
 group_back Xfs = refl
 group_back BtrfsGroup = refl
 group_back LvmGroup = refl
 group_back ExtGroup = refl
+group_back Xfs5Group = refl
 
 one_group : (x y : GroupKind) → group_name x ≡ group_name y → x ≡ y
-one_group x y e = sym (group_back x) ∙ ap (λ (name : List ℕ). group_at (get_or name 0 0)) e ∙ group_back y
+one_group x y e = sym (group_back x) ∙ ap (λ (name : List ℕ). group_at (weight_of name)) e ∙ group_back y
 
 group_has_no_separator : (x : GroupKind) → list_all is_plain (group_name x) ≡ true
 group_has_no_separator GptGroup = refl
@@ -37,6 +42,7 @@ group_has_no_separator Xfs = refl
 group_has_no_separator BtrfsGroup = refl
 group_has_no_separator LvmGroup = refl
 group_has_no_separator ExtGroup = refl
+group_has_no_separator Xfs5Group = refl
 
 pub group_law : IsFieldName group_name (λ kind. Unit {0})
 group_law = record { one_value = λ x y p q. one_group x y; has_no_separator = λ x p. group_has_no_separator x }
@@ -51,7 +57,8 @@ kind_at weight =
     (cond (eqb weight 302) Agf
     (cond (eqb weight 305) Agi
     (cond (eqb weight 545) Btrfs
-    (cond (eqb weight 335) Lvm Ext)))))))
+    (cond (eqb weight 335) Lvm
+    (cond (eqb weight 337) Ext Xfs5))))))))
 
 kind_back : (kind : Kind) → kind_at (sum (kind_name kind)) ≡ kind
 unfolding kind_at
@@ -64,6 +71,7 @@ kind_back Agi = refl
 kind_back Btrfs = refl
 kind_back Lvm = refl
 kind_back Ext = refl
+kind_back Xfs5 = refl
 
 one_kind : (x y : Kind) → kind_name x ≡ kind_name y → x ≡ y
 one_kind x y e = sym (kind_back x) ∙ ap (λ (name : List ℕ). kind_at (sum name)) e ∙ kind_back y
@@ -78,6 +86,7 @@ kind_has_no_separator Agi = refl
 kind_has_no_separator Btrfs = refl
 kind_has_no_separator Lvm = refl
 kind_has_no_separator Ext = refl
+kind_has_no_separator Xfs5 = refl
 
 pub kind_law : IsFieldName kind_name (λ kind. Unit {0})
 kind_law = record { one_value = λ x y p q. one_kind x y; has_no_separator = λ x p. kind_has_no_separator x }

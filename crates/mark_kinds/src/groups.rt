@@ -19,10 +19,12 @@ pub enum GroupKind {
     Lvm,
     /// An ext2, ext3 or ext4 file system.
     Ext,
+    /// The inodes of an XFS file system of version 5.
+    Xfs5,
 }
 
 /// How many kinds of groups there are.
-pub const GROUP_COUNT: usize = 6;
+pub const GROUP_COUNT: usize = 7;
 
 /// All kinds of groups, in the order in which they stand in plans and lists.
 pub const GROUPS: [GroupKind; GROUP_COUNT] = [
@@ -32,6 +34,7 @@ pub const GROUPS: [GroupKind; GROUP_COUNT] = [
     GroupKind::Btrfs,
     GroupKind::Lvm,
     GroupKind::Ext,
+    GroupKind::Xfs5,
 ];
 
 /// The most groups of one kind of file system in a plan.
@@ -94,6 +97,7 @@ impl GroupKind {
             GroupKind::Btrfs => file_system(3, "btrfs"),
             GroupKind::Lvm => file_system(4, "lvm"),
             GroupKind::Ext => file_system(5, "ext"),
+            GroupKind::Xfs5 => file_system(6, "xfs5"),
         }
     }
 

@@ -19,6 +19,8 @@ pub struct Kinds {
     pub lvm: bool,
     /// ext2, ext3 and ext4 file systems.
     pub ext: bool,
+    /// Inodes of XFS file systems of version 5.
+    pub xfs5: bool,
 }
 
 /// The most sectors that a survey may be asked to pass over.
@@ -34,7 +36,7 @@ pub struct DropAt {
 }
 
 impl Kinds {
-    /// The kinds that are looked for where none is named: all but ext.
+    /// The kinds that are looked for where none is named: all but ext and xfs5.
     pub fn usual() -> Kinds
         ensures { result ≡ usual_kinds }
     {
@@ -45,6 +47,7 @@ impl Kinds {
             btrfs: true,
             lvm: true,
             ext: false,
+            xfs5: false,
         }
     }
 
@@ -59,6 +62,7 @@ impl Kinds {
             btrfs: has_group(kinds, GroupKind::Btrfs),
             lvm: has_group(kinds, GroupKind::Lvm),
             ext: has_group(kinds, GroupKind::Ext),
+            xfs5: has_group(kinds, GroupKind::Xfs5),
         }
     }
 
@@ -73,6 +77,7 @@ impl Kinds {
             GroupKind::Btrfs => self.btrfs,
             GroupKind::Lvm => self.lvm,
             GroupKind::Ext => self.ext,
+            GroupKind::Xfs5 => self.xfs5,
         }
     }
 }

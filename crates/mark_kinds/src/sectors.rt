@@ -25,10 +25,12 @@ pub enum Kind {
     Lvm,
     /// A superblock of ext2, ext3 or ext4 in a later block group.
     Ext,
+    /// An inode of an XFS file system of version 5.
+    Xfs5,
 }
 
 /// How many kinds of landmark sectors there are.
-pub const KIND_COUNT: usize = 9;
+pub const KIND_COUNT: usize = 10;
 
 /// All kinds of landmark sectors, in their order.
 pub const KINDS: [Kind; KIND_COUNT] = [
@@ -41,6 +43,7 @@ pub const KINDS: [Kind; KIND_COUNT] = [
     Kind::Btrfs,
     Kind::Lvm,
     Kind::Ext,
+    Kind::Xfs5,
 ];
 
 /// What holds of all landmark sectors of a kind: a row of the table.
@@ -71,6 +74,7 @@ impl Kind {
             Kind::Btrfs => row_of(6, "btrfs", GroupKind::Btrfs),
             Kind::Lvm => row_of(7, "lvm", GroupKind::Lvm),
             Kind::Ext => row_of(8, "ext", GroupKind::Ext),
+            Kind::Xfs5 => row_of(9, "xfs5", GroupKind::Xfs5),
         }
     }
 

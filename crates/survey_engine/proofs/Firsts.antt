@@ -23,7 +23,7 @@ use Rattle.survey_engine.specs.Landmarks.{kind_of}
 use Rattle.landmark_rules.specs.Groups.{kind_place}
 use Rattle.survey_engine.specs.declared.landmark.GptTable.{GptTable}
 use Rattle.survey_engine.specs.declared.landmark.Landmark.{Landmark}
-use Rattle.survey_engine.specs.declared.landmark.Landmark.TheVariants.{Gpt, Boot, FileRecord, Super, Agf, Agi, Btrfs, Lvm, Ext}
+use Rattle.survey_engine.specs.declared.landmark.Landmark.TheVariants.{Gpt, Boot, FileRecord, Super, Super5, Agf, Agi, Btrfs, Lvm, Ext, Inode}
 use Rattle.survey_engine.specs.declared.sighting.Sighting.{Sighting}
 use Rattle.survey_engine.proofs.Numbers.{with_more, with_none}
 
@@ -67,11 +67,13 @@ not_gpt (Gpt h) sector long bytes never = absurd (never h refl)
 not_gpt (Boot b) sector long bytes never = refl
 not_gpt (FileRecord r) sector long bytes never = refl
 not_gpt (Super x) sector long bytes never = refl
+not_gpt (Super5 x places) sector long bytes never = refl
 not_gpt (Agf g) sector long bytes never = refl
 not_gpt (Agi g) sector long bytes never = refl
 not_gpt (Btrfs b) sector long bytes never = refl
 not_gpt (Lvm n) sector long bytes never = refl
 not_gpt (Ext x) sector long bytes never = refl
+not_gpt (Inode i) sector long bytes never = refl
 
 -- none but a header has hints
 pub no_header : (lengths : List ℕ) (images : List (List ℕ)) (s : Sighting) → ((h : GptTable) → s.landmark ≡ Gpt h → ⊥) → hints_at lengths images s ≡ []
@@ -208,11 +210,13 @@ followed_few (Gpt h) sector long = one_at_most (has_entries h sector long)
 followed_few (Boot b) sector long = omega arith
 followed_few (FileRecord r) sector long = omega arith
 followed_few (Super x) sector long = omega arith
+followed_few (Super5 x places) sector long = omega arith
 followed_few (Agf g) sector long = omega arith
 followed_few (Agi g) sector long = omega arith
 followed_few (Btrfs b) sector long = omega arith
 followed_few (Lvm n) sector long = omega arith
 followed_few (Ext x) sector long = omega arith
+followed_few (Inode i) sector long = omega arith
 
 followed_are_few : (lengths : List ℕ) (found : List Sighting) → count_by (is_followed lengths) found ≤ count_by (is_same_kind GptKind) found
 unfolding is_followed

@@ -8,11 +8,12 @@ use Rattle.std.proofs.lemmas.List.Elements.{All-get_or, filter_map-append}
 use Rattle.std.proofs.lemmas.List.Sums.{fold-append}
 use Rattle.landmark_rules.specs.declared.marks.Group.{Group}
 use Rattle.mark_kinds.specs.declared.groups.GroupKind.{GroupKind}
+use Rattle.mark_kinds.specs.declared.looking.Kinds.{Kinds}
 use Rattle.landmark_rules.specs.declared.marks.Mark.{Mark}
 use Rattle.landmark_rules.specs.declared.marks.Rule.{Rule}
 use Rattle.survey_engine.specs.Kept.{kept, kept_with}
 use Rattle.survey_engine.specs.Landmarks.{kind_of, IsSound}
-use Rattle.survey_engine.specs.Owners.{group_for, groups_in, is_new, mark_in, owner_among, owners_of, rule_in, IsSoundOwner}
+use Rattle.survey_engine.specs.Owners.{group_for, groups_asked, groups_in, is_new, mark_in, owner_among, owners_of, rule_in, IsSoundOwner}
 use Rattle.survey_engine.specs.Sightings.{sighted_at}
 use Rattle.survey_engine.specs.declared.owner.Owner.{Owner}
 use Rattle.survey_engine.specs.declared.sighting.Sighting.{Sighting}
@@ -118,22 +119,22 @@ groups_all found kind owners alone old n all are single =
 -- ---- kinds
 
 -- the groups of the first kinds, after others
-pub kinds_to : List Sighting → List Group → List GroupKind → ℕ → List Group
-kinds_to found old kinds n = old ++ flat_map (groups_in found) (take n kinds)
+pub kinds_to : Kinds → List Sighting → List Group → List GroupKind → ℕ → List Group
+kinds_to asked found old kinds n = old ++ flat_map (groups_asked asked found) (take n kinds)
 
-pub kinds_none : (found : List Sighting) (old : List Group) (kinds : List GroupKind) → kinds_to found old kinds 0 ≡ old
+pub kinds_none : (asked : Kinds) (found : List Sighting) (old : List Group) (kinds : List GroupKind) → kinds_to asked found old kinds 0 ≡ old
 unfolding kinds_to
-kinds_none found old kinds = append-nil old
+kinds_none asked found old kinds = append-nil old
 
-pub kinds_more : (found : List Sighting) (old : List Group) (kinds : List GroupKind) (i : ℕ) (k : GroupKind) → i < length kinds →
-    kinds_to found old kinds (i + 1) ≡ kinds_to found old kinds i ++ groups_in found (get_or kinds i k)
+pub kinds_more : (asked : Kinds) (found : List Sighting) (old : List Group) (kinds : List GroupKind) (i : ℕ) (k : GroupKind) → i < length kinds →
+    kinds_to asked found old kinds (i + 1) ≡ kinds_to asked found old kinds i ++ groups_asked asked found (get_or kinds i k)
 unfolding kinds_to
-kinds_more found old kinds i k below =
-    let one : flat_map (groups_in found) (take (i + 1) kinds) ≡ flat_map (groups_in found) (take i kinds) ++ groups_in found (get_or kinds i k) =
-    ap (flat_map (groups_in found)) (take_more kinds i k below) ∙ flat_map-append (groups_in found) (take i kinds) (get_or kinds i k ∷ [])
-    ∙ ap (λ (l : List Group). flat_map (groups_in found) (take i kinds) ++ l) (append-nil (groups_in found (get_or kinds i k))) in
-    ap (λ (l : List Group). old ++ l) one ∙ sym (append_assoc old (flat_map (groups_in found) (take i kinds)) (groups_in found (get_or kinds i k)))
+kinds_more asked found old kinds i k below =
+    let one : flat_map (groups_asked asked found) (take (i + 1) kinds) ≡ flat_map (groups_asked asked found) (take i kinds) ++ groups_asked asked found (get_or kinds i k) =
+    ap (flat_map (groups_asked asked found)) (take_more kinds i k below) ∙ flat_map-append (groups_asked asked found) (take i kinds) (get_or kinds i k ∷ [])
+    ∙ ap (λ (l : List Group). flat_map (groups_asked asked found) (take i kinds) ++ l) (append-nil (groups_asked asked found (get_or kinds i k))) in
+    ap (λ (l : List Group). old ++ l) one ∙ sym (append_assoc old (flat_map (groups_asked asked found) (take i kinds)) (groups_asked asked found (get_or kinds i k)))
 
-pub kinds_all : (found : List Sighting) (old : List Group) (kinds : List GroupKind) (n : ℕ) → length kinds ≤ n → kinds_to found old kinds n ≡ old ++ flat_map (groups_in found) kinds
+pub kinds_all : (asked : Kinds) (found : List Sighting) (old : List Group) (kinds : List GroupKind) (n : ℕ) → length kinds ≤ n → kinds_to asked found old kinds n ≡ old ++ flat_map (groups_asked asked found) kinds
 unfolding kinds_to
-kinds_all found old kinds n all = ap (λ (l : List GroupKind). old ++ flat_map (groups_in found) l) (take_all n kinds all)
+kinds_all asked found old kinds n all = ap (λ (l : List GroupKind). old ++ flat_map (groups_asked asked found) l) (take_all n kinds all)

@@ -4,14 +4,14 @@ use Rattle.std.specs.Option.{option_map}
 use Rattle.gpt_marks.specs.Header.{is_gpt_header}
 use Rattle.ntfs_marks.specs.Boot.{is_ntfs_boot, ntfs_boot, ntfs_boot_of}
 use Rattle.ntfs_marks.specs.FileRecord.{is_ntfs_record}
-use Rattle.xfs_marks.specs.Superblock.{is_xfs_super, xfs_super, xfs_super_of}
+use Rattle.xfs_marks.specs.Superblock.{is_xfs_super}
 use Rattle.xfs_marks.specs.Group.{is_xfs_agf, is_xfs_agi}
 use Rattle.more_marks.specs.Btrfs.{is_btrfs_super}
 use Rattle.more_marks.specs.Lvm.{is_lvm_label}
 use Rattle.survey_engine.proofs.FourthByte.{gpt_byte, boot_byte, record_byte, super_byte, agf_byte, agi_byte, label_byte, btrfs_byte}
-use Rattle.survey_engine.specs.Landmarks.{front_in, head_in, record_or_label_in}
+use Rattle.survey_engine.specs.Landmarks.{front_in, head_in, record_or_label_in, super_in}
 use Rattle.survey_engine.specs.declared.landmark.Landmark.{Landmark}
-use Rattle.survey_engine.specs.declared.landmark.Landmark.TheVariants.{Boot, Super}
+use Rattle.survey_engine.specs.declared.landmark.Landmark.TheVariants.{Boot}
 
 refuted : (b : Bool) → (b ≡ true → ⊥) → b ≡ false
 refuted true never = absurd (never refl)
@@ -65,15 +65,15 @@ record_or_label_is s is =
     let e : is_xfs_agi s ≡ false = not_agi s 69 is (omega arith) in
     rw (b, c, d, e) refl
 
-pub super_is : (s : List ℕ) → slice_index s 3 ≡ 66 → front_in s ≡ option_map Super (xfs_super s)
-unfolding front_in xfs_super
+pub super_is : (s : List ℕ) → slice_index s 3 ≡ 66 → front_in s ≡ super_in s
+unfolding front_in super_in
 super_is s is =
     let b : is_ntfs_boot s ≡ false = not_boot s 66 is (omega arith) in
     let c : is_ntfs_record s ≡ false = not_record s 66 is (omega arith) in
     let d : is_xfs_agf s ≡ false = not_agf s 66 is (omega arith) in
     let e : is_xfs_agi s ≡ false = not_agi s 66 is (omega arith) in
     let f : is_lvm_label s ≡ false = not_label s 66 is (omega arith) in
-    rw (b, c, d, e, f) (map_if Super (is_xfs_super s) (xfs_super_of s))
+    rw (b, c, d, e, f) refl
 
 head_at : (s : List ℕ) (c : ℕ) → slice_index s 3 ≡ c → c ≢ 78 → c ≢ 69 → c ≢ 66 → front_in s ≡ head_in s
 unfolding front_in head_in

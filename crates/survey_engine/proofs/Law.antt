@@ -10,14 +10,15 @@ use Rattle.std.proofs.lemmas.List.Concat.{flat_map-append}
 use Rattle.std.proofs.lemmas.List.Elements.{All-append, All-head, All-map, All-nil, All-tail, All-weaker}
 use Rattle.std.proofs.lemmas.List.Sums.{sum_by-append, sum_by-cons}
 use Rattle.landmark_rules.specs.Groups.{mark_place, marks_in, AreGroups, IsMark}
-use Rattle.mark_kinds.specs.Table.{all_groups, group_of, group_place, kind_place, most_groups}
+use Rattle.mark_kinds.specs.Table.{all_groups, group_of, group_place, is_group_asked, kind_place, most_groups}
+use Rattle.mark_kinds.specs.declared.looking.Kinds.{Kinds}
 use Rattle.mark_kinds.proofs.Places.{same_group, same_kind}
 use Rattle.landmark_rules.specs.declared.marks.Group.{Group}
 use Rattle.mark_kinds.specs.declared.groups.GroupKind.{GroupKind}
 use Rattle.mark_kinds.specs.declared.sectors.Kind.{Kind}
 use Rattle.landmark_rules.specs.declared.marks.Mark.{Mark}
 use Rattle.survey_engine.specs.Landmarks.{IsSound}
-use Rattle.survey_engine.specs.Owners.{group_for, group_kind, groups_in, groups_of, mark_in, owners_of, IsSoundOwner}
+use Rattle.survey_engine.specs.Owners.{group_for, group_kind, groups_asked, groups_in, groups_of, mark_in, owners_of, IsSoundOwner}
 use Rattle.survey_engine.specs.Sightings.{AreSightings, IsInImages}
 use Rattle.survey_engine.specs.declared.sighting.Sighting.{Sighting}
 use Rattle.survey_engine.proofs.Marks.{are_marks, are_rising}
@@ -61,6 +62,24 @@ of_kind lengths found kind are =
           (all_any (λ o. IsStrictlyIncreasing (map mark_place (filter_map (mark_in o alone) found))) (λ o. are_rising o alone found are.rising) owners);
       few_marks_in = λ k. omega (arith, ap (count_by (is_of k)) (flat_of_map (group_for found alone) (λ g. g.marks) owners), few_marks k kind found, are.few k);
     }
+
+none_of_kind : (lengths : List ℕ) (at most : ℕ) → AreOf lengths at most []
+none_of_kind lengths at most = record {
+  place = All-nil (λ g. place_of g ≡ at);
+  few = omega arith;
+  marks = All-nil (λ g. All (IsMark lengths g.kind) g.marks);
+  rising = All-nil (λ g. IsStrictlyIncreasing (map mark_place g.marks));
+  few_marks_in = λ kind. omega arith;
+}
+
+of_asked : (lengths : List ℕ) (at most : ℕ) (groups : List Group) (b : Bool) → AreOf lengths at most groups → AreOf lengths at most (cond b groups [])
+of_asked lengths at most groups true are = are
+of_asked lengths at most groups false are = none_of_kind lengths at most
+
+asked_of : (lengths : List ℕ) (asked : Kinds) (found : List Sighting) (kind : GroupKind) → AreSightings lengths found → AreOf lengths (group_place kind) (most_groups kind) (groups_asked asked found kind)
+unfolding groups_asked
+asked_of lengths asked found kind are =
+    of_asked lengths (group_place kind) (most_groups kind) (groups_in found kind) (is_group_asked asked kind) (of_kind lengths found kind are)
 
 -- ---- their order
 
@@ -226,17 +245,17 @@ Rise : ℕ → List GroupKind → Type 0
 Rise n [] = Unit {0}
 Rise n (kind ∷ kinds) = (n ≤ group_place kind) × Rise (group_place kind + 1) kinds
 
-are_from : (lengths : List ℕ) (found : List Sighting) → AreSightings lengths found → (n : ℕ) (kinds : List GroupKind) → Rise n kinds → AreFrom lengths n (flat_map (groups_in found) kinds)
+are_from : (lengths : List ℕ) (asked : Kinds) (found : List Sighting) → AreSightings lengths found → (n : ℕ) (kinds : List GroupKind) → Rise n kinds → AreFrom lengths n (flat_map (groups_asked asked found) kinds)
 unfolding Rise
-are_from lengths found are n [] rise = none_from lengths n
-are_from lengths found are n (kind ∷ kinds) rise =
-    joined lengths n kind (groups_in found kind) (flat_map (groups_in found) kinds) rise.0 (of_kind lengths found kind are) (are_from lengths found are (group_place kind + 1) kinds rise.1)
+are_from lengths asked found are n [] rise = none_from lengths n
+are_from lengths asked found are n (kind ∷ kinds) rise =
+    joined lengths n kind (groups_asked asked found kind) (flat_map (groups_asked asked found) kinds) rise.0 (asked_of lengths asked found kind are) (are_from lengths asked found are (group_place kind + 1) kinds rise.1)
 
 all_rise : Rise 0 all_groups
 unfolding Rise
-all_rise = (omega arith, (omega arith, (omega arith, (omega arith, (omega arith, (omega arith, tt))))))
+all_rise = (omega arith, (omega arith, (omega arith, (omega arith, (omega arith, (omega arith, (omega arith, tt)))))))
 
-pub are_groups : (lengths : List ℕ) (found : List Sighting) → AreSightings lengths found → AreGroups lengths (groups_of found)
-are_groups lengths found are =
-    let from = are_from lengths found are 0 all_groups all_rise in
-    record { order = never_falls (groups_of found) from.level; few = from.few; marks = from.marks; rising = from.rising; few_marks = from.few_marks }
+pub are_groups : (lengths : List ℕ) (asked : Kinds) (found : List Sighting) → AreSightings lengths found → AreGroups lengths (groups_of asked found)
+are_groups lengths asked found are =
+    let from = are_from lengths asked found are 0 all_groups all_rise in
+    record { order = never_falls (groups_of asked found) from.level; few = from.few; marks = from.marks; rising = from.rising; few_marks = from.few_marks }

@@ -14,6 +14,7 @@ use Rattle.ntfs_marks.specs.declared.file_record.NtfsRecord.{NtfsRecord}
 use Rattle.xfs_marks.specs.Superblock.{end_sector, ag_sectors, is_sound}
 use Rattle.xfs_marks.specs.declared.superblock.XfsSuper.{XfsSuper}
 use Rattle.more_marks.proofs.Limits.{address_below}
+use Rattle.xfs5.specs.Places.{inode_sector}
 use Rattle.landmark_rules.specs.Groups.{group_of, mark_place, IsMark}
 use Rattle.landmark_rules.specs.Rules.{IsRule}
 use Rattle.landmark_rules.specs.declared.marks.Mark.{Mark}
@@ -23,13 +24,13 @@ use Rattle.survey_engine.specs.Landmarks.{kind_of, IsSound}
 use Rattle.survey_engine.specs.Owners.{group_kind, ag_rule, is_same_boot, is_same_super, is_same_volume, mark_in, record_rule, rule_in, volume_of, IsSoundOwner}
 use Rattle.survey_engine.specs.Sightings.{sighted_at, sighting_place, AreRising, IsInImages, Place}
 use Rattle.survey_engine.specs.declared.landmark.Landmark.{Landmark}
-use Rattle.survey_engine.specs.declared.landmark.Landmark.TheVariants.{Gpt, Boot, FileRecord, Super, Agf, Agi, Btrfs as BtrfsSector, Lvm, Ext as ExtSector}
+use Rattle.survey_engine.specs.declared.landmark.Landmark.TheVariants.{Gpt, Boot, FileRecord, Super, Super5, Agf, Agi, Btrfs as BtrfsSector, Lvm, Ext as ExtSector, Inode}
 use Rattle.survey_engine.specs.declared.owner.Owner.{Owner}
-use Rattle.survey_engine.specs.declared.owner.Owner.TheVariants.{Table, Ntfs, Xfs, Btrfs, Label, Ext}
+use Rattle.survey_engine.specs.declared.owner.Owner.TheVariants.{Table, Ntfs, Xfs, Btrfs, Label, Ext, Xfs5}
 use Rattle.survey_engine.specs.declared.sighting.Sighting.{Sighting}
 use Rattle.survey_engine.proofs.Numbers.{rising_from, Rises}
 use Rattle.survey_engine.proofs.Owners.{mapped_each}
-use Rattle.survey_engine.proofs.Rules.{head_near, in_mirror, in_table}
+use Rattle.survey_engine.proofs.Rules.{head_near, in_mirror, in_table, inode_near}
 
 -- ---- rules
 
@@ -75,17 +76,24 @@ if_alone : (alone : Bool) (rule : Option Rule) → IfSome rule IsRule → IfSome
 if_alone true rule is = is
 if_alone false rule is = tt
 
+if_placed : (b : Bool) (place : Option ℕ) → IfSome place (λ s. s < 2 ^ 55) → IfSome (cond b (option_map At place) no_rule) IsRule
+if_placed true None near = tt
+if_placed true (Some s) near = near
+if_placed false place near = tt
+
 rule_is : (o : Owner) (alone : Bool) (at : Place) (l : Landmark) → IsSoundOwner o → IsSound l → IfSome (rule_in o alone at l) IsRule
 unfolding rule_in
 rule_is Table alone at (Gpt t) so sl = sl.1
 rule_is (Ntfs b) alone at (Boot c) so sl = if_passed (is_same_boot b c) (Either 0 b.total) (λ same. (omega arith, total_near b so))
 rule_is (Ntfs b) alone at (FileRecord r) so sl = if_alone alone (record_rule b r) (record_rule_is b r so sl)
 rule_is (Xfs x) alone at (Super y) so sl = if_passed (is_same_super x y) (Every (ag_sectors x) x.ag_count 0) (λ same. steps_near x so)
+rule_is (Xfs x) alone at (Super5 y places) so sl = if_passed (is_same_super x y) (Every (ag_sectors x) x.ag_count 0) (λ same. steps_near x so)
 rule_is (Xfs x) alone at (Agf g) so sl = if_alone alone (ag_rule x g 1) (group_rule_is x g 1 so (omega arith))
 rule_is (Xfs x) alone at (Agi g) so sl = if_alone alone (ag_rule x g 2) (group_rule_is x g 2 so (omega arith))
 rule_is (Btrfs f) alone at (BtrfsSector b) so sl = if_passed (bytes_eq f b.fsid) (At (b.address / 512)) (λ same. address_below b.address sl)
 rule_is (Label i s) alone at (Lvm n) so sl = if_passed (i == at.image && s == at.sector) (At n) (λ same. sl)
 rule_is (Ext v) alone at (ExtSector x) so sl = if_passed (is_same_volume v (volume_of x)) (At x.copy_sector) (λ same. sl)
+rule_is (Xfs5 x) alone at (Inode i) so sl = if_placed (bytes_eq x.uuid i.uuid) (inode_sector x i.number) (inode_near x i.number so)
 rule_is o alone at l so sl = tt
 
 any_rule : (P : Type 0) (rule : Option Rule) → P → IfSome rule (λ r. P)
@@ -98,11 +106,13 @@ kind_is Table alone at (Gpt t) = refl
 kind_is (Ntfs b) alone at (Boot c) = any_rule _ (cond (is_same_boot b c) (Some (Either 0 b.total)) None) refl
 kind_is (Ntfs b) alone at (FileRecord r) = any_rule _ (cond alone (record_rule b r) None) refl
 kind_is (Xfs x) alone at (Super y) = any_rule _ (cond (is_same_super x y) (Some (Every (ag_sectors x) x.ag_count 0)) None) refl
+kind_is (Xfs x) alone at (Super5 y places) = any_rule _ (cond (is_same_super x y) (Some (Every (ag_sectors x) x.ag_count 0)) None) refl
 kind_is (Xfs x) alone at (Agf g) = any_rule _ (cond alone (ag_rule x g 1) None) refl
 kind_is (Xfs x) alone at (Agi g) = any_rule _ (cond alone (ag_rule x g 2) None) refl
 kind_is (Btrfs f) alone at (BtrfsSector b) = any_rule _ (cond (bytes_eq f b.fsid) (Some (At (b.address / 512))) None) refl
 kind_is (Label i s) alone at (Lvm n) = any_rule _ (cond (i == at.image && s == at.sector) (Some (At n)) None) refl
 kind_is (Ext v) alone at (ExtSector x) = any_rule _ (cond (is_same_volume v (volume_of x)) (Some (At x.copy_sector)) None) refl
+kind_is (Xfs5 x) alone at (Inode i) = any_rule _ (cond (bytes_eq x.uuid i.uuid) (option_map At (inode_sector x i.number)) None) refl
 kind_is o alone at l = tt
 
 -- ---- marks

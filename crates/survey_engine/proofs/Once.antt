@@ -12,6 +12,9 @@ use Rattle.xfs_marks.specs.Superblock.{ag_sectors}
 use Rattle.xfs_marks.specs.declared.superblock.XfsSuper.{XfsSuper}
 use Rattle.more_marks.specs.declared.btrfs.BtrfsSuper.{BtrfsSuper}
 use Rattle.ext_marks.specs.declared.copy.ExtSuper.{ExtSuper}
+use Rattle.xfs5.specs.Places.{inode_sector}
+use Rattle.xfs5.specs.declared.inode.XfsInode.{XfsInode}
+use Rattle.xfs5.specs.declared.places.XfsInodes.{XfsInodes}
 use Rattle.landmark_rules.specs.Groups.{kind_place}
 use Rattle.mark_kinds.specs.declared.groups.GroupKind.{GroupKind}
 use Rattle.mark_kinds.specs.declared.sectors.Kind.{Kind}
@@ -23,9 +26,9 @@ use Rattle.survey_engine.specs.Owners.{is_same_boot, is_same_owner, is_same_supe
 use Rattle.survey_engine.specs.Sightings.{is_same_kind, sighted_at, Place}
 use Rattle.survey_engine.specs.declared.landmark.GptTable.{GptTable}
 use Rattle.survey_engine.specs.declared.landmark.Landmark.{Landmark}
-use Rattle.survey_engine.specs.declared.landmark.Landmark.TheVariants.{Gpt, Boot, FileRecord, Super, Agf, Agi, Btrfs as BtrfsSector, Lvm, Ext as ExtSector}
+use Rattle.survey_engine.specs.declared.landmark.Landmark.TheVariants.{Gpt, Boot, FileRecord, Super, Super5, Agf, Agi, Btrfs as BtrfsSector, Lvm, Ext as ExtSector, Inode}
 use Rattle.survey_engine.specs.declared.owner.Owner.{Owner}
-use Rattle.survey_engine.specs.declared.owner.Owner.TheVariants.{Table, Ntfs, Xfs, Btrfs, Label, Ext}
+use Rattle.survey_engine.specs.declared.owner.Owner.TheVariants.{Table, Ntfs, Xfs, Btrfs, Label, Ext, Xfs5}
 use Rattle.survey_engine.specs.declared.sighting.Sighting.{Sighting}
 use Rattle.survey_engine.proofs.Owners.{owners_once}
 
@@ -62,6 +65,7 @@ takes_boot alone at c (Xfs x) takes = takes
 takes_boot alone at c (Btrfs f) takes = takes
 takes_boot alone at c (Label i s) takes = takes
 takes_boot alone at c (Ext v) takes = takes
+takes_boot alone at c (Xfs5 x) takes = takes
 
 takes_super : (alone : Bool) (at : Place) (y : XfsSuper) (o : Owner) → is_some (rule_in o alone at (Super y)) ≡ true → is_same_owner o (Xfs y) ≡ true
 unfolding rule_in
@@ -71,6 +75,17 @@ takes_super alone at y (Xfs x) takes = sym (passed (is_same_super x y) (Every (a
 takes_super alone at y (Btrfs f) takes = takes
 takes_super alone at y (Label i s) takes = takes
 takes_super alone at y (Ext v) takes = takes
+takes_super alone at y (Xfs5 x) takes = takes
+
+takes_super5 : (alone : Bool) (at : Place) (y : XfsSuper) (places : XfsInodes) (o : Owner) → is_some (rule_in o alone at (Super5 y places)) ≡ true → is_same_owner o (Xfs y) ≡ true
+unfolding rule_in
+takes_super5 alone at y places Table takes = takes
+takes_super5 alone at y places (Ntfs b) takes = takes
+takes_super5 alone at y places (Xfs x) takes = sym (passed (is_same_super x y) (Every (ag_sectors x) x.ag_count 0)) ∙ takes
+takes_super5 alone at y places (Btrfs f) takes = takes
+takes_super5 alone at y places (Label i s) takes = takes
+takes_super5 alone at y places (Ext v) takes = takes
+takes_super5 alone at y places (Xfs5 x) takes = takes
 
 takes_header : (alone : Bool) (at : Place) (t : GptTable) (o : Owner) → is_some (rule_in o alone at (Gpt t)) ≡ true → is_same_owner o Table ≡ true
 unfolding rule_in
@@ -80,6 +95,7 @@ takes_header alone at t (Xfs x) takes = takes
 takes_header alone at t (Btrfs f) takes = takes
 takes_header alone at t (Label i s) takes = takes
 takes_header alone at t (Ext v) takes = takes
+takes_header alone at t (Xfs5 x) takes = takes
 
 takes_btrfs : (alone : Bool) (at : Place) (y : BtrfsSuper) (o : Owner) → is_some (rule_in o alone at (BtrfsSector y)) ≡ true → is_same_owner o (Btrfs y.fsid) ≡ true
 unfolding rule_in
@@ -89,6 +105,7 @@ takes_btrfs alone at y (Xfs x) takes = takes
 takes_btrfs alone at y (Btrfs f) takes = sym (passed (bytes_eq f y.fsid) (At (y.address / 512))) ∙ takes
 takes_btrfs alone at y (Label i s) takes = takes
 takes_btrfs alone at y (Ext v) takes = takes
+takes_btrfs alone at y (Xfs5 x) takes = takes
 
 takes_label : (alone : Bool) (at : Place) (n : ℕ) (o : Owner) → is_some (rule_in o alone at (Lvm n)) ≡ true → is_same_owner o (Label at.image at.sector) ≡ true
 unfolding rule_in
@@ -98,6 +115,7 @@ takes_label alone at n (Xfs x) takes = takes
 takes_label alone at n (Btrfs f) takes = takes
 takes_label alone at n (Label i s) takes = sym (passed (i == at.image && s == at.sector) (At n)) ∙ takes
 takes_label alone at n (Ext v) takes = takes
+takes_label alone at n (Xfs5 x) takes = takes
 
 takes_copy : (alone : Bool) (at : Place) (y : ExtSuper) (o : Owner) → is_some (rule_in o alone at (ExtSector y)) ≡ true → is_same_owner o (Ext (volume_of y)) ≡ true
 unfolding rule_in
@@ -107,6 +125,25 @@ takes_copy alone at y (Xfs x) takes = takes
 takes_copy alone at y (Btrfs f) takes = takes
 takes_copy alone at y (Label i s) takes = takes
 takes_copy alone at y (Ext v) takes = sym (passed (is_same_volume v (volume_of y)) (At y.copy_sector)) ∙ takes
+takes_copy alone at y (Xfs5 x) takes = takes
+
+-- an owner of inodes with an identifier
+of_uuid : List ℕ → XfsInodes
+of_uuid uuid = record { uuid = uuid; block = 0; ag_blocks = 0; ag_count = 0; inode = 0; inode_bits = 0; block_bits = 0 }
+
+placed_passed : (b : Bool) (place : Option ℕ) → is_some (cond b (option_map At place) None) ≡ true → b ≡ true
+placed_passed true place takes = refl
+placed_passed false place takes = takes
+
+takes_inode : (alone : Bool) (at : Place) (i : XfsInode) (o : Owner) → is_some (rule_in o alone at (Inode i)) ≡ true → is_same_owner o (Xfs5 (of_uuid i.uuid)) ≡ true
+unfolding rule_in of_uuid
+takes_inode alone at i Table takes = takes
+takes_inode alone at i (Ntfs b) takes = takes
+takes_inode alone at i (Xfs x) takes = takes
+takes_inode alone at i (Btrfs f) takes = takes
+takes_inode alone at i (Label j s) takes = takes
+takes_inode alone at i (Ext v) takes = takes
+takes_inode alone at i (Xfs5 x) takes = placed_passed (bytes_eq x.uuid i.uuid) (inode_sector x i.number) takes
 
 none_alone_record : (at : Place) (r : NtfsRecord) (o : Owner) → is_some (rule_in o false at (FileRecord r)) ≡ false
 unfolding rule_in
@@ -116,6 +153,7 @@ none_alone_record at r (Xfs x) = refl
 none_alone_record at r (Btrfs f) = refl
 none_alone_record at r (Label i s) = refl
 none_alone_record at r (Ext v) = refl
+none_alone_record at r (Xfs5 x) = refl
 
 none_alone_agf : (at : Place) (g : ℕ) (o : Owner) → is_some (rule_in o false at (Agf g)) ≡ false
 unfolding rule_in
@@ -125,6 +163,7 @@ none_alone_agf at g (Xfs x) = refl
 none_alone_agf at g (Btrfs f) = refl
 none_alone_agf at g (Label i s) = refl
 none_alone_agf at g (Ext v) = refl
+none_alone_agf at g (Xfs5 x) = refl
 
 none_alone_agi : (at : Place) (g : ℕ) (o : Owner) → is_some (rule_in o false at (Agi g)) ≡ false
 unfolding rule_in
@@ -134,6 +173,7 @@ none_alone_agi at g (Xfs x) = refl
 none_alone_agi at g (Btrfs f) = refl
 none_alone_agi at g (Label i s) = refl
 none_alone_agi at g (Ext v) = refl
+none_alone_agi at g (Xfs5 x) = refl
 
 alone_or : (owners : List Owner) (at : Place) (l : Landmark) (alone : Bool) → eqb (length owners) 1 ≡ alone → ((o : Owner) → is_some (rule_in o false at l) ≡ false) → count_by (λ o. is_some (rule_in o alone at l)) owners ≤ 1
 alone_or owners at l true e none = let one : length owners ≡ 1 = eqb-true (length owners) 1 e in omega (arith, count_by-le-length (λ o. is_some (rule_in o true at l)) owners)
@@ -147,12 +187,16 @@ taken_once kind found at (Boot c) =
     omega (arith, fewer (λ o. is_some (rule_in o (length (owners_of kind found) == 1) at (Boot c))) (λ o. is_same_owner o (Ntfs c)) (takes_boot (length (owners_of kind found) == 1) at c) (owners_of kind found), owners_once kind found (Ntfs c))
 taken_once kind found at (Super y) =
     omega (arith, fewer (λ o. is_some (rule_in o (length (owners_of kind found) == 1) at (Super y))) (λ o. is_same_owner o (Xfs y)) (takes_super (length (owners_of kind found) == 1) at y) (owners_of kind found), owners_once kind found (Xfs y))
+taken_once kind found at (Super5 y places) =
+    omega (arith, fewer (λ o. is_some (rule_in o (length (owners_of kind found) == 1) at (Super5 y places))) (λ o. is_same_owner o (Xfs y)) (takes_super5 (length (owners_of kind found) == 1) at y places) (owners_of kind found), owners_once kind found (Xfs y))
 taken_once kind found at (BtrfsSector y) =
     omega (arith, fewer (λ o. is_some (rule_in o (length (owners_of kind found) == 1) at (BtrfsSector y))) (λ o. is_same_owner o (Btrfs y.fsid)) (takes_btrfs (length (owners_of kind found) == 1) at y) (owners_of kind found), owners_once kind found (Btrfs y.fsid))
 taken_once kind found at (Lvm n) =
     omega (arith, fewer (λ o. is_some (rule_in o (length (owners_of kind found) == 1) at (Lvm n))) (λ o. is_same_owner o (Label at.image at.sector)) (takes_label (length (owners_of kind found) == 1) at n) (owners_of kind found), owners_once kind found (Label at.image at.sector))
 taken_once kind found at (ExtSector y) =
     omega (arith, fewer (λ o. is_some (rule_in o (length (owners_of kind found) == 1) at (ExtSector y))) (λ o. is_same_owner o (Ext (volume_of y))) (takes_copy (length (owners_of kind found) == 1) at y) (owners_of kind found), owners_once kind found (Ext (volume_of y)))
+taken_once kind found at (Inode i) =
+    omega (arith, fewer (λ o. is_some (rule_in o (length (owners_of kind found) == 1) at (Inode i))) (λ o. is_same_owner o (Xfs5 (of_uuid i.uuid))) (takes_inode (length (owners_of kind found) == 1) at i) (owners_of kind found), owners_once kind found (Xfs5 (of_uuid i.uuid)))
 taken_once kind found at (FileRecord r) = alone_or (owners_of kind found) at (FileRecord r) (length (owners_of kind found) == 1) refl (none_alone_record at r)
 taken_once kind found at (Agf g) = alone_or (owners_of kind found) at (Agf g) (length (owners_of kind found) == 1) refl (none_alone_agf at g)
 taken_once kind found at (Agi g) = alone_or (owners_of kind found) at (Agi g) (length (owners_of kind found) == 1) refl (none_alone_agi at g)

@@ -1,5 +1,5 @@
 -- The owners of a kind: they are of it, few, and no two are one.
-use Rattle.std.proofs.Common.{◌≡◌, ℕ, ◌<◌, ◌≤◌, List, [], ◌∷◌, ◌++◌, Bool, true, false, not, cond, eqb, ltb, length, fold, refl, sym, ap, subst, ◌∙◌, arith, All, IfSome, Option, Some, None}
+use Rattle.std.proofs.Common.{◌≡◌, ℕ, ◌<◌, ◌≤◌, List, [], ◌∷◌, ◌++◌, Bool, true, false, not, cond, eqb, ltb, length, fold, refl, sym, ap, ap₂, ◌∙◌, arith, All, IfSome, Option, Some, None}
 use Rattle.std.specs.Prelude.{◌||◌, ◌&&◌, ◌==◌, count_by, option_and_then}
 use Rattle.std.specs.List.{cons_option, filter_map, list_any}
 use Rattle.std.proofs.lemmas.Bool.{and_parts, eqb-true, false≢true}
@@ -11,17 +11,20 @@ use Rattle.std.proofs.lemmas.Slice.Eq.{bytes_eq-Decides}
 use Rattle.std.specs.Str.{bytes_eq}
 use Rattle.ntfs_marks.specs.declared.boot.NtfsBoot.{NtfsBoot}
 use Rattle.xfs_marks.specs.declared.superblock.XfsSuper.{XfsSuper}
+use Rattle.xfs5.specs.declared.places.XfsInodes.{XfsInodes}
+use Rattle.mark_kinds.specs.Table.{is_same_group}
+use Rattle.mark_kinds.specs.declared.groups.GroupKind.TheVariants.{Xfs5 as Xfs5Group}
 use Rattle.landmark_rules.specs.Groups.{group_place, most_groups}
 use Rattle.mark_kinds.specs.declared.groups.GroupKind.{GroupKind}
 use Rattle.survey_engine.specs.Kept.{kept_with}
 use Rattle.survey_engine.specs.Landmarks.{IsSound}
-use Rattle.survey_engine.specs.Owners.{group_kind, is_new, is_same_boot, is_same_owner, is_same_super, is_same_volume, owner_among, owner_in, owners_of, IsSoundOwner}
+use Rattle.survey_engine.specs.Owners.{group_kind, inodes_owner, is_new, is_same_boot, is_same_owner, is_same_super, is_same_volume, owner_among, owner_for, owner_in, owners_of, IsSoundOwner}
 use Rattle.survey_engine.specs.declared.landmark.Landmark.{Landmark}
-use Rattle.survey_engine.specs.declared.landmark.Landmark.TheVariants.{Gpt, Boot, FileRecord, Super, Agf, Agi, Btrfs as BtrfsSector, Lvm, Ext as ExtSector}
+use Rattle.survey_engine.specs.declared.landmark.Landmark.TheVariants.{Gpt, Boot, FileRecord, Super, Super5, Agf, Agi, Btrfs as BtrfsSector, Lvm, Ext as ExtSector, Inode}
 use Rattle.survey_engine.specs.Sightings.{sighted_at, Place}
 use Rattle.survey_engine.specs.declared.owner.ExtVolume.{ExtVolume}
 use Rattle.survey_engine.specs.declared.owner.Owner.{Owner}
-use Rattle.survey_engine.specs.declared.owner.Owner.TheVariants.{Table, Ntfs, Xfs, Btrfs, Label, Ext}
+use Rattle.survey_engine.specs.declared.owner.Owner.TheVariants.{Table, Ntfs, Xfs, Btrfs, Label, Ext, Xfs5}
 use Rattle.survey_engine.specs.declared.sighting.Sighting.{Sighting}
 
 -- ---- what is kept
@@ -72,7 +75,7 @@ pub owners_kind : (kind : GroupKind) (found : List Sighting) → All (λ o. grou
 unfolding owners_of
 owners_kind kind found =
     kept_each (λ o. group_place (group_kind o) ≡ group_place kind) (is_new kind) (filter_map (owner_among kind) found) []
-    (mapped_each any (λ o. group_place (group_kind o) ≡ group_place kind) (owner_among kind) (λ s h. among kind (owner_in (sighted_at s) s.landmark)) found (all_any found))
+    (mapped_each any (λ o. group_place (group_kind o) ≡ group_place kind) (owner_among kind) (λ s h. among kind (owner_for kind (sighted_at s) s.landmark)) found (all_any found))
     (All-nil (λ o. group_place (group_kind o) ≡ group_place kind))
 
 -- ---- they are sound where the sightings are
@@ -90,17 +93,39 @@ sound_in at (Gpt h) is = tt
 sound_in at (Boot b) is = is
 sound_in at (FileRecord r) is = tt
 sound_in at (Super x) is = is
+sound_in at (Super5 x places) is = is.0
 sound_in at (Agf g) is = tt
 sound_in at (Agi g) is = tt
 sound_in at (BtrfsSector b) is = tt
 sound_in at (Lvm n) is = tt
 sound_in at (ExtSector x) is = tt
+sound_in at (Inode i) is = tt
+
+sound_inodes : (l : Landmark) → IsSound l → IfSome (inodes_owner l) IsSoundOwner
+sound_inodes (Gpt h) is = tt
+sound_inodes (Boot b) is = tt
+sound_inodes (FileRecord r) is = tt
+sound_inodes (Super x) is = tt
+sound_inodes (Super5 x places) is = is.1
+sound_inodes (Agf g) is = tt
+sound_inodes (Agi g) is = tt
+sound_inodes (BtrfsSector b) is = tt
+sound_inodes (Lvm n) is = tt
+sound_inodes (ExtSector x) is = tt
+sound_inodes (Inode i) is = tt
+
+either_sound : (b : Bool) (one other : Option Owner) → IfSome one IsSoundOwner → IfSome other IsSoundOwner → IfSome (cond b one other) IsSoundOwner
+either_sound true one other is or = is
+either_sound false one other is or = or
+
+sound_for : (kind : GroupKind) (at : Place) (l : Landmark) → IsSound l → IfSome (owner_for kind at l) IsSoundOwner
+sound_for kind at l is = either_sound (is_same_group kind Xfs5Group) (inodes_owner l) (owner_in at l) (sound_inodes l is) (sound_in at l is)
 
 pub owners_sound : (kind : GroupKind) (found : List Sighting) → All (λ s. IsSound s.landmark) found → All IsSoundOwner (owners_of kind found)
 unfolding owners_of
 owners_sound kind found sound =
     kept_each IsSoundOwner (is_new kind) (filter_map (owner_among kind) found) []
-    (mapped_each (λ s. IsSound s.landmark) IsSoundOwner (owner_among kind) (λ s is. sound_among kind (owner_in (sighted_at s) s.landmark) (sound_in (sighted_at s) s.landmark is)) found sound)
+    (mapped_each (λ s. IsSound s.landmark) IsSoundOwner (owner_among kind) (λ s is. sound_among kind (owner_for kind (sighted_at s) s.landmark) (sound_for kind (sighted_at s) s.landmark is)) found sound)
     (All-nil IsSoundOwner)
 
 -- ---- they are few
@@ -145,25 +170,45 @@ label_means i s j t same =
     let sector : s ≡ t = grind (arith, nat_tests) in
     ap (λ (k : ℕ). Label k s) image ∙ ap (Label j) sector
 
-same_means : (a b : Owner) → is_same_owner a b ≡ true → a ≡ b
-same_means Table Table same = refl
-same_means (Ntfs a) (Ntfs b) same = ap Ntfs (boot_means a b same)
-same_means (Xfs a) (Xfs b) same = ap Xfs (super_means a b same)
-same_means (Btrfs a) (Btrfs b) same = ap Btrfs ((bytes_eq-Decides a b).0 same)
-same_means (Label i s) (Label j t) same = label_means i s j t same
-same_means (Ext a) (Ext b) same = ap Ext (volume_means a b same)
-same_means a b same = absurd (false≢true same)
+-- the inodes of one file system, as another owner is compared with them
+places_alike : (a b : XfsInodes) (p : Owner) → a.uuid ≡ b.uuid → is_same_owner (Xfs5 a) p ≡ is_same_owner (Xfs5 b) p
+places_alike a b Table same = refl
+places_alike a b (Ntfs c) same = refl
+places_alike a b (Xfs c) same = refl
+places_alike a b (Btrfs c) same = refl
+places_alike a b (Label i s) same = refl
+places_alike a b (Ext c) same = refl
+places_alike a b (Xfs5 c) same = ap (λ (u : List ℕ). bytes_eq u c.uuid) same
+
+as_one : (a b p : Owner) → a ≡ b → is_same_owner a p ≡ is_same_owner b p
+as_one a b p same = ap (λ (o : Owner). is_same_owner o p) same
+
+-- two that are one compare with any other alike
+alike : (a b p : Owner) → is_same_owner a b ≡ true → is_same_owner a p ≡ is_same_owner b p
+alike Table Table p same = refl
+alike (Ntfs a) (Ntfs b) p same = as_one (Ntfs a) (Ntfs b) p (ap Ntfs (boot_means a b same))
+alike (Xfs a) (Xfs b) p same = as_one (Xfs a) (Xfs b) p (ap Xfs (super_means a b same))
+alike (Btrfs a) (Btrfs b) p same = as_one (Btrfs a) (Btrfs b) p (ap Btrfs ((bytes_eq-Decides a b).0 same))
+alike (Label i s) (Label j t) p same = as_one (Label i s) (Label j t) p (label_means i s j t same)
+alike (Ext a) (Ext b) p same = as_one (Ext a) (Ext b) p (ap Ext (volume_means a b same))
+alike (Xfs5 a) (Xfs5 b) p same = places_alike a b p ((bytes_eq-Decides a.uuid b.uuid).0 same)
+alike a b p same = absurd (false≢true same)
+
+any_alike : (a b : Owner) (before : List Owner) → is_same_owner a b ≡ true → list_any (is_same_owner a) before ≡ list_any (is_same_owner b) before
+any_alike a b [] same = refl
+any_alike a b (p ∷ before) same = ap₂ (λ (x y : Bool). x || y) (alike a b p same) (any_alike a b before same)
 
 same_self : (a : Owner) → is_same_owner a a ≡ true
 same_self Table = refl
 same_self (Ntfs a) = grind (arith, nat_tests)
 same_self (Btrfs a) = (bytes_eq-Decides a a).1 refl
+same_self (Xfs5 a) = (bytes_eq-Decides a.uuid a.uuid).1 refl
 same_self (Label i s) = grind (arith, nat_tests)
 same_self (Ext a) = let bytes : bytes_eq a.uuid a.uuid ≡ true = (bytes_eq-Decides a.uuid a.uuid).1 refl in grind (arith, nat_tests)
 same_self (Xfs a) = let bytes : bytes_eq a.uuid a.uuid ≡ true = (bytes_eq-Decides a.uuid a.uuid).1 refl in grind (arith, nat_tests)
 
 same_back : (a b : Owner) → is_same_owner a b ≡ true → is_same_owner b a ≡ true
-same_back a b same = subst (λ (o : Owner). is_same_owner o a ≡ true) (same_means a b same) (same_self a)
+same_back a b same = sym (alike a b a same) ∙ same_self a
 
 or_parts : (a b : Bool) → (a || b) ≡ false → (a ≡ false) × (b ≡ false)
 or_parts true b neither = absurd (false≢true (sym neither))
@@ -187,7 +232,8 @@ once_more kind c before o false e held fresh =
     omega (arith, sum_by_push (λ p. cond (is_same_owner p c) 1 0) before o, none)
 once_more kind c before o true e held fresh =
     let other : not (list_any (is_same_owner o) before) ≡ true = (and_parts (ltb (length before) (most_groups kind)) (not (list_any (is_same_owner o) before)) fresh).1 in
-    let none : list_any (is_same_owner c) before ≡ false = subst (λ (p : Owner). list_any (is_same_owner p) before ≡ false) (same_means o c e) (grind arith) in
+    let neither : list_any (is_same_owner o) before ≡ false = grind arith in
+    let none : list_any (is_same_owner c) before ≡ false = sym (any_alike o c before e) ∙ neither in
     let one : ◌≡◌ {A = ℕ} (cond (is_same_owner o c) 1 0) 1 = ap (λ (t : Bool). cond t 1 0) e in
     omega (arith, sum_by_push (λ p. cond (is_same_owner p c) 1 0) before o, one, none_same c before none)
 

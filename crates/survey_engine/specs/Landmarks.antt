@@ -1,21 +1,28 @@
 -- What a sector may be.
-use Rattle.std.specs.Prelude.{ℕ, ◌*◌, ◌<◌, Bool, false, IsTrue, nat_lt, List, Option, Some, None, if◌then◌else◌, ◌^◌}
-use Rattle.std.specs.Option.{option_or}
+use Rattle.std.specs.Prelude.{ℕ, ◌*◌, ◌<◌, ◌%◌, Bool, true, false, ◌||◌, ◌&&◌, ◌==◌, IsTrue, nat_lt, List, [], Option, Some, None, option_and_then, if◌then◌else◌, ◌^◌}
+use Rattle.std.specs.Option.{option_map, option_or}
 use Rattle.sector_fields.specs.Fields.{u32_be, u64_le}
 use Rattle.gpt_marks.specs.Header.{is_gpt_header, gpt_header_of, is_own_table, IsUnit}
 use Rattle.gpt_marks.specs.declared.header.GptHeader.{GptHeader}
 use Rattle.ntfs_marks.specs.Boot.{is_ntfs_boot, is_within_limit, ntfs_boot_of}
 use Rattle.ntfs_marks.specs.FileRecord.{is_ntfs_record, ntfs_record_of}
 use Rattle.xfs_marks.specs.Superblock.{is_sound, is_xfs_super, xfs_super_of}
+use Rattle.xfs_marks.specs.declared.superblock.XfsSuper.{XfsSuper}
 use Rattle.xfs_marks.specs.Group.{is_xfs_agf, is_xfs_agi}
 use Rattle.more_marks.specs.Btrfs.{btrfs_super_of, is_btrfs_super, is_super_address}
 use Rattle.more_marks.specs.Lvm.{is_lvm_label}
 use Rattle.ext_marks.specs.Copy.{ext_super_of, is_ext_copy}
+use Rattle.xfs5.specs.Inode.{xfs_inode}
+use Rattle.xfs5.specs.Places.{xfs_inodes, is_sound as is_sound_place}
+use Rattle.xfs5.specs.declared.inode.XfsInode.{XfsInode}
+use Rattle.xfs5.specs.declared.places.XfsInodes.{XfsInodes}
+use Rattle.mark_kinds.specs.Table.{group_of, is_group_asked}
+use Rattle.mark_kinds.specs.declared.looking.Kinds.{Kinds}
 use Rattle.mark_kinds.specs.declared.sectors.Kind.{Kind}
-use Rattle.mark_kinds.specs.declared.sectors.Kind.TheVariants.{Gpt as GptKind, Boot as BootKind, FileRecord as RecordKind, Super as SuperKind, Agf as AgfKind, Agi as AgiKind, Btrfs as BtrfsKind, Lvm as LvmKind, Ext as ExtKind}
+use Rattle.mark_kinds.specs.declared.sectors.Kind.TheVariants.{Gpt as GptKind, Boot as BootKind, FileRecord as RecordKind, Super as SuperKind, Agf as AgfKind, Agi as AgiKind, Btrfs as BtrfsKind, Lvm as LvmKind, Ext as ExtKind, Xfs5 as Xfs5Kind}
 use Rattle.survey_engine.specs.declared.landmark.GptTable.{GptTable}
 use Rattle.survey_engine.specs.declared.landmark.Landmark.{Landmark}
-use Rattle.survey_engine.specs.declared.landmark.Landmark.TheVariants.{Gpt, Boot, FileRecord, Super, Agf, Agi, Btrfs, Lvm, Ext}
+use Rattle.survey_engine.specs.declared.landmark.Landmark.TheVariants.{Gpt, Boot, FileRecord, Super, Super5, Agf, Agi, Btrfs, Lvm, Ext, Inode}
 
 -- the kind of a landmark, without its numbers
 abbrev pub kind_of : Landmark → Kind
@@ -23,11 +30,13 @@ kind_of (Gpt t) = GptKind
 kind_of (Boot b) = BootKind
 kind_of (FileRecord r) = RecordKind
 kind_of (Super x) = SuperKind
+kind_of (Super5 x places) = SuperKind
 kind_of (Agf g) = AgfKind
 kind_of (Agi g) = AgiKind
 kind_of (Btrfs b) = BtrfsKind
 kind_of (Lvm n) = LvmKind
 kind_of (Ext x) = ExtKind
+kind_of (Inode i) = Xfs5Kind
 
 -- the head of an allocation group of XFS in a sector
 unfoldable pub head_in : List ℕ → Option Landmark
@@ -48,12 +57,25 @@ record_or_label_in s =
 unfoldable pub table_in : ℕ → GptHeader → Option Landmark
 table_in unit header = if nat_lt (unit * header.my_lba) (2 ^ 55) then Some (Gpt (record { header = header; unit = unit })) else None
 
+-- what a superblock of version 5 says of where inodes lie, if those have 512 bytes: such an inode stands in one sector
+unfoldable pub place_of_inodes : List ℕ → Option XfsInodes
+place_of_inodes s = option_and_then (λ places. if places.inode == 512 then Some places else None) (xfs_inodes s)
+
+-- a superblock with what it says of them, if it says so
+unfoldable pub super_of : XfsSuper → Option XfsInodes → Landmark
+super_of x None = Super x
+super_of x (Some places) = Super5 x places
+
+-- the superblock of XFS in a sector
+unfoldable pub super_in : List ℕ → Option Landmark
+super_in s = if is_xfs_super s then Some (super_of (xfs_super_of s) (place_of_inodes s)) else None
+
 -- the landmark of NTFS, XFS or LVM2 that a sector is by the bytes at its front
 unfoldable pub front_in : List ℕ → Option Landmark
 front_in s =
     if is_ntfs_boot s then Some (Boot (ntfs_boot_of s))
     else if is_ntfs_record s then Some (FileRecord (ntfs_record_of s))
-    else if is_xfs_super s then Some (Super (xfs_super_of s))
+    else if is_xfs_super s then Some (super_of (xfs_super_of s) (place_of_inodes s))
     else if is_xfs_agf s then Some (Agf (u32_be s 8))
     else if is_xfs_agi s then Some (Agi (u32_be s 8))
     else if is_lvm_label s then Some (Lvm (u64_le s 8))
@@ -66,11 +88,24 @@ inner_in s =
     else if is_ext_copy s then Some (Ext (ext_super_of s))
     else None
 
+-- the inode of XFS of version 5, of 512 bytes, that a sector holds, if its number begins a stretch of 64 KiB
+unfoldable pub inode_in : List ℕ → Option XfsInode
+inode_in s = option_and_then (λ inode. if inode.number % 128 == 0 then Some inode else None) (xfs_inode s [])
+
 -- the landmark that a sector is, if it is one, on a disk whose blocks have `unit` sectors. A header of a
--- partition table is nothing else, wherever it lies, and a sector that is a landmark by its front is none of
--- btrfs or ext
+-- partition table is nothing else, wherever it lies, a sector that is a landmark by its front is none of btrfs or
+-- ext, and an inode is what is no other landmark
 unfoldable pub landmark_in : ℕ → List ℕ → Option Landmark
-landmark_in unit s = if is_gpt_header s then table_in unit (gpt_header_of s) else option_or (front_in s) (inner_in s)
+landmark_in unit s = if is_gpt_header s then table_in unit (gpt_header_of s) else option_or (front_in s) (option_or (inner_in s) (option_map Inode (inode_in s)))
+
+-- a landmark says where inodes lie
+abbrev pub has_inodes : Landmark → Bool
+has_inodes (Super5 x places) = true
+has_inodes landmark = false
+
+-- a landmark is looked for where its kind is, and also where it says where inodes lie and those are looked for
+abbrev pub is_asked : Kinds → Landmark → Bool
+is_asked kinds landmark = is_group_asked kinds (group_of (kind_of landmark)) || (kinds.xfs5 && has_inodes landmark)
 
 -- a landmark in a sector of an image of that length is a header of the image's own partition table
 abbrev pub is_own : Landmark → ℕ → ℕ → Bool
@@ -87,8 +122,10 @@ IsSound (Gpt t) = IsSoundTable t
 IsSound (Boot b) = IsTrue (is_within_limit b)
 IsSound (FileRecord r) = r.number < 16
 IsSound (Super x) = IsTrue (is_sound x)
+IsSound (Super5 x places) = IsTrue (is_sound x) × IsTrue (is_sound_place places)
 IsSound (Agf g) = Unit {0}
 IsSound (Agi g) = Unit {0}
 IsSound (Btrfs b) = IsTrue (is_super_address b.address)
 IsSound (Lvm n) = n < 2 ^ 55
 IsSound (Ext x) = x.copy_sector < 2 ^ 55
+IsSound (Inode i) = Unit {0}

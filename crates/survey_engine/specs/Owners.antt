@@ -1,5 +1,5 @@
 -- What sightings belong to, their groups and the rules of their marks.
-use Rattle.std.specs.Prelude.{ℕ, ◌+◌, ◌*◌, ◌/◌, Bool, true, false, IsTrue, not, ◌&&◌, ◌==◌, nat_lt, List, length, map, Option, Some, None, option_and_then, if◌then◌else◌}
+use Rattle.std.specs.Prelude.{ℕ, ◌+◌, ◌*◌, ◌/◌, Bool, true, false, IsTrue, not, ◌&&◌, ◌==◌, nat_lt, List, length, map, Option, Some, None, option_and_then, if◌then◌else◌, []}
 use Rattle.std.specs.List.{filter_map, flat_map, list_any}
 use Rattle.std.specs.Option.{option_map}
 use Rattle.std.specs.Str.{bytes_eq}
@@ -9,10 +9,12 @@ use Rattle.ntfs_marks.specs.declared.file_record.NtfsRecord.{NtfsRecord}
 use Rattle.xfs_marks.specs.Superblock.{ag_sectors, is_sound}
 use Rattle.xfs_marks.specs.declared.superblock.XfsSuper.{XfsSuper}
 use Rattle.ext_marks.specs.declared.copy.ExtSuper.{ExtSuper}
-use Rattle.mark_kinds.specs.Table.{all_groups, is_same_group, most_groups}
+use Rattle.mark_kinds.specs.Table.{all_groups, is_group_asked, is_same_group, most_groups}
 use Rattle.landmark_rules.specs.declared.marks.Group.{Group}
+use Rattle.xfs5.specs.Places.{inode_sector, is_sound as is_sound_place}
+use Rattle.mark_kinds.specs.declared.looking.Kinds.{Kinds}
 use Rattle.mark_kinds.specs.declared.groups.GroupKind.{GroupKind}
-use Rattle.mark_kinds.specs.declared.groups.GroupKind.TheVariants.{Gpt as GptGroup, Ntfs as NtfsGroup, Xfs as XfsGroup, Btrfs as BtrfsGroup, Lvm as LvmGroup, Ext as ExtGroup}
+use Rattle.mark_kinds.specs.declared.groups.GroupKind.TheVariants.{Gpt as GptGroup, Ntfs as NtfsGroup, Xfs as XfsGroup, Btrfs as BtrfsGroup, Lvm as LvmGroup, Ext as ExtGroup, Xfs5 as Xfs5Group}
 use Rattle.landmark_rules.specs.declared.marks.Mark.{Mark}
 use Rattle.landmark_rules.specs.declared.marks.Rule.{Rule}
 use Rattle.landmark_rules.specs.declared.marks.Rule.TheVariants.{At, Either, Every}
@@ -20,10 +22,10 @@ use Rattle.survey_engine.specs.Kept.{kept}
 use Rattle.survey_engine.specs.Landmarks.{kind_of}
 use Rattle.survey_engine.specs.Sightings.{sighted_at, Place}
 use Rattle.survey_engine.specs.declared.landmark.Landmark.{Landmark}
-use Rattle.survey_engine.specs.declared.landmark.Landmark.TheVariants.{Gpt, Boot, FileRecord, Super, Agf, Agi, Btrfs as BtrfsSector, Lvm, Ext as ExtSector}
+use Rattle.survey_engine.specs.declared.landmark.Landmark.TheVariants.{Gpt, Boot, FileRecord, Super, Super5, Agf, Agi, Btrfs as BtrfsSector, Lvm, Ext as ExtSector, Inode}
 use Rattle.survey_engine.specs.declared.owner.ExtVolume.{ExtVolume}
 use Rattle.survey_engine.specs.declared.owner.Owner.{Owner}
-use Rattle.survey_engine.specs.declared.owner.Owner.TheVariants.{Table, Ntfs, Xfs, Btrfs, Label, Ext}
+use Rattle.survey_engine.specs.declared.owner.Owner.TheVariants.{Table, Ntfs, Xfs, Btrfs, Label, Ext, Xfs5}
 use Rattle.survey_engine.specs.declared.sighting.Sighting.{Sighting}
 
 -- two boot sectors say the same, field by field
@@ -46,7 +48,8 @@ volume_of x = record { uuid = x.uuid; block = x.block; group_blocks = x.group_bl
 abbrev pub is_same_volume : ExtVolume → ExtVolume → Bool
 is_same_volume a b = bytes_eq a.uuid b.uuid && a.block == b.block && a.group_blocks == b.group_blocks
 
--- two owners of marks are one; each label of LVM2 is an owner of its own, by its place
+-- two owners of marks are one; each label of LVM2 is an owner of its own, by its place, and the inodes of a file
+-- system are told by its identifier alone, for that is all that an inode says of it
 abbrev pub is_same_owner : Owner → Owner → Bool
 is_same_owner Table Table = true
 is_same_owner (Ntfs a) (Ntfs b) = is_same_boot a b
@@ -54,6 +57,7 @@ is_same_owner (Xfs a) (Xfs b) = is_same_super a b
 is_same_owner (Btrfs a) (Btrfs b) = bytes_eq a b
 is_same_owner (Label i s) (Label j t) = i == j && s == t
 is_same_owner (Ext a) (Ext b) = is_same_volume a b
+is_same_owner (Xfs5 a) (Xfs5 b) = bytes_eq a.uuid b.uuid
 is_same_owner a b = false
 
 -- the kind of the group that the marks of an owner make
@@ -64,6 +68,7 @@ group_kind (Xfs x) = XfsGroup
 group_kind (Btrfs fsid) = BtrfsGroup
 group_kind (Label image sector) = LvmGroup
 group_kind (Ext volume) = ExtGroup
+group_kind (Xfs5 places) = Xfs5Group
 
 -- the owner that a landmark at a place names: a partition table, a file system or a physical volume, or None
 -- where it does not say
@@ -71,13 +76,23 @@ abbrev pub owner_in : Place → Landmark → Option Owner
 owner_in at (Gpt t) = Some Table
 owner_in at (Boot b) = Some (Ntfs b)
 owner_in at (Super x) = Some (Xfs x)
+owner_in at (Super5 x places) = Some (Xfs x)
 owner_in at (BtrfsSector b) = Some (Btrfs b.fsid)
 owner_in at (Lvm n) = Some (Label at.image at.sector)
 owner_in at (ExtSector x) = Some (Ext (volume_of x))
 owner_in at landmark = None
 
+-- the owner of inodes that a landmark names
+abbrev pub inodes_owner : Landmark → Option Owner
+inodes_owner (Super5 x places) = Some (Xfs5 places)
+inodes_owner landmark = None
+
+-- the owner that a landmark at a place names where those of a kind are asked for: a superblock of XFS names two
+abbrev pub owner_for : GroupKind → Place → Landmark → Option Owner
+owner_for kind at landmark = if is_same_group kind Xfs5Group then inodes_owner landmark else owner_in at landmark
+
 abbrev pub owner_among : GroupKind → Sighting → Option Owner
-owner_among kind s = option_and_then (λ owner. if is_same_group (group_kind owner) kind then Some owner else None) (owner_in (sighted_at s) s.landmark)
+owner_among kind s = option_and_then (λ owner. if is_same_group (group_kind owner) kind then Some owner else None) (owner_for kind (sighted_at s) s.landmark)
 
 -- an owner that is new, where there is room for one more of its kind
 abbrev pub is_new : GroupKind → List Owner → Owner → Bool
@@ -93,6 +108,10 @@ unfoldable pub record_rule : NtfsBoot → NtfsRecord → Option Rule
 record_rule b r =
     if r.bytes == b.record_bytes then Some (Either (record_sector b b.mft r.number) (record_sector b b.mirror r.number)) else None
 
+-- where a superblock of XFS may lie: at the start of each group
+abbrev pub start_rule : XfsSuper → Rule
+start_rule x = Every (ag_sectors x) x.ag_count 0
+
 -- where a head of allocation group g may lie, if there is such a group: `sectors` sectors of the file
 -- system after its start
 unfoldable pub ag_rule : XfsSuper → ℕ → ℕ → Option Rule
@@ -103,17 +122,19 @@ ag_rule x g sectors = if nat_lt g x.ag_count then Some (At (g * ag_sectors x + s
 -- of XFS at the start of each group, an AGF one sector and an AGI two sectors after that, a superblock of btrfs
 -- at its own address, a label of LVM2 at the sector that it names, and a copy of a superblock of ext at the start
 -- of its group. File records, AGF and AGI do not say whose they are, and are marks only of an owner that is
--- `alone` of its kind
+-- `alone` of its kind. An inode is a mark of the file system whose identifier it has
 unfoldable pub rule_in : Owner → Bool → Place → Landmark → Option Rule
 rule_in Table alone at (Gpt t) = Some (At (t.unit * t.header.my_lba))
 rule_in (Ntfs b) alone at (Boot c) = if is_same_boot b c then Some (Either 0 b.total) else None
 rule_in (Ntfs b) alone at (FileRecord r) = if alone then record_rule b r else None
-rule_in (Xfs x) alone at (Super y) = if is_same_super x y then Some (Every (ag_sectors x) x.ag_count 0) else None
+rule_in (Xfs x) alone at (Super y) = if is_same_super x y then Some (start_rule x) else None
+rule_in (Xfs x) alone at (Super5 y places) = if is_same_super x y then Some (start_rule x) else None
 rule_in (Xfs x) alone at (Agf g) = if alone then ag_rule x g 1 else None
 rule_in (Xfs x) alone at (Agi g) = if alone then ag_rule x g 2 else None
 rule_in (Btrfs fsid) alone at (BtrfsSector b) = if bytes_eq fsid b.fsid then Some (At (b.address / 512)) else None
 rule_in (Label image sector) alone at (Lvm n) = if image == at.image && sector == at.sector then Some (At n) else None
 rule_in (Ext volume) alone at (ExtSector x) = if is_same_volume volume (volume_of x) then Some (At x.copy_sector) else None
+rule_in (Xfs5 places) alone at (Inode i) = if bytes_eq places.uuid i.uuid then option_map At (inode_sector places i.number) else None
 rule_in owner alone at landmark = None
 
 -- the numbers of an owner are within the limits that the test of its landmark sets
@@ -121,6 +142,7 @@ abbrev pub IsSoundOwner : Owner → Type 0
 IsSoundOwner Table = Unit {0}
 IsSoundOwner (Ntfs b) = IsTrue (is_within_limit b)
 IsSoundOwner (Xfs x) = IsTrue (is_sound x)
+IsSoundOwner (Xfs5 places) = IsTrue (is_sound_place places)
 IsSoundOwner owner = Unit {0}
 
 -- the mark of a sighting in the group of an owner
@@ -135,6 +157,10 @@ group_for found alone owner = record { kind = group_kind owner; marks = filter_m
 unfoldable pub groups_in : List Sighting → GroupKind → List Group
 groups_in found kind = map (group_for found (length (owners_of kind found) == 1)) (owners_of kind found)
 
--- the groups of what was found, kind after kind
-abbrev pub groups_of : List Sighting → List Group
-groups_of found = flat_map (groups_in found) all_groups
+-- those of a kind that is looked for
+unfoldable pub groups_asked : Kinds → List Sighting → GroupKind → List Group
+groups_asked kinds found kind = if is_group_asked kinds kind then groups_in found kind else []
+
+-- the groups of what was found, of the kinds that are looked for, kind after kind
+abbrev pub groups_of : Kinds → List Sighting → List Group
+groups_of kinds found = flat_map (groups_asked kinds found) all_groups

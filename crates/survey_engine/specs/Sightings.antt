@@ -2,10 +2,10 @@
 use Rattle.std.specs.Prelude.{ℕ, ◌+◌, ◌*◌, ◌<◌, ◌≤◌, All, IsSomeAnd, slice_get, length, Bool, not, ◌&&◌, ◌==◌, nat_le, nat_lt, List, map, count_by, Option, Some, None, option_and_then, if◌then◌else◌, slice_index, slice_index_or, slice_range, [], ◌∷◌}
 use Rattle.std.specs.List.{filter_map, flat_map, list_any, range_with_len}
 use Rattle.raid_params.specs.declared.limits.TheConstants.{MOST}
-use Rattle.mark_kinds.specs.Table.{group_of, is_group_asked, kind_place}
+use Rattle.mark_kinds.specs.Table.{kind_place}
 use Rattle.mark_kinds.specs.declared.sectors.Kind.{Kind}
 use Rattle.survey_engine.specs.Kept.{kept}
-use Rattle.survey_engine.specs.Landmarks.{kind_of, is_own, landmark_in, IsSound}
+use Rattle.survey_engine.specs.Landmarks.{is_asked, kind_of, is_own, landmark_in, IsSound}
 use Rattle.survey_engine.specs.declared.ask.Ask.{Ask}
 use Rattle.survey_engine.specs.declared.landmark.Landmark.{Landmark}
 use Rattle.survey_engine.specs.declared.sighting.Sighting.{Sighting}
@@ -27,12 +27,12 @@ places images end = flat_map (λ sector. map (λ image. record { sector = sector
 abbrev pub is_dropped : Ask → Place → Bool
 is_dropped ask at = list_any (λ drop. drop.image == at.image && drop.sector == at.sector) ask.drops.items
 
--- a landmark is a sighting, in an image of that length: its kind is asked for, it does not lie before the
+-- a landmark is a sighting, in an image of that length: it is looked for, it does not lie before the
 -- smallest offset (which is the first, since offsets rise), it is not dropped, and it is not of the
 -- image's own table
 abbrev pub is_sighting : Ask → ℕ → Place → Landmark → Bool
 is_sighting ask length at landmark =
-    is_group_asked ask.kinds (group_of (kind_of landmark))
+    is_asked ask.kinds landmark
     && nat_le (slice_index ask.bounds.offsets.items 0) at.sector
     && not (is_dropped ask at)
     && not (is_own landmark at.sector length)

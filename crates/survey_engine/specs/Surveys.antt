@@ -59,7 +59,7 @@ pub record Repeats (ask : Ask) (attached : List Image) (plan : Plan) : Type 0 wh
 
 -- what it adds, by the images' bytes
 pub record Adds (ask : Ask) (attached : List Image) (images : List (List ℕ)) (plan : Plan) : Type 0 where
-  pub groups : plan.groups ≡ groups_of (found_in ask attached images)
+  pub groups : plan.groups ≡ groups_of ask.kinds (found_in ask attached images)
   pub origins : plan.tests.origins.items ≡ origins_of ask.tests.origins.items (lengths_of attached) images (found_in ask attached images)
 
 -- a survey ends without a plan where the images failed, and their count of faults rose, or where memory ran out, and

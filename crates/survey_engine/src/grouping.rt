@@ -3,38 +3,57 @@ ghost use Rattle.std.specs.Prelude.{◌≡◌, ◌++◌, ◌==◌, length, All, 
 ghost use Rattle.std.specs.List.{flat_map, list_any};
 ghost use Rattle.survey_engine.specs.Kept.{kept_with};
 ghost use Rattle.survey_engine.specs.Landmarks.{IsSound};
-ghost use Rattle.survey_engine.specs.Owners.{group_for, groups_in, groups_of, is_new, is_same_owner, owner_among, owners_of, IsSoundOwner};
+ghost use Rattle.survey_engine.specs.Owners.{group_for, groups_asked, groups_in, groups_of, is_new, is_same_owner, owner_among, owners_of, IsSoundOwner};
 
 use crate::owner::Owner;
 use crate::sighting::Sighting;
 use landmark_rules::{Group, Groups, Mark, Marks};
-use mark_kinds::{GROUPS, GroupKind};
+use mark_kinds::{GROUPS, GroupKind, Kinds};
 use outside::{ListOf, Memory};
 use std::alloc::Global;
 
-/// The groups of the sightings that count: kind after kind, each kind in the order of first sightings.
-pub fn groups(alloc: Global, found: &[Sighting]) -> Result<Groups, Memory>
+/// The groups of the sightings that count, of the kinds that are looked for: kind after kind, each kind in the order of first sightings.
+pub fn groups(alloc: Global, asked: &Kinds, found: &[Sighting]) -> Result<Groups, Memory>
     requires { All (λ s. IsSound s.landmark) found.now }
-    ensures { IfOk result (λ groups. groups ≡ groups_of found.now) }
+    ensures { IfOk result (λ groups. groups ≡ groups_of asked.now found.now) }
 {
     let mut groups = Groups::new(alloc);
-    add_kinds(alloc, &GROUPS, found, &mut groups)?;
+    add_kinds(alloc, asked, &GROUPS, found, &mut groups)?;
     Ok(groups)
 }
 
-/// Appends the groups of these kinds, one kind after the other.
+/// Appends the groups of those of these kinds that are looked for, one kind after the other.
 #[tactic(auto, using(crate::proofs::Groups::kinds_none, crate::proofs::Groups::kinds_more, crate::proofs::Groups::kinds_all))]
 fn add_kinds(
     alloc: Global,
+    asked: &Kinds,
     kinds: &[GroupKind],
     found: &[Sighting],
     groups: &mut Groups,
 ) -> Result<(), Memory>
     requires { All (λ s. IsSound s.landmark) found.now }
-    ensures { OnOk result (groups.new ≡ groups.old ++ flat_map (groups_in found.now) kinds.now) }
+    ensures { OnOk result (groups.new ≡ groups.old ++ flat_map (groups_asked asked.now found.now) kinds.now) }
 {
     for kind in kinds {
-        add_groups(alloc, *kind, found, groups)?;
+        add_asked(alloc, asked, *kind, found, groups)?;
+    }
+    Ok(())
+}
+
+/// Appends the groups of a kind, if it is looked for.
+#[tactic(auto, unfolding(crate::specs::Owners::groups_asked))]
+fn add_asked(
+    alloc: Global,
+    asked: &Kinds,
+    kind: GroupKind,
+    found: &[Sighting],
+    groups: &mut Groups,
+) -> Result<(), Memory>
+    requires { All (λ s. IsSound s.landmark) found.now }
+    ensures { OnOk result (groups.new ≡ groups.old ++ groups_asked asked.now found.now kind) }
+{
+    if asked.has(kind) {
+        add_groups(alloc, kind, found, groups)?;
     }
     Ok(())
 }
@@ -94,7 +113,7 @@ fn owner_among(kind: GroupKind, sighting: &Sighting) -> Option<Owner>
     ensures owner { result ≡ owner_among kind sighting.now }
     ensures sound { IfSome result IsSoundOwner }
 {
-    match Owner::of(sighting) {
+    match Owner::of(kind, sighting) {
         Some(owner) if owner.group_kind().is_same(kind) => Some(owner),
         _ => None,
     }

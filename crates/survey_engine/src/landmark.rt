@@ -1,16 +1,25 @@
 //! What a sector may be.
 ghost use Rattle.std.specs.Prelude.{◌≡◌, ◌<◌, ◌^◌, IfSome, IsTrue, slice_index};
 ghost use Rattle.gpt_marks.specs.Header.{gpt_header, IsUnit};
+ghost use Rattle.xfs5.specs.Places.{is_sound as is_sound_place};
 ghost use Rattle.more_marks.specs.Btrfs.{btrfs_super, is_super_address};
-ghost use Rattle.survey_engine.specs.Landmarks.{front_in, head_in, inner_in, kind_of, landmark_in, is_own, record_or_label_in, table_in, IsSound};
+ghost use Rattle.survey_engine.specs.Landmarks.{front_in, has_inodes, head_in, inner_in, inode_in, is_asked, kind_of, landmark_in, is_own, place_of_inodes, record_or_label_in, super_in, super_of, table_in, IsSound};
 
 use ext_marks::{ExtSuper, read_ext};
 use gpt_marks::{GptHeader, own_table, read_header};
 use landmark_rules::Kind;
+use mark_kinds::Kinds;
 use more_marks::{BtrfsSuper, read_btrfs, read_lvm};
 use ntfs_marks::{NtfsBoot, NtfsRecord, read_boot, read_record};
 use sector_fields::{DISTANCE_LIMIT, SECTOR};
 use xfs_marks::{XfsGroup, XfsSuper, read_group, read_super};
+use xfs5::{XfsInode, XfsInodes, read_inode, read_inodes};
+
+/// The bytes of the inodes that are looked for: such an inode stands in one sector.
+const INODE: u16 = 512;
+
+/// Of so many inodes the first begins a stretch of 64 KiB.
+const STRETCH: u64 = 128;
 
 /// A header of a partition table, on a disk whose blocks have `unit` sectors each.
 #[derive(Clone, Copy)]
@@ -32,6 +41,8 @@ pub enum Landmark {
     FileRecord(NtfsRecord),
     /// A superblock of XFS.
     Super(XfsSuper),
+    /// A superblock of XFS of version 5 whose inodes have 512 bytes, with what it says of where they lie.
+    Super5(XfsSuper, XfsInodes),
     /// A head of the free space of an XFS allocation group, with the group's number.
     Agf(u32),
     /// A head of the inodes of an XFS allocation group, with the group's number.
@@ -42,11 +53,13 @@ pub enum Landmark {
     Lvm(u64),
     /// A copy of a superblock of ext2, ext3 or ext4.
     Ext(ExtSuper),
+    /// An inode of XFS of version 5 whose number begins a stretch of 64 KiB.
+    Inode(XfsInode),
 }
 
 /// The landmark in a sector, on a disk whose blocks have `unit` sectors. A header of a partition table is
 /// nothing else, also where it names a sector of 2^55 or more and so is no landmark. A superblock of btrfs or a
-/// copy of one of ext is what is no other landmark.
+/// copy of one of ext is what is no landmark by its front, and an inode what is no other landmark.
 #[tactic(auto, unfolding(crate::specs::Landmarks::landmark_in, gpt_marks::specs::Header::gpt_header))]
 pub fn read_landmark(sector: &[u8; SECTOR], unit: u64) -> Option<Landmark>
     requires { IsUnit unit }
@@ -57,7 +70,10 @@ pub fn read_landmark(sector: &[u8; SECTOR], unit: u64) -> Option<Landmark>
         Some(header) => table_of(header, unit),
         None => match read_front(sector) {
             Some(landmark) => Some(landmark),
-            None => read_inner(sector),
+            None => match read_inner(sector) {
+                Some(landmark) => Some(landmark),
+                None => read_mark(sector).map(Landmark::Inode),
+            },
         },
     }
 }
@@ -100,8 +116,46 @@ fn read_front(sector: &[u8; SECTOR]) -> Option<Landmark>
     match sector[3] {
         b'N' => read_boot(sector).map(Landmark::Boot),
         b'E' => read_record_or_label(sector),
-        b'B' => read_super(sector).map(Landmark::Super),
+        b'B' => read_xfs(sector),
         b'F' | b'I' => read_head(sector),
+        _ => None,
+    }
+}
+
+/// A superblock of XFS.
+#[tactic(auto, unfolding(crate::specs::Landmarks::super_in, crate::specs::Landmarks::super_of, xfs_marks::specs::Superblock::xfs_super))]
+fn read_xfs(sector: &[u8; SECTOR]) -> Option<Landmark>
+    ensures landmark { result ≡ super_in sector.now }
+    ensures sound { IfSome result IsSound }
+{
+    match read_super(sector) {
+        Some(found) => match read_places(sector) {
+            Some(places) => Some(Landmark::Super5(found, places)),
+            None => Some(Landmark::Super(found)),
+        },
+        None => None,
+    }
+}
+
+/// What a superblock says of where inodes of 512 bytes lie.
+#[tactic(auto, unfolding(crate::specs::Landmarks::place_of_inodes))]
+fn read_places(sector: &[u8; SECTOR]) -> Option<XfsInodes>
+    ensures places { result ≡ place_of_inodes sector.now }
+    ensures sound { IfSome result (λ x. IsTrue (is_sound_place x)) }
+{
+    match read_inodes(sector) {
+        Some(places) if places.inode == INODE => Some(places),
+        _ => None,
+    }
+}
+
+/// The inode of 512 bytes in a sector, where its number begins a stretch of 64 KiB.
+#[tactic(auto, unfolding(crate::specs::Landmarks::inode_in))]
+fn read_mark(sector: &[u8; SECTOR]) -> Option<XfsInode>
+    ensures { result ≡ inode_in sector.now }
+{
+    match read_inode(sector, &[]) {
+        Some(inode) if inode.number % STRETCH == 0 => Some(inode),
         _ => None,
     }
 }
@@ -166,11 +220,31 @@ impl Landmark {
             Landmark::Boot(_) => Kind::Boot,
             Landmark::FileRecord(_) => Kind::FileRecord,
             Landmark::Super(_) => Kind::Super,
+            Landmark::Super5(_, _) => Kind::Super,
             Landmark::Agf(_) => Kind::Agf,
             Landmark::Agi(_) => Kind::Agi,
             Landmark::Btrfs(_) => Kind::Btrfs,
             Landmark::Lvm(_) => Kind::Lvm,
             Landmark::Ext(_) => Kind::Ext,
+            Landmark::Inode(_) => Kind::Xfs5,
+        }
+    }
+
+    /// Whether landmarks like it are looked for, where these kinds are: also a superblock that says where inodes lie,
+    /// where those are.
+    pub fn is_asked(&self, kinds: &Kinds) -> bool
+        ensures { result ≡ is_asked kinds.now self.now }
+    {
+        kinds.has(self.kind().group()) || (kinds.xfs5 && self.has_inodes())
+    }
+
+    /// Whether it says where inodes lie.
+    fn has_inodes(&self) -> bool
+        ensures { result ≡ has_inodes self.now }
+    {
+        match self {
+            Landmark::Super5(_, _) => true,
+            _ => false,
         }
     }
 

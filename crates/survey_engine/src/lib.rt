@@ -1,7 +1,7 @@
 //! The survey of images: it finds landmark sectors, and makes the plan of a search from them.
 //!
 //! [`survey`] sweeps the attached images side by side in sector order. A sector that is a GPT header, an
-//! NTFS boot sector or file record, an XFS superblock, AGF or AGI, a superblock of btrfs, a label of LVM2 or a copy
+//! NTFS boot sector or file record, an XFS superblock, AGF, AGI or inode, a superblock of btrfs, a label of LVM2 or a copy
 //! of a superblock of ext2 to ext4 is a sighting. Of each kind the first 4,096 count. They make the groups of the
 //! plan, one for the partition table, one for each file system and one for each label. The entries after a GPT
 //! header say at which volume sectors a file system may begin. The blocks of a partition table have 512 bytes or
@@ -13,7 +13,7 @@
 //! What a sector may be stands in `specs/Landmarks`, which are sightings and count in `specs/Sightings`,
 //! groups and the rules of their marks in `specs/Owners`, the origins in `specs/Origins`, and the plan in
 //! `specs/Surveys`. Each filters one list of all sectors; the code looks at each sector once. That no sector is by its
-//! front of two kinds is the law [`no_sector_is_of_two_kinds`]; a sector of btrfs or ext is what is none of them.
+//! front of two kinds is the law [`no_sector_is_of_two_kinds`]; a sector of btrfs or ext is what is none of them, and an inode what is nothing else.
 #![tactic(auto)]
 
 mod ask;

@@ -3,8 +3,11 @@ ghost use Rattle.std.specs.Prelude.{◌≡◌, ◌+◌, ◌*◌, ◌^◌, ◌<�
 ghost use Rattle.std.specs.Str.{bytes_eq};
 ghost use Rattle.ntfs_marks.specs.Boot.{is_within_limit, record_sector};
 ghost use Rattle.xfs_marks.specs.Superblock.{ag_sectors, is_sound};
+ghost use Rattle.std.specs.Option.{option_map};
+ghost use Rattle.landmark_rules.specs.declared.marks.Rule.TheVariants.{At};
+ghost use Rattle.xfs5.specs.Places.{inode_sector, is_sound as is_sound_place};
 ghost use Rattle.survey_engine.specs.Landmarks.{IsSound};
-ghost use Rattle.survey_engine.specs.Owners.{group_kind, ag_rule, is_same_boot, is_same_owner, is_same_super, is_same_volume, owner_in, record_rule, rule_in, volume_of, IsSoundOwner};
+ghost use Rattle.survey_engine.specs.Owners.{group_kind, ag_rule, inodes_owner, is_same_boot, is_same_owner, is_same_super, is_same_volume, owner_for, owner_in, record_rule, rule_in, start_rule, volume_of, IsSoundOwner};
 ghost use Rattle.survey_engine.specs.Sightings.{sighted_at};
 
 use crate::landmark::Landmark;
@@ -15,6 +18,7 @@ use ntfs_marks::{NtfsBoot, NtfsRecord};
 use sector_fields::SECTOR;
 use uuid::Uuid;
 use xfs_marks::XfsSuper;
+use xfs5::{XfsInode, XfsInodes};
 
 /// A file system of ext2, ext3 or ext4, by what each copy of its superblock says of it.
 #[derive(Clone, Copy)]
@@ -47,17 +51,41 @@ pub enum Owner {
     },
     /// The ext2, ext3 or ext4 that a copy of a superblock describes.
     Ext(ExtVolume),
+    /// The inodes of the XFS of version 5 of which a superblock says where they lie.
+    Xfs5(XfsInodes),
 }
 
 impl Owner {
-    /// The owner that a sighting names. File records, AGF and AGI do not say whose they are.
-    pub fn of(sighting: &Sighting) -> Option<Owner>
+    /// The owner that a sighting names where those of a kind are asked for.
+    pub fn of(kind: GroupKind, sighting: &Sighting) -> Option<Owner>
+        ensures { result ≡ owner_for kind (sighted_at sighting.now) sighting.now.landmark }
+    {
+        if kind.is_same(GroupKind::Xfs5) {
+            Owner::of_inodes(&sighting.landmark)
+        } else {
+            Owner::named_by(sighting)
+        }
+    }
+
+    /// The owner of inodes that a landmark names.
+    fn of_inodes(landmark: &Landmark) -> Option<Owner>
+        ensures { result ≡ inodes_owner landmark.now }
+    {
+        match landmark {
+            Landmark::Super5(_, places) => Some(Owner::Xfs5(*places)),
+            _ => None,
+        }
+    }
+
+    /// The owner that a sighting names, but for inodes. File records, AGF, AGI and inodes do not say whose they are.
+    fn named_by(sighting: &Sighting) -> Option<Owner>
         ensures { result ≡ owner_in (sighted_at sighting.now) sighting.now.landmark }
     {
         match &sighting.landmark {
             Landmark::Gpt(_) => Some(Owner::Table),
             Landmark::Boot(boot) => Some(Owner::Ntfs(*boot)),
             Landmark::Super(found) => Some(Owner::Xfs(*found)),
+            Landmark::Super5(found, _) => Some(Owner::Xfs(*found)),
             Landmark::Btrfs(found) => Some(Owner::Btrfs(found.fsid)),
             Landmark::Lvm(_) => Some(Owner::Label {
                 image: sighting.image,
@@ -79,10 +107,11 @@ impl Owner {
             Owner::Btrfs(_) => GroupKind::Btrfs,
             Owner::Label { .. } => GroupKind::Lvm,
             Owner::Ext(_) => GroupKind::Ext,
+            Owner::Xfs5(_) => GroupKind::Xfs5,
         }
     }
 
-    /// Whether two owners are one, field by field.
+    /// Whether two owners are one, field by field; of inodes by their identifier alone.
     pub fn is_same(&self, other: &Owner) -> bool
         ensures { result ≡ is_same_owner self.now other.now }
     {
@@ -99,6 +128,7 @@ impl Owner {
                 },
             ) => image == other_image && sector == other_sector,
             (Owner::Ext(a), Owner::Ext(b)) => is_same_volume(a, b),
+            (Owner::Xfs5(a), Owner::Xfs5(b)) => is_same_uuid(&a.uuid, &b.uuid),
             _ => false,
         }
     }
@@ -120,11 +150,10 @@ impl Owner {
             }
             (Owner::Ntfs(boot), Landmark::FileRecord(file)) if alone => record_rule(boot, file),
             (Owner::Xfs(found), Landmark::Super(other)) if is_same_super(found, other) => {
-                Some(Rule::Every {
-                    step: ag_sectors(found),
-                    count: found.ag_count as u64,
-                    plus: 0,
-                })
+                Some(start_rule(found))
+            }
+            (Owner::Xfs(found), Landmark::Super5(other, _)) if is_same_super(found, other) => {
+                Some(start_rule(found))
             }
             (Owner::Xfs(found), Landmark::Agf(group)) if alone => ag_rule(found, *group, 1),
             (Owner::Xfs(found), Landmark::Agi(group)) if alone => ag_rule(found, *group, 2),
@@ -137,6 +166,8 @@ impl Owner {
             }
             (Owner::Ext(volume), Landmark::Ext(copy)) if is_same_volume(volume, &volume_of(copy)) =>
                 { Some(Rule::At(copy.copy_sector)) }
+            (Owner::Xfs5(places), Landmark::Inode(inode))
+                if is_same_uuid(&places.uuid, &inode.uuid) => inode_rule(places, inode),
             _ => None,
         }
     }
@@ -206,6 +237,25 @@ fn record_sector(boot: &NtfsBoot, first_cluster: u64, number: u32) -> u64
     ensures { result ≡ record_sector boot.now first_cluster number }
 {
     first_cluster * boot.cluster + number as u64 * (boot.record_bytes / SECTOR as u32) as u64
+}
+
+/// Where an inode may lie in a file system, if that has its group and block.
+fn inode_rule(places: &XfsInodes, inode: &XfsInode) -> Option<Rule>
+    requires { IsTrue (is_sound_place places.now) }
+    ensures { result ≡ option_map At (inode_sector places.now inode.now.number) }
+{
+    places.inode_sector(inode.number).map(Rule::At)
+}
+
+/// Where a superblock may lie: at the start of each group.
+fn start_rule(found: &XfsSuper) -> Rule
+    ensures { result ≡ start_rule found.now }
+{
+    Rule::Every {
+        step: ag_sectors(found),
+        count: found.ag_count as u64,
+        plus: 0,
+    }
 }
 
 /// The sectors of an allocation group.

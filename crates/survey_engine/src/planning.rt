@@ -49,7 +49,7 @@ pub fn survey<I: Images>(alloc: Global, images: &mut I, ask: &Ask) -> Result<Pla
     let origins = origins(images, asked, &lengths, found.as_slice()).map_err(
         |_| SurveyFault::ReadFault,
     )?;
-    let groups = groups(alloc, found.as_slice()).map_err(|_| SurveyFault::Memory)?;
+    let groups = groups(alloc, &ask.kinds, found.as_slice()).map_err(|_| SurveyFault::Memory)?;
     Ok(Plan {
         lengths,
         end: ask.end,

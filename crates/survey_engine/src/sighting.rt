@@ -44,14 +44,14 @@ pub fn sighting_in(
     }
 }
 
-/// Whether a landmark is a sighting: its kind is looked for, and its sector neither lies before the smallest offset,
+/// Whether a landmark is a sighting: it is looked for, and its sector neither lies before the smallest offset,
 /// nor is passed over, nor is a header of the image's own partition table.
 fn is_sighting(ask: &Ask, length: u64, image: u8, sector: u64, landmark: &Landmark) -> bool
     requires sector { sector < length }
     requires sound { IsSound landmark.now }
     ensures { result ≡ is_sighting ask.now length (record { sector = sector; image = image }) landmark.now }
 {
-    ask.kinds.has(landmark.kind().group())
+    landmark.is_asked(&ask.kinds)
         && first_sector(ask) <= sector
         && !is_dropped(ask, image, sector)
         && !landmark.is_own(sector, length)

@@ -15,9 +15,9 @@ use Rattle.raid_params.specs.declared.types.Syndrome.{Syndrome}
 use Rattle.raid_params.specs.declared.types.Syndrome.TheVariants.{NoQ, AfterQ, ByData, BySlot}
 use Rattle.raid_params.specs.declared.types.Bounds.{Bounds}
 use Rattle.mark_kinds.specs.declared.groups.GroupKind.{GroupKind}
-use Rattle.mark_kinds.specs.declared.groups.GroupKind.TheVariants.{Gpt as GptGroup, Ntfs as NtfsGroup, Xfs as XfsGroup, Btrfs as BtrfsGroup, Lvm as LvmGroup, Ext as ExtGroup}
+use Rattle.mark_kinds.specs.declared.groups.GroupKind.TheVariants.{Gpt as GptGroup, Ntfs as NtfsGroup, Xfs as XfsGroup, Btrfs as BtrfsGroup, Lvm as LvmGroup, Ext as ExtGroup, Xfs5 as Xfs5Group}
 use Rattle.mark_kinds.specs.declared.sectors.Kind.{Kind}
-use Rattle.mark_kinds.specs.declared.sectors.Kind.TheVariants.{Gpt, Boot, FileRecord, Super, Agf, Agi, Btrfs, Lvm, Ext}
+use Rattle.mark_kinds.specs.declared.sectors.Kind.TheVariants.{Gpt, Boot, FileRecord, Super, Agf, Agi, Btrfs, Lvm, Ext, Xfs5}
 use Rattle.mark_kinds.proofs.Counts.{few_in_all}
 use Rattle.landmark_rules.specs.Groups.{group_place, marks_in, AreGroups, IsMark}
 use Rattle.landmark_rules.specs.Rules.{IsRule}
@@ -86,6 +86,7 @@ kind_short Agi = lit≤ tt
 kind_short Btrfs = lit≤ tt
 kind_short Lvm = lit≤ tt
 kind_short Ext = lit≤ tt
+kind_short Xfs5 = lit≤ tt
 
 group_short : (kind : GroupKind) → length (group_name kind) ≤ 6
 group_short GptGroup = lit≤ tt
@@ -94,6 +95,7 @@ group_short XfsGroup = lit≤ tt
 group_short BtrfsGroup = lit≤ tt
 group_short LvmGroup = lit≤ tt
 group_short ExtGroup = lit≤ tt
+group_short Xfs5Group = lit≤ tt
 
 -- ---- lines
 
@@ -314,17 +316,18 @@ abbrev is_at : ℕ → Group → Bool
 is_at n group = group_place group.kind == n
 
 one_of : (kind : GroupKind) →
-    1 ≤ cond (group_place kind == 0) 1 0 + cond (group_place kind == 1) 1 0 + cond (group_place kind == 2) 1 0 + cond (group_place kind == 3) 1 0 + cond (group_place kind == 4) 1 0 + cond (group_place kind == 5) 1 0
+    1 ≤ cond (group_place kind == 0) 1 0 + cond (group_place kind == 1) 1 0 + cond (group_place kind == 2) 1 0 + cond (group_place kind == 3) 1 0 + cond (group_place kind == 4) 1 0 + cond (group_place kind == 5) 1 0 + cond (group_place kind == 6) 1 0
 one_of GptGroup = lit≤ tt
 one_of NtfsGroup = lit≤ tt
 one_of XfsGroup = lit≤ tt
 one_of BtrfsGroup = lit≤ tt
 one_of LvmGroup = lit≤ tt
 one_of ExtGroup = lit≤ tt
+one_of Xfs5Group = lit≤ tt
 
 -- each group is at the place of its kind
 in_all : (groups : List Group) →
-    length groups ≤ count_by (is_at 0) groups + count_by (is_at 1) groups + count_by (is_at 2) groups + count_by (is_at 3) groups + count_by (is_at 4) groups + count_by (is_at 5) groups
+    length groups ≤ count_by (is_at 0) groups + count_by (is_at 1) groups + count_by (is_at 2) groups + count_by (is_at 3) groups + count_by (is_at 4) groups + count_by (is_at 5) groups + count_by (is_at 6) groups
 in_all [] = omega arith
 in_all (group ∷ groups) =
     omega (
@@ -335,18 +338,19 @@ in_all (group ∷ groups) =
       sum_by-cons (λ g. cond (is_at 3 g) 1 0) group groups,
       sum_by-cons (λ g. cond (is_at 4 g) 1 0) group groups,
       sum_by-cons (λ g. cond (is_at 5 g) 1 0) group groups,
+      sum_by-cons (λ g. cond (is_at 6 g) 1 0) group groups,
       one_of group.kind,
       in_all groups,
     )
 
-few_groups : (lengths : List ℕ) (groups : List Group) → AreGroups lengths groups → length groups ≤ 192
+few_groups : (lengths : List ℕ) (groups : List Group) → AreGroups lengths groups → length groups ≤ 224
 few_groups lengths groups are =
-    omega (arith, in_all groups, are.few GptGroup, are.few NtfsGroup, are.few XfsGroup, are.few BtrfsGroup, are.few LvmGroup, are.few ExtGroup)
+    omega (arith, in_all groups, are.few GptGroup, are.few NtfsGroup, are.few XfsGroup, are.few BtrfsGroup, are.few LvmGroup, are.few ExtGroup, are.few Xfs5Group)
 
-few_marks : (lengths : List ℕ) (groups : List Group) → AreGroups lengths groups → length (marks_in groups) ≤ 9 * 4096
+few_marks : (lengths : List ℕ) (groups : List Group) → AreGroups lengths groups → length (marks_in groups) ≤ 10 * 4096
 few_marks lengths groups are = few_in_all (λ (mark : Mark). mark.kind) 4096 (marks_in groups) are.few_marks
 
-groups_short : (lengths : List ℕ) (groups : List Group) → All (λ n. n < 2 ^ 55) lengths → AreGroups lengths groups → size (groups_lines groups) ≤ 192 * 20 + 9 * 4096 * 93 + 5
+groups_short : (lengths : List ℕ) (groups : List Group) → All (λ n. n < 2 ^ 55) lengths → AreGroups lengths groups → size (groups_lines groups) ≤ 224 * 20 + 10 * 4096 * 93 + 5
 groups_short lengths groups all are =
     omega (
       arith,

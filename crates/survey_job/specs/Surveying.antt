@@ -45,7 +45,7 @@ survey_plan ask attached images = record {
     misfits = ask.tests.misfits;
     least = ask.tests.least;
   };
-  groups = groups_of (found_in ask attached images);
+  groups = groups_of ask.kinds (found_in ask attached images);
   each = ask.each;
 }
 

@@ -2,7 +2,7 @@
 //!
 //! [`read_inode`] says of bytes that an inode with a right checksum begins, and which; [`read_inodes`] what a superblock
 //! says of where inodes lie: so [`XfsInodes::inode_sector`] is the place of an inode. The definitions stand in
-//! `specs/Inode` and `Places`. Nothing in a program calls this yet.
+//! `specs/Inode` and `Places`.
 #![tactic(auto)]
 
 mod inode;

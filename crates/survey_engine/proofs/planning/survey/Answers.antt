@@ -18,7 +18,7 @@ pub returns-clause-plan : goal.returns-clause-plan
 returns-clause-plan g c =
     let attached = (g.I.Images.seen c.args.images.now).attached in
     let lengths : c.lengths-lengths.result.items ≡ lengths_of attached = search rules in
-    let made : c.in_ok-groups.groups ≡ groups_of c.in_ok-found.found = search rules in
+    let made : c.in_ok-groups.groups ≡ groups_of c.args.ask.now.kinds c.in_ok-found.found = search rules in
     let are : AreSightings c.deref.result.now c.in_ok-found.found = search rules in
     let same : c.deref.result.now ≡ c.lengths-lengths.result.items = search rules in
     let origins : AreOrigins c.in_ok-origins.origins.items = search rules in
@@ -29,7 +29,7 @@ returns-clause-plan g c =
       limits = c.requires.ask_is.limits;
       tests = record { origins = origins.rising; few_origins = origins.few; near_origins = origins.near; misfits = c.requires.ask_is.tests.misfits; least = c.requires.ask_is.tests.least };
       each = λ e. rw (lengths, c.copy_of_bounds.ensures) (c.requires.each e);
-      groups = rw made (rw (← same) (are_groups c.deref.result.now c.in_ok-found.found are));
+      groups = rw made (rw (← same) (are_groups c.deref.result.now c.args.ask.now.kinds c.in_ok-found.found are));
     }
 
 pub returns-clause-reads : goal.returns-clause-reads

@@ -56,6 +56,45 @@ def super_block(sector):
     return uuid.UUID(bytes=sector[32:48]), block, group, groups, unit
 
 
+def crc32c(block):
+    """CRC-32C of bytes, by the polynomial of RFC 3720, bit by bit."""
+    register = 0xFFFFFFFF
+    for byte in block:
+        register ^= byte
+        for _ in range(8):
+            register = register >> 1 ^ 0x82F63B78 * (register & 1)
+    return register ^ 0xFFFFFFFF
+
+
+def inode_places(sector):
+    """What a superblock of XFS version 5 says of inodes of 512 bytes: their identifier, and where they lie."""
+    version, _, size, told, group_bits = struct.unpack_from(">HHH17xBB", sector, 100)
+    block, blocks, groups = struct.unpack_from(">I", sector, 4)[0], *struct.unpack_from(">II", sector, 84)
+    if version % 16 != 5 or size != 512 or told > 7 or block != size << told or block > 65536:
+        return None
+    if group_bits > 31 or not 1 <= blocks <= 1 << group_bits or groups == 0 or blocks * groups >= 2 ** 48:
+        return None
+    features, = struct.unpack_from(">I", sector, 216)
+    return sector[248:264] if features & 4 else sector[32:48], told, group_bits, blocks, groups, block
+
+
+def inode(sector):
+    """The number of an inode of 512 bytes that begins a stretch of 64 KiB, and its file system."""
+    checksum, = struct.unpack_from("<I", sector, 100)
+    number, = struct.unpack_from(">Q", sector, 152)
+    if sector[:2] != b"IN" or sector[4] != 3 or number % 128 or crc32c(sector[:100] + bytes(4) + sector[104:]) != checksum:
+        return None
+    return number, sector[160:176]
+
+
+def inode_sector(places, number):
+    """The sector of its file system at which an inode lies, if that has such a group and block."""
+    _, told, group_bits, blocks, groups, size = places
+    block = number >> told
+    group, block = block >> group_bits, block % (1 << group_bits)
+    return (group * blocks + block) * (size // 512) + number % (1 << told) if group < groups and block < blocks else None
+
+
 def head_of_group(magic):
     def read(sector):
         if sector[:4] != magic or struct.unpack_from(">I", sector, 4)[0] != 1:
@@ -89,14 +128,15 @@ def ext(sector):
 
 
 READERS = {"gpt": gpt, "boot": boot, "record": record, "super": super_block, "agf": head_of_group(b"XAGF"),
-           "agi": head_of_group(b"XAGI"), "lvm": label, "btrfs": btrfs, "ext": ext}
+           "agi": head_of_group(b"XAGI"), "lvm": label, "btrfs": btrfs, "ext": ext, "xfs5": inode}
 MAGICS = {b"EFI ": "gpt", b"FILE": "record", b"XFSB": "super", b"XAGF": "agf", b"XAGI": "agi", b"LABE": "lvm"}
 
 
 def read(block):
     """The kind of a sector, if it is of one, and its fields. What is of one of the first kinds is of no later one."""
     told = MAGICS.get(block[:4]) or ("boot" if block[3:7] == b"NTFS" else None)
-    for kind in (told, "btrfs" if block[64:66] == b"_B" else None, "ext" if block[56:58] == b"\x53\xEF" else None):
+    for kind in (told, "btrfs" if block[64:66] == b"_B" else None, "ext" if block[56:58] == b"\x53\xEF" else None,
+                 "xfs5" if block[:2] == b"IN" else None):
         found = READERS[kind](block) if kind else None
         if found is not None:
             return kind, found
@@ -110,18 +150,23 @@ def own_table(header, sector, length, unit):
 
 
 def sightings(images, first, end, kinds, passed_over, unit):
-    """The landmark sectors that count, by kind, in order of sector, then image."""
+    """The landmark sectors that count, by kind, in order of sector, then image; and what superblocks among them say of inodes."""
     wanted = {kind for asked in kinds for kind in MARKS_OF[asked]}
-    seen = {kind: [] for kind in READERS}
+    seen, places = {kind: [] for kind in READERS}, []
     for sector in range(first, end):
         for place, image in enumerate(images):
-            kind, found = read(image[sector * SECTOR:(sector + 1) * SECTOR])
-            if kind not in wanted or len(seen[kind]) == 4096 or (place, sector) in passed_over:
+            block = image[sector * SECTOR:(sector + 1) * SECTOR]
+            kind, found = read(block)
+            told = inode_places(block) if kind == "super" and "xfs5" in kinds else None
+            if (kind not in wanted and told is None) or len(seen[kind]) == 4096 or (place, sector) in passed_over:
                 continue
             if kind == "gpt" and (unit * found["own"] >= FAR or own_table(found, sector, len(image) // SECTOR, unit)):
                 continue
             seen[kind].append((sector, place, found))
-    return seen
+            places += [told] * (told is not None)
+    if "xfs" not in kinds:
+        seen["super"] = []
+    return {**seen, "places": places}
 
 
 def first_blocks(images, headers, unit):
@@ -157,6 +202,15 @@ def gathered(kind, seen, key, rule):
     return [(kind, marks) for marks in list(groups.values())[:32]]
 
 
+def of_inodes(seen):
+    """The groups of inodes: of each identifier by the first superblock that tells it."""
+    first = {}
+    for told in seen["places"]:
+        first.setdefault(told[0], told)
+    return [("xfs5", [("xfs5", place, sector, f"at:{inode_sector(told, number)}") for sector, place, (number, owner) in seen["xfs5"]
+                      if owner == told[0] and inode_sector(told, number) is not None]) for told in list(first.values())[:32]]
+
+
 def groups_of(seen, unit):
     groups = []
     if seen["gpt"]:
@@ -180,4 +234,4 @@ def groups_of(seen, unit):
     groups += gathered("btrfs", seen, lambda sector, place, found: found[0], lambda found: found[1] // SECTOR)
     groups += gathered("lvm", seen, lambda sector, place, found: (sector, place), lambda found: found)
     groups += gathered("ext", seen, lambda sector, place, found: found[0], lambda found: found[1])
-    return groups
+    return groups + of_inodes(seen)

@@ -283,10 +283,10 @@ def volume_sector(found, slot, sector, end):
 
 def held(plan, found, group):
     """The first origin at which a group holds, with its fits and misfits, or None."""
-    kind, marks = group
-    origins = [0] if kind == "gpt" else plan.origins
+    most, least = group.bounds or (plan.misfits, plan.least)
+    origins = [0] if group.kind == "gpt" else plan.origins
     fit, misfit = [0] * len(origins), [0] * len(origins)
-    for _, image, sector, rule in marks:
+    for _, image, sector, rule in group.marks:
         if image in found.slots:
             place = volume_sector(found, found.slots.index(image), sector - found.base(image), plan.end)
             if place is not None:
@@ -294,9 +294,9 @@ def held(plan, found, group):
                     good = fits(rule, place - origin)
                     fit[which] += good
                     misfit[which] += not good
-                if min(misfit) > plan.misfits:
+                if min(misfit) > most:
                     return None
     for which, origin in enumerate(origins):
-        if misfit[which] <= plan.misfits and fit[which] >= min(plan.least, len(marks)):
+        if misfit[which] <= most and fit[which] >= min(least, len(group.marks)):
             return origin, fit[which], misfit[which]
     return None

@@ -7,7 +7,7 @@ import struct
 import uuid
 import zlib
 
-from texts import FAR, MARKS_OF, SECTOR
+from texts import FAR, MARKS_OF, SECTOR, Group, Mark
 
 
 def gpt(sector):
@@ -187,10 +187,10 @@ def file_systems(heads, rule, others):
     geometries = list(dict.fromkeys(found for _, _, found in heads[1]))
     groups = []
     for geometry in geometries[:32]:
-        marks = [(heads[0], place, sector, rule(geometry)) for sector, place, found in heads[1] if found == geometry]
+        marks = [Mark(heads[0], place, sector, rule(geometry)) for sector, place, found in heads[1] if found == geometry]
         if len(geometries) == 1:
             marks += others(geometry)
-        groups.append(sorted(marks, key=lambda mark: (mark[2], mark[1])))
+        groups.append(sorted(marks, key=lambda mark: (mark.sector, mark.image)))
     return groups
 
 
@@ -198,8 +198,8 @@ def gathered(kind, seen, key, rule):
     """The groups of one kind: of each value of the key, the first of them, the sightings that have it."""
     groups = {}
     for sector, place, found in seen[kind]:
-        groups.setdefault(key(sector, place, found), []).append((kind, place, sector, f"at:{rule(found)}"))
-    return [(kind, marks) for marks in list(groups.values())[:32]]
+        groups.setdefault(key(sector, place, found), []).append(Mark(kind, place, sector, f"at:{rule(found)}"))
+    return [Group(kind, marks) for marks in list(groups.values())[:32]]
 
 
 def of_inodes(seen):
@@ -214,22 +214,22 @@ def of_inodes(seen):
 def groups_of(seen, unit):
     groups = []
     if seen["gpt"]:
-        groups.append(("gpt", [("gpt", place, sector, f"at:{unit * found['own']}") for sector, place, found in seen["gpt"]]))
+        groups.append(Group("gpt", [Mark("gpt", place, sector, f"at:{unit * found['own']}") for sector, place, found in seen["gpt"]]))
 
     def records(geometry):
         cluster, _, mft, mirror, size, _ = geometry
         wide = size // 512
-        return [("record", place, sector, f"either:{mft * cluster + found[1] * wide}:{mirror * cluster + found[1] * wide}")
+        return [Mark("record", place, sector, f"either:{mft * cluster + found[1] * wide}:{mirror * cluster + found[1] * wide}")
                 for sector, place, found in seen["record"] if found[0] == size]
 
     def heads(geometry):
         _, block, group, count, unit = geometry
         wide = group * block // 512
-        return [(kind, place, sector, f"at:{found[0] * wide + after * (unit // 512)}") for kind, after in (("agf", 1), ("agi", 2))
+        return [Mark(kind, place, sector, f"at:{found[0] * wide + after * (unit // 512)}") for kind, after in (("agf", 1), ("agi", 2))
                 for sector, place, found in seen[kind] if found[0] < count]
 
-    groups += [("ntfs", marks) for marks in file_systems(("boot", seen["boot"]), lambda g: f"either:0:{g[1]}", records)]
-    groups += [("xfs", marks) for marks in
+    groups += [Group("ntfs", marks) for marks in file_systems(("boot", seen["boot"]), lambda g: f"either:0:{g[1]}", records)]
+    groups += [Group("xfs", marks) for marks in
                file_systems(("super", seen["super"]), lambda g: f"every:{g[2] * g[1] // 512}:{g[3]}:0", heads)]
     groups += gathered("btrfs", seen, lambda sector, place, found: found[0], lambda found: found[1] // SECTOR)
     groups += gathered("lvm", seen, lambda sector, place, found: (sector, place), lambda found: found)

@@ -1,10 +1,12 @@
 """What cases are made of: arrays, plans and words, made at random, many of them near the limits of the formats."""
 
-from arrays import cells
+import copy
+
+from arrays import cells, held
 from generated import array_images
 from product import Product
-from texts import (FAR, FIVE, KINDS, LEVELS, MARKS_OF, MOST, MOVED, PATTERNS, RANKS, REDUNDANCY, SECTOR, SIX, SYNDROMES, Plan, Set, Stop,
-                   read_plan)
+from texts import (FAR, FIVE, KINDS, LEVELS, MARKS_OF, MOST, MOVED, PATTERNS, RANKS, REDUNDANCY, SECTOR, SIX, SYNDROMES, Group, Mark, Plan, Set,
+                   Stop, read_plan)
 
 EDGES = [0, 1, 2, 3, 15, 16, 17, 23, 24, 25, 63, 64, 65, 100, 4095, 4096, 4097, 32767, 32768, 65535, 65536, 65537, 999999, 1000000,
          1000001, 2 ** 32 - 1, 2 ** 32, MOVED - 1, MOVED, FAR - 1, FAR, FAR + 1, RANKS - 1, RANKS, 10 ** 25]
@@ -112,11 +114,23 @@ def some_marks(rng, found, images, size, plan_end):
                 image = rng.randrange(len(images))
                 sector = rng.randrange(max(1, len(images[image]) // SECTOR))
             if sector < len(images[image]) // SECTOR:
-                marks[sector, image] = (rng.choice(MARKS_OF[kind]), image, sector, some_rule(rng, max(0, place - origin)))
-        groups.append((kind, [marks[place] for place in sorted(marks)]))
+                marks[sector, image] = Mark(rng.choice(MARKS_OF[kind]), image, sector, some_rule(rng, max(0, place - origin)))
+        groups.append(Group(kind, [marks[place] for place in sorted(marks)]))
     if rng.random() < 0.01:
         rng.shuffle(groups)
     return groups
+
+
+def some_bounds(rng, plan, found, group):
+    """Bounds of a group, mostly near what it has at an origin of the plan, or none."""
+    if rng.random() < 0.3:
+        return None
+    if rng.random() < 0.2 or found.rows(plan.end) == 0:
+        return rng.choice([0, 1, 2, FAR - 1]), rng.choice([0, 1, 2, len(group.marks), len(group.marks) + 1, FAR - 1])
+    at_one = copy.copy(plan)
+    at_one.origins = [rng.choice(plan.origins)]
+    _, fits, misfits = held(at_one, found, group._replace(bounds=(FAR - 1, 0)))
+    return rng.choice([misfits, misfits, misfits + 1, max(0, misfits - 1), FAR - 1]), rng.choice([fits, fits, fits + 1, max(0, fits - 1), 0])
 
 
 def some_rule(rng, distance):
@@ -167,6 +181,9 @@ def some_plan(rng, found, images, size, most=1500):
     if each and rng.random() < 0.02:
         lengths[rng.randrange(len(lengths))] = MOVED - rng.choice([0, 1])
     plan = Plan(lengths, end, given, some_marks(rng, found, images, size, end), each)
+    if rng.random() < 0.4:
+        plan.groups = [group._replace(bounds=some_bounds(rng, plan, found, group)) for group in plan.groups]
+    plan.third = rng.random() < 0.03
     known = {"levels": [found.level], "members": [found.members], "patterns": [found.pattern], "syndromes": [found.syndrome],
              "chunks": [found.chunk], "offsets": sorted(set(found.bases or [found.offset]))}
     while Product(plan).total > most:
@@ -199,7 +216,8 @@ def torn_once(rng, text):
     if way == 1:
         del lines[place]
     elif way == 2:
-        lines.insert(place, lines[rng.randrange(len(lines))])
+        bounds = [b"bounds 0 1", b"bounds 1", b"bounds 0 1 1", b"bounds 00 1", f"bounds {FAR - 1} {FAR}".encode()]
+        lines.insert(place, rng.choice([lines[rng.randrange(len(lines))]] * 12 + bounds))
     elif way == 3:
         other = rng.randrange(len(lines))
         lines[place], lines[other] = lines[other], lines[place]
@@ -211,6 +229,8 @@ def torn_once(rng, text):
     elif way == 6:
         at = rng.randrange(len(text))
         return text[:at] + bytes([rng.randrange(256)]) + text[at + 1:]
+    elif way == 7 and rng.random() < 0.3:
+        lines[:1] = rng.choice([[b"reraid-plan 3"], [b"reraid-plan 3", b"mode each"], [b"reraid-plan 3", b"mode common"], [b"reraid-plan 4"]])
     else:
         lines[place] = with_edge(rng, lines[place].decode("latin-1")).encode("latin-1")
     return b"\n".join(lines)
@@ -242,12 +262,12 @@ def long_plan(rng, plan):
         return text + b"x" * (4194304 + rng.choice([0, 1]) - len(text))
     if way == 1:
         kind = rng.choice(KINDS[1:])
-        plan.groups = [(kind, [])] * (32 + rng.choice([0, 1]))
+        plan.groups = [Group(kind, [], rng.choice([None, None, (0, 1)]))] * (32 + rng.choice([0, 1]))
         return plan.text().encode()
     group, kind = rng.choice([(group, kind) for group in KINDS for kind in MARKS_OF[group]])
     plan.lengths, plan.end, count = [200] * len(plan.lengths), min(plan.end, 200), 4096 + rng.choice([0, 1])
-    marks = [(kind, 0, sector % 200, "at:1") for sector in range(count)]
-    groups = [(group, marks[first:first + 200]) for first in range(0, count, 200)]
+    marks = [Mark(kind, 0, sector % 200, "at:1") for sector in range(count)]
+    groups = [Group(group, marks[first:first + 200]) for first in range(0, count, 200)]
     plan.groups = groups
     return plan.text().encode()
 

@@ -111,7 +111,7 @@ def check(given, text, images):
         at = held(plan, found, group)
         good = good and at is not None
         told = "none" if at is None else f"origin {at[0]} fits {at[1]} misfits {at[2]}"
-        out.append(f"group {place} {group[0]} {told}")
+        out.append(f"group {place} {group.kind} {told}")
     return "".join(line + "\n" for line in out + ["pass" if good else "fail"]).encode()
 
 
@@ -187,7 +187,7 @@ def sample(given):
     followed_total(product)
     lines, after = page(plan, product, Sums(made), 0, 1000, RANKS - 1)
     there = "yes" if any(line.word() == found.word() for _, line in lines) else "no"
-    marks = sum(len(group[1]) for group in plan.groups)
+    marks = sum(len(group.marks) for group in plan.groups)
     return (f"images {images}\nsectors {end}\nmarks {marks}\ntotal {product.total}\nfound {there}\n"
             f"next {after} of {product.total}\n").encode()
 

@@ -40,7 +40,7 @@ def plan(lengths, version=1, groups="", **changed):
     """A plan of a RAID 5 with all members there, with what is changed."""
     values = {"end": min(lengths), "levels": 5, "members": 3, "patterns": "ls", "syndromes": "none", "chunks": 1, "offsets": 0,
               "origins": 0, "missing": 0, "foreign": 0, "badrows": 0, "window": max(1, min(lengths)), "misfits": 0, "least": 1, **changed}
-    lines = [f"reraid-plan {version}", f"images {len(lengths)}"] + [f"length {length}" for length in lengths]
+    lines = [f"reraid-plan {version}", f"images {len(lengths)}", *(f"length {length}" for length in lengths)]
     return "".join(f"{line}\n" for line in lines + [f"{name} {value}" for name, value in values.items()]) + groups + "done\n"
 
 
@@ -311,6 +311,54 @@ def file_systems():
         row("list", [with_sectors(4, {})], plan([4], groups=groups), status=2, line=f"plan line {place} is not understood")
 
 
+# Bounds of a group
+
+def own_bounds():
+    """Two images of four sectors, of which the volume has sector S at sector S div 2 of image S mod 2 where the order is 0,1. The marks are
+    of sectors 2, 3 and 5 of the volume in that order, of which the one at 5 misfits; in the other they lie at 3, 2 and 4, and two misfit."""
+    images, values = [with_sectors(4, {})] * 2, {"levels": 0, "members": 2, "patterns": "plain", "offsets": 0}
+    marks = "mark btrfs 0 1 at:2\nmark btrfs 1 1 either:3:2\nmark btrfs 1 2 at:7\n"
+    told = {"0,1": "rank 0\nunsound 0 of 4\ngroup 0 btrfs {}\n{}\n", "1,0": "rank 1\nunsound 0 of 4\ngroup 0 btrfs {}\n{}\n"}
+
+    def tried(bounds, first, second, version="3\nmode common", **changed):
+        text = plan([4, 4], version, f"group btrfs\n{bounds}{marks}", **{**values, **changed})
+        for slots, fits, holds in (("0,1", 2, first), ("1,0", 1, second)):
+            kept = (f"origin 0 fits {fits} misfits {3 - fits}", "pass") if holds else ("none", "fail")
+            row(f"check set=0:plain:none:1:0:{slots}", images, text, told[slots].format(*kept))
+        lines = [f"{rank} 0:plain:none:1:0:{slots}\n" for rank, slots, holds in ((0, "0,1", first), (1, "1,0", second)) if holds]
+        row("list", images, text, "".join(lines) + "next 2 of 2\n")
+    tried("", False, False)
+    tried("", True, True, misfits=2)
+    tried("bounds 1 1\n", True, False)
+    tried("bounds 2 1\n", True, True)
+    tried("bounds 2 2\n", True, False)
+    tried("bounds 2 3\n", False, False)
+    tried("bounds 0 1\n", False, False, misfits=2)
+    tried("bounds 2 0\n", True, True, least=3)
+    tried(f"bounds {2 ** 55 - 1} {2 ** 55 - 1}\n", False, False, misfits=2)
+    tried("", True, True, 1, misfits=2)
+    # one group's bounds are not another's, nor the plan's
+    two = "group btrfs\nbounds 1 2\n" + marks + "group lvm\nmark lvm 0 1 at:3\n"
+    shown = told["1,0"].format("none\ngroup 1 lvm origin 0 fits 1 misfits 0", "fail")
+    row("check set=0:plain:none:1:0:1,0", images, plan([4, 4], "3\nmode common", two, **values), shown)
+    shown = told["0,1"].format("origin 0 fits 2 misfits 1\ngroup 1 lvm none", "fail")
+    row("check set=0:plain:none:1:0:0,1", images, plan([4, 4], "3\nmode common", two, **values), shown)
+    # with an offset of each image too
+    each = plan([4, 4], "3\nmode each", "group btrfs\nbounds 1 2\n" + marks, **values)
+    row("list", images, each, "0 0:plain:none:1:0+0:0,1\nnext 2 of 2\n")
+    for place, version, groups in ((20, "3\nmode common", "bounds 0 1\n"), (22, "3\nmode common", "group btrfs\nbounds 0 1\nbounds 0 1\n"),
+                                   (22, "3\nmode common", f"group btrfs\n{marks[:20]}bounds 0 1\n"), (20, 1, "group btrfs\nbounds 0 1\n"),
+                                   (20, 2, "group btrfs\nbounds 0 1\n"), (21, "3\nmode common", "group btrfs\nbounds 0\n"),
+                                   (21, "3\nmode common", "group btrfs\nbounds 0 1 \n"), (21, "3\nmode common", "group btrfs\nbounds 0 01\n"),
+                                   (21, "3\nmode common", f"group btrfs\nbounds {2 ** 55} 1\n"), (2, 3, ""), (2, "3\nmode both", ""),
+                                   (21, "3\nmode each", f"group btrfs\nbounds 1 {2 ** 55}\n"), (1, "4\nmode each", "")):
+        row("list", images, plan([4, 4], version, groups, **values), status=2, line=f"plan line {place} is not understood")
+    for mode, place in (("common", None), ("each", 12)):
+        text = plan([4, 4], f"3\nmode {mode}", **{**values, "offsets": 2 ** 54})
+        row("list", images, text, "next 2 of 2\n" if place is None else None, status=0 if place is None else 2,
+            line=f"plan line {place} is not understood" if place else "")
+
+
 # What was there before
     # inodes of XFS, before and after the superblock: the first of 128 each
     there = {9: super_of_inodes(), 5: inode(384), 20: inode(0), 21: inode(129), 22: inode(128, wrong=1), 23: inode(128, b"\6" * 16)}
@@ -422,7 +470,7 @@ def differs(words, images, text, out, status, line, ends):
 
 
 def main():
-    for rows in (earlier, own_offsets, large_blocks, rescue, near, copies, file_systems, relations):
+    for rows in (earlier, own_bounds, own_offsets, large_blocks, rescue, near, copies, file_systems, relations):
         rows()
     differing = 0
     for words, *rest in ROWS:

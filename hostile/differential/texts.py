@@ -1,6 +1,7 @@
 """Words, plans and set words, as docs/FORMATS.md has them."""
 
 import re
+from typing import NamedTuple
 
 SECTOR = 512
 FAR = 2 ** 55
@@ -305,9 +306,25 @@ def read_sets(data, images, end):
 
 # The plan
 
+class Mark(NamedTuple):
+    """A mark with its rule."""
+    kind: str
+    image: int
+    sector: int
+    rule: str
+
+
+class Group(NamedTuple):
+    """A group with its marks, and its own bounds, if it has such: the most misfits and the least fits."""
+    kind: str
+    marks: list
+    bounds: tuple = None
+
+
 class Plan:
-    """A plan: its lists and numbers by their names, its groups, each with its kind and its marks, and whether each image has an offset
-    of its own."""
+    """A plan: its lists and numbers by their names, its groups, and whether each image has an offset of its own."""
+
+    third = False  # written as version 3 also where no group has bounds
 
     def __init__(self, lengths, end, given, groups, each=False):
         self.lengths, self.end, self.groups, self.each = lengths, end, groups, each
@@ -317,13 +334,16 @@ class Plan:
     def text(self):
         def shown(value):
             return ",".join(str(part) for part in value) if isinstance(value, list) else str(value)
-        lines = [f"reraid-plan {2 if self.each else 1}", f"images {len(self.lengths)}"] + [f"length {length}" for length in self.lengths]
-        lines.append(f"end {self.end}")
+        lines = [f"reraid-plan {2 if self.each else 1}"]
+        if self.third or any(group.bounds for group in self.groups):
+            lines = ["reraid-plan 3", f"mode {'each' if self.each else 'common'}"]
+        lines += [f"images {len(self.lengths)}", *(f"length {length}" for length in self.lengths), f"end {self.end}"]
         order = "levels members patterns syndromes chunks offsets origins missing foreign badrows window misfits least".split()
         lines += [f"{name} {shown(getattr(self, name))}" for name in order]
-        for kind, marks in self.groups:
-            lines.append(f"group {kind}")
-            lines += [f"mark {mark[0]} {mark[1]} {mark[2]} {mark[3]}" for mark in marks]
+        for group in self.groups:
+            lines.append(f"group {group.kind}")
+            lines += [f"bounds {group.bounds[0]} {group.bounds[1]}"] if group.bounds else []
+            lines += [f"mark {mark.kind} {mark.image} {mark.sector} {mark.rule}" for mark in group.marks]
         return "".join(line + "\n" for line in lines + ["done"])
 
 
@@ -361,32 +381,41 @@ def read_plan(data):
         return result
 
     first = line()
-    if first not in ("reraid-plan 1", "reraid-plan 2"):
+    if first not in ("reraid-plan 1", "reraid-plan 2", "reraid-plan 3"):
         refuse()
-    each = first == "reraid-plan 2"
+    third = first == "reraid-plan 3"
+    each = (value("mode", either("common", "each")) if third else first) in ("each", "reraid-plan 2")
     lengths = [value("length", one(0, (MOVED if each else FAR) - 1)) for _ in range(value("images", one(1, MOST)))]
     end = value("end", one(0, min(lengths)))
     order = "levels members patterns syndromes chunks offsets origins missing foreign badrows window misfits least".split()
     given = {name: value(name, MOVABLE.get(name, LISTS[name]) if each else LISTS[name]) for name in order}
-    groups, seen = [], {kind: 0 for kinds in MARKS_OF.values() for kind in kinds}
+    groups, seen, free = [], {kind: 0 for kinds in MARKS_OF.values() for kind in kinds}, False
     while (text := line()) != "done":
         parts = text.split(" ")
         if parts[0] == "group" and len(parts) == 2 and parts[1] in KINDS:
-            before = [kind for kind, _ in groups]
+            before = [group.kind for group in groups]
             if before and KINDS.index(before[-1]) > KINDS.index(parts[1]):
                 refuse()
             if before.count(parts[1]) == (1 if parts[1] == "gpt" else 32):
                 refuse()
-            groups.append((parts[1], []))
-        elif parts[0] == "mark" and len(parts) == 5 and groups and parts[1] in MARKS_OF[groups[-1][0]]:
-            image, marks = number(parts[2], 0, len(lengths) - 1), groups[-1][1]
+            groups.append(Group(parts[1], []))
+            free = third
+        elif parts[0] == "bounds" and len(parts) == 3 and free:
+            bounds = number(parts[1], 0, FAR - 1), number(parts[2], 0, FAR - 1)
+            if None in bounds:
+                refuse()
+            groups[-1] = groups[-1]._replace(bounds=bounds)
+            free = False
+        elif parts[0] == "mark" and len(parts) == 5 and groups and parts[1] in MARKS_OF[groups[-1].kind]:
+            image, marks = number(parts[2], 0, len(lengths) - 1), groups[-1].marks
             sector = None if image is None else number(parts[3], 0, lengths[image] - 1)
             if sector is None or not distances(parts[4]) or seen[parts[1]] == 4096:
                 refuse()
-            if marks and (marks[-1][2], marks[-1][1]) >= (sector, image):
+            if marks and (marks[-1].sector, marks[-1].image) >= (sector, image):
                 refuse()
             seen[parts[1]] += 1
-            marks.append((parts[1], image, sector, parts[4]))
+            marks.append(Mark(parts[1], image, sector, parts[4]))
+            free = False
         else:
             refuse()
     place += 1

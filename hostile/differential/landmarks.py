@@ -7,6 +7,9 @@ import struct
 import uuid
 import zlib
 
+from typing import NamedTuple
+
+from inodes import STRETCH, XfsPlaces, xfs_inode, xfs_places
 from texts import FAR, MARKS_OF, SECTOR, Group, Mark
 
 
@@ -44,6 +47,12 @@ def record(sector):
     return (size, place) if place < 16 else None
 
 
+class Super(NamedTuple):
+    """A superblock of XFS: the fields in which those of one file system agree, and, if it tells them, where inodes of 512 bytes lie."""
+    fields: tuple
+    places: XfsPlaces
+
+
 def super_block(sector):
     if sector[:4] != b"XFSB":
         return None
@@ -53,7 +62,7 @@ def super_block(sector):
         return None
     if group == 0 or groups == 0 or group * block // 512 * groups + 2 * (unit // 512) >= FAR:
         return None
-    return uuid.UUID(bytes=sector[32:48]), block, group, groups, unit
+    return Super((uuid.UUID(bytes=sector[32:48]), block, group, groups, unit), xfs_places(sector))
 
 
 def crc32c(block):
@@ -127,8 +136,13 @@ def ext(sector):
     return (sector[104:120], 1024 << power, blocks), (first + group * blocks) * (2 << power)
 
 
+def xfs5(sector):
+    found = xfs_inode(sector)
+    return found if found and found.number * SECTOR % STRETCH == 0 else None
+
+
 READERS = {"gpt": gpt, "boot": boot, "record": record, "super": super_block, "agf": head_of_group(b"XAGF"),
-           "agi": head_of_group(b"XAGI"), "lvm": label, "btrfs": btrfs, "ext": ext, "xfs5": inode}
+           "agi": head_of_group(b"XAGI"), "lvm": label, "btrfs": btrfs, "ext": ext, "xfs5": xfs5}
 MAGICS = {b"EFI ": "gpt", b"FILE": "record", b"XFSB": "super", b"XAGF": "agf", b"XAGI": "agi", b"LABE": "lvm"}
 
 
@@ -152,13 +166,14 @@ def own_table(header, sector, length, unit):
 def sightings(images, first, end, kinds, passed_over, unit):
     """The landmark sectors that count, by kind, in order of sector, then image; and what superblocks among them say of inodes."""
     wanted = {kind for asked in kinds for kind in MARKS_OF[asked]}
-    seen, places = {kind: [] for kind in READERS}, []
+
+    def is_wanted(kind, found):
+        return kind in wanted or kind == "super" and "xfs5" in wanted and found.places
+    seen = {kind: [] for kind in READERS}
     for sector in range(first, end):
         for place, image in enumerate(images):
-            block = image[sector * SECTOR:(sector + 1) * SECTOR]
-            kind, found = read(block)
-            told = inode_places(block) if kind == "super" and "xfs5" in kinds else None
-            if (kind not in wanted and told is None) or len(seen[kind]) == 4096 or (place, sector) in passed_over:
+            kind, found = read(image[sector * SECTOR:(sector + 1) * SECTOR])
+            if not is_wanted(kind, found) or len(seen[kind]) == 4096 or (place, sector) in passed_over:
                 continue
             if kind == "gpt" and (unit * found["own"] >= FAR or own_table(found, sector, len(image) // SECTOR, unit)):
                 continue
@@ -202,16 +217,18 @@ def gathered(kind, seen, key, rule):
     return [Group(kind, marks) for marks in list(groups.values())[:32]]
 
 
-def of_inodes(seen):
-    """The groups of inodes: of each identifier by the first superblock that tells it."""
-    first = {}
-    for told in seen["places"]:
-        first.setdefault(told[0], told)
-    return [("xfs5", [("xfs5", place, sector, f"at:{inode_sector(told, number)}") for sector, place, (number, owner) in seen["xfs5"]
-                      if owner == told[0] and inode_sector(told, number) is not None]) for told in list(first.values())[:32]]
+def xfs5_groups(seen):
+    """A group for each identifier of inodes that a superblock tells; the first superblock that does says where they lie."""
+    systems = {}
+    for _, _, found in seen["super"]:
+        if found.places:
+            systems.setdefault(found.places.uuid, found.places)
+    return [Group("xfs5", [Mark("xfs5", place, sector, f"at:{places.sector(found.number)}") for sector, place, found in seen["xfs5"]
+                           if found.uuid == identifier and places.sector(found.number) is not None])
+            for identifier, places in list(systems.items())[:32]]
 
 
-def groups_of(seen, unit):
+def groups_of(seen, unit, kinds):
     groups = []
     if seen["gpt"]:
         groups.append(Group("gpt", [Mark("gpt", place, sector, f"at:{unit * found['own']}") for sector, place, found in seen["gpt"]]))
@@ -229,9 +246,10 @@ def groups_of(seen, unit):
                 for sector, place, found in seen[kind] if found[0] < count]
 
     groups += [Group("ntfs", marks) for marks in file_systems(("boot", seen["boot"]), lambda g: f"either:0:{g[1]}", records)]
+    supers = [(sector, place, found.fields) for sector, place, found in seen["super"] if "xfs" in kinds]
     groups += [Group("xfs", marks) for marks in
-               file_systems(("super", seen["super"]), lambda g: f"every:{g[2] * g[1] // 512}:{g[3]}:0", heads)]
+               file_systems(("super", supers), lambda g: f"every:{g[2] * g[1] // 512}:{g[3]}:0", heads)]
     groups += gathered("btrfs", seen, lambda sector, place, found: found[0], lambda found: found[1] // SECTOR)
     groups += gathered("lvm", seen, lambda sector, place, found: (sector, place), lambda found: found)
     groups += gathered("ext", seen, lambda sector, place, found: found[0], lambda found: found[1])
-    return groups + of_inodes(seen)
+    return groups + (xfs5_groups(seen) if "xfs5" in kinds else [])

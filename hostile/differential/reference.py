@@ -167,9 +167,10 @@ def asked_values(given, images, end):
 def survey_plan(given, images):
     unit, end = 8 if given.get("logical") == "4096" else 1, usual_end(given, images)
     asked = asked_values(given, images, end)
-    seen = sightings(images, asked["offsets"][0], end, given.get("kinds", USUAL_KINDS), set(given.get("drop", [])), unit)
+    kinds = given.get("kinds", USUAL_KINDS)
+    seen = sightings(images, asked["offsets"][0], end, kinds, set(given.get("drop", [])), unit)
     asked["origins"] = sorted(set(asked["origins"]) | first_blocks(images, seen["gpt"], unit))[:64]
-    return Plan([len(image) // SECTOR for image in images], end, asked, groups_of(seen, unit), given.get("mode") == "each")
+    return Plan([len(image) // SECTOR for image in images], end, asked, groups_of(seen, unit, kinds), given.get("mode") == "each")
 
 
 def sample(given):

@@ -311,6 +311,78 @@ def file_systems():
         row("list", [with_sectors(4, {})], plan([4], groups=groups), status=2, line=f"plan line {place} is not understood")
 
 
+# Inodes of XFS
+
+def crc32c(data):
+    """The checksum, bit by bit: the remainder of the bytes as a polynomial, lowest bit first, by that of CRC-32C."""
+    rest = 2 ** 32 - 1
+    for byte in data:
+        for bit in range(8):
+            odd = (rest ^ byte >> bit) & 1
+            rest = rest >> 1 ^ (0x82F63B78 if odd else 0)
+    return rest ^ 2 ** 32 - 1
+
+
+def xfs_inode(number, uuid=b"\6" * 16, wrong=0, version=3):
+    block = bytearray(SECTOR)
+    block[:2], block[4], block[160:176] = b"IN", version, uuid
+    struct.pack_into(">Q", block, 152, number)
+    struct.pack_into("<I", block, 100, crc32c(block) ^ wrong)
+    return bytes(block)
+
+
+def xfs_super(uuid=b"\6" * 16, version=0xB4A5, size=512, features=3, meta=bytes(16), groups=4):
+    """A superblock of groups of 17 blocks of 4,096 bytes, for which numbers have room for 32."""
+    block = bytearray(SECTOR)
+    block[:4], block[32:48], block[123:125], block[248:264] = b"XFSB", uuid, bytes([3, 5]), meta
+    for place, form, value in ((4, "I", 4096), (84, "I", 17), (88, "I", groups), (100, "H", version), (102, "H", 512), (104, "H", size),
+                               (216, "I", features)):
+        struct.pack_into(">" + form, block, place, value)
+    return bytes(block)
+
+
+def inodes():
+    """Of groups of 17 blocks of eight inodes, for which numbers have room for 32 blocks, inode 1024 is the first of group 4 and lies nowhere;
+    inode 384 is the first of block 16 of group 1, which lies at block 33, of eight sectors each."""
+    assert crc32c(b"123456789") == 0xE3069283
+    asked = {"levels": 0, "members": 2, "patterns": "plain", "syndromes": "none", "chunks": 1, "offsets": 0}
+    words = "survey " + " ".join(f"{name}={value}" for name, value in asked.items()) + " origins=0"
+
+    def seen(there, groups, more="kinds=xfs5"):
+        row(f"{words} {more}", [with_sectors(64, there)], out=plan([64], groups=groups, **asked))
+    head = xfs_super()
+    seen({3: head, 5: xfs_inode(384)}, f"group xfs5\nmark xfs5 0 5 at:{33 * 8}\n")
+    seen({3: xfs_inode(384), 5: head}, f"group xfs5\nmark xfs5 0 3 at:{33 * 8}\n")
+    seen({3: xfs_inode(0), 5: head, 7: xfs_inode(128), 9: xfs_inode(128)},
+         f"group xfs5\nmark xfs5 0 3 at:0\nmark xfs5 0 7 at:{16 * 8}\nmark xfs5 0 9 at:{16 * 8}\n")
+    for other in (xfs_inode(1024), xfs_inode(385), xfs_inode(384 - 64), xfs_inode(384, wrong=1), xfs_inode(384, b"\7" * 16), xfs_inode(384, version=2),
+                  b"IO" + xfs_inode(384)[2:], xfs_inode(2 ** 64 - 128)):
+        seen({3: head, 5: other}, "group xfs5\n")
+    # inode 136 begins block 17, which group 0 has not; where it has, it does not begin 64 KiB
+    seen({3: head, 5: xfs_inode(136)}, "group xfs5\n")
+    for other in (xfs_super(version=0xB4A4), xfs_super(size=1024), xfs_super(size=256), xfs_super(groups=0)):
+        seen({3: other, 5: xfs_inode(384)}, "")
+    seen({3: head, 5: xfs_inode(384)}, "", "kinds=lvm")
+    seen({3: head, 5: xfs_inode(384)}, f"group xfs\nmark super 0 3 every:{17 * 8}:4:0\n", "kinds=xfs")
+    seen({3: head, 5: xfs_inode(384)}, f"group xfs\nmark super 0 3 every:{17 * 8}:4:0\ngroup xfs5\nmark xfs5 0 5 at:{33 * 8}\n", "kinds=xfs,xfs5")
+    seen({3: head, 5: xfs_inode(384)}, "", "kinds=xfs5 drop=0:3")
+    seen({3: head, 5: xfs_inode(384)}, "group xfs5\n", "kinds=xfs5 drop=0:5")
+    # the identifier of inodes may be another than that of the file system
+    other = xfs_super(b"\7" * 16, features=7, meta=b"\6" * 16)
+    seen({3: other, 5: xfs_inode(384)}, f"group xfs5\nmark xfs5 0 5 at:{33 * 8}\n")
+    seen({3: other, 5: xfs_inode(384, b"\7" * 16)}, "group xfs5\n")
+    seen({3: xfs_super(meta=b"\7" * 16), 5: xfs_inode(384)}, f"group xfs5\nmark xfs5 0 5 at:{33 * 8}\n")
+    # the first superblock of an identifier says where inodes lie
+    seen({3: xfs_super(groups=1), 4: head, 5: xfs_inode(384), 6: xfs_inode(128)}, f"group xfs5\nmark xfs5 0 6 at:{16 * 8}\n")
+    seen({3: xfs_super(b"\7" * 16), 4: head, 5: xfs_inode(384)}, f"group xfs5\ngroup xfs5\nmark xfs5 0 5 at:{33 * 8}\n")
+    # three of them added, as P has them, are an inode again, of the numbers added bit by bit
+    total = 0
+    for number in (128, 256, 512):
+        total ^= int.from_bytes(xfs_inode(number), "little")
+    seen({3: xfs_super(groups=16), 5: total.to_bytes(SECTOR, "little")}, f"group xfs5\nmark xfs5 0 5 at:{(3 * 17 + 16) * 8}\n")
+    row(f"{words} kinds=xfs5,ext", [with_sectors(4, {})], status=1, line="word 9 is not understood")
+
+
 # Bounds of a group
 
 def own_bounds():
@@ -470,7 +542,7 @@ def differs(words, images, text, out, status, line, ends):
 
 
 def main():
-    for rows in (earlier, own_bounds, own_offsets, large_blocks, rescue, near, copies, file_systems, relations):
+    for rows in (earlier, inodes, own_bounds, own_offsets, large_blocks, rescue, near, copies, file_systems, relations):
         rows()
     differing = 0
     for words, *rest in ROWS:

@@ -3,7 +3,8 @@
 import struct
 import zlib
 
-from landmarks import BTRFS_PLACES, crc32c
+from inode_cases import crowded_inodes, inodes_survey
+from landmarks import BTRFS_PLACES
 from making import EDGES, Case, files_of, shuffled, some_bytes
 from texts import FAR, KINDS, MOST, MOVED, RANKS, SECTOR
 
@@ -186,7 +187,7 @@ def survey_operands(rng, images):
         "badrows": lambda: str(rng.choice([0, 3, FAR - 1])), "misfits": lambda: str(rng.choice([0, 1, FAR - 1])),
         "least": lambda: str(rng.choice([0, 1, FAR - 1])), "window": lambda: str(rng.choice([1, 100, FAR - 1])),
         "end": lambda: str(max(0, shortest + rng.choice([-3, -1, 0, 0, 1]))),
-        "kinds": lambda: ",".join(sorted(rng.sample(KINDS, rng.randint(1, 6)), key=KINDS.index)),
+        "kinds": lambda: ",".join(sorted(rng.sample(KINDS, rng.randint(1, len(KINDS))), key=KINDS.index)),
         "drop": lambda: ",".join(f"{image}:{sector}" for image, sector in
                                  sorted({(rng.randrange(len(images) + 1), rng.randrange(shortest + 2)) for _ in range(rng.choice([1, 3, 64]))})),
     }
@@ -218,6 +219,10 @@ def survey_case(rng):
         return many_file_systems(rng)
     if way < 0.09:
         return own_tables(rng)
+    if way < 0.092:
+        return crowded_inodes(rng)
+    if way < 0.3:
+        return inodes_survey(rng, survey_operands)
     images = [bytearray(some_bytes(rng, rng.choice([0, 1, 2, 3, 40, 60, 64]) * SECTOR) if rng.random() < 0.3 else
                         rng.choice([64, 64, 64, 63, 65, 71, 72]) * SECTOR)
               for _ in range(rng.choice([1, 2, 3, 4, 4, 16, MOST]))]

@@ -410,7 +410,8 @@ class OfRows(unittest.TestCase):
         turned = Rows(hunt_of(answer(1280 * 4))).turned(near)
         assert turned
         self.assertEqual(turned.row, 1280 * 4)
-        self.assertEqual(turned.text(), "perhaps a reshape that was stopped: 4 marks fit before row 5120, and from there on 4 do not")
+        self.assertEqual(turned.text(), "4 marks fit before row 5120, and from there on 4 do not, as where a reshape stopped, or where marks of an "
+                         "older array or file system stand behind that row")
         few = Near(near.word, plan, Checked(0, 9, (Held("xfs", 0, 6, 2),)))
         self.assertIsNone(Rows(hunt_of(answer(1280 * 6))).turned(few))
 

@@ -32,7 +32,7 @@ class Shapes(unittest.TestCase):
         """As many disks are lost as ties say."""
         self.assertEqual(self.shapes(family(4, "5", 1)), [Shape("5", 4)])
         self.assertEqual(self.shapes(family(4, "5", 0)), [Shape("5", 5, 1)])
-        self.assertEqual([self.shapes(family(6, "6", parity)) for parity in (2, 1, 0)], [[Shape("6", 6)], [Shape("6", 7, 1)], [Shape("6", 8, 2)]])
+        self.assertEqual([self.shapes(family(6, "6", parity)) for parity in (2, 1, 0)], [[Shape("6", 6)], [Shape("6", 7, 1)], [Shape("6", 8, 2), Shape("5", 7, 1)]])
 
     def test_old(self) -> None:
         """An old disk is left out and counts as lost."""
@@ -90,6 +90,11 @@ class Aims(unittest.TestCase):
         aim, = plain.untied(Told((), (0, 1, 2), True), range(3), SPAN, ALL)
         self.assertEqual(aim.shapes, (Shape("0", 3), Shape("5", 4, 1), Shape("6", 5, 2)))
         self.assertEqual(plain.untied(Told(), range(3), SPAN, ALL), [])
+
+    def test_apart(self) -> None:
+        """Copies at a distance are one reason for it; files that are stored twice are another, and the line says so."""
+        self.assertEqual(plain.apart_aim(4096, range(3), SPAN).why, "the images hold the same 4096 sectors apart, as RAID 10 with copies of layout "
+                         "offset does, and as any array may in which the same files are stored twice")
 
     def test_unlike(self) -> None:
         """Images whose data begin at unlike sectors are asked for with an offset for each."""

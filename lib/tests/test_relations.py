@@ -135,6 +135,26 @@ class Families(unittest.TestCase):
         """Disks of a RAID 0 are tied nowhere."""
         self.assertEqual(told([[rows.sector(self.rnd) for _ in range(4)] for _ in range(NUMBER)]), [])
 
+    def test_an_equal_sector_of_another_array(self) -> None:
+        """Two arrays whose images take turns in the heap: where image 1 holds what 2 holds, no row of the other array is untied."""
+        one, other = rows.striped(self.rnd, 3, 5, NUMBER), rows.striped(self.rnd, 3, 5, NUMBER)
+        for row, another in list(zip(one, other))[100:106]:
+            another[0], another[2] = row[1], rows.plus(row[1], another[1])
+        made = [[sector for pair in zip(row, another) for sector in pair] for row, another in zip(one, other)]
+        found = {it.images: it for it in told(made)}
+        self.assertEqual(set(found), {(0, 2, 4), (1, 3, 5)})
+        self.assertEqual((found[0, 2, 4].level, found[0, 2, 4].parity, found[0, 2, 4].loose), ("5", 1, 0))
+
+    def test_level_6_or_5(self) -> None:
+        """Where most rows are tied nowhere, and ties with weights besides 1 stand in the others, it may be either."""
+        made = [[rows.sector(self.rnd) for _ in range(3)] for _ in range(NUMBER)]
+        for row in made[::8]:
+            row[2] = rows.plus(row[0], row[1], 2)
+        found, = told(made)
+        self.assertEqual((found.level, found.parity, found.is_either), ("6", 0, True))
+        full, = told(rows.striped(self.rnd, 5, 6, NUMBER))
+        self.assertFalse(full.is_either)
+
     def test_two_arrays(self) -> None:
         """Two arrays in one heap, the one of them a RAID 6 that lacks a disk."""
         six, five = rows.without(rows.striped(self.rnd, 6, 6, NUMBER), 3), rows.striped(self.rnd, 3, 5, NUMBER)
@@ -167,8 +187,17 @@ class Families(unittest.TestCase):
         assert found.reshape
         self.assertEqual((found.reshape.last, found.reshape.sector, sorted(found.reshape.before), sorted(found.reshape.after)),
                          (2207, 2208, [0, 1, 2, 3, 4], [0, 1, 2, 3]))
-        self.assertEqual(found.reshape.line(), "perhaps a reshape that stopped between sector 2207 and sector 2208: up to the first 5 images are "
-                         "tied, from the second on 4")
+        self.assertEqual(found.reshape.line(), "ties change for good between sector 2207 and sector 2208: up to the first 5 images are tied, from the "
+                         "second on 4, without image 4. A reshape that stopped there does so; so does an older array of the 4 behind what a newer one "
+                         "wrote, or image 4 if it is no member and holds what members hold, as a journal may")
+
+    def test_older_array_behind_what_is_written(self) -> None:
+        """The same is seen where an older array of four disks still stands behind what one of five wrote, so it is not called a reshape alone."""
+        older = rows.beside(rows.striped(self.rnd, 4, 5, NUMBER - 160), rows.alone(self.rnd, NUMBER - 160))
+        found, = told(rows.striped(self.rnd, 5, 5, 160) + older)
+        assert found.reshape
+        self.assertEqual((found.reshape.last, found.reshape.sector), (2207, 2208))
+        self.assertIn("so does an older array of the 4 behind what a newer one wrote", found.reshape.line())
 
     def test_reshape_in_what_is_empty(self) -> None:
         """Where the rows around it are zeros, it lies somewhere between those that are not."""
@@ -219,6 +248,34 @@ class Families(unittest.TestCase):
             made.append([one, one, other, other, last] if number // 8 % 2 else [last, one, one, other, other])
         found, = told(made)
         self.assertEqual((found.images, found.level, found.copies, found.lost), ((0, 1, 2, 3, 4), "10", (), None))
+
+
+class Among(unittest.TestCase):
+    """The ties of some images that follow from those of a row."""
+
+    def among(self, line: str, *images: int) -> list[tuple[int, tuple[tuple[int, int], ...]]]:
+        """The ties of these images."""
+        found = families.ties_among(relations.read(f"rows 0 0 zero - tied {line}\n", 1).rows[0], frozenset(images))
+        return [(tie.image, tie.weights) for tie in found]
+
+    def test_within(self) -> None:
+        """A tie of these images alone stands; one that holds another image tells nothing of them."""
+        self.assertEqual(self.among("2=1*0+1*1 4=1*0+1*3", 0, 1, 2), [(2, ((0, 1), (1, 1)))])
+        self.assertEqual(self.among("4=1*0+1*3", 0, 1, 4), [])
+
+    def test_another_image_that_is_the_same(self) -> None:
+        """Image 1 belongs to another array and holds what 2 holds, or a third of it (244 is the inverse of 3): 4 is still the sum of 0 and 2."""
+        self.assertEqual(self.among("2=1*1 4=1*0+1*1", 0, 2, 4), [(4, ((0, 1), (2, 1)))])
+        self.assertEqual(self.among("2=3*1 4=1*0+1*1", 0, 2, 4), [(4, ((0, 1), (2, 244)))])
+        self.assertEqual(self.among("2=1*1 4=1*0+1*1 5=1*0", 0, 2, 4, 5), [(4, ((0, 1), (2, 1))), (5, ((0, 1),))])
+        self.assertEqual(self.among("2=1*1 4=1*1", 0, 2, 4), [(4, ((2, 1),))])
+
+    def test_two_others(self) -> None:
+        """Of three ties that hold two other images one is left, of two none."""
+        self.assertEqual(self.among("3=1*0+1*1 4=1*0+2*1", 3, 4), [])
+        # 3 + 4 = 3b, so b = 244*3 + 244*4, and a = 3 + b; 5 is 2 and a.
+        self.assertEqual(self.among("3=1*0+1*1 4=1*0+2*1 5=1*0+1*2", 2, 3, 4, 5), [(5, ((2, 1), (3, 245), (4, 244)))])
+        self.assertEqual(self.among("3=1*0+1*1 4=1*0+2*1 6=1*0", 3, 4, 6), [(6, ((3, 245), (4, 244)))])
 
 
 class Chunks(unittest.TestCase):

@@ -1,5 +1,6 @@
 """What is asked of `reraid relations`, and what is gathered of its answers; the program is stood in for by `rows`."""
 
+import dataclasses
 import os
 import random
 import tempfile
@@ -9,6 +10,7 @@ from unittest import mock
 
 from reraid_try.calls.commands import Answer, Words
 from reraid_try.evidence import ties, unlike
+from reraid_try.evidence.families import Family
 from reraid_try.evidence.images import Image
 from reraid_try.evidence.shifts import Shift
 from reraid_try.evidence.ties import Ties
@@ -69,7 +71,8 @@ class Told(unittest.TestCase):
         self.assertEqual((known.family.images, known.family.level, known.family.lost, known.family.members), ((0, 1, 2, 3, 4), "6", 1, 6))
         self.assertEqual((known.begin, known.chunk), (24, 16))
         line = "images 0, 1, 2, 3, 4: tied as by parity of level 6, 1 disk of 6 is lost, chunks of 16 sectors, from sector 24 on"
-        self.assertEqual(ties.lines(told), [line, "image 5: tied to nothing; foreign, zeros, or too old or damaged to tell"])
+        self.assertEqual(ties.lines(told), [line, "image 5: tied to nothing; foreign, zeros, too old or damaged to tell, or of an array that has "
+                                                  "lost as many disks as its level bears"])
 
     def test_some_images(self) -> None:
         """Of some images of a heap the numbers are those that they have among all."""
@@ -126,7 +129,8 @@ class Told(unittest.TestCase):
             row[0] = rows.sector(rnd)
         runner, images = disks(made)
         said = ties.lines(Ties(runner, images, 9).told(range(4), 0, 400))
-        self.assertIn("in 10 rows of those that were looked at, the first at sector 50, nothing is tied", said[1])
+        self.assertIn("in 10 rows of those that were looked at, the first at sector 50, nothing is tied: bad areas, one of the disks is old, or "
+                      "parity was never made there", said[1])
 
     def test_reshape(self) -> None:
         """Where rows are looked at that lie far apart, those between them say where a reshape stopped."""
@@ -137,6 +141,31 @@ class Told(unittest.TestCase):
             known, = Ties(runner, images, 9).told(range(5), 0, 9001).known
         assert known.family.reshape
         self.assertEqual((known.family.reshape.last, known.family.reshape.sector), (3000, 3001))
+
+    def said(self, *known: Family, alone: tuple[int, ...] = ()) -> list[str]:
+        """What is said of families, and of images that nothing ties."""
+        return ties.lines(ties.Told(tuple(map(ties.Known, known)), alone, True))
+
+    def test_parts_of_a_nested_array(self) -> None:
+        """Two arrays of one level with as many disks each may be one RAID 50; so may one, beside as many images as another has left."""
+        five, other, six = Family((0, 2, 4), 500, 8, 900, "5", 1), Family((1, 3), 500, 8, 900, "5", 0), Family((5, 6, 7), 500, 8, 900, "6", 1)
+        whole = dataclasses.replace(other, images=(1, 3, 8), parity=1)
+        self.assertEqual(self.said(five, whole)[2:], ["images 0, 2, 4 and images 1, 3, 8: 2 arrays of level 5 with 3 disks each; each by itself, or "
+                                                      "the parts of one RAID 50, which is not searched (docs/USING.md has how to)"])
+        self.assertEqual(len(self.said(five, six)), 2)
+        lost = "tied to nothing; foreign, zeros, too old or damaged to tell, or of an array that has lost as many disks as its level bears"
+        self.assertEqual(self.said(five, alone=(1, 3))[1:], [f"images 1, 3: {lost}, as the other part of a RAID 50 with images 0, 2, 4 may have"])
+        self.assertEqual(self.said(five, alone=(1,))[1:], [f"image 1: {lost}"])
+        self.assertEqual(self.said(six, alone=(1, 3))[1:], [f"images 1, 3: {lost}, as the other part of a RAID 60 with images 5, 6, 7 may have"])
+        self.assertEqual(self.said(six, alone=(1, 3, 4))[1:], [f"images 1, 3, 4: {lost}"])
+
+    def test_level_6_or_5(self) -> None:
+        """Few ties with weights besides 1 are of level 6 with two disks lost, or of level 5 with one: both are said."""
+        few = Family((0, 1, 2), 40, 8, 900, "6", 0)
+        self.assertEqual(self.said(few), ["images 0, 1, 2: tied in 40 rows alone of those that were looked at, as where the lost disks hold zeros: "
+                                          "level 6 of which 2 disks of 5 are lost, or level 5 of which 1 of 4 is"])
+        self.assertEqual(self.said(dataclasses.replace(few, level="5")), ["images 0, 1, 2: tied as by parity of level 5, 1 disk of 4 is lost"])
+        self.assertEqual(self.said(dataclasses.replace(few, parity=1)), ["images 0, 1, 2: tied as by parity of level 6, 1 disk of 4 is lost"])
 
     def test_copies(self) -> None:
         """Copies are said, and that a copy is lost."""

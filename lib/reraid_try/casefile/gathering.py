@@ -23,7 +23,8 @@ from .strips import Hashing, Strip
 # So many landmarks of a kind on an image are drawn; more are thinned out.
 MOST_MARKS = 2000
 # What this search knows nothing of.
-UNKNOWN = "not searched at all: RAID 10 in layouts other than near=2, RAID 5E and the like, arrays in mid-reshape, RAID 0 over disks of unlike size"
+UNKNOWN = "not searched at all: RAID 10 with near and far copies at once or in far sets, RAID 50 and 60 as one array, RAID 5E and the like, " \
+          "arrays in mid-reshape, RAID 0 over disks of unlike size"
 
 
 def length_of(name: str) -> int:

@@ -123,7 +123,8 @@ class Old:
 
 @dataclasses.dataclass(frozen=True)
 class Turned:
-    """Marks of a group that fit up to a row, and none behind it: how many fit, and how many do not."""
+    """Marks of a group that fit up to a row, and none behind it, as where a reshape stopped, or where what stands behind is of an older array or file
+    system: how many fit, and how many do not."""
 
     row: int
     fits: int
@@ -131,7 +132,8 @@ class Turned:
 
     def text(self) -> str:
         """What is said of it."""
-        return f"perhaps a reshape that was stopped: {counted(self.fits, 'mark')} fit before row {self.row}, and from there on {self.misfits} do not"
+        return (f"{counted(self.fits, 'mark')} fit before row {self.row}, and from there on {self.misfits} do not, as where a reshape stopped, or where "
+                "marks of an older array or file system stand behind that row")
 
 
 class Rows:

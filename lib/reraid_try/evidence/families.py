@@ -6,6 +6,7 @@ import itertools
 from collections.abc import Iterable, Iterator, Mapping, Sequence
 from fractions import Fraction
 
+from .dependence import inverse, product
 from .relations import Relations, Rows, Tie
 
 # Two images belong together where ties hold both in so many rows at least, and in one of so many in which neither is zeros.
@@ -25,6 +26,7 @@ CHUNKS = tuple(1 << power for power in range(15, 2, -1))
 PART_AT_BORDERS, LEAST_BORDERS = Fraction(9, 10), 4
 
 LEVEL_5, LEVEL_6, COPIES = "5", "6", "10"
+Vector = Mapping[int, int]
 
 
 @dataclasses.dataclass(frozen=True)
@@ -44,7 +46,8 @@ class Old:
 @dataclasses.dataclass(frozen=True)
 class Reshape:
     """Where ties change for good, as where a reshape stopped: the last row with a tie of all images, the first with one of the rest alone, and which
-    images are tied up to the one and from the other on. Of the rows between them nothing is known, as where they are zeros."""
+    images are tied up to the one and from the other on. Of the rows between them nothing is known, as where they are zeros. An older array of the
+    rest looks the same behind what a newer one of all wrote, and so does a disk that is no member where it holds what members hold."""
 
     last: int
     sector: int
@@ -53,8 +56,10 @@ class Reshape:
 
     def line(self) -> str:
         """What is said of it."""
-        return (f"perhaps a reshape that stopped between sector {self.last} and sector {self.sector}: up to the first {len(self.before)} images are "
-                f"tied, from the second on {len(self.after)}")
+        out = ", ".join(map(str, sorted(self.before - self.after)))
+        return (f"ties change for good between sector {self.last} and sector {self.sector}: up to the first {len(self.before)} images are tied, from "
+                f"the second on {len(self.after)}, without image {out}. A reshape that stopped there does so; so does an older array of the "
+                f"{len(self.after)} behind what a newer one wrote, or image {out} if it is no member and holds what members hold, as a journal may")
 
     def closer(self, relations: Relations) -> "Reshape":
         """The same by rows between the two, which lie closer to each other."""
@@ -98,6 +103,12 @@ class Family:
         return tuple(image for image in self.images if image not in old)
 
     @property
+    def is_either(self) -> bool:
+        """Most rows are not tied, and what ties the others tells no level 5 alone: sectors of one pattern have weights too. So it is one of level 6
+        that has lost two disks, or one of level 5 that has lost one."""
+        return self.level == LEVEL_6 and not self.parity and not self.old
+
+    @property
     def lost(self) -> int | None:
         """How many disks are lost, where the level is known; an old one counts as lost."""
         return self.lost_with(self.parity)
@@ -114,9 +125,36 @@ class Family:
         return None if self.lost is None else len(self.current) + self.lost
 
 
+def plus(vector: Vector, other: Vector, weight: int) -> Vector:
+    """The sum of weights and of others, each times a weight, without those that are 0."""
+    images = vector.keys() | other.keys()
+    found = {image: vector.get(image, 0) ^ product(weight, other.get(image, 0)) for image in images}
+    return {image: weight for image, weight in found.items() if weight}
+
+
+def eliminated(vectors: Iterable[Vector], order: Sequence[int]) -> dict[int, Vector]:
+    """Weights that span what some others do, each by the first of its images in an order, which no other one of them has and whose weight is 1."""
+    found: dict[int, Vector] = {}
+    for vector in vectors:
+        for image, kept in found.items():
+            vector = plus(vector, kept, vector.get(image, 0))
+        first = next((image for image in order if image in vector), None)
+        if first is not None:
+            vector = plus({}, vector, inverse(vector[first]))
+            found = {image: plus(kept, vector, kept.get(first, 0)) for image, kept in found.items()} | {first: vector}
+    return found
+
+
 def ties_among(rows: Rows, images: frozenset[int]) -> tuple[Tie, ...]:
-    """The ties of a row that hold these images alone."""
-    return tuple(tie for tie in rows.ties if tie.images <= images)
+    """The ties of these images alone that follow from those of a row: where another image holds the same as one of these, a tie may name it in place
+    of that one, and falls together with the other tie that does."""
+    within = [tie for tie in rows.ties if tie.image in images]
+    if sum(not tie.images <= images for tie in within) < 2:
+        return tuple(tie for tie in within if tie.images <= images)
+    others = sorted(frozenset().union(*(tie.images for tie in within)) - images)
+    found = eliminated(({tie.image: 1, **dict(tie.weights)} for tie in within), [*others, *sorted(images, reverse=True)])
+    return tuple(Tie(image, tuple((other, weight) for other, weight in sorted(vector.items()) if other != image))
+                 for image, vector in sorted(found.items()) if image in images)
 
 
 def tied_images(ties: Iterable[Tie]) -> frozenset[int]:

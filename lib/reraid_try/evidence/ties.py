@@ -5,9 +5,10 @@ import dataclasses
 from collections.abc import Mapping, Sequence
 
 from ..calls.commands import Runner
+from ..calls.sets import LEVELS
 from ..units import counted
 from . import dependence, families, relations
-from .families import COPIES, LEVEL_6, Family
+from .families import COPIES, LEVEL_5, LEVEL_6, Family
 from .images import Image
 from .relations import Relations
 
@@ -15,6 +16,8 @@ from .relations import Relations
 # before.
 MOST_ROWS, FINE_STEP = 4096, 8
 LEAST_IMAGES, MOST_IMAGES = 2, 64
+# What a RAID 0 over arrays of a level is called.
+NESTED = {LEVEL_5: "RAID 50", LEVEL_6: "RAID 60"}
 # The status of words that are none of the program's.
 REFUSED = 1
 
@@ -101,6 +104,10 @@ def named(numbers: Sequence[int]) -> str:
 def lost_line(family: Family) -> str:
     """What is said of the parity of a family."""
     lost = family.lost or 0
+    if family.is_either:
+        images = len(family.images)
+        return (f"tied in {counted(family.rows, 'row')} alone of those that were looked at, as where the lost disks hold zeros: level 6 of which 2 "
+                f"disks of {images + 2} are lost, or level 5 of which 1 of {images + 1} is")
     spare = "all its disks are there" if not lost else f"{counted(lost, 'disk')} of {family.members} {'is' if lost == 1 else 'are'} lost"
     if family.old:
         spare += f", counting {'one that is' if len(family.old) == 1 else 'those that are'} old or damaged"
@@ -128,9 +135,32 @@ def lines(told: Told) -> list[str]:
         said += [old.line(f"image {old.image}") for old in family.old] + ([family.reshape.line()] if family.reshape else [])
         if family.loose:
             said.append(f"{named(family.images)}: in {counted(family.loose, 'row')} of those that were looked at, the first at sector "
-                        f"{family.loose_first}, nothing is tied: bad areas, or one of the disks is old")
-    if told.alone and told.known:
-        copies = all(it.family.level == COPIES for it in told.known)
-        lost = "its copy is lost, or it is foreign, zeros or damaged" if copies else "foreign, zeros, or too old or damaged to tell"
-        said.append(f"{named(told.alone)}: tied to nothing; {lost}")
-    return said
+                        f"{family.loose_first}, nothing is tied: bad areas, one of the disks is old, or parity was never made there")
+    return said + parts_lines(told) + alone_lines(told)
+
+
+def alone_lines(told: Told) -> list[str]:
+    """What is said of the images that nothing ties, where others are tied."""
+    if not told.alone or not told.known:
+        return []
+    if all(it.family.level == COPIES for it in told.known):
+        return [f"{named(told.alone)}: tied to nothing; its copy is lost, or it is foreign, zeros or damaged"]
+    why = "foreign, zeros, too old or damaged to tell, or of an array that has lost as many disks as its level bears"
+    like = [it for it in nested(told) if len(told.alone) == (it.members or 0) - LEVELS[it.level or ""].parity]
+    parts = "".join(f", as the other part of a {NESTED[it.level or '']} with {named(it.images)} may have" for it in like[:1])
+    return [f"{named(told.alone)}: tied to nothing; {why}{parts}"]
+
+
+def nested(told: Told) -> list[Family]:
+    """The families that may be parts of a larger array: those whose level and number of disks are told."""
+    return [it.family for it in told.known if it.family.level in NESTED and not it.family.is_either]
+
+
+def parts_lines(told: Told) -> list[str]:
+    """What is said of families of one level with as many disks each: the arrays may be the parts of a larger one."""
+    found: dict[tuple[str, int], list[Family]] = {}
+    for family in nested(told):
+        found.setdefault((family.level or "", family.members or 0), []).append(family)
+    return [f"{' and '.join(named(family.images) for family in alike)}: {len(alike)} arrays of level {level} with {members} disks each; each by "
+            f"itself, or the parts of one {NESTED[level]}, which is not searched (docs/USING.md has how to)"
+            for (level, members), alike in found.items() if len(alike) > 1]

@@ -5,7 +5,7 @@ from collections.abc import Iterable, Iterator, Sequence
 
 from ..calls.sets import LEVELS
 from ..evidence import metadata, shifts, ties
-from ..evidence.families import COPIES, Family
+from ..evidence.families import COPIES, LEVEL_5, Family
 from ..evidence.metadata import Member
 from ..evidence.ties import Known, Told
 from ..evidence.unlike import Unlike
@@ -50,12 +50,14 @@ class Aim:
 
 def shapes_of(family: Family) -> Iterator[Shape]:
     """The shapes of images that parity ties: with as many disks lost as most rows say, and then with as many as others do. Where rows are not tied
-    though most are, one of the disks may be old."""
+    though most are, one of the disks may be old; where the ties are too few to tell level 6 from 5, both are tried."""
     images, level = len(family.current), family.level or ""
     for parity in (family.parity, *family.others):
         lost = family.lost_with(parity)
         if lost is not None and lost <= LEVELS[level].parity:
             yield Shape(level, images + lost, lost)
+    if family.is_either:
+        yield Shape(LEVEL_5, images + 1, 1)
     lost = family.lost
     if family.loose and lost is not None and lost < LEVELS[level].parity:
         yield Shape(level, images + lost, lost + 1, 1)
@@ -128,7 +130,8 @@ def copied_by(known: Iterable[Known], numbers: Sequence[int], span: Span, option
 
 def apart_aim(distance: int, numbers: Sequence[int], span: Span) -> Aim:
     """What is tried of images that hold the same so many sectors apart: RAID 10 of all of them."""
-    why = f"the images hold the same {distance} sectors apart, as RAID 10 with copies of layout {shifts.layout(distance)} does"
+    why = (f"the images hold the same {distance} sectors apart, as RAID 10 with copies of layout {shifts.layout(distance)} does, and as any array may "
+           "in which the same files are stored twice")
     return Aim(tuple(numbers), span, why, copied=True, apart=distance)
 
 

@@ -63,6 +63,12 @@ class Tables(InFolder):
         self.assertEqual(table.partitions, (Partition(2048, 2048, "gpt"), Partition(4096, 1, "gpt")))
         self.assertFalse(tables.read_table(reader(gpt([(2048, 4095)], 9998)), 10000).own)
 
+    def test_efi_system_partitions(self) -> None:
+        """By their type, in a GPT and in an MBR."""
+        data = gpt([(2048, 4095), (4096, 4096)], 9999).replace(b"t" * 16, bytes.fromhex("28732ac11ff8d211ba4b00a0c93ec93b"), 1)
+        self.assertEqual([(it.kind, it.is_efi) for it in tables.read_table(reader(data), 10000).partitions], [("efi", True), ("gpt", False)])
+        self.assertEqual([it.is_efi for it in tables.read_mbr(mbr((0, 0xEF, 2048, 100), (0, 7, 4096, 5)))], [True, False])
+
     def test_gpt_of_large_blocks_counts_in_sectors(self) -> None:
         table = tables.read_table(reader(gpt([(256, 511)], 1249, 4096)), 10000)
         self.assertEqual((table.kind, table.own, table.partitions), ("GPT of 4096 bytes", True, (Partition(2048, 2048, "gpt"),)))

@@ -67,7 +67,7 @@ class Contents(unittest.TestCase):
         self.assertEqual({first: (it.copied, it.empty) for first, it in found.items()}, {0: (True, False), 1000: (False, True), 2000: (False, False)})
         self.assertIn("the same on each", found[0].line())
         self.assertIn("nothing but zeros", found[1000].line())
-        self.assertIn("an array of its own", found[2000].line())
+        self.assertIn("not the same on each, as in an array of its own", found[2000].line())
 
     def test_an_array_with_some_equal_blocks(self) -> None:
         """Images of which a half is the same are no copies; those of which but one in twenty blocks differs are."""
@@ -78,6 +78,21 @@ class Contents(unittest.TestCase):
                         file.seek(block * 4096)
                         file.write(random.Random(f"{it.number} {block}" if block < differing else str(block)).randbytes(4096))
             self.assertEqual([it.copied for it in shared.looked_at(self.disks) if it.first == 0], [copied])
+
+    def test_efi_system_partitions(self) -> None:
+        """Those of each disk by itself are no array, and passed over; where nothing else is there they are searched all the same."""
+        def typed(*kinds: str) -> list[Image]:
+            """The disks, whose last partitions have these types."""
+            return [dataclasses.replace(it, table=dataclasses.replace(it.table, partitions=(Partition(2000, 2000, kind),)))
+                    for it, kind in zip(self.disks, kinds)]
+        for kind in ("efi", "ef"):
+            place, = shared.looked_at(typed(kind, kind, kind))
+            self.assertIn("EFI system partitions, not the same on each", place.line())
+            self.assertFalse(place.tells)
+            self.assertEqual(shared.searched([place]), [place])
+            self.assertEqual(shared.searched([place, shared.Place(0, 9, (0, 1))]), [shared.Place(0, 9, (0, 1))])
+        place, = shared.looked_at(typed("efi", "efi", "gpt"))
+        self.assertTrue(place.tells)
 
     def test_searched(self) -> None:
         """Arrays alone are searched; where all there is are copies, the largest of these."""

@@ -1,4 +1,4 @@
-"""Partitions that several disks have at one place, as those of a NAS do: each place holds an array of its own."""
+"""Partitions that several disks have at one place, as those of a NAS do: each place may hold an array of its own."""
 
 import collections
 import dataclasses
@@ -7,6 +7,7 @@ from collections.abc import Iterable, Sequence
 from ..errors import OutsideError, said
 from ..units import SECTOR, counted
 from .images import Image
+from .tables import Partition
 
 # So many blocks of so many bytes, spread over a partition, tell whether it is the same on all images; so many of a hundred of them have to be.
 SAMPLES, BLOCK, MOSTLY = 256, 4096, 90
@@ -16,13 +17,14 @@ LEAST_IMAGES = 2
 @dataclasses.dataclass(frozen=True)
 class Place:
     """A place that partitions of several images have in common: its first sector, how many sectors the shortest of them has, the images, and whether
-    these hold nearly the same there, as copies do, or nothing but zeros."""
+    these hold nearly the same there, as copies do, or nothing but zeros. `efi` says that all are EFI system partitions by their type."""
 
     first: int
     count: int
     images: tuple[int, ...]
     copied: bool = False
     empty: bool = False
+    efi: bool = False
 
     @property
     def end(self) -> int:
@@ -35,27 +37,32 @@ class Place:
 
     @property
     def tells(self) -> bool:
-        """It holds an array that is more than copies."""
-        return not self.copied and not self.empty
+        """It may hold an array that is more than copies."""
+        return not self.copied and not self.empty and not self.efi
 
     def line(self) -> str:
         """What is said of it."""
-        held = "nothing but zeros where it was looked at" if self.empty else "the same on each, as copies are"
-        what = "an array of its own" if self.tells else held
+        if self.empty:
+            what = "nothing but zeros where it was looked at"
+        elif self.copied:
+            what = "the same on each, as copies are"
+        else:
+            what = "EFI system partitions, not the same on each" if self.efi else "not the same on each, as in an array of its own"
         return f"the partition of {self.count} sectors from sector {self.first} on, on {counted(len(self.images), 'image')}: {what}"
 
 
 def places(disks: Sequence[Image]) -> list[Place]:
     """The places that own tables of at least two images have in common, where most of the images have such a table; the largest first. An image that
     is the same as another one counts once."""
-    found: dict[int, list[tuple[int, int]]] = collections.defaultdict(list)
+    found: dict[int, list[tuple[int, Partition]]] = collections.defaultdict(list)
     tabled = [disk for disk in disks if disk.table.own and disk.table.partitions and disk.like is None]
     if len(tabled) < LEAST_IMAGES or 2 * len(tabled) <= sum(disk.like is None for disk in disks):
         return []
     for disk in tabled:
         for partition in disk.table.partitions:
-            found[partition.first].append((disk.number, partition.count))
-    common = [Place(first, min(count for _, count in on), tuple(number for number, _ in on)) for first, on in found.items()]
+            found[partition.first].append((disk.number, partition))
+    common = [Place(first, min(it.count for _, it in on), tuple(number for number, _ in on), efi=all(it.is_efi for _, it in on))
+              for first, on in found.items()]
     common = [place for place in common if len(place.images) >= LEAST_IMAGES]
     return sorted(common, key=lambda it: (-it.count * len(it.images), it.first))
 

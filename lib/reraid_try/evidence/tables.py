@@ -2,6 +2,7 @@
 
 import dataclasses
 import struct
+import uuid
 import zlib
 from collections.abc import Callable
 
@@ -11,6 +12,8 @@ Read = Callable[[int, int], bytes]
 # An MBR: its four entries of sixteen bytes, and what it ends with.
 FIRST_ENTRY, ENTRY, SIGNATURE = 446, 16, b"\x55\xaa"
 PROTECTIVE, ACTIVE = 0xEE, 0x80
+# The type of an EFI system partition, in an MBR and in a GPT: C12A7328-F81F-11D2-BA4B-00A0C93EC93B.
+MBR_EFI, GPT_EFI = "ef", uuid.UUID("c12a7328-f81f-11d2-ba4b-00a0c93ec93b").bytes_le
 # More sectors than an MBR can tell of.
 MOST_MBR = 1 << 32
 # A GPT: the sizes of its header, and the entries that are read.
@@ -19,11 +22,16 @@ LEAST_HEADER, LEAST_ENTRY, MOST_ENTRIES = 92, 128, 128
 
 @dataclasses.dataclass(frozen=True)
 class Partition:
-    """A partition: its first sector, how many it has, and its type, two digits of an MBR or `gpt`."""
+    """A partition: its first sector, how many it has, and its type: two digits of an MBR, `efi` for an EFI system partition of a GPT, else `gpt`."""
 
     first: int
     count: int
     kind: str
+
+    @property
+    def is_efi(self) -> bool:
+        """It is an EFI system partition, from which a machine starts: of one disk by itself, or of copies."""
+        return self.kind in ("efi", MBR_EFI)
 
 
 @dataclasses.dataclass(frozen=True)
@@ -70,7 +78,8 @@ def read_gpt(read: Read, block: int) -> tuple[int, tuple[Partition, ...]] | None
     for start in range(0, len(table) - LEAST_ENTRY + 1, max(width, LEAST_ENTRY)):
         first, last = struct.unpack_from("<QQ", table, start + 32)
         if any(table[start:start + 16]) and first <= last:
-            found.append(Partition(first * block // SECTOR, (last - first + 1) * block // SECTOR, "gpt"))
+            kind = "efi" if table[start:start + 16] == GPT_EFI else "gpt"
+            found.append(Partition(first * block // SECTOR, (last - first + 1) * block // SECTOR, kind))
     return other * block // SECTOR, tuple(found)
 
 

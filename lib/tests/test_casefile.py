@@ -190,10 +190,13 @@ class Pages(unittest.TestCase):
             self.assertIn(wanted, said)
 
     def test_outcomes(self) -> None:
-        """A trial whose sets were put off says so, and only that one; of many candidates those that follow one another are one."""
+        """A trial whose sets were put off says so, and only that one; of many candidates those that follow one another are one. Of how many sets
+        they are stands where others were counted."""
         trials = [("trial", "", {"number": number, "shape": "levels 5", "loosened": [], "listed": 9, "total": 9, "note": ""}) for number in (1, 2, 3)]
         found = [("candidate", "", {"class": number, "set": "s", "loosened": [], "score": 1, "trial": 3}) for number in (0, 1, 2, 4, 6, 7)]
+        trials[2][2]["total"] = None
         said = self.made(trials[0], ("put off", "", {"sets": 9}), *trials[1:], *found)
+        self.assertEqual((said.count("9 of 9"), said.count("None")), (2, 0))
         self.assertEqual(said.count("put off; no new candidate"), 1)
         self.assertIn("candidates: class 0 to 2, 4, 6, 7", said)
 

@@ -8,7 +8,7 @@ from typing import Any, cast
 from unittest import mock
 
 from reraid_try.calls.commands import Answer, Words
-from reraid_try.calls.program import Copied
+from reraid_try.calls.program import Copied, Listing
 from reraid_try.checks.verdicts import Score
 from reraid_try.evidence import ties
 from reraid_try.evidence.families import Family
@@ -156,13 +156,20 @@ class ByPlaces(unittest.TestCase):
         def take(_hunt: Any, trial: Trial, sets: Any, _words: Any) -> bool:
             """The sets are tested."""
             self.assertEqual([it.text for it in sets], ["5:ls:none:16:64:0,1,2"])
+            self.assertEqual(said, ["1 set (those against which the fewest rows with zeros speak; no others were looked at)"])
             taken.append(trial)
             return True
         placement = types.SimpleNamespace(words=lambda *_: ["5:ls:none:16:64:0,1,2"])
         hunt = types.SimpleNamespace(places=types.SimpleNamespace(best=lambda _: [placement]), plan=plan_of(NTFS),
                                      evidence=types.SimpleNamespace(tried=(0, 64), end=900),
                                      asking=types.SimpleNamespace(request=lambda _: BASE))
-        search = types.SimpleNamespace(options=Options(("a",)), say_trial=lambda _, trial, __: trial, take=take)
+        said: list[str] = []
+
+        def say_trial(_hunt: Any, trial: Trial, listing: Listing) -> Trial:
+            """The trial is said: it does not read as if all sets had been listed."""
+            said.append(listing.line())
+            return trial
+        search = types.SimpleNamespace(options=Options(("a",)), say_trial=say_trial, take=take)
         aim = Aim((0, 1, 2), Span(0, 900), "why", (Shape("5", 3),), tied=True)
         self.assertTrue(Evident(cast(Any, search)).by_places(cast(Any, hunt), aim))
         self.assertEqual([(it.request and it.request.records, it.out) for it in taken], [(True, {0})])

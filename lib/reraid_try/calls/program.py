@@ -19,18 +19,19 @@ LAST = (1 << 64) - 1
 
 @dataclasses.dataclass(frozen=True)
 class Listing:
-    """What a trial listed: its sets, how many the plan has, whether all of them were looked at, and how many rows might be bad, where that was not
-    known before."""
+    """What a trial listed: its sets, how many the plan has (None where others were not counted), whether all of them were looked at, and how many rows
+    might be bad, where that was not known before."""
 
     sets: tuple[Ranked, ...]
-    total: int
+    total: int | None
     whole: bool
     note: str = ""
     bad_rows: int | None = None
 
     def line(self) -> str:
         """What is said of it."""
-        return f"{counted(len(self.sets), 'set')} of {self.total}" + (f" ({self.note})" if self.note else "")
+        total = "" if self.total is None else f" of {self.total}"
+        return f"{counted(len(self.sets), 'set')}{total}" + (f" ({self.note})" if self.note else "")
 
 
 @dataclasses.dataclass(frozen=True)

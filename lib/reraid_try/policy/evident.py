@@ -221,7 +221,8 @@ class Evident:
         words = dict.fromkeys(word for it in best for word in it.words(shape.levels, numbers, tuple(one + it.offset for one in aim.moved)))
         if not words:
             return False
-        listing = Listing(tuple(Ranked(rank, word) for rank, word in enumerate(words)), len(words), True, "of those that zeros allow")
+        listing = Listing(tuple(Ranked(rank, word) for rank, word in enumerate(words)), None, True,
+                          "those against which the fewest rows with zeros speak; no others were looked at")
         bare = cures.told("all landmarks, in place of which zeros tell where parity lies", Family.BARE, [group.place for group in hunt.plan.groups])
         # What a fresh NTFS numbers 0 is no reason to call its group one that does not hold.
         request = dataclasses.replace(hunt.asking.request(shape), records=True)

@@ -55,6 +55,14 @@ class Sets(unittest.TestCase):
     def test_without_images(self) -> None:
         self.assertEqual(read_word("5:ls:none:8:0:2,0,1").without(frozenset({0})).text, "5:ls:none:8:0:2,-,1")
 
+    def test_over(self) -> None:
+        """A set of which some images alone are named has other numbers, and of a list of offsets theirs."""
+        for text, images, wanted in (("6:ls:by-data:128:2048:4,-,0,2", (0, 2, 4), "6:ls:by-data:128:2048:2,-,0,1"),
+                                     ("5:ls:none:128:2048:1,3,-", (1, 3), "5:ls:none:128:2048:0,1,-"),
+                                     ("5:la:none:8:16+0+64+32:3,0,2", (0, 2, 3), "5:la:none:8:16+64+32:2,0,1"),
+                                     ("near2:128:2048:5,1,-,2", (1, 2, 5), "near2:128:2048:2,0,-,1")):
+            self.assertEqual(read_word(text).over(images).text, wanted)
+
     def test_folded(self) -> None:
         self.assertEqual(read_word("5:ls:none:8:2048+2048:0,1").folded().text, "5:ls:none:8:2048:0,1")
         self.assertEqual(read_word("5:ls:none:8:2048+0:0,1").folded().text, "5:ls:none:8:2048+0:0,1")

@@ -12,11 +12,12 @@ from unittest import mock
 from reraid_try.calls.commands import Answer
 from reraid_try.calls.formats import Checked, Held
 from reraid_try.calls.program import Copied, Program
-from reraid_try.calls.sets import NEAR_2, Copying, read_word
+from reraid_try.calls.sets import NEAR_2, Copying, Word, read_word
 from reraid_try.calls.surveys import Request
 from reraid_try.checks import damage, kin, rows
 from reraid_try.checks.candidates import Candidate, Inside, left_most
 from reraid_try.checks.lvm import Piece
+from reraid_try.checks.members import named
 from reraid_try.checks.rows import Bounds, Near, Rows
 from reraid_try.checks.tests import Tests, in_classes
 from reraid_try.checks.verdicts import Finding, Score, Verdict
@@ -32,7 +33,6 @@ from reraid_try.policy.hunt import Hunt
 from reraid_try.policy.shapes import Shape
 from reraid_try.policy.trials import Trial
 from reraid_try.report import report, table, words
-from reraid_try.report.diagnosis import Diagnosis
 from reraid_try.report.report import Report
 from reraid_try.units import SECTOR
 from tests.standin import InFolder, Standin, Told, plan_of, put
@@ -65,6 +65,11 @@ class Over:
     def checked_by(self, _: Trial) -> object:
         """The plan with which `check` is asked."""
         return self.plan
+
+    def word(self, text: str) -> Word:
+        """A set of this hunt, over all images."""
+        word = read_word(text)
+        return word.having(tuple(None if slot is None else self.evidence.images[slot].number for slot in word.slots))
 
 
 class OfPlan(Over):
@@ -315,7 +320,6 @@ class Damaged(unittest.TestCase):
         self.assertEqual((it.word.text, it.listed and it.listed.text), (SET, "6:ls-6:after-q:128:2048:0,1,2,-"))
         self.assertEqual((it.trial.loosened, it.trial.shape.missing, it.unsound, it.whole and it.whole.unsound), (["without image 3"], 1, None, 9))
 
-
     def test_no_sign_beside_one_without_unsound_rows(self) -> None:
         """A set has no sign where it has none of its unsound rows without an image, as long as parity still tells, and no less speaks for that."""
         for text, without, unsound, verdict, signs in (("6:ls:after-q:128:2048:0,1,2,3", 2, 0, whole(), ("", "++")),
@@ -476,13 +480,15 @@ class Tested(InFolder):
         self.assertEqual(it.found.notes, ["its volume could not be looked at: No space left on device"])
 
     def test_how_much_is_lost(self) -> None:
-        word = read_word(SET)
-        self.assertEqual(self.over().lost(word), [])
+        def said(text: str, *answers: tuple[str, object], maps: bool = True) -> list[str]:
+            tests = self.over(*answers, maps=maps)
+            return tests.lost(named(read_word(text), tests.images))
+        self.assertEqual(said(SET, maps=False), [])
         lost = put("lost 5 8\ngood 992 of 1000\n")
-        self.assertEqual(self.over(("reraid salvage", lost), maps=True).lost(word), ["8 of 1000 sectors (less than 1%) lost by the maps"])
-        self.assertEqual(self.over(("reraid salvage", put("good 1000 of 1000\n")), maps=True).lost(word), ["nothing lost by the maps"])
-        self.assertEqual(self.over(("reraid salvage", Answer(9)), maps=True).lost(word), ["how much the maps leave lost is not known"])
-        self.assertEqual(self.over(maps=True).lost(read_word("near2:8:0:0,1")), ["its maps are not heeded"])
+        self.assertEqual(said(SET, ("reraid salvage", lost)), ["8 of 1000 sectors (less than 1%) lost by the maps"])
+        self.assertEqual(said(SET, ("reraid salvage", put("good 1000 of 1000\n"))), ["nothing lost by the maps"])
+        self.assertEqual(said(SET, ("reraid salvage", Answer(9))), ["how much the maps leave lost is not known"])
+        self.assertEqual(said("near2:8:0:0,1"), ["its maps are not heeded"])
 
     def test_doubtful_ones_are_put_off(self) -> None:
         def told(answered: list[str], _: str) -> Answer:
@@ -639,16 +645,16 @@ class Printed(unittest.TestCase):
     def test_commands_of_a_volume_that_is_cut(self) -> None:
         it = candidate(verdict=Verdict([Finding("", "xfs", True, "", (Piece(0, 900),), lacks=100)]))
         length = read_word(SET).sectors(8000) * SECTOR + 100
-        self.assertEqual(words.commands(4, it, [Image("a b", 0, 8000), Image("c", 1, 8000)], 8000),
+        self.assertEqual(words.commands(4, it, [Image("a b", 0, 8000), Image("c", 1, 8000)]),
                          [f"reraid-mount {SET} class4 'a b' c", "cp --sparse=always class4/volume class4.img", f"truncate -s {length} class4.img",
                           "mount -o ro,norecovery,loop class4.img /mnt"])
 
     def test_commands_of_far_copies(self) -> None:
         """With the end by which they were found, where that is not the images'."""
         it = candidate("far2:8:0:0,1", verdict=whole())
-        self.assertEqual(words.commands(4, it, self.images[:2], 8000)[0], "reraid-mount far2:8:0:0,1 class4 /x/a.img /x/b.img")
+        self.assertEqual(words.commands(4, it, self.images[:2])[0], "reraid-mount far2:8:0:0,1 class4 /x/a.img /x/b.img")
         it.trial = dataclasses.replace(it.trial, copied=Copied((Copying("far", 2),), 2, end=80))
-        self.assertEqual(words.commands(4, it, self.images[:2], 8000)[:2],
+        self.assertEqual(words.commands(4, it, self.images[:2])[:2],
                          ["mkdir class4", "nbdfuse -r class4/volume --command reraid-nbd set=far2:8:0:0,1 end=80 -- /x/a.img /x/b.img &"])
 
     def shown(self, *found: Candidate, as_json: bool = False, images: list[Image] | None = None) -> Told:
@@ -753,48 +759,6 @@ class Reported(unittest.TestCase):
             report.progress("reraid survey", 20 << 20, 2)
             report.progress("reraid list", 20 << 20, 2)
         self.assertEqual(shown, ["reraid survey: 20 MiB read, 10 MiB/s, about 8 s left", "reraid list: 20 MiB read, 10 MiB/s"])
-
-
-class Nearest(unittest.TestCase):
-    def test_least_and_fewest(self) -> None:
-        def listed(_: list[str], text: str) -> Answer:
-            misfits, bad = (int(text.split(f"{name} ")[1].split()[0]) for name in ("misfits", "badrows"))
-            return put((f"1 {SET}\n" if misfits >= 5 and bad >= 100 else "") + "next 9 of 9\n")
-
-        def check(_: list[str], _text: str) -> Answer:
-            return put("unsound 100 of 1000\nfail\n")
-        found = Diagnosis(hunt_of(("reraid list", listed), ("reraid check", check)), Told(), 60, 1)
-        plan = plan_of(XFS)
-        self.assertEqual(found.least(plan.having(badrows=100), 12), 5)
-        self.assertIsNone(found.least(plan.having(badrows=100), 5))
-        self.assertEqual(found.fewest(plan.having(misfits=9), 8000), 100)
-        self.assertIsNone(found.fewest(plan, 8000))
-        found.until = 0
-        self.assertEqual(found.sets(plan.having(misfits=9, badrows=999), 5), [])
-
-    def test_about_the_fewest(self) -> None:
-        """Of sets with 64, 60 and 32 unsound rows the listing gives the worst that may pass, and each says how many the next may have."""
-        def listed(_: list[str], text: str) -> Answer:
-            most = int(text.split("badrows ")[1].split()[0])
-            return put("".join(f"1 5:ls:none:8:{rows}:0,1,2\n" for rows in (64, 60, 32) if rows <= most) + "next 9 of 9\n")
-
-        def check(words: list[str], _: str) -> Answer:
-            return put(f"unsound {words[2].split(':')[-2]} of 1000\nfail\n")
-        found = Diagnosis(hunt_of(("reraid list", listed), ("reraid check", check)), Told(), 60, 1)
-        self.assertEqual([found.fewest(plan_of(XFS), most) for most in (1000, 63, 31)], [32, 32, None])
-        # One that has hardly fewer is not asked for: 6400 less a sixty-fourth is more than 6301.
-        found = Diagnosis(hunt_of(("reraid list", put("1 5:ls:none:8:6400:0,1,2\nnext 9 of 9\n")), ("reraid check", check)), Told(), 60, 1)
-        with mock.patch.object(found, "sets", side_effect=[["5:ls:none:8:6400:0,1,2"], []]) as asked:
-            self.assertEqual(found.fewest(plan_of(XFS), 9000), 6400)
-        self.assertEqual(asked.call_args[0][0].values["badrows"], "6299")
-
-    def test_order(self) -> None:
-        plan = plan_of(XFS)
-        near = [Near(SET, plan, Checked(5, 1000, (Held("xfs", 0, 3, 0),))), Near(SET, plan, Checked(50, 1000, (Held("xfs", 0, 9, 0),))),
-                Near(SET, plan, Checked(0, 1000, (Held("xfs", 0, 3, 4),)))]
-        self.assertLess(near[0].by_rows, near[1].by_rows)
-        self.assertLess(near[1].by_rows, near[2].by_rows)
-        self.assertEqual(min(it.by_marks for it in near), near[1].by_marks)
 
 
 if __name__ == "__main__":

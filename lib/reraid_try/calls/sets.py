@@ -4,6 +4,7 @@ import dataclasses
 import functools
 import math
 import re
+from collections.abc import Sequence
 
 # How the copies of RAID 10 lie.
 NEAR, FAR, OFFSET = "near", "far", "offset"
@@ -146,6 +147,13 @@ class Word:
     def without(self, images: frozenset[int]) -> "Word":
         """The set without these images, whose slots are empty then."""
         return self.having(tuple(None if slot in images else slot for slot in self.slots))
+
+    def over(self, images: Sequence[int]) -> "Word":
+        """The same set where these images alone are named, in this order: it has all of its own among them."""
+        numbers = {image: place for place, image in enumerate(images)}
+        offsets = tuple(self.offsets[image] for image in images) if self.is_each else self.offsets
+        slots = tuple(None if slot is None else numbers[slot] for slot in self.slots)
+        return read_word(":".join([*self.text.split(":")[:-2], "+".join(map(str, offsets)), slots_text(slots)]))
 
     def folded(self) -> "Word":
         """The same set with one offset, where the list of its offsets is one number repeated."""

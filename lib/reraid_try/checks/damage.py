@@ -25,7 +25,8 @@ def doubted(tested: Sequence[Candidate], mapped: bool) -> list[Candidate]:
 
 
 def blamed(candidate: Candidate, counts: Mapping[int, int]) -> list[int]:
-    """The images without which fewer rows are unsound, that with the most first: `counts` has the unsound rows without each image."""
+    """The images without which fewer rows are unsound, that with the most first: `counts` has the unsound rows without each image, by its place in
+    the hunt."""
     return sorted((image for image, count in counts.items() if count < (candidate.unsound or 0)), key=lambda image: counts[image])
 
 
@@ -36,9 +37,9 @@ def is_sounder(candidate: Candidate, whole: Candidate) -> bool:
 
 
 def lesser(candidate: Candidate, images: frozenset[int]) -> Candidate:
-    """A candidate without these images."""
-    word, trial = (candidate.listed or candidate.word).without(images), candidate.trial
-    name = f"without {' and '.join(f'image {image}' for image in sorted(images))}"
-    shape = dataclasses.replace(trial.shape, missing=word.lost)
+    """A candidate without these images, by their places in its hunt."""
+    listed, trial, hunt = (candidate.listed or candidate.word).without(images), candidate.trial, candidate.hunt
+    name = f"without {' and '.join(f'image {number}' for number in sorted(hunt.evidence.images[image].number for image in images))}"
+    shape = dataclasses.replace(trial.shape, missing=listed.lost)
     trial = dataclasses.replace(trial, shape=shape, cures=(*trial.cures, cures.told(name, Family.LEFT_OUT)))
-    return Candidate(simplest(word), candidate.rank, trial, candidate.hunt, listed=word, whole=candidate)
+    return Candidate(simplest(hunt.word(listed.text)), candidate.rank, trial, hunt, listed=listed, whole=candidate)

@@ -199,7 +199,7 @@ class Rows:
         bounds, images = self.bounds(near), self.hunt.evidence.images
         lasts = [last for other in word.images if other != image and (last := images[other].last) is not None]
         to_end = bounds.last is not None and bool(lasts) and max(lasts) - word.offset <= bounds.last + word.chunk
-        return [Old(image, slot, near.told, bounds, to_end)]
+        return [Old(images[image].number, slot, near.told, bounds, to_end)]
 
     def turned(self, near: Near) -> Turned | None:
         """The row before which the marks of a group fit and behind which none does; None for most sets."""

@@ -18,6 +18,7 @@ from . import damage
 from .candidates import Candidate, left_most
 from .checkers import Checkers
 from .looks import Looks
+from .members import Members, named
 from .verdicts import Score, Verdict
 from .volumes import Room, Source
 
@@ -62,7 +63,7 @@ class Tests:
         self.options, self.commands, self.report, self.room = options, commands, report, room
         self.names = tuple(image.name for image in images)
         self.program = Program(commands, self.names, options.seconds, options.jobs)
-        self.end = min(image.sectors for image in images)
+        self.images = tuple(images)
         self.checks = Checkers(commands, room, options.seconds, options.first)
         self.maps = maps.maps_text([image.map for image in images])
         self.looks = Looks(memory, self.maps, self.checks.there, options.seconds, options.first)
@@ -75,7 +76,9 @@ class Tests:
         self.ask(candidate, False)
         word = candidate.word
         places = [0, *(origin for origin in candidate.origins if origin < FARTHEST)]
-        pipeline, text = Source(word, self.names, candidate.end or self.end).beginning(max(places) * SECTOR + heads.HEAD_BYTES)
+        members = named(word, self.images)
+        source = Source(members.word, members.names, candidate.end or members.end)
+        pipeline, text = source.beginning(max(places) * SECTOR + heads.HEAD_BYTES)
         data = self.commands.shell(pipeline, text, self.options.seconds).data
         return any(heads.sniff(data[place * SECTOR:place * SECTOR + heads.HEAD_BYTES]) for place in places)
 
@@ -110,18 +113,20 @@ class Tests:
         return found
 
     def left_out(self, candidate: Candidate) -> list[frozenset[int]]:
-        """What may be left out of a candidate: the two images that make most rows unsound, or each one, where parity does not tell which that is."""
-        images = candidate.word.images
-        if candidate.word.spare < damage.TELLING:
-            return [frozenset({image}) for image in images]
-        words = [candidate.word.without(frozenset({image})) for image in images]
-        counts = dict(zip(images, self.side_by_side(lambda word: self.unsound_rows(candidate, word), words,
-                                                    "asks for the unsound rows without each image")))
+        """What may be left out of a candidate, by places among the images of its hunt: the two images that make most rows unsound, or each one, where
+        parity does not tell which that is."""
+        listed = candidate.listed or candidate.word
+        if listed.spare < damage.TELLING:
+            return [frozenset({image}) for image in listed.images]
+        words = [listed.without(frozenset({image})) for image in listed.images]
+        counts = dict(zip(listed.images, self.side_by_side(lambda word: self.unsound_rows(candidate, word), words,
+                                                           "asks for the unsound rows without each image")))
         blamed = damage.blamed(candidate, counts)
         if blamed:
-            told = ", ".join(f"{(candidate.unsound or 0) - counts[image]} by image {image}" for image in blamed)
+            numbers = [candidate.hunt.evidence.images[image].number for image in blamed]
+            told = ", ".join(f"{(candidate.unsound or 0) - counts[image]} by image {number}" for image, number in zip(blamed, numbers))
             self.report.say("blamed", f"  {candidate.word.text}: {candidate.unsound} rows are unsound, {told}", set=candidate.word.text,
-                            unsound=candidate.unsound, images=blamed)
+                            unsound=candidate.unsound, images=numbers)
         return [frozenset(blamed[:MOST_OUT])] if blamed else []
 
     def read(self, candidate: Candidate, files: bool = True) -> Candidate:
@@ -131,7 +136,8 @@ class Tests:
         candidate.verdict = self.looks.known(word, candidate.origins, files)
         if candidate.verdict:
             return candidate
-        source = Source(word, self.names, candidate.end or self.end, self.maps)
+        members = named(word, self.images)
+        source = Source(members.word, members.names, candidate.end or members.end, members.maps)
         most = self.options.first * max(1, int(word.data))
         try:
             with self.room.volume(source, most, WRITTEN_TIMES * self.options.seconds) as volume:
@@ -139,19 +145,20 @@ class Tests:
                     candidate.verdict = Verdict(notes=["its volume could not be written"])
                 else:
                     candidate.verdict = self.checks.look(volume, candidate.origins, word.chunk * SECTOR, word.row * SECTOR, files)
-                    candidate.verdict.notes += self.lost(word)
+                    candidate.verdict.notes += self.lost(members)
                     self.looks.keep(word, candidate.origins, files, candidate.verdict)
         except OSError as error:
             candidate.verdict = Verdict(notes=[f"its volume could not be looked at: {said(error)}"])
         return candidate
 
-    def lost(self, word: Word) -> list[str]:
+    def lost(self, members: Members) -> list[str]:
         """How much of a volume is lost by the maps, where there are some."""
-        if self.maps is None:
+        if members.maps is None:
             return []
-        if word.is_mirrored:
+        if members.word.is_mirrored:
             return ["its maps are not heeded"]
-        told = self.program.lost(word.text, self.end, self.maps)
+        program = Program(self.commands, members.names, self.options.seconds, self.options.jobs)
+        told = program.lost(members.word.text, members.end, members.maps)
         if told is None:
             return ["how much the maps leave lost is not known"]
         return [f"{told[0]} of {counted(told[1], 'sector')} ({percent(*told)}) lost by the maps" if told[0] else "nothing lost by the maps"]
@@ -185,7 +192,7 @@ class Tests:
             found = found[:MOST_BEGUN]
         tested: list[Candidate] = []
         for part in self.parts(self.without_doubtful(found)):
-            classes = in_classes(self.program, part, self.end)
+            classes = in_classes(self.program, part, max(named(it.word, self.images).end for it in part))
             if len(classes) > MOST_CLASSED:
                 self.report.say("many", f"  of {len(classes)} classes the first {MOST_CLASSED} are looked at", classes=len(classes))
             tested += self.looked_at(classes[:MOST_CLASSED])

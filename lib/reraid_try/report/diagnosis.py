@@ -138,9 +138,10 @@ class Diagnosis:
         return "no set is near: landmarks and parity each allow none"
 
     def lines(self, found: Sequence[Near]) -> None:
-        """A line for each of these sets."""
+        """A line for each of these sets, with the numbers that the images have among all."""
         for near in found:
             bounds, turned = self.rows.bounds(near), self.rows.turned(near)
-            text = near.line(bounds) + (f"; {turned.text()}" if turned else "")
-            self.report.say("near", text, set=near.word, unsound=near.told.unsound, rows=near.told.rows, first=bounds.first, last=bounds.last,
+            word = self.hunt.word(near.word).text
+            text = dataclasses.replace(near, word=word).line(bounds) + (f"; {turned.text()}" if turned else "")
+            self.report.say("near", text, set=word, unsound=near.told.unsound, rows=near.told.rows, first=bounds.first, last=bounds.last,
                             groups=[group.text() for group in near.groups], reshaped=turned.row if turned else None)

@@ -8,6 +8,7 @@ from collections.abc import Sequence
 from ..calls.sets import LAST_Q, Word
 from ..checks import kin
 from ..checks.candidates import Candidate
+from ..checks.members import named
 from ..checks.verdicts import Finding, Score, Verdict
 from ..evidence.images import Image
 from ..units import SECTOR
@@ -18,6 +19,7 @@ PATTERNS = {"la": "left-asymmetric", "ra": "right-asymmetric", "ls": "left-symme
             "parity-last": "parity last", "n-restart": "N restart", "n-continue": "N continue"}
 ORDERS = {"by-data": "Q by the number of the data", "by-slot": "Q by slot"}
 LVM = "LVM2_member"
+ALONE = "(the images in slots alone are named, and numbered anew: a volume ends where the shortest image does that is named, and another one is shorter)"
 NUMBERS = {1: "one", 2: "two", 3: "three", 4: "four"}
 
 
@@ -129,17 +131,18 @@ def offset(it: Finding) -> str:
     return f"-o {it.place.first} " if it.place and it.place.first else ""
 
 
-def commands(number: int, it: Candidate, images: Sequence[Image], end: int) -> list[str]:
+def commands(number: int, it: Candidate, images: Sequence[Image]) -> list[str]:
     """What to type next for a candidate: what opens the containers, what mounts its volume. Of a volume that ends before its file system a copy is
     made that is long enough."""
-    folder, length = f"class{number}", it.word.sectors(it.end or end) * SECTOR
-    names = [image.opened.typed if image.opened else image.name for image in images]
-    lines = [line for image in images if image.opened for line in image.opened.lines]
+    members = named(it.word, images)
+    folder, length = f"class{number}", it.word.sectors(it.end or members.end) * SECTOR
+    names = [image.opened.typed if image.opened else image.name for image in members.images]
+    lines = [line for image in members.images if image.opened for line in image.opened.lines]
     if it.end:
-        server = ["reraid-nbd", f"set={it.word.text}", f"end={it.end}", "--", *names]
+        server = ["reraid-nbd", f"set={members.word.text}", f"end={it.end}", "--", *names]
         lines += [f"mkdir {folder}", shlex.join(["nbdfuse", "-r", f"{folder}/volume", "--command", *server]) + " &"]
     else:
-        lines.append(shlex.join(["reraid-mount", it.word.text, folder, *names]))
+        lines.append(shlex.join(["reraid-mount", members.word.text, folder, *names]))
     path, lacks = f"{folder}/volume", max((finding.lacks for finding in it.found.findings), default=0)
     if lacks:
         lines += [f"cp --sparse=always {path} {folder}.img", f"truncate -s {length + lacks} {folder}.img"]
@@ -164,6 +167,7 @@ def lines_of(number: int, it: Candidate, images: Sequence[Image], said: str, typ
     lines += [f"  {it.alike_said}"] if it.alike_said else []
     lines += [f"  {text}" for text in (*it.old, *twins(it.word, images), kin.text(it)) if text]
     lines += ["  to look into it, as root:", *("    " + line for line in typed)]
+    lines += [f"  {ALONE}"] * (named(it.word, images).word != it.word)
     return lines + of_maps(it.word, [images[slot] for slot in it.word.images])
 
 
@@ -179,10 +183,10 @@ def of_maps(word: Word, images: Sequence[Image]) -> list[str]:
     return ["  (what the maps beside the images call unread is found by parity there, and what is lost cannot be read)"]
 
 
-def say_class(report: Report, number: int, it: Candidate, images: Sequence[Image], end: int) -> None:
+def say_class(report: Report, number: int, it: Candidate, images: Sequence[Image]) -> None:
     """What a class is, what was loosened for it, and what to type."""
     names = [image.called for image in images]
-    said, typed = in_words(it.word, names, it.whole.word if it.whole else None), commands(number, it, images, end)
+    said, typed = in_words(it.word, names, it.whole.word if it.whole else None), commands(number, it, images)
     report.say("words", "\n".join(lines_of(number, it, images, said, typed)),
                **{"class": number, "set": it.word.text, "words": said, "rows": it.rows, "old": list(it.old), "commands": typed})
 
@@ -191,9 +195,8 @@ def show(report: Report, order: Sequence[Candidate], images: Sequence[Image]) ->
     """For each of the best classes what it is, what was loosened for it, and what to type; it chooses none. What is encrypted is told apart by no
     checker."""
     told, closed = best(order), encrypted(order)
-    end = min((image.sectors for image in images), default=0)
     for number, it in told[:MOST_TOLD]:
-        say_class(report, number, it, images, end)
+        say_class(report, number, it, images)
     if len(told) > MOST_TOLD:
         report.say("words", f"{len(told) - MOST_TOLD} more classes have the same sign", more=len(told) - MOST_TOLD)
     closed = [pair for pair in closed if pair not in told[:MOST_TOLD]]
@@ -203,6 +206,6 @@ def show(report: Report, order: Sequence[Candidate], images: Sequence[Image]) ->
         report.say("encrypted", f"encrypted ({kinds}): no checker tells {'this class' if len(closed) == 1 else 'these classes'} from a wrong one. "
                    f"Try each with its key: class {numbers}", classes=[number for number, _ in closed], kinds=kinds)
     for number, it in closed[:MOST_TOLD]:
-        say_class(report, number, it, images, end)
+        say_class(report, number, it, images)
     if len(closed) > MOST_TOLD:
         report.say("words", f"{len(closed) - MOST_TOLD} more of these stand in the table alone", more=len(closed) - MOST_TOLD)

@@ -1,0 +1,165 @@
+"""Which images a command names, and by which numbers images are told where a hunt has some of them alone."""
+
+import dataclasses
+import types
+import unittest
+from collections.abc import Sequence
+from unittest import mock
+
+from reraid_try.calls.commands import Answer
+from reraid_try.calls.program import Copied
+from reraid_try.calls.sets import Copying, read_word
+from reraid_try.checks import damage
+from reraid_try.checks.candidates import Candidate
+from reraid_try.checks.members import named
+from reraid_try.checks.rows import Rows
+from reraid_try.checks.tests import Tests
+from reraid_try.checks.volumes import Room
+from reraid_try.evidence.images import Image
+from reraid_try.evidence.maps import Map
+from reraid_try.options import Options
+from reraid_try.policy.hunt import Hunt
+from reraid_try.report import words
+from tests.standin import InFolder, Standin, Told, put
+from tests.test_candidates import candidate, hunt_of, whole
+
+
+def images(*lengths: int) -> list[Image]:
+    """Images of so many sectors."""
+    return [Image(f"i{number}", number, sectors) for number, sectors in enumerate(lengths)]
+
+
+def among(numbers: Sequence[int], *answers: tuple[str, object]) -> Hunt:
+    """A hunt over images that have these numbers among all, of which `reraid` says this."""
+    hunt = hunt_of(*answers)
+    seen = tuple(Image(f"i{number}", number, 8000) for number in numbers)
+    setattr(hunt, "evidence", types.SimpleNamespace(images=seen, filled=1000, window=8000, start=0, end=8000, unread=0))
+    return hunt
+
+
+class Named(unittest.TestCase):
+    """Which images are named."""
+
+    def named(self, text: str, *lengths: int) -> tuple[str, tuple[str, ...], int]:
+        """The set, the images that are named for it, and where its members end."""
+        it = named(read_word(text), images(*lengths))
+        return it.word.text, it.names, it.end
+
+    def test_a_shorter_image_in_no_slot(self) -> None:
+        """It would end the volume where it ends itself, so it is not named, and the others have new numbers."""
+        self.assertEqual(self.named("5:ls:none:128:2048:3,0,2", 9000, 700, 9100, 9200), ("5:ls:none:128:2048:2,0,1", ("i0", "i2", "i3"), 9000))
+        self.assertEqual(self.named("near2:128:2048:3,-,2,0", 9000, 700, 9100, 9200), ("near2:128:2048:2,-,1,0", ("i0", "i2", "i3"), 9000))
+
+    def test_all_else_is_named(self) -> None:
+        """Where no image in no slot is the shortest the set stays that of the table; so do far copies, whose distance comes from where all end."""
+        for text, lengths, end in (("5:ls:none:128:2048:3,0,2", (9000, 9001, 9100, 9200), 9000), ("5:ls:none:128:2048:3,0,2", (9000,) * 4, 9000),
+                                   ("5:ls:none:128:2048:0,1,-", (9000, 8000), 8000), ("far2:128:2048:0,2", (9000, 700, 9100), 700),
+                                   ("5:ls:none:128:2048:-,-,-", (9000, 700), 700)):
+            self.assertEqual(self.named(text, *lengths), (text, tuple(f"i{number}" for number in range(len(lengths))), end))
+
+    def test_maps(self) -> None:
+        """Maps have the numbers of those that are named."""
+        seen = images(9000, 700, 9100)
+        seen[2] = dataclasses.replace(seen[2], map=Map("m", "0 +\n", ()))
+        self.assertEqual(named(read_word("0:plain:none:8:0:0,2"), seen).maps, "map 1\n0 +\n")
+        self.assertEqual(named(read_word("0:plain:none:8:0:0,1"), seen).maps, "map 2\n0 +\n")
+        self.assertIsNone(named(read_word("0:plain:none:8:0:0,1"), seen[:2]).maps)
+
+    def test_what_to_type(self) -> None:
+        """The line to type names the same images, and says why they have other numbers."""
+        it = candidate("5:ls:none:128:2048:3,0,2", whole())
+        for lengths, typed, told in (((9000, 700, 9100, 9200), "reraid-mount 5:ls:none:128:2048:2,0,1 class4 i0 i2 i3", True),
+                                     ((9000, 9001, 9100, 9200), "reraid-mount 5:ls:none:128:2048:3,0,2 class4 i0 i1 i2 i3", False)):
+            seen, report = images(*lengths), Told()
+            words.say_class(report, 4, it, seen)
+            self.assertIn(f"    {typed}", report.text.splitlines())
+            self.assertEqual(f"  {words.ALONE}" in report.text.splitlines(), told)
+            self.assertIn("in no slot: i1", report.text)
+
+
+class Read(InFolder):
+    """The volume that is looked at is that of the line to type."""
+
+    def over(self, seen: Sequence[Image], *answers: tuple[str, object]) -> Tests:
+        """Tests over these images."""
+        self.standin = Standin(*answers)  # type: ignore[arg-type]
+        room = Room(self.standin, self.folder, mounts=False)
+        self.addCleanup(room.close)
+        return Tests(Options(tuple(it.name for it in seen), jobs=1), self.standin, Told(), room, seen)
+
+    def asked(self, command: str) -> list[str]:
+        """The words behind a command that was asked."""
+        return next(words[2:] for words, _ in self.standin.asked if words[1] == command)
+
+    def test_volume_beside_a_shorter_image(self) -> None:
+        check = ("reraid check", put("unsound 0 of 9\npass\n"))
+        tests = self.over(images(9000, 700, 9100), ("reraid write", put("")))
+        tests.begins(candidate("0:plain:none:8:0:0,2", hunt=hunt_of(check)))
+        self.assertEqual(self.asked("write")[0::2], ["set=0:plain:none:8:0:0,1", "--", "i2"])
+        tests = self.over(images(9000, 700, 9100), ("reraid write", put("")))
+        with mock.patch.object(tests.checks, "look", return_value=whole()):
+            tests.read(candidate("0:plain:none:8:0:0,2", hunt=hunt_of(check)))
+        self.assertEqual(self.asked("write"), ["set=0:plain:none:8:0:0,1", "end=9000", "--", "i0", "i2"])
+
+    def test_what_maps_leave_lost(self) -> None:
+        """By the images that are named, with their numbers there."""
+        seen = images(9000, 700, 9100)
+        seen[2] = dataclasses.replace(seen[2], map=Map("m", "0 +\n", ()))
+        tests = self.over(seen, ("reraid salvage", put("good 90 of 100\n")))
+        self.assertEqual(tests.lost(named(read_word("0:plain:none:8:0:0,2"), seen)), ["10 of 100 sectors (10%) lost by the maps"])
+        words_asked, text = self.standin.asked[0]
+        self.assertEqual((words_asked[2:], text), (["set=0:plain:none:8:0:0,1", "form=lost", "end=9000", "--", "i0", "i2"], "map 1\n0 +\n"))
+
+    def test_far_copies_end_where_they_were_found(self) -> None:
+        """With the end that was asked for."""
+        tests = self.over(images(9000, 700, 9100), ("reraid mirrorwrite", put("")))
+        it = candidate("far2:8:0:0,2", hunt=hunt_of())
+        it.trial = dataclasses.replace(it.trial, copied=Copied((Copying("far", 2),), 2, end=80))
+        tests.begins(it)
+        self.assertEqual(self.asked("mirrorwrite"), ["set=far2:8:0:0,2", "end=80", "--", "i0", "i1", "i2"])
+
+
+class Numbers(InFolder):
+    """A hunt over images 1, 3, 4 and 6 of a heap: in its own sets they are 0 to 3."""
+
+    heap = (1, 3, 4, 6)
+
+    def found(self, listed: str, *answers: tuple[str, object], **values: object) -> Candidate:
+        """A candidate of that hunt, as it is made of a listed set."""
+        hunt = among(self.heap, *answers)
+        it = candidate(hunt.word(listed).text, whole(), hunt=hunt, **values)
+        it.listed = read_word(listed)
+        return it
+
+    def test_what_is_left_out(self) -> None:
+        """The hunt is asked by its own numbers, and people are told of those among all."""
+        def told(answered: list[str], _: str) -> Answer:
+            return put(f"unsound {0 if '0,1,-,3' in answered[2] else 9} of 9\nfail\n")
+        it = self.found("6:la:by-data:8:0:0,1,2,3", ("reraid check", told), unsound=9)
+        self.assertEqual(it.word.text, "6:la:by-data:8:0:1,3,4,6")
+        report, standin = Told(), Standin()
+        room = Room(standin, self.folder, mounts=False)
+        self.addCleanup(room.close)
+        tests = Tests(Options(("a",), jobs=1), standin, report, room, images(*[8000] * 7))
+        places, = tests.left_out(it)
+        self.assertEqual((places, report.lines), (frozenset({2}), ["  6:la:by-data:8:0:1,3,4,6: 9 rows are unsound, 9 by image 4"]))
+        lesser = damage.lesser(it, places)
+        self.assertEqual((lesser.word.text, lesser.listed and lesser.listed.text, lesser.trial.loosened),
+                         ("6:la:by-data:8:0:1,3,-,6", "6:la:by-data:8:0:0,1,-,3", ["without image 4"]))
+        both = damage.lesser(it, frozenset({3, 0}))
+        self.assertEqual((both.word.text, both.trial.loosened), ("6:la:by-data:8:0:-,3,4,-", ["without image 1 and image 6"]))
+        five = self.found("5:ls:none:8:0:0,1,2,3", unsound=9)
+        self.assertEqual(tests.left_out(five), [frozenset({image}) for image in range(4)])
+
+    def test_what_is_old(self) -> None:
+        """An image in no slot that is old is named by its number among all."""
+        def told(answered: list[str], text: str) -> Answer:
+            rows = int(text.split("window ")[1].split()[0])
+            return put(f"unsound {min(3, rows // 2000) if '0,3,1,2' in answered[2] else 900} of {rows}\nfail\n")
+        it = self.found("6:ls:by-data:128:2048:0,-,1,2", ("reraid check", told))
+        found, = Rows(it.hunt).old(it)
+        self.assertEqual((found.image, found.slot, found.text("abcdefg")[:20]), (6, 1, "g is old or damaged:"))
+
+
+if __name__ == "__main__":
+    unittest.main()

@@ -24,7 +24,7 @@ from reraid_try.checks.wholes import Wholes
 from reraid_try.errors import OutsideError
 from reraid_try.units import KIB, MIB, SECTOR
 from tests.standin import InFolder, Standin, put
-from tests.test_images import ext_super, mbr
+from tests.test_images import ext_super, mbr, superblock
 
 NOISE = b"".join(struct.pack("<I", zlib.crc32(struct.pack("<I", k))) for k in range(64 * 1024))
 LVM = """vg {
@@ -411,6 +411,14 @@ class Looks(InFolder):
     def test_tool_that_is_not_there(self) -> None:
         verdict = self.checkers(there=()).look(self.volume((0, self.xfs(4 * MIB))), [], 4096, 8192)
         self.assertEqual((verdict.findings[0].said, verdict.score), ("no xfs_repair here", Score.KNOWN))
+
+    def test_what_bcache_caches(self) -> None:
+        """A file system behind a superblock of bcache is looked at, and is what the volume holds; behind one of a cache there is none."""
+        for version, found in ((4, ["bcache", "at 48 xfs: xfs_repair clean"]), (3, ["bcache: nothing known in it"])):
+            volume = self.volume((8, superblock(version, 48)), (48, self.xfs(4 * MIB - 48 * SECTOR)))
+            verdict = self.checkers(("xfs_repair", put(""))).look(volume, [], 4096, 8192)
+            self.assertEqual([finding.text() for finding in verdict.findings], found)
+        self.assertEqual(verdict.score, Score.NOTHING)
 
     def test_partitions_and_origins(self) -> None:
         table = mbr((0, 0x83, 2048, 4096))

@@ -1,6 +1,7 @@
 """Hints, the counts of filled sectors, and what is gathered."""
 
 import unittest
+from unittest import mock
 
 from reraid_try.calls import surveys
 from reraid_try.calls.surveys import Surveys
@@ -15,7 +16,7 @@ from reraid_try.evidence.maps import Map
 from reraid_try.evidence.tables import Partition, Table
 from reraid_try.units import SECTOR
 from tests.standin import InFolder, Standin, plan_of, put
-from tests.test_images import mbr
+from tests.test_images import mbr, superblock
 
 EVERY = "every:49152:4:0"
 
@@ -85,6 +86,31 @@ class OnImages(InFolder):
         name = self.file("a", bytes(SECTOR) + text)
         found = hints.lvm_origins(plan_of(("lvm", [("lvm", 0, 1, "at:1")])), {0: image(0, name)})
         self.assertEqual([(hint.value, hint.source) for hint in found], [(2048, Source.LVM), (2048 + 3 * 8192, Source.LVM)])
+
+    def test_lvm_segments(self) -> None:
+        """A volume of two segments, extents 0 to 99 from extent 3 on and 100 to 149 from 300 on: by the second one it begins at 200. What would begin
+        before the physical volume is none."""
+        text = ("LABELONE extent_size = 8\npe_start = 2048\nphysical_volumes {\n}\nhome {\nsegment_count = 2\n"
+                'segment1 {\nstart_extent = 0\nextent_count = 100\ntype = "striped"\nstripe_count = 1\nstripes = [\n"pv0", 3\n]\n}\n'
+                'segment2 {\nstart_extent = 100\nextent_count = 50\ntype = "striped"\nstripe_count = 1\nstripes = [\n"pv0", 300\n]\n}\n}\n'
+                'root {\nsegment_count = 2\nsegment1 {\nstart_extent = 0\nstripes = [\n"pv0", 400\n]\n}\n'
+                'segment2 {\nstart_extent = 500\nstripes = [\n"pv0", 110\n]\n}\n}\n')
+        name = self.file("a", bytes(SECTOR) + text.encode())
+        found = hints.lvm_origins(plan_of(("lvm", [("lvm", 0, 1, "at:1")])), {0: image(0, name)})
+        self.assertEqual([hint.value for hint in found], [2048, 2048 + 8 * 3, 2048 + 8 * 200, 2048 + 8 * 400])
+        self.assertEqual([hint.why for hint in found[1:3]],
+                         ["the text of LVM2 on image 0", "the text of LVM2 on image 0, by a later segment of a volume"])
+
+    def test_bcache(self) -> None:
+        """The contents of a volume that is cached begin 16 sectors behind its start, or where the superblock says."""
+        for version, told, places in ((1, 99, [16]), (4, 48, [48]), (6, 2048, [2048]), (0, 48, []), (3, 48, []), (4, 0, [])):
+            name = self.file("a", bytes(24 * SECTOR) + superblock(version, told))
+            one = image(0, name, heads=(Head("bcache", 0, 16), Head("ext", 0, 4)))
+            found = hints.bcache_origins([one])
+            self.assertEqual([hint.value for hint in found], places)
+            self.assertEqual([hint.line() for hint in found],
+                             [f"hint: origin {place}, from a superblock of bcache on image 0 at sector 24" for place in places])
+        self.assertEqual(hints.bcache_origins([image(0, name, heads=(Head("bcache", 0, 20),))]), [])
 
     def test_tables(self) -> None:
         name = self.file("a", bytes(2048 * SECTOR) + mbr((0, 0xEE, 1, 99), (0, 7, 63, 99), (0, 7, 4096, 9)))
@@ -163,6 +189,14 @@ class Gathered(InFolder):
         plan = self.plan("super 0 3000 at:1000", "super 1 3000 at:999")
         self.assertEqual([self.gather(plan, start=start).offset_values for start in (0, 2000, 2001)], [[2000, 2001], [2000, 2001], [2001]])
         self.assertEqual(min(self.gather(plan, start=2001).tried), 2001)
+
+    def test_contents_behind_a_superblock_of_bcache(self) -> None:
+        """Their origin is asked for, and where data begin by it."""
+        with mock.patch.object(hints, "read_at", return_value=superblock(4, 48)):
+            found = self.gather(self.plan(), heads=(Head("bcache", 0, 4096),))
+        self.assertEqual(found.base.get("origins"), "0,48,2048")
+        self.assertIn(4096, found.tried)
+        self.assertIn("hint: origin 48, from a superblock of bcache on image 0 at sector 4104", [hint.line() for hint in found.said])
 
     def test_copies_say_no_level(self) -> None:
         self.assertEqual(self.gather(self.plan("super 0 2048 every:4096:2:0"), like=0).levels, ())

@@ -6,7 +6,7 @@ import unittest
 import zlib
 
 from reraid_try.errors import OutsideError
-from reraid_try.evidence import heads, images, maps, reading, tables
+from reraid_try.evidence import bcache, heads, images, maps, reading, tables
 from reraid_try.evidence.heads import Head
 from reraid_try.evidence.tables import Partition
 from reraid_try.units import MIB, SECTOR
@@ -38,6 +38,15 @@ def ext_super(group: int = 0) -> bytes:
     struct.pack_into("<I", sector, 32, 32768)
     sector[56:58] = b"\x53\xef"
     struct.pack_into("<H", sector, 90, group)
+    return bytes(sector)
+
+
+def superblock(version: int, data: int) -> bytes:
+    """A superblock of bcache: its sector, version and magic, and at which sector the data begin."""
+    sector = bytearray(SECTOR)
+    struct.pack_into("<QQ", sector, 8, 8, version)
+    sector[24:40] = bytes.fromhex("c68573f64e1a45ca8265f57f48ba6d81")
+    struct.pack_into("<Q", sector, 184, data)
     return bytes(sector)
 
 
@@ -104,11 +113,18 @@ class Heads(unittest.TestCase):
             return (bytes(place) + magic).ljust(heads.HEAD_BYTES, b"\0")
         fat = struct.pack("<HBHB", 512, 8, 32, 2)
         for kind, head in (("xfs", at(0, b"XFSB")), ("ntfs", at(3, b"NTFS    ")), ("exfat", at(3, b"EXFAT   ")), ("btrfs", at(65600, b"_BHRfS_M")),
-                           ("LVM2_member", at(512, b"LABELONE")), ("crypto_LUKS", at(0, b"LUKS\xba\xbe")), ("BitLocker", at(3, b"-FVE-FS-")),
+                           ("bcache", at(4096, superblock(4, 48))), ("LVM2_member", at(512, b"LABELONE")), ("crypto_LUKS", at(0, b"LUKS\xba\xbe")), ("BitLocker", at(3, b"-FVE-FS-")),
                            ("ext4", at(1024, ext_super())), ("vfat", at(11, fat)[:82] + b"FAT32   " + bytes(9)), ("MBR", at(0, mbr((0, 7, 63, 9))))):
             self.assertEqual(heads.sniff(head), kind)
         for head in (bytes(4096), b"", at(1024, ext_super(1)), at(65599, b"_BHRfS_M"), at(54, b"FAT16   ")):
             self.assertIsNone(heads.sniff(head))
+
+    def test_bcache(self) -> None:
+        """A superblock elsewhere than at its sector, or cut off, is none."""
+        moved = bytearray(superblock(4, 48))
+        moved[8] = 9
+        self.assertEqual([bcache.data_of(it) for it in (superblock(4, 48), bytes(moved), superblock(4, 48)[:511], bytes(SECTOR))],
+                         [48, None, None, None])
 
     def test_ext(self) -> None:
         self.assertTrue(heads.is_ext(ext_super()))
@@ -124,10 +140,11 @@ class InImages(InFolder):
         data[5 * SECTOR:6 * SECTOR] = mbr((0, 7, 2048, 100))
         data[9 * SECTOR:10 * SECTOR] = ext_super()
         data[20 * SECTOR:20 * SECTOR + 6] = b"LUKS\xba\xbe"
+        data[30 * SECTOR:31 * SECTOR], data[31 * SECTOR:32 * SECTOR] = superblock(4, 48), superblock(3, 48)
         data[1 * SECTOR:2 * SECTOR] = ext_super()
         with open(self.file("a", bytes(data)), "rb") as file:
             found = heads.find_heads(file, 3, len(data))
-        self.assertEqual(set(found), {Head("mbr", 3, 5), Head("ext", 3, 7), Head("luks", 3, 20)})
+        self.assertEqual(set(found), {Head("mbr", 3, 5), Head("ext", 3, 7), Head("luks", 3, 20), Head("bcache", 3, 22)})
 
     def test_heads_at_the_start(self) -> None:
         data = mbr((0, 7, 2048, 100)) + bytes(SECTOR) + ext_super() + bytes(SECTOR)

@@ -113,10 +113,13 @@ class Checkers:
     def checked(self, it: Looked, region: Region, kind: str) -> tuple[Finding, list[Region]]:
         """What the checker of a region says, and the regions that were found in it."""
         system, volume = system_of(kind), it.volume
-        told = system.length_of(read_at(volume.path, region.first, LENGTH_BYTES))
+        head = read_at(volume.path, region.first, LENGTH_BYTES)
+        told = system.length_of(head)
         there = region.there(volume.length)
         finding = Finding(region.name, kind, pieces=region.up_to(min(told or there, there)), lacks=lacking(told or region.length, there), told=told,
                           there=there)
+        if system.within:
+            return finding, self.held(region, system.within(head))
         if system.tool is None or system.tool not in self.there:
             finding.said = f"no {system.tool} here" if system.tool else "encrypted" if system.opened else ""
             return finding, []
@@ -131,6 +134,11 @@ class Checkers:
         behind = " and a copy of its first sector" if system.ends else ""
         finding.said += f", with zeros{behind} for its last {size_said(finding.lacks)}, which are not there" if finding.lacks else ""
         return finding, self.inner(region, volume, answer.out) if system.holds else []
+
+    def held(self, region: Region, first: int) -> list[Region]:
+        """What a region holds from one of its bytes on; nothing where that is not told."""
+        place = Piece(region.first + first, region.length - first)
+        return [Region(f"{region.name} at {place.first // SECTOR}".strip(), (place,))] if 0 < first < region.length else []
 
     def inner(self, region: Region, volume: Volume, text: str) -> list[Region]:
         """The logical volumes of a physical one, by its text, of which most is there."""

@@ -4,6 +4,7 @@ import dataclasses
 import struct
 from collections.abc import Callable
 
+from ..evidence import bcache
 from ..units import KIB, SECTOR
 
 # So many bytes of the head of a file system have its length.
@@ -52,6 +53,11 @@ def exfat_length(head: bytes) -> int:
     return int(sectors << min(head[108], 12))
 
 
+def bcache_data(head: bytes) -> int:
+    """The byte of what bcache caches at which its contents begin; 0 where that is not told."""
+    return (bcache.data_of(head[bcache.PLACE * SECTOR:(bcache.PLACE + 1) * SECTOR]) or 0) * SECTOR
+
+
 @dataclasses.dataclass(frozen=True)
 class System:
     """A kind of volume as `blkid` calls it. `tool` is its checker and `words` what it is given behind its name, before the path; `at` says that it
@@ -59,7 +65,7 @@ class System:
     by their sums; `ends` that its last sector is a copy of its first. `mount` has the options with which nothing is written; `opened` the command
     that opens what is encrypted; `holds` says that it has volumes inside; `scattered` that a long file is in several pieces, between which the
     blocks lie that list them; `shallow` that its checker reads little of it; `length` is how many bytes it says that it has, by its head, 0 where
-    that is not told."""
+    that is not told; `within` at which of its bytes what it holds begins, 0 where that is not told or nothing is held so."""
 
     kind: str
     tool: str | None = None
@@ -74,6 +80,7 @@ class System:
     scattered: bool = False
     shallow: bool = False
     length: Callable[[bytes], int] | None = None
+    within: Callable[[bytes], int] | None = None
 
     def command(self, path: str, first: int = 0) -> list[str]:
         """Its checker, over a file; it changes nothing."""
@@ -102,6 +109,7 @@ SYSTEMS = {it.kind: it for it in (
     System("vfat", mount="ro", length=fat_length),
     System("exfat", mount="ro", length=exfat_length),
     System("LVM2_member", "pvck", ("--dump", "metadata"), holds=True),
+    System(bcache.KIND, holds=True, within=bcache_data),
     System("crypto_LUKS", opened=("cryptsetup", "open", "--readonly")),
     System("BitLocker", opened=("cryptsetup", "open", "--readonly", "--type", "bitlk")),
 )}

@@ -89,7 +89,7 @@ def numbered(plan: Plan, images: Sequence[Image]) -> Plan:
 
 def deeper(origins: Sequence[Hint], plan: Plan) -> set[int]:
     """Where logical volumes begin in a physical one that does not begin at 0."""
-    first = {hint.value for hint in origins if hint.source is Source.TABLE} | set(plan.numbers("origins"))
+    first = {hint.value for hint in origins if hint.source in (Source.TABLE, Source.BCACHE)} | set(plan.numbers("origins"))
     inner = {hint.value for hint in origins if hint.source is Source.LVM}
     return {one + other for one in first for other in inner}
 
@@ -141,7 +141,7 @@ def gather(made: Surveys, images: Sequence[Image], first: int, pairs: Pairs | No
     data = hints.data_disks(plan, len(images) + 2)
     offsets = [hint for hint in offset_hints(plan, images, pairs, data) if hint.value >= start]
     starts = {hint.value for hint in offsets} | {start + usual for usual in hints.USUAL_OFFSETS}
-    origins = hints.lvm_origins(plan, by_number) + hints.table_origins(images, starts)
+    origins = hints.bcache_origins(images) + hints.lvm_origins(plan, by_number) + hints.table_origins(images, starts)
     # Where images are copies of one another, how many show a mark at one place tells of mirrors, not of a level.
     mirrored = any(image.like is not None for image in images)
     levels = [] if mirrored else hints.level(plan, heads)

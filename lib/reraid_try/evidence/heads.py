@@ -6,7 +6,7 @@ from collections.abc import Callable
 from typing import BinaryIO
 
 from ..units import SECTOR
-from . import reading, tables
+from . import bcache, reading, tables
 
 # So many bytes tell what something begins with, and so many sectors.
 HEAD_BYTES = 264 * SECTOR
@@ -65,6 +65,7 @@ SIGNS = (
     *(Sign("LVM2_member", place, b"LABELONE") for place in range(0, 4 * SECTOR, SECTOR)),
     Sign("vfat", 82, b"FAT32   ", is_fat),
     Sign("vfat", 54, b"FAT16   ", is_fat),
+    Sign(bcache.KIND, bcache.PLACE * SECTOR + bcache.MAGIC_PLACE, bcache.MAGIC),
 )
 
 
@@ -92,6 +93,7 @@ SOUGHT: tuple[tuple[str, int, int, int, Callable[[bytes], bool]], ...] = (
     ("ext", 57, 0xEF, EXT_SECTORS, is_ext),
     ("luks", 0, 0x4C, 0, SIGNS[0].is_on),
     ("bitlocker", 3, 0x2D, 0, SIGNS[1].is_on),
+    (bcache.KIND, bcache.MAGIC_PLACE, bcache.MAGIC[0], bcache.PLACE, bcache.is_superblock),
 )
 # Those that say where a volume begins without saying anything of a level.
 ENCRYPTED = ("luks", "bitlocker")

@@ -10,7 +10,7 @@ from collections.abc import Collection, Iterator, Mapping, Sequence
 from ..calls.plans import Group, Mark, Plan
 from ..errors import OutsideError, said
 from ..units import LARGE_BLOCK, MIB, SECTOR, counted
-from . import tables
+from . import bcache, tables
 from .heads import Head
 from .images import Image
 
@@ -56,6 +56,7 @@ class Source(enum.Enum):
     TABLE = "table"
     OWN_TABLE = "own table"
     LVM = "lvm"
+    BCACHE = "bcache"
     MAPS = "maps"
     MIRRORS = "mirrors"
 
@@ -242,11 +243,13 @@ def level(plan: Plan, heads: Sequence[Head]) -> list[Hint]:
 
 PE_START = re.compile(rb"pe_start = (\d+)")
 EXTENT = re.compile(rb"extent_size = (\d+)")
-STRIPE = re.compile(rb'"pv\d+", (\d+)')
+# Of a segment of a logical volume: at which extent of the volume it begins, and then at which extents of physical ones.
+SEGMENT = re.compile(rb'start_extent = (\d+)|"pv\d+", (\d+)')
 
 
 def lvm_origins(plan: Plan, images: Mapping[int, Image]) -> list[Hint]:
-    """Where logical volumes begin, in sectors after their physical volume, by the text behind each label of LVM2."""
+    """Where logical volumes begin, in sectors after their physical volume, by the text behind each label of LVM2. Of a segment that is not the first
+    of its volume it is where that would begin if all of it lay there in one piece, as the marks in that segment say."""
     found: dict[int, str] = {}
     for mark in plan.marks():
         if mark.kind != "lvm":
@@ -254,10 +257,24 @@ def lvm_origins(plan: Plan, images: Mapping[int, Image]) -> list[Hint]:
         text = read_at(images[mark.image].name, max(0, mark.sector - mark.nearest), LVM_TEXT)
         start, extent = PE_START.search(text), EXTENT.search(text)
         if start and extent:
-            for stripe in STRIPE.finditer(text):
-                found.setdefault(int(start[1]) + int(stripe[1]) * int(extent[1]), f"the text of LVM2 on image {mark.image}")
+            before = 0
+            for segment in SEGMENT.finditer(text):
+                if segment[2] is None:
+                    before = int(segment[1])
+                elif (place := int(start[1]) + (int(segment[2]) - before) * int(extent[1])) >= 0:
+                    found.setdefault(place, f"the text of LVM2 on image {mark.image}" + ", by a later segment of a volume" * (before > 0))
             found.setdefault(int(start[1]), f"pe_start on image {mark.image}")
     return [Hint(What.ORIGIN, value, Source.LVM, why) for value, why in sorted(found.items())]
+
+
+def bcache_origins(images: Sequence[Image]) -> list[Hint]:
+    """Where the contents of volumes begin that bcache caches, by the superblocks on the images, in sectors behind the volume's start."""
+    found: dict[int, str] = {}
+    for image in images:
+        for head in image.heads:
+            if head.kind == bcache.KIND and (place := bcache.data_of(read_at(image.name, head.sector + bcache.PLACE))):
+                found.setdefault(place, f"a superblock of bcache on image {image.number} at sector {head.sector + bcache.PLACE}")
+    return [Hint(What.ORIGIN, value, Source.BCACHE, why) for value, why in sorted(found.items())]
 
 
 def table_origins(images: Sequence[Image], starts: Collection[int]) -> list[Hint]:

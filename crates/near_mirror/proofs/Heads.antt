@@ -123,10 +123,3 @@ copy_among head v copy h = let some = some_members head h in slot_among head.lay
 -- the member sector of a copy is numbered in 64 bits
 pub copy_short : (head : NearHead) (end v copy : ℕ) → IsTrue (is_valid_near head) → copy < head.layout.copies → v < near_sectors head end → copy_sector head end copy v < end
 copy_short head end v copy h among within = let inside = copy_inside head end v copy h among within in let short = area_short head end in omega arith
-
--- the chunks of the first rows are few
-pub first_chunks_near : (head : NearHead) (rows : ℕ) → IsTrue (is_valid_near head) → chunks_of head.layout.copying head.members head.layout.copies (min rows head.layout.copies) < 2 ^ 60
-first_chunks_near head rows h =
-    let cells = first_cells head rows h in
-    let fewer = chunks_short head.layout.copying head.members head.layout.copies (min rows head.layout.copies) in
-    omega arith

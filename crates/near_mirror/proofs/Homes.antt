@@ -5,17 +5,18 @@ use Rattle.std.specs.Option.{is_none, is_some, unwrap_or}
 use Rattle.std.proofs.lemmas.Bool.{cases_lt}
 use Rattle.std.proofs.lemmas.Bool.Decides.{nat_tests}
 use Rattle.std.proofs.lemmas.Nat.{div-add-mod', div-mul-add, le-div, mod_below, mul-le}
-use Rattle.near_mirror.specs.Copies.{IsCopy, chunks_of, copy_cell, copy_sector, copy_slot, near_chunks, near_rows, near_sectors, slot_of}
+use Rattle.near_mirror.specs.Copies.{IsCopy, chunks_of, copy_cell, copy_sector, copy_slot, first_chunks, near_chunks, near_rows, near_sectors, slot_of}
 use Rattle.near_mirror.specs.Heads.{is_valid_near}
 use Rattle.near_mirror.specs.Validity.{shape_fault}
 use Rattle.near_mirror.specs.Volume.{IsHome, IsMirror, first_bare, held_copy, home_copy, is_bare, is_held}
 use Rattle.near_mirror.specs.declared.map.CopyPlace.{CopyPlace}
 use Rattle.near_mirror.specs.declared.types.Copying.{Copying}
 use Rattle.near_mirror.specs.declared.types.Copying.TheVariants.{Near, Far, Offset}
+use Rattle.near_mirror.specs.declared.types.NearHead.{NearHead}
 use Rattle.near_mirror.specs.declared.types.NearSet.{NearSet}
 use Rattle.near_mirror.proofs.Finds.{found, in_front, missed, same_find}
 use Rattle.near_mirror.proofs.Heads.{chunk_within, some_copies, some_members}
-use Rattle.near_mirror.proofs.Turns.{whole_turns}
+use Rattle.near_mirror.proofs.Turns.{whole_below, whole_turns}
 
 pub shaped_head : (set : NearSet) (images : ℕ) → shape_fault set images ≡ None → IsTrue (is_valid_near set.head)
 shaped_head set images h = grind (arith, nat_tests)
@@ -77,28 +78,59 @@ more_rows Offset members copies rows some enough =
     let fits : 1 * members ≤ rows / copies * members = mul-le 1 members (rows / copies) members one (omega arith) in
     omega arith
 
--- the chunks of the first rows are all, or one for each member
-first_chunks : (copying : Copying) (members copies rows : ℕ) → 0 < copies →
-    (chunks_of copying members copies (min rows copies) ≡ chunks_of copying members copies rows)
-    ⊎ ((chunks_of copying members copies (min rows copies) ≡ members) × (members ≤ chunks_of copying members copies rows))
-first_chunks copying members copies rows some = elim (cases_lt rows copies) [
-  | inl lt ↦ let least : min rows copies ≡ rows = omega arith in inl (ap (chunks_of copying members copies) least)
-  | inr le ↦ let least : min rows copies ≡ copies = omega arith in inr (ap (chunks_of copying members copies) least ∙ first_rows copying members copies some, more_rows copying members copies rows some le)
+-- a multiple of what another multiple is not past is not past it
+fewer_times : (a b n : ℕ) → 0 < n → a * n ≤ b * n → a ≤ b
+fewer_times a b n some h = elim (cases_lt b a) [
+  | inl lt ↦ (let more : (b + 1) * n ≤ a * n = mul-le (b + 1) n a n (omega arith) (omega arith) in let step : (b + 1) * n ≡ b * n + n = grind arith in absurd (omega arith))
+  | inr le ↦ le
 ]
 
--- so they tell which chunk is the first without a copy
-pub first_tell : (set : NearSet) (end : ℕ) → IsTrue (is_valid_near set.head) →
-    find (is_bare set) (range_with_len 0 (chunks_of set.head.layout.copying set.head.members set.head.layout.copies (min (near_rows set.head end) set.head.layout.copies))) ≡ first_bare set end
+-- and fewer no more
+few_rows : (copying : Copying) (members copies rows : ℕ) → 0 < copies → rows ≤ copies → chunks_of copying members copies rows ≤ members
+few_rows Near members copies rows some few =
+    let whole = whole_below (rows * members) copies in
+    let fits : rows * members ≤ copies * members = mul-le rows members copies members few (omega arith) in
+    let turned : copies * members ≡ members * copies = grind arith in
+    fewer_times ((rows * members) / copies) members copies some (omega arith)
+few_rows Far members copies rows some few =
+    let whole = whole_below rows copies in
+    let one : rows / copies ≤ 1 = fewer_times (rows / copies) 1 copies some (omega arith) in
+    let fits : rows / copies * members ≤ 1 * members = mul-le (rows / copies) members 1 members one (omega arith) in
+    omega arith
+few_rows Offset members copies rows some few =
+    let whole = whole_below rows copies in
+    let one : rows / copies ≤ 1 = fewer_times (rows / copies) 1 copies some (omega arith) in
+    let fits : rows / copies * members ≤ 1 * members = mul-le (rows / copies) members 1 members one (omega arith) in
+    omega arith
+
+-- so the chunks of the first rows, no more than copies, are all, or one for each member
+first_are : (copying : Copying) (members copies rows : ℕ) → 0 < copies → chunks_of copying members copies (min rows copies) ≡ min (chunks_of copying members copies rows) members
+first_are copying members copies rows some = elim (cases_lt rows copies) [
+  | inl lt ↦
+      let least : min rows copies ≡ rows = omega arith in
+      let few = few_rows copying members copies rows some (omega arith) in
+      ap (chunks_of copying members copies) least ∙ (let all : chunks_of copying members copies rows ≡ min (chunks_of copying members copies rows) members = omega arith in all)
+  | inr le ↦
+      let least : min rows copies ≡ copies = omega arith in
+      let more = more_rows copying members copies rows some le in
+      ap (chunks_of copying members copies) least ∙ first_rows copying members copies some
+      ∙ (let one : members ≡ min (chunks_of copying members copies rows) members = omega arith in one)
+]
+
+pub first_chunks_are : (head : NearHead) (end : ℕ) → IsTrue (is_valid_near head) →
+    chunks_of head.layout.copying head.members head.layout.copies (min (near_rows head end) head.layout.copies) ≡ first_chunks head end
+first_chunks_are head end h = let copies = some_copies head h in first_are head.layout.copying head.members head.layout.copies (near_rows head end) (omega arith)
+
+-- they tell which chunk is the first without a copy
+pub first_tell : (set : NearSet) (end : ℕ) → IsTrue (is_valid_near set.head) → find (is_bare set) (range_with_len 0 (first_chunks set.head end)) ≡ first_bare set end
 unfolding first_bare
 first_tell set end h =
     let some = some_members set.head h in
-    let copies = some_copies set.head h in
-    elim (first_chunks set.head.layout.copying set.head.members set.head.layout.copies (near_rows set.head end) (omega arith)) [
-      | inl all ↦ ap (λ (n : ℕ). find (is_bare set) (range_with_len 0 n)) all
-      | inr few ↦ ap (λ (n : ℕ). find (is_bare set) (range_with_len 0 n)) few.0
-          ∙ in_front (is_bare set) set.head.members (near_chunks set.head end) few.1
-          (λ c within bare. (c % set.head.members, mod_below c set.head.members (omega arith), same_bare set c (omega arith) ∙ bare))
-    ]
+    in_front (is_bare set) (first_chunks set.head end) (near_chunks set.head end) (omega arith)
+    (λ c within bare. elim (cases_lt c set.head.members) [
+      | inl lt ↦ (c, omega arith, bare)
+      | inr le ↦ (c % set.head.members, (let below = mod_below c set.head.members (omega arith) in omega arith), same_bare set c (omega arith) ∙ bare)
+    ])
 
 both_zero : (x y : ℕ) → (x ≡ y) ⊎ ((0 < x) × (0 < y)) → nat_eq x 0 ≡ nat_eq y 0
 both_zero x y (inl e) = ap (λ (n : ℕ). nat_eq n 0) e
@@ -107,15 +139,13 @@ both_zero (suc x) zero (inr h) = absurd (omega (arith, h.1))
 both_zero (suc x) (suc y) (inr h) = grind (arith, nat_tests)
 
 -- and whether there is none
-pub none_told : (set : NearSet) (end : ℕ) → IsTrue (is_valid_near set.head) →
-    nat_eq (chunks_of set.head.layout.copying set.head.members set.head.layout.copies (min (near_rows set.head end) set.head.layout.copies)) 0 ≡ nat_eq (near_chunks set.head end) 0
+pub none_told : (set : NearSet) (end : ℕ) → IsTrue (is_valid_near set.head) → nat_eq (first_chunks set.head end) 0 ≡ nat_eq (near_chunks set.head end) 0
 none_told set end h =
     let some = some_members set.head h in
-    let copies = some_copies set.head h in
-    both_zero (chunks_of set.head.layout.copying set.head.members set.head.layout.copies (min (near_rows set.head end) set.head.layout.copies)) (near_chunks set.head end)
-    (elim (first_chunks set.head.layout.copying set.head.members set.head.layout.copies (near_rows set.head end) (omega arith)) [
-      | inl all ↦ inl all
-      | inr few ↦ (let first = few.0 in let more = few.1 in inr (omega arith, omega arith))
+    both_zero (first_chunks set.head end) (near_chunks set.head end)
+    (elim (cases_lt 0 (near_chunks set.head end)) [
+      | inl lt ↦ inr (omega arith, lt)
+      | inr none ↦ inl (omega arith)
     ])
 
 -- each chunk of a mirror has a copy
@@ -129,7 +159,8 @@ pub held_among : (set : NearSet) (chunk copy : ℕ) → held_copy set chunk ≡ 
 unfolding held_copy
 held_among set chunk copy e = let h = found (is_held set chunk) 0 set.head.layout.copies copy e in let most = h.2 in omega arith
 
-held_there : (set : NearSet) (chunk copy : ℕ) → held_copy set chunk ≡ Some copy → is_held set chunk copy ≡ true
+-- the slot of that copy does
+pub held_there : (set : NearSet) (chunk copy : ℕ) → held_copy set chunk ≡ Some copy → is_held set chunk copy ≡ true
 unfolding held_copy
 held_there set chunk copy e = (found (is_held set chunk) 0 set.head.layout.copies copy e).0
 

@@ -1,5 +1,5 @@
 -- How large a mirror is, and where the copies of a volume sector lie.
-use Rattle.std.specs.Prelude.{ℕ, ◌+◌, ◌-◌, ◌*◌, ◌/◌, ◌%◌, ◌≡◌, ◌<◌, ◌≤◌, ◌⊎◌}
+use Rattle.std.specs.Prelude.{ℕ, ◌+◌, ◌-◌, ◌*◌, ◌/◌, ◌%◌, ◌≡◌, ◌<◌, ◌≤◌, ◌⊎◌, min}
 use Rattle.std.specs.declared.option.Option.{Option}
 use Rattle.std.specs.declared.option.Option.TheVariants.{None, Some}
 use Rattle.near_mirror.specs.declared.map.CopyPlace.{CopyPlace}
@@ -25,6 +25,10 @@ chunks_of Offset members copies rows = (rows / copies) * members
 -- chunks of the volume
 abbrev pub near_chunks : NearHead → ℕ → ℕ
 near_chunks head end = chunks_of head.layout.copying head.members head.layout.copies (near_rows head end)
+
+-- the chunks of the volume, but for those after as many as there are members: these stand on the slots of the first ones
+abbrev pub first_chunks : NearHead → ℕ → ℕ
+first_chunks head end = min (near_chunks head end) head.members
 
 -- sectors of the volume
 abbrev pub near_sectors : NearHead → ℕ → ℕ

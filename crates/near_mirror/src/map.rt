@@ -1,6 +1,6 @@
 //! The map from the sectors of the volume to those of the members.
 ghost use Rattle.std.specs.Prelude.{◌≡◌, ◌<◌, ◌≤◌, ◌^◌, IsTrue};
-ghost use Rattle.near_mirror.specs.Copies.{HasCopy, IsCopy, near_chunks, near_rows, near_sectors};
+ghost use Rattle.near_mirror.specs.Copies.{HasCopy, IsCopy, first_chunks as first_chunks_of, near_chunks, near_rows, near_sectors, slot_of};
 ghost use Rattle.near_mirror.specs.Heads.{is_valid_near};
 ghost use Rattle.near_mirror.specs.Volume.{HasHome, IsMirror, held_copy as held_copy_of, is_held as is_held_of};
 
@@ -42,6 +42,27 @@ impl NearHead {
         ensures { result ≡ near_chunks self.now end }
     {
         self.layout.chunks(self.members, self.rows(end))
+    }
+
+    /// How many chunks the volume has of the first ones, of which there are as many as members. All others stand on the slots
+    /// of these.
+    #[tactic(auto, using(crate::proofs::Chunks::valid_chunk, crate::proofs::Heads::first_cells, crate::proofs::Heads::some_copies, crate::proofs::Homes::first_chunks_are))]
+    pub fn first_chunks(&self, end: u64) -> u64
+        requires { IsTrue (is_valid_near self.now) }
+        ensures { result ≡ first_chunks_of self.now end }
+    {
+        let rows = self.rows(end).min(u64::from(self.layout.copies));
+        self.layout.chunks(self.members, rows)
+    }
+
+    /// The slot of a copy of a chunk.
+    #[tactic(auto, using(crate::proofs::Heads::some_members, crate::proofs::Heads::few_copies))]
+    pub fn slot(&self, copy: u8, chunk: u64) -> u8
+        requires head { IsTrue (is_valid_near self.now) }
+        requires chunk { chunk < 2 ^ 60 }
+        ensures { result ≡ slot_of self.now.layout.copying self.now.members self.now.layout.copies copy chunk }
+    {
+        self.layout.slot(self.members, copy, chunk)
     }
 
     /// How many sectors the volume has.
@@ -112,13 +133,12 @@ impl NearSet {
     }
 
     /// Whether the slot of a copy of a chunk holds an image.
-    #[tactic(auto, using(crate::proofs::Heads::some_members, crate::proofs::Heads::few_copies))]
     fn is_held(&self, chunk: u64, copy: u8) -> bool
         requires head { IsTrue (is_valid_near self.now.head) }
         requires chunk { chunk < 2 ^ 60 }
         ensures { result ≡ is_held_of self.now chunk copy }
     {
-        let slot = usize::from(self.head.layout.slot(self.head.members, copy, chunk));
+        let slot = usize::from(self.head.slot(copy, chunk));
         slot < self.slots.len() && self.slots[slot].is_some()
     }
 }

@@ -1,6 +1,6 @@
 //! The names of layouts.
 ghost use Rattle.std.specs.Prelude.{◌≡◌, ◌≢◌, ◌++◌, ℕ, List, IsTrue, MatchOption};
-ghost use Rattle.near_mirror.specs.Heads.{are_copies as are_copies_of};
+ghost use Rattle.near_mirror.specs.Heads.{are_copies as are_copies_of, is_near2};
 ghost use Rattle.near_mirror.specs.NameLaws.{layout_law};
 ghost use Rattle.near_mirror.specs.Words.{copying_name, layout_name};
 ghost use Rattle.near_mirror.specs.declared.types.Copying.{Copying as CopyingOf};
@@ -13,6 +13,8 @@ use value_text::{Field, Spelled, Text, add_number, after};
 
 /// Two near copies: the layout of most mirrors.
 impl Default for CopyLayout {
+    ghost is_default = { λ layout. IsTrue (is_near2 layout) };
+
     fn default() -> CopyLayout {
         CopyLayout {
             copying: Copying::Near,

@@ -1,8 +1,8 @@
 //! The first rule that a parameter set breaks.
-ghost use Rattle.std.specs.Prelude.{◌≡◌, ◌≤◌, ◌<◌, ◌^◌, MatchResult, OnOk, Some, None, IsTrue, length, min, nat_eq};
+ghost use Rattle.std.specs.Prelude.{◌≡◌, ◌≤◌, ◌<◌, ◌^◌, MatchResult, OnOk, Some, None, IsTrue, length, nat_eq};
 ghost use Rattle.std.specs.List.{find, range_with_len};
 ghost use Rattle.raid_params.specs.Validity.{first_absent as first_absent_of, first_repeat as first_repeat_of};
-ghost use Rattle.near_mirror.specs.Copies.{chunks_of, near_chunks, near_rows};
+ghost use Rattle.near_mirror.specs.Copies.{near_chunks};
 ghost use Rattle.near_mirror.specs.Heads.{are_copies as are_copies_of, are_members as are_members_of, has_members as has_members_of, is_near2 as is_near2_of, is_valid_near};
 ghost use Rattle.near_mirror.specs.Validity.{bare_rule as bare_rule_of, first_fault, rowless_rule as rowless_rule_of, shape_fault, slots_fault};
 ghost use Rattle.near_mirror.specs.Volume.{IsMirror, first_bare as first_bare_of, is_bare as is_bare_of};
@@ -49,25 +49,14 @@ impl NearSet {
             broken_slots(slots, images)
         }
     }
-    /// How many chunks of the volume stand in the first rows, of which there are no more than copies. All others stand on the
-    /// slots of these.
-    #[tactic(auto, using(crate::proofs::Chunks::valid_chunk, crate::proofs::Heads::first_cells, crate::proofs::Heads::some_copies))]
-    fn first_chunks(&self, end: u64) -> u64
-        requires { IsTrue (is_valid_near self.now.head) }
-        ensures { result ≡ chunks_of self.now.head.layout.copying self.now.head.members self.now.head.layout.copies (min (near_rows self.now.head end) self.now.head.layout.copies) }
-    {
-        let head = &self.head;
-        let rows = head.rows(end).min(u64::from(head.layout.copies));
-        head.layout.chunks(head.members, rows)
-    }
 
     /// The first chunk of the volume of which no slot holds an image.
-    #[tactic(auto, using(crate::proofs::Homes::first_tell, crate::proofs::Heads::first_chunks_near))]
+    #[tactic(auto, using(crate::proofs::Homes::first_tell, crate::proofs::Heads::few_members))]
     fn first_bare(&self, end: u64) -> Option<u64>
         requires { IsTrue (is_valid_near self.now.head) }
         ensures { result ≡ first_bare_of self.now end }
     {
-        self.bare_before(self.first_chunks(end))
+        self.bare_before(self.head.first_chunks(end))
     }
 
     /// The first of so many chunks of which no slot holds an image.
@@ -94,7 +83,7 @@ impl NearSet {
         requires { IsTrue (is_valid_near self.now.head) }
         ensures { result ≡ nat_eq (near_chunks self.now.head end) 0 }
     {
-        self.first_chunks(end) == 0
+        self.head.first_chunks(end) == 0
     }
 
     /// The rule that a chunk without a copy breaks.

@@ -9,10 +9,9 @@ use Rattle.std.proofs.lemmas.Nat.{div-add-mod', div-mul-add, mod-mul-add, mul-le
 use Rattle.std.proofs.lemmas.Bool.{cases_lt}
 use Rattle.raid_terms.specs.Parity.{member_byte}
 use Rattle.near_mirror.specs.Copies.{copy_row, copy_sector, near_area, near_rows, row_of, slot_of}
-use Rattle.near_mirror.specs.Volume.{copy_image, held_copy, home_copy, is_held}
+use Rattle.near_mirror.specs.Volume.{copy_image, held_copy, home_copy}
 use Rattle.near_mirror.specs.declared.types.NearHead.{NearHead}
 use Rattle.near_mirror.specs.declared.types.NearSet.{NearSet}
-use Rattle.near_mirror.proofs.Finds.{found}
 use Rattle.virtual_volume.proofs.Ranges.{flat_more, flat_same, flat_shift}
 use Rattle.near_volume.specs.Sectors.{copies_of, copy_bytes, near_sector, sectors_of}
 
@@ -43,13 +42,13 @@ later_sector head end v j copy h =
     omega arith
 
 -- a byte of a later sector
-later_byte : (images : List (List ℕ)) (offset t j x : ℕ) (held : Option ℕ) → member_byte images offset t (512 * j + x) held ≡ member_byte images offset (t + j) x held
+pub later_byte : (images : List (List ℕ)) (offset t j x : ℕ) (held : Option ℕ) → member_byte images offset t (512 * j + x) held ≡ member_byte images offset (t + j) x held
 later_byte images offset t j x None = refl
 later_byte images offset t j x (Some i) =
     let place : 512 * (offset + t) + (512 * j + x) ≡ 512 * (offset + (t + j)) + x = omega arith in
     ap (λ (k : ℕ). get_or (get_or images i []) k 0) place
 
-copy_byte : (images : List (List ℕ)) (set : NearSet) (end v copy x : ℕ) → x < 512 →
+pub copy_byte : (images : List (List ℕ)) (set : NearSet) (end v copy x : ℕ) → x < 512 →
     get_or (copy_bytes images set end v copy) x 0 ≡ member_byte images set.head.offset (copy_sector set.head end copy v) x (copy_image set copy v)
 unfolding copy_bytes
 copy_byte images set end v copy x h = get_or-map-range_with_len (λ x. member_byte images set.head.offset (copy_sector set.head end copy v) x (copy_image set copy v)) 0 512 x x 0 h (omega arith)
@@ -59,7 +58,7 @@ unfolding copy_bytes
 copy_long images set end v copy = length-map-range_with_len (λ x. member_byte images set.head.offset (copy_sector set.head end copy v) x (copy_image set copy v)) 0 512
 
 -- a list is the sectors that it agrees with
-blocks_are : (xs : List ℕ) (f : ℕ → List ℕ) (n : ℕ) → length xs ≡ 512 * n → ((j : ℕ) → length (f j) ≡ 512) →
+pub blocks_are : (xs : List ℕ) (f : ℕ → List ℕ) (n : ℕ) → length xs ≡ 512 * n → ((j : ℕ) → length (f j) ≡ 512) →
     ((j x : ℕ) → j < n → x < 512 → get_or xs (512 * j + x) 0 ≡ get_or (f j) x 0) → xs ≡ flat_map f (range_with_len 0 n)
 blocks_are [] f zero long each same = refl
 blocks_are (x ∷ xs) f zero long each same = absurd (omega arith)
@@ -97,16 +96,22 @@ some_held None e = absurd (cc)
 some_held (Some i) e = refl
 
 -- where it is known
-pub run_told : {T E : Type 0} (told : Option (List (List ℕ))) (set : NearSet) (end v n copy sector : ℕ) (held : Option ℕ) (result : Result T E) (to : List ℕ) →
-    held ≡ copy_image set copy v → sector ≡ copy_sector set.head end copy v → is_some held ≡ true → length to ≡ 512 * n → v % set.head.chunk + n ≤ set.head.chunk →
+pub stretch_told : {T E : Type 0} (told : Option (List (List ℕ))) (set : NearSet) (end v copy sector : ℕ) (held : Option ℕ) (result : Result T E) (to : List ℕ) →
+    held ≡ copy_image set copy v → sector ≡ copy_sector set.head end copy v → is_some held ≡ true →
     OnOk result (IfSome told (λ bytes. (y : ℕ) → y < length to → is_none held ≡ false → get_or to y 0 ≡ member_byte bytes set.head.offset sector y held)) →
+    OnOk result (IfSome told (λ bytes. (y : ℕ) → y < length to → get_or to y 0 ≡ member_byte bytes set.head.offset (copy_sector set.head end copy v) y (copy_image set copy v)))
+stretch_told told set end v copy sector held (Err e) to is at there bytes = tt
+stretch_told None set end v copy sector held (Ok r) to is at there bytes = tt
+stretch_told (Some images) set end v copy sector held (Ok r) to is at there bytes =
+    λ y h. bytes y h (some_held held there) ∙ ap (λ (t : ℕ). member_byte images set.head.offset t y held) at
+    ∙ ap (λ (o : Option ℕ). member_byte images set.head.offset (copy_sector set.head end copy v) y o) is
+
+pub run_told : {T E : Type 0} (told : Option (List (List ℕ))) (set : NearSet) (end v n copy : ℕ) (result : Result T E) (to : List ℕ) → length to ≡ 512 * n → v % set.head.chunk + n ≤ set.head.chunk →
+    OnOk result (IfSome told (λ bytes. (y : ℕ) → y < length to → get_or to y 0 ≡ member_byte bytes set.head.offset (copy_sector set.head end copy v) y (copy_image set copy v))) →
     OnOk result (IfSome told (λ bytes. to ≡ copies_of bytes set end copy v n))
-run_told told set end v n copy sector held (Err e) to is at there long inside bytes = tt
-run_told None set end v n copy sector held (Ok r) to is at there long inside bytes = tt
-run_told (Some images) set end v n copy sector held (Ok r) to is at there long inside bytes =
-    run_is images set end v n copy to long inside
-    (λ y h. bytes y h (some_held held there) ∙ ap (λ (t : ℕ). member_byte images set.head.offset t y held) at
-    ∙ ap (λ (o : Option ℕ). member_byte images set.head.offset (copy_sector set.head end copy v) y o) is)
+run_told told set end v n copy (Err e) to long inside bytes = tt
+run_told None set end v n copy (Ok r) to long inside bytes = tt
+run_told (Some images) set end v n copy (Ok r) to long inside bytes = run_is images set end v n copy to long inside bytes
 
 -- the first copy whose slot holds an image is the volume
 home_run : (images : List (List ℕ)) (set : NearSet) (end copy v n : ℕ) → held_copy set (v / set.head.chunk) ≡ Some copy → v % set.head.chunk + n ≤ set.head.chunk →
@@ -124,11 +129,6 @@ pub home_told : {T E : Type 0} (told : Option (List (List ℕ))) (set : NearSet)
 home_told told set end copy v n (Err e) to held inside read = tt
 home_told None set end copy v n (Ok r) to held inside read = tt
 home_told (Some images) set end copy v n (Ok r) to held inside read = read ∙ home_run images set end copy v n held inside
-
--- the slot of that copy does
-pub held_there : (set : NearSet) (chunk copy : ℕ) → held_copy set chunk ≡ Some copy → is_held set chunk copy ≡ true
-unfolding held_copy
-held_there set chunk copy e = (found (is_held set chunk) 0 set.head.layout.copies copy e).0
 
 -- the rows end before the end, and so does what lies in one chunk of them
 pub run_inside : (head : NearHead) (end v n copy sector : ℕ) → 1 ≤ head.chunk → sector ≡ copy_sector head end copy v → sector < near_area head end → v % head.chunk + n ≤ head.chunk →

@@ -1,2 +1,3 @@
 pub mod Mirrored
 pub mod Sectors
+pub mod Columns

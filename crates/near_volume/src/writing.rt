@@ -12,10 +12,14 @@ ghost use Rattle.member_regions.specs.Members.{Reaches};
 ghost use Rattle.member_regions.specs.declared.regions.TheConstants.{BLOCK as BLOCK_SECTORS};
 ghost use Rattle.virtual_volume.specs.Gained.{IsAhead};
 ghost use Rattle.virtual_volume.specs.Served.{Faults, IsFault};
+ghost use Rattle.near_volume.specs.Columns.{IsStep};
 ghost use Rattle.near_volume.specs.Mirrored.{IsMirrored};
 ghost use Rattle.near_volume.specs.Sectors.{copies_of, near_volume, sectors_of};
+ghost use Rattle.near_volume.specs.declared.columns.TheConstants.{RUN as RUN_SECTORS};
 
-use member_regions::{BLOCK, read_member, zeros};
+use crate::columns::{read_stretch, step_at, stripe};
+use crate::rows::read_rows;
+use member_regions::{BLOCK, zeros};
 use near_mirror::NearSet;
 use outside::{Failed, Images, SECTOR, Sink};
 use std::alloc::Global;
@@ -49,13 +53,7 @@ pub fn read_copy<I: Images>(
     ensures reads { OnlyReads (I.seen images.old) (I.seen images.new) (length to.old / 512) }
     ensures cause { HasCause (I.seen images.old).faults (I.seen images.new).faults result }
 {
-    match set.head.copy_place(end, copy, first) {
-        Some(place) => {
-            let held = set.slots[place.slot as usize];
-            read_member(images, held, set.head.offset, place.sector, to)
-        }
-        None => Ok(()),
-    }
+    read_stretch(images, set, end, copy, first, to)
 }
 
 /// Reads sectors of the volume from number `first` on, which lie in one chunk, from the first copy that is there.
@@ -86,8 +84,38 @@ fn read_run<I: Images>(
     }
 }
 
-/// Fills `to` with the sectors of the volume from number `first` on, chunk by chunk, each from its first copy whose
-/// slot holds an image. It takes no memory, and reads as many sectors as it fills.
+/// Reads sectors of the volume from number `first` on that are read by one step, each from the first copy that is there.
+fn read_step<I: Images>(
+    images: &mut I,
+    set: &NearSet,
+    end: u64,
+    first: u64,
+    to: &mut [u8],
+) -> Result<(), Failed>
+    requires set { IsMirror set.now end }
+    requires near { end < 2 ^ 55 }
+    requires held { All (Reaches (I.seen images.old).attached end) set.now.slots.items }
+    requires whole { length to.old % 512 ≡ 0 }
+    requires some { 0 < length to.old }
+    requires step { IsStep set.now.head RUN_SECTORS first (length to.old / 512) }
+    requires inside { first + length to.old / 512 ≤ near_sectors set.now.head end }
+    ensures told { OnOk result (IfSome (told_all (I.seen images.old).attached)
+        (λ bytes. to.new ≡ sectors_of bytes set.now end first (length to.old / 512))) }
+    ensures long { length to.new ≡ length to.old }
+    ensures reads { OnlyReads (I.seen images.old) (I.seen images.new) (length to.old / 512) }
+    ensures cause { HasCause (I.seen images.old).faults (I.seen images.new).faults result }
+{
+    let count = (to.len() / SECTOR) as u64;
+    if first % set.head.chunk + count <= set.head.chunk {
+        read_run(images, set, end, first, to)
+    } else {
+        read_rows(images, set, end, first, count / stripe(&set.head), to)
+    }
+}
+
+/// Fills `to` with the sectors of the volume from number `first` on, each from its first copy whose slot holds an image:
+/// rows of far chunks in runs, a run for each slot, and others chunk by chunk. It takes no memory, and reads as many sectors
+/// as it fills.
 #[tactic(auto, using(crate::proofs::Mirrors::mirrored_mirror, crate::proofs::Mirrors::mirror_chunk))]
 pub fn read_near<I: Images>(
     images: &mut I,
@@ -105,13 +133,12 @@ pub fn read_near<I: Images>(
     ensures reads { OnlyReads (I.seen images.old) (I.seen images.new) (length to.old / 512) }
     ensures cause { HasCause (I.seen images.old).faults (I.seen images.new).faults result }
 {
-    let chunk = set.head.chunk;
     let count = (to.len() / SECTOR) as u64;
     let mut done = 0;
     while done < count {
-        let run = (chunk - (first + done) % chunk).min(count - done);
+        let run = step_at(&set.head, first + done, count - done);
         let part = &mut to[SECTOR * done as usize..SECTOR * (done + run) as usize];
-        read_run(images, set, end, first + done, part)?;
+        read_step(images, set, end, first + done, part)?;
         done += run;
     }
     Ok(())

@@ -15,8 +15,8 @@ overflow_add-first g c = omega (arith, volume_fits c.args.set.now.head c.args.en
 pub overflow_add-first-in-loop-done : goal.overflow_add-first-in-loop-done
 overflow_add-first-in-loop-done g c = omega (arith, volume_fits c.args.set.now.head c.args.end (mirrored_head c.args.set.now c.args.end (g.I.Images.seen c.args.images.now).attached c.requires.set) c.requires.set.near)
 
-pub read_run-requires-clause-held : goal.read_run-requires-clause-held
-read_run-requires-clause-held g c = rw c.loop-done.invariant.reads.attached (mirrored_held c.args.set.now c.args.end (g.I.Images.seen c.args.images.now).attached c.requires.set)
+pub read_step-requires-clause-held : goal.read_step-requires-clause-held
+read_step-requires-clause-held g c = rw c.loop-done.invariant.reads.attached (mirrored_held c.args.set.now c.args.end (g.I.Images.seen c.args.images.now).attached c.requires.set)
 
 pub loop-done-init : goal.loop-done-init
 loop-done-init g c = record {
@@ -32,8 +32,8 @@ loop-done-init g c = record {
 
 pub loop-done-preserved : goal.loop-done-preserved
 loop-done-preserved g c =
-    let run : ℕ = c.min-run.result in
-    let long : length c.read_run.new.to ≡ 512 * run = omega arith in
+    let run : ℕ = c.step_at-run.result in
+    let long : length c.read_step.new.to ≡ 512 * run = omega arith in
     let within : 512 * c.loop-done.done ≤ length c.loop-done.to = omega arith in
     record {
       within = omega arith;
@@ -41,12 +41,12 @@ loop-done-preserved g c =
       told =
           if_both (told_all (g.I.Images.seen c.args.images.now).attached)
           (λ bytes. take (512 * c.loop-done.done) c.loop-done.to ≡ sectors_of bytes c.args.set.now c.args.end c.args.first c.loop-done.done)
-          (λ bytes. c.read_run.new.to ≡ sectors_of bytes c.args.set.now c.args.end (c.args.first + c.loop-done.done) run)
-          (λ bytes. take (512 * (c.loop-done.done + run)) (put_mid (512 * c.loop-done.done) _ c.loop-done.to c.read_run.new.to) ≡ sectors_of bytes c.args.set.now c.args.end c.args.first (c.loop-done.done + run))
-          (λ bytes before now. run_on bytes c.args.set.now c.args.end c.args.first c.loop-done.done run _ c.loop-done.to c.read_run.new.to within long before now)
+          (λ bytes. c.read_step.new.to ≡ sectors_of bytes c.args.set.now c.args.end (c.args.first + c.loop-done.done) run)
+          (λ bytes. take (512 * (c.loop-done.done + run)) (put_mid (512 * c.loop-done.done) _ c.loop-done.to c.read_step.new.to) ≡ sectors_of bytes c.args.set.now c.args.end c.args.first (c.loop-done.done + run))
+          (λ bytes before now. run_on bytes c.args.set.now c.args.end c.args.first c.loop-done.done run _ c.loop-done.to c.read_step.new.to within long before now)
           c.loop-done.invariant.told
           (rw (← c.loop-done.invariant.reads.attached) (search rules));
-      reads = reads_up (g.I.Images.seen c.args.images.now) (g.I.Images.seen c.read_run.new.images)
-          (reads_join (g.I.Images.seen c.args.images.now) (g.I.Images.seen c.loop-done.images) (g.I.Images.seen c.read_run.new.images) c.loop-done.invariant.reads c.read_run.ensures.reads) (omega arith);
-      stays = (let still : (g.I.Images.seen c.read_run.new.images).faults ≡ (g.I.Images.seen c.loop-done.images).faults = search rules in still ∙ c.loop-done.invariant.stays);
+      reads = reads_up (g.I.Images.seen c.args.images.now) (g.I.Images.seen c.read_step.new.images)
+          (reads_join (g.I.Images.seen c.args.images.now) (g.I.Images.seen c.loop-done.images) (g.I.Images.seen c.read_step.new.images) c.loop-done.invariant.reads c.read_step.ensures.reads) (omega arith);
+      stays = (let still : (g.I.Images.seen c.read_step.new.images).faults ≡ (g.I.Images.seen c.loop-done.images).faults = search rules in still ∙ c.loop-done.invariant.stays);
     }

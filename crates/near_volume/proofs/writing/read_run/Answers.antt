@@ -1,11 +1,11 @@
-use Rattle.std.proofs.Common.{◌≡◌, ◌/◌, ℕ, length, Option, Some, sym, ap, arith}
+use Rattle.std.proofs.Common.{◌/◌, ℕ, length, Option, sym, ap, arith}
 use Rattle.std.specs.Option.{is_none}
 use Rattle.outside.specs.Attached.{told_all}
 use Rattle.near_mirror.specs.Volume.{held_copy}
 use Rattle.near_mirror.proofs.Finds.{clash}
 use Rattle.near_mirror.proofs.Heads.{chunk_near, volume_fits}
-use Rattle.near_mirror.proofs.Homes.{has_copy, held_among}
-use Rattle.near_volume.proofs.Runs.{held_there, home_told}
+use Rattle.near_mirror.proofs.Homes.{has_copy, held_among, held_there}
+use Rattle.near_volume.proofs.Runs.{home_told}
 use Rattle.near_volume.proofs.writing.read_run.Goals as goal
 
 pub held_copy-requires-clause-chunk : goal.held_copy-requires-clause-chunk

@@ -301,6 +301,7 @@ pub fn two_headers(alloc: Global) -> Result<Plan, Fail>
     groups.push(Group {
         kind: GroupKind::Gpt,
         marks,
+        bounds: None,
     })?;
     Ok(Plan {
         lengths: filled(&[1, 1, 1]),
@@ -340,6 +341,7 @@ pub fn two_headers_of_four(alloc: Global) -> Result<Plan, Fail>
     groups.push(Group {
         kind: GroupKind::Gpt,
         marks,
+        bounds: None,
     })?;
     Ok(Plan {
         lengths: filled(&[1, 1, 1, 1]),

@@ -1,5 +1,5 @@
 -- The groups of sightings are those of a plan.
-use Rattle.std.proofs.Common.{◌≡◌, ℕ, zero, suc, ◌+◌, ◌≤◌, List, [], ◌∷◌, ◌++◌, Bool, true, false, cond, eqb, length, map, refl, sym, ap, subst, ◌<◌, ◌∙◌, arith, All}
+use Rattle.std.proofs.Common.{◌≡◌, ℕ, zero, suc, ◌+◌, ◌≤◌, List, [], ◌∷◌, ◌++◌, Bool, true, false, cond, eqb, length, map, refl, sym, ap, subst, ◌<◌, ◌∙◌, arith, All, IfSome}
 use Rattle.std.specs.Prelude.{count_by, ◌==◌}
 use Rattle.std.specs.List.{filter_map, flat_map}
 use Rattle.std.specs.List.Sorted.{IsNonDecreasing, IsStrictlyIncreasing}
@@ -9,9 +9,8 @@ use Rattle.std.proofs.lemmas.List.{length-map}
 use Rattle.std.proofs.lemmas.List.Concat.{flat_map-append}
 use Rattle.std.proofs.lemmas.List.Elements.{All-append, All-head, All-map, All-nil, All-tail, All-weaker}
 use Rattle.std.proofs.lemmas.List.Sums.{sum_by-append, sum_by-cons}
-use Rattle.landmark_rules.specs.Groups.{mark_place, marks_in, AreGroups, IsMark}
-use Rattle.mark_kinds.specs.Table.{all_groups, group_of, group_place, is_group_asked, kind_place, most_groups}
-use Rattle.mark_kinds.specs.declared.looking.Kinds.{Kinds}
+use Rattle.landmark_rules.specs.Groups.{mark_place, marks_in, AreGroups, AreMarkBounds, IsMark}
+use Rattle.mark_kinds.specs.Table.{all_groups, group_of, group_place, kind_place, most_groups}
 use Rattle.mark_kinds.proofs.Places.{same_group, same_kind}
 use Rattle.landmark_rules.specs.declared.marks.Group.{Group}
 use Rattle.mark_kinds.specs.declared.groups.GroupKind.{GroupKind}
@@ -38,6 +37,7 @@ record AreOf (lengths : List ℕ) (at : ℕ) (most : ℕ) (groups : List Group) 
   few : length groups ≤ most
   marks : All (λ g. All (IsMark lengths g.kind) g.marks) groups
   rising : All (λ g. IsStrictlyIncreasing (map mark_place g.marks)) groups
+  bounds : All (λ g. IfSome g.bounds AreMarkBounds) groups
   few_marks_in : (kind : Kind) → count_by (is_of kind) (marks_in groups) ≤ 4096
 
 flat_of_map : {X Y Z : Type 0} (f : X → Y) (g : Y → List Z) (xs : List X) → flat_map g (map f xs) ≡ flat_map (λ x. g (f x)) xs
@@ -60,6 +60,7 @@ of_kind lengths found kind are =
           (All-weaker IsSoundOwner (λ o. All (IsMark lengths (group_kind o)) (filter_map (mark_in o alone) found)) (λ o so. are_marks lengths o alone found so are.each) owners sound);
       rising = All-map (λ g. IsStrictlyIncreasing (map mark_place g.marks)) (group_for found alone) owners
           (all_any (λ o. IsStrictlyIncreasing (map mark_place (filter_map (mark_in o alone) found))) (λ o. are_rising o alone found are.rising) owners);
+      bounds = All-map (λ g. IfSome g.bounds AreMarkBounds) (group_for found alone) owners (all_any (λ o. IfSome (group_for found alone o).bounds AreMarkBounds) (λ o. tt) owners);
       few_marks_in = λ k. omega (arith, ap (count_by (is_of k)) (flat_of_map (group_for found alone) (λ g. g.marks) owners), few_marks k kind found, are.few k);
     }
 
@@ -168,6 +169,7 @@ record AreFrom (lengths : List ℕ) (n : ℕ) (groups : List Group) : Type 0 whe
   few : (kind : GroupKind) → count_by (λ g. place_of g == group_place kind) groups ≤ most_groups kind
   marks : All (λ g. All (IsMark lengths g.kind) g.marks) groups
   rising : All (λ g. IsStrictlyIncreasing (map mark_place g.marks)) groups
+  bounds : All (λ g. IfSome g.bounds AreMarkBounds) groups
   few_marks : (kind : Kind) → count_by (is_of kind) (marks_in groups) ≤ 4096
 
 none_from : (lengths : List ℕ) (n : ℕ) → AreFrom lengths n []
@@ -178,6 +180,7 @@ none_from lengths n = record {
   few = λ kind. omega arith;
   marks = All-nil (λ g. All (IsMark lengths g.kind) g.marks);
   rising = All-nil (λ g. IsStrictlyIncreasing (map mark_place g.marks));
+  bounds = All-nil (λ g. IfSome g.bounds AreMarkBounds);
   few_marks = λ kind. omega arith;
 }
 
@@ -237,6 +240,7 @@ joined lengths n kind a rest le are from = record {
   few = λ other. few_groups lengths kind a rest are from other (eqb (group_place kind) (group_place other)) refl;
   marks = All-append (λ g. All (IsMark lengths g.kind) g.marks) a rest are.marks from.marks;
   rising = All-append (λ g. IsStrictlyIncreasing (map mark_place g.marks)) a rest are.rising from.rising;
+  bounds = All-append (λ g. IfSome g.bounds AreMarkBounds) a rest are.bounds from.bounds;
   few_marks = λ of. few_of lengths kind a rest are from of (eqb (group_place kind) (group_place (group_of of))) refl;
 }
 
@@ -255,7 +259,7 @@ all_rise : Rise 0 all_groups
 unfolding Rise
 all_rise = (omega arith, (omega arith, (omega arith, (omega arith, (omega arith, (omega arith, (omega arith, tt)))))))
 
-pub are_groups : (lengths : List ℕ) (asked : Kinds) (found : List Sighting) → AreSightings lengths found → AreGroups lengths (groups_of asked found)
-are_groups lengths asked found are =
-    let from = are_from lengths asked found are 0 all_groups all_rise in
-    record { order = never_falls (groups_of asked found) from.level; few = from.few; marks = from.marks; rising = from.rising; few_marks = from.few_marks }
+pub are_groups : (lengths : List ℕ) (found : List Sighting) → AreSightings lengths found → AreGroups lengths (groups_of found)
+are_groups lengths found are =
+    let from = are_from lengths found are 0 all_groups all_rise in
+    record { order = never_falls (groups_of found) from.level; few = from.few; marks = from.marks; rising = from.rising; bounds = from.bounds; few_marks = from.few_marks }

@@ -151,7 +151,7 @@ mark_in owner alone s = option_map (λ rule. record { kind = kind_of s.landmark;
 
 -- the group of an owner: the marks of its sightings, in their order
 abbrev pub group_for : List Sighting → Bool → Owner → Group
-group_for found alone owner = record { kind = group_kind owner; marks = filter_map (mark_in owner alone) found }
+group_for found alone owner = record { kind = group_kind owner; marks = filter_map (mark_in owner alone) found; bounds = None }
 
 -- the groups of a kind, one for each owner
 unfoldable pub groups_in : List Sighting → GroupKind → List Group

@@ -147,5 +147,6 @@ fn group_for(alloc: Global, found: &[Sighting], alone: bool, owner: &Owner) -> R
     Ok(Group {
         kind: owner.group_kind(),
         marks,
+        bounds: None,
     })
 }

@@ -1,5 +1,6 @@
 """What is tried of images by their evidence, in which order, and what is left."""
 
+import dataclasses
 import random
 import types
 import unittest
@@ -12,12 +13,16 @@ from reraid_try.calls.program import Copied, Listing
 from reraid_try.checks.verdicts import Score
 from reraid_try.evidence import ties
 from reraid_try.evidence.families import Family
+from reraid_try.evidence.heads import Head
 from reraid_try.evidence.images import Image
 from reraid_try.evidence.maps import Map
+from reraid_try.evidence.metadata import Member
+from reraid_try.evidence.shared import Place
 from reraid_try.evidence.shifts import Shift
 from reraid_try.evidence.tables import Partition, Table
 from reraid_try.evidence.unlike import Unlike
 from reraid_try.options import Options
+from reraid_try.policy import evident as evident_module
 from reraid_try.policy.evident import Evident, Part
 from reraid_try.policy.plain import Aim, Span
 from reraid_try.policy.shapes import Shape
@@ -244,6 +249,165 @@ class Apart(unittest.TestCase):
         self.assertEqual(self.copies(same, 1)[1], ["near3 4"])
         apart = Aim((0, 1, 2), Span(0, 900), "why", copied=True, apart=128)
         self.assertEqual(self.copies(apart, 2)[1], ["offset2,offset3 3", "far2,far3 3"])
+
+
+class Enough(unittest.TestCase):
+    """Which candidates say enough."""
+
+    def test_content_or_closed(self) -> None:
+        """One with a sign does, and one that is encrypted where parity speaks for it."""
+        def candidate(score: Score, parity: bool, encrypted: list[str]) -> Any:
+            trial = types.SimpleNamespace(shape=types.SimpleNamespace(parity=parity))
+            return types.SimpleNamespace(score=score, trial=trial, found=types.SimpleNamespace(encrypted=encrypted))
+        told = [evident_module.enough(candidate(*it)) for it in (
+            (Score.CHECKED, False, []), (Score.KNOWN, True, ["LUKS"]), (Score.KNOWN, False, ["LUKS"]), (Score.KNOWN, True, []))]
+        self.assertEqual(told, [True, True, False, False])
+
+
+class Parts(unittest.TestCase):
+    """The parts of the disks that are searched, and the hunt in which all else is."""
+
+    images = [Image(name, number, 900, first=8, heads=(Head("mbr", number, 4), Head("mbr", number, 200))) for number, name in enumerate("abc")]
+
+    def test_places(self) -> None:
+        """Places that hold an array are searched, in order; of the others it is said that they are passed over."""
+        found, report = evident(self.images, NoTools({}), Options(("a",)))
+        places = [Place(100, 400, (0, 1)), Place(500, 300, (0, 1, 2)), Place(8, 90, (0, 1, 2), copied=True)]
+        with mock.patch("reraid_try.policy.evident.shared.looked_at", return_value=places):
+            self.assertEqual(list(found.parts()), [Part((0, 1), Span(100, 500, True)), Part((0, 1, 2), Span(500, 800, True))])
+        self.assertEqual([line.endswith("; passed over") for line in report.lines], [False, False, True])
+        with mock.patch("reraid_try.policy.evident.shared.looked_at", return_value=[Place(8, 90, (0, 1, 2), empty=True)]):
+            self.assertEqual(list(found.parts()), [Part((0, 1, 2), Span(0, 900))])
+        nothing, _ = evident([Image("a", 0, 900)], NoTools({}), Options(("a",)))
+        self.assertEqual(list(nothing.parts()), [])
+
+    def test_all_are_tried(self) -> None:
+        """Each part is, also behind one of which a candidate says enough."""
+        found, _ = evident(self.images, NoTools({}), Options(("a",)))
+        parts, tried = [Part((0, 1), Span(100, 500, True)), Part((0, 1, 2), Span(500, 800, True))], []
+
+        def of_part(part: Part) -> bool:
+            tried.append(part)
+            return part is parts[0]
+        setattr(found, "of_part", of_part)
+        setattr(found, "parts", lambda: iter(parts))
+        self.assertEqual((found.run(), tried, found.searched), (True, parts, parts))
+        setattr(found, "of_part", lambda _: False)
+        self.assertFalse(found.run())
+
+    def test_within(self) -> None:
+        """Of a partition what lies in it is seen, of whole disks all."""
+        found, _ = evident(self.images, NoTools({}), Options(("a",)))
+        self.assertEqual(found.within((2, 0), Span(0, 300)), [self.images[2], self.images[0]])
+        seen = found.within((2, 0), Span(100, 300, True))
+        self.assertEqual([(it.number, it.sectors, [head.sector for head in it.heads]) for it in seen], [(2, 300, [200]), (0, 300, [200])])
+
+    def test_hunt(self) -> None:
+        """All else is tried in the first partition that was searched, or over all images."""
+        for parts, images, start in (([Part((0, 2), Span(100, 300, True)), Part((0, 1, 2), Span(300, 800, True))], (0, 2), 100),
+                                     ([Part((0, 2), Span(0, 900))], (0, 1, 2), 0), ([], (0, 1, 2), 0)):
+            found, report = evident(self.images, NoTools({}), Options(("a",)))
+            setattr(found.search, "say_late", None)
+            found.searched = parts
+            with mock.patch("reraid_try.policy.evident.Hunt") as hunt:
+                found.hunt()
+            self.assertEqual((tuple(it.number for it in hunt.call_args[0][2]), hunt.call_args[1].get("start", 0)), (images, start))
+            self.assertEqual(report.lines, ["goes on in the partition from sector 100 on"] if start else [])
+
+    def test_images_that_are_the_same(self) -> None:
+        """They are tried as RAID 10, but in a partition, or where that level is not asked for; what holds nothing is none of it."""
+        heap = [*self.images, Image("d", 3, 900, first=8, like=1), Image("e", 4, 900)]
+        part = Part((0, 1, 2), Span(0, 900))
+        found, _ = evident(heap, NoTools({}), Options(("a",)))
+        aim, = found.alike(part)
+        self.assertEqual((aim.images, aim.why, aim.copied, aim.shapes), ((0, 1, 2, 3), "image 3 is the same as image 1", True, ()))
+        self.assertEqual(found.alike(Part((0, 1, 2), Span(100, 500, True))), [])
+        self.assertEqual(evident(heap, NoTools({}), Options(("a",), levels=("5",)))[0].alike(part), [])
+        self.assertEqual(evident(self.images, NoTools({}), Options(("a",)))[0].alike(part), [])
+
+    def test_metadata(self) -> None:
+        """What they name is tried, but for offsets of each image's own over some of the images; in a partition its start counts for LVM2."""
+        def member(image: int, slot: int, offset: int) -> Member:
+            return Member(image, "md 1.2", "a", "raid5", 3, "left-symmetric", 128, slot, offset, 9)
+        same, unlike = [member(image, image, 2048) for image in range(3)], [member(image, image, 2048 + image) for image in range(3)]
+        heap = [*self.images, Image("d", 3, 900, first=8)]
+        for images, members, part, count, place, start in (
+                (self.images, same, Part((0, 1, 2), Span(0, 900)), 1, None, 0),
+                (self.images, unlike, Part((0, 1, 2), Span(0, 900)), 1, None, 0), (heap, same, Part((0, 1, 2), Span(0, 900)), 1, None, 0),
+                (heap, unlike, Part((0, 1, 2, 3), Span(0, 900)), 0, None, 0),
+                (heap, same, Part((0, 1, 2), Span(100, 500, True)), 1, Place(100, 400, (0, 1, 2)), 100)):
+            found, report = evident(images, NoTools({}), Options(("a",)))
+            with mock.patch("reraid_try.policy.evident.metadata.examine", return_value=members) as examine, \
+                    mock.patch("reraid_try.policy.evident.metadata.examine_lvm", return_value=[]) as lvm:
+                aims = found.by_metadata(part)
+            self.assertEqual((len(aims), len(report.lines)), (count, 3))
+            self.assertEqual(examine.call_args[0][2:], ({number: images[number].name for number in part.images}, place))
+            self.assertEqual(lvm.call_args[0][0], {number: start for number in part.images})
+
+
+class Sought(unittest.TestCase):
+    """The trials of an aim."""
+
+    def seek(self, aim: Aim, *found: Score, ends: bool = False) -> tuple[bool, list[str], Any]:
+        """Whether a candidate says enough, what was done, and how the hunt was begun, where the trials find candidates of these scores."""
+        done: list[str] = []
+        it, report = evident([Image(name, number, 900, first=8) for number, name in enumerate("abc")], NoTools({}), Options(("a",)))
+        it.search.tested.append(cast(Any, types.SimpleNamespace(score=Score.WHOLE)))
+        setattr(it.search, "say_late", None)
+        setattr(it.search, "say_evidence", lambda _: done.append("evidence"))
+
+        def copies(_hunt: Any, _aim: Aim, before: int) -> bool:
+            done.append(f"copies {before}")
+            return ends
+
+        def attempt(_hunt: Any, _aim: Aim, before: int) -> None:
+            done.append(f"attempt {before} {it.search.why}")
+            trial = types.SimpleNamespace(shape=types.SimpleNamespace(parity=True))
+            it.search.tested.extend(cast(Any, types.SimpleNamespace(score=score, trial=trial, found=types.SimpleNamespace(encrypted=[])))
+                                    for score in found)
+        setattr(it, "copies", copies)
+        setattr(it, "attempt", attempt)
+        with mock.patch("reraid_try.policy.evident.Hunt") as hunt:
+            told = it.seek(aim)
+        self.assertEqual((report.lines, it.search.why), ([f"looks for this first: {aim.why}"], ""))
+        return told, done, hunt.call_args
+
+    def test_what_is_done(self) -> None:
+        """Copies first where they are asked for, and then the shapes, unless that was enough; candidates of before say nothing."""
+        aim = Aim((2, 0), Span(100, 300, True), "why", asked=(("chunks", "8"),), tied=True)
+        told, done, begun = self.seek(aim, Score.CHECKED)
+        self.assertEqual((told, done), (True, ["evidence", "attempt 1 why"]))
+        self.assertEqual(([it.number for it in begun[0][2]], begun[0][0].seconds), ([2, 0], 10))
+        self.assertEqual(begun[1], {"start": 100, "asked": {"chunks": "8"}, "tied": True})
+        self.assertEqual(self.seek(aim, Score.KNOWN)[0], False)
+        copied = Aim((2, 0), Span(0, 900), "why", copied=True)
+        self.assertEqual(self.seek(copied)[:2], (False, ["evidence", "copies 1", "attempt 1 why"]))
+        self.assertEqual(self.seek(copied, ends=True)[:2], (False, ["evidence", "copies 1"]))
+
+    def test_time_of_a_question(self) -> None:
+        """A sixth of that of a trial, and five seconds at least."""
+        for seconds, part in ((60, 10), (31, 5), (36, 6), (9, 5)):
+            self.assertEqual(evident([], NoTools({}), Options(("a",), seconds=seconds))[0].options.seconds, part)
+
+    def test_where_parity_may_lie(self) -> None:
+        """It is asked of what is tied at levels 5 and 6, over what the images of the aim have, and only where the first shape says so."""
+        it, _ = evident([Image(name, number, 900 - number, first=8) for number, name in enumerate("abc")], NoTools({}), Options(("a",)))
+        asked: list[Any] = []
+        setattr(it, "asked", lambda: types.SimpleNamespace(relations=lambda *words: asked.append(words)))
+        five = Aim((0, 2), Span(0, 2000), "why", (Shape("5", 3, 1), Shape("0", 2)), tied=True)
+        each = dataclasses.replace(five, asked=(("mode", "each"),))
+        for aim, wanted in ((five, [((0, 2), 0, 898, 1, ())]), (dataclasses.replace(five, span=Span(100, 500)), [((0, 2), 100, 500, 1, ())]),
+                            (dataclasses.replace(five, images=(0,), span=Span(0, 40 * 16384)), [((0,), 0, 900, 1, ())]),
+                            (dataclasses.replace(each, moved=(16, 8)), [((0, 2), 0, 882, 1, (16, 8))]), (each, []),
+                            (dataclasses.replace(five, shapes=(Shape("0", 2), Shape("5", 3, 1))), []), (dataclasses.replace(five, shapes=()), []),
+                            (dataclasses.replace(five, tied=False), [])):
+            asked.clear()
+            self.assertIsNone(it.places_of(aim))
+            self.assertEqual(asked, wanted)
+        long, _ = evident([Image("a", 0, 1 << 20)] * 2, NoTools({}), Options(("a",)))
+        setattr(long, "asked", lambda: types.SimpleNamespace(relations=lambda *words: asked.append(words)))
+        long.places_of(Aim((0, 1), Span(0, 1 << 20), "why", (Shape("6", 4, 2),), tied=True))
+        self.assertEqual(asked[-1][3], 64)
 
 
 class Unread(unittest.TestCase):

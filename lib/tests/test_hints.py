@@ -103,7 +103,8 @@ class OnImages(InFolder):
 
     def test_bcache(self) -> None:
         """The contents of a volume that is cached begin 16 sectors behind its start, or where the superblock says."""
-        for version, told, places in ((1, 99, [16]), (4, 48, [48]), (6, 2048, [2048]), (0, 48, []), (3, 48, []), (4, 0, [])):
+        none: list[int] = []
+        for version, told, places in ((1, 99, [16]), (4, 48, [48]), (6, 2048, [2048]), (0, 48, none), (3, 48, none), (4, 0, none)):
             name = self.file("a", bytes(24 * SECTOR) + superblock(version, told))
             one = image(0, name, heads=(Head("bcache", 0, 16), Head("ext", 0, 4)))
             found = hints.bcache_origins([one])

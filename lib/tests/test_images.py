@@ -113,8 +113,9 @@ class Heads(unittest.TestCase):
             return (bytes(place) + magic).ljust(heads.HEAD_BYTES, b"\0")
         fat = struct.pack("<HBHB", 512, 8, 32, 2)
         for kind, head in (("xfs", at(0, b"XFSB")), ("ntfs", at(3, b"NTFS    ")), ("exfat", at(3, b"EXFAT   ")), ("btrfs", at(65600, b"_BHRfS_M")),
-                           ("bcache", at(4096, superblock(4, 48))), ("LVM2_member", at(512, b"LABELONE")), ("crypto_LUKS", at(0, b"LUKS\xba\xbe")), ("BitLocker", at(3, b"-FVE-FS-")),
-                           ("ext4", at(1024, ext_super())), ("vfat", at(11, fat)[:82] + b"FAT32   " + bytes(9)), ("MBR", at(0, mbr((0, 7, 63, 9))))):
+                           ("LVM2_member", at(512, b"LABELONE")), ("crypto_LUKS", at(0, b"LUKS\xba\xbe")), ("BitLocker", at(3, b"-FVE-FS-")),
+                           ("ext4", at(1024, ext_super())), ("vfat", at(11, fat)[:82] + b"FAT32   " + bytes(9)), ("MBR", at(0, mbr((0, 7, 63, 9)))),
+                           ("bcache", at(4096, superblock(4, 48)))):
             self.assertEqual(heads.sniff(head), kind)
         for head in (bytes(4096), b"", at(1024, ext_super(1)), at(65599, b"_BHRfS_M"), at(54, b"FAT16   ")):
             self.assertIsNone(heads.sniff(head))

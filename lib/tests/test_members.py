@@ -124,10 +124,10 @@ class Numbers(InFolder):
 
     heap = (1, 3, 4, 6)
 
-    def found(self, listed: str, *answers: tuple[str, object], **values: object) -> Candidate:
-        """A candidate of that hunt, as it is made of a listed set."""
+    def found(self, listed: str, *answers: tuple[str, object], unsound: int = 9) -> Candidate:
+        """A candidate of that hunt, as it is made of a listed set, with so many unsound rows."""
         hunt = among(self.heap, *answers)
-        it = candidate(hunt.word(listed).text, whole(), hunt=hunt, **values)
+        it = candidate(hunt.word(listed).text, whole(), hunt=hunt, unsound=unsound)
         it.listed = read_word(listed)
         return it
 
@@ -135,7 +135,7 @@ class Numbers(InFolder):
         """The hunt is asked by its own numbers, and people are told of those among all."""
         def told(answered: list[str], _: str) -> Answer:
             return put(f"unsound {0 if '0,1,-,3' in answered[2] else 9} of 9\nfail\n")
-        it = self.found("6:la:by-data:8:0:0,1,2,3", ("reraid check", told), unsound=9)
+        it = self.found("6:la:by-data:8:0:0,1,2,3", ("reraid check", told))
         self.assertEqual(it.word.text, "6:la:by-data:8:0:1,3,4,6")
         report, standin = Told(), Standin()
         room = Room(standin, self.folder, mounts=False)
@@ -148,7 +148,7 @@ class Numbers(InFolder):
                          ("6:la:by-data:8:0:1,3,-,6", "6:la:by-data:8:0:0,1,-,3", ["without image 4"]))
         both = damage.lesser(it, frozenset({3, 0}))
         self.assertEqual((both.word.text, both.trial.loosened), ("6:la:by-data:8:0:-,3,4,-", ["without image 1 and image 6"]))
-        five = self.found("5:ls:none:8:0:0,1,2,3", unsound=9)
+        five = self.found("5:ls:none:8:0:0,1,2,3")
         self.assertEqual(tests.left_out(five), [frozenset({image}) for image in range(4)])
 
     def test_what_is_old(self) -> None:

@@ -32,7 +32,8 @@ class Shapes(unittest.TestCase):
         """As many disks are lost as ties say."""
         self.assertEqual(self.shapes(family(4, "5", 1)), [Shape("5", 4)])
         self.assertEqual(self.shapes(family(4, "5", 0)), [Shape("5", 5, 1)])
-        self.assertEqual([self.shapes(family(6, "6", parity)) for parity in (2, 1, 0)], [[Shape("6", 6)], [Shape("6", 7, 1)], [Shape("6", 8, 2), Shape("5", 7, 1)]])
+        self.assertEqual([self.shapes(family(6, "6", parity)) for parity in (2, 1, 0)],
+                         [[Shape("6", 6)], [Shape("6", 7, 1)], [Shape("6", 8, 2), Shape("5", 7, 1)]])
 
     def test_old(self) -> None:
         """An old disk is left out and counts as lost."""

@@ -339,6 +339,43 @@ class Asked(unittest.TestCase):
         self.assertEqual(allows.needing(Shape("5", 3), [half], half.of(allows.asking.request(Shape("5", 3)))), [0, 2048])
         self.assertEqual((allows.is_unsound(Shape("5", 3)), refuses.is_unsound(Shape("5", 3))), (False, True))
 
+    def test_bad_rows_that_maps_do_not_tell_of(self) -> None:
+        """Where hints speak for a shape, there are landmarks, and more rows may be bad than the maps say."""
+        questions, _, _ = self.questions(lambda *_: put(""), evidence(data=((2, 2),), bad=9))
+        told = [questions.has_bad_rows(plan, shape) for plan, shape in (
+            (self.plan(badrows=10), Shape("5", 3)), (self.plan(badrows=9), Shape("5", 3)), (self.plan(badrows=10), Shape("6", 3)),
+            (self.plan(badrows=10).bare(), Shape("5", 3)))]
+        self.assertEqual(told, [True, False, False, False])
+
+    def test_landmarks_are_asked_only_where_there_are_some(self) -> None:
+        questions, standin, _ = self.questions(lambda *_: put("1 5:la:none:8:0:0,1,2\nnext 2 of 9\n"))
+        self.assertTrue(questions.may_list(self.plan().bare(), Shape("5", 3)))
+        self.assertEqual([text.count("badrows 0\n") for _, text in standin.asked], [1])
+
+    def test_how_many_sets_landmarks_allow(self) -> None:
+        """By the part of the plan that a page had room for: 2 sets in 4 of 40; at least one, and asked once."""
+        for page, count in (("1 a\n3 5:la:none:8:0:0,1,2\n4 5:ls:none:8:0:0,1,2\nnext 4 of 40\n", 20), ("next 40 of 40\n", 1)):
+            questions, standin, _ = self.questions(lambda *_, page=page: put(page))
+            self.assertEqual([questions.allowed_by_landmarks(self.plan()) for _ in range(2)], [count, count])
+            self.assertEqual(standin.count("reraid list"), 1)
+
+    def test_late_and_each_its_own(self) -> None:
+        """Where time was up, or each image has an offset of its own, the smallest offset may be the one."""
+        late, _, _ = self.questions(lambda *_: Answer(None))
+        request = late.asking.request(Shape("6", 3))
+        self.assertEqual(late.first_allowed(request, Shape("6", 3)), 0)
+        each, _, _ = self.questions(lambda *_: put("1 6:la:by-data:8:2048+0+0:0,1,2\nnext 2 of 9\n"))
+        self.assertEqual([each.first_allowed(it, Shape("6", 3)) for it in (request, request.having(mode="each"))], [2048, 0])
+
+    def test_bad_rows_are_no_less_where_hints_speak(self) -> None:
+        """Parity that holds once many rows may be bad says nothing against loosening the end besides; of another shape it is enough by itself."""
+        def answer(_words: list[str], text: str) -> Answer:
+            return put("next 9 of 9\n" if "badrows 0\n" in text else "1 5:la:none:8:0:0,1,2\nnext 2 of 9\n")
+        questions, _, _ = self.questions(answer)
+        chosen = [cures.bad_rows(500, (0, 2048)), cures.before_superblock(plan_of(XFS))]
+        for shape, offsets in ((Shape("5", 3), [0, 2048]), (Shape("6", 3), [])):
+            self.assertEqual(questions.needing(shape, chosen, cures.loosened(questions.asking.request(shape), chosen)), offsets)
+
     def test_far_before(self) -> None:
         questions, _, _ = self.questions(put(""), evidence(data=((2, 2),), filled={0: 90000, 2048: 50000}))  # type: ignore[arg-type]
         self.assertTrue(questions.far_before(0, 2048, Shape("5", 3)))

@@ -187,9 +187,9 @@ class Families(unittest.TestCase):
         assert found.reshape
         self.assertEqual((found.reshape.last, found.reshape.sector, sorted(found.reshape.before), sorted(found.reshape.after)),
                          (2207, 2208, [0, 1, 2, 3, 4], [0, 1, 2, 3]))
-        self.assertEqual(found.reshape.line(), "ties change for good between sector 2207 and sector 2208: up to the first 5 images are tied, from the "
-                         "second on 4, without image 4. A reshape that stopped there does so; so does an older array of the 4 behind what a newer one "
-                         "wrote, or image 4 if it is no member and holds what members hold, as a journal may")
+        self.assertEqual(found.reshape.line(), "ties change for good between sector 2207 and sector 2208: up to the first 5 images are tied, from "
+                         "the second on 4, without image 4. A reshape that stopped there does so; so does an older array of the 4 behind what a "
+                         "newer one wrote, or image 4 if it is no member and holds what members hold, as a journal may")
 
     def test_older_array_behind_what_is_written(self) -> None:
         """The same is seen where an older array of four disks still stands behind what one of five wrote, so it is not called a reshape alone."""

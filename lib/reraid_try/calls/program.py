@@ -19,8 +19,8 @@ LAST = (1 << 64) - 1
 
 @dataclasses.dataclass(frozen=True)
 class Listing:
-    """What a trial listed: its sets, how many the plan has (None where others were not counted), whether all of them were looked at, and how many rows
-    might be bad, where that was not known before."""
+    """What a trial listed: its sets, how many the plan has (None where others were not counted), whether all of them were looked at, and how many
+    rows might be bad, where that was not known before."""
 
     sets: tuple[Ranked, ...]
     total: int | None

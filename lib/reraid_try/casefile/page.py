@@ -100,7 +100,8 @@ class Page:
     def trials(self) -> str:
         """What was tried: the reasons, what was loosened, and what came of it."""
         rows = [(str(it["number"]), text(it["shape"]), text(it.get("reason", "")), text(" and ".join(it["loosened"]) or "nothing"),
-                 f"{it['listed']:,}" + ("" if it["total"] is None else f" of {it['total']:,}"), text(self.outcome(it))) for it in self.record.of("trial")]
+                 f"{it['listed']:,}" + ("" if it["total"] is None else f" of {it['total']:,}"), text(self.outcome(it)))
+                for it in self.record.of("trial")]
         return section("What was tried", table(TRIALS, rows)) if rows else ""
 
     def outcome(self, trial: Event) -> str:

@@ -132,8 +132,8 @@ class Turned:
 
     def text(self) -> str:
         """What is said of it."""
-        return (f"{counted(self.fits, 'mark')} fit before row {self.row}, and from there on {self.misfits} do not, as where a reshape stopped, or where "
-                "marks of an older array or file system stand behind that row")
+        return (f"{counted(self.fits, 'mark')} fit before row {self.row}, and from there on {self.misfits} do not, as where a reshape stopped, or "
+                "where marks of an older array or file system stand behind that row")
 
 
 class Rows:

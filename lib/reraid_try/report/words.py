@@ -19,7 +19,7 @@ PATTERNS = {"la": "left-asymmetric", "ra": "right-asymmetric", "ls": "left-symme
             "parity-last": "parity last", "n-restart": "N restart", "n-continue": "N continue"}
 ORDERS = {"by-data": "Q by the number of the data", "by-slot": "Q by slot"}
 LVM = "LVM2_member"
-ALONE = "(the images in slots alone are named, and numbered anew: a volume ends where the shortest image does that is named, and another one is shorter)"
+ALONE = "(the images in slots alone are named, with numbers of their own: a volume ends where the shortest named image does, and another is shorter)"
 NUMBERS = {1: "one", 2: "two", 3: "three", 4: "four"}
 
 

@@ -1,0 +1,428 @@
+"""In which order a search does what it does, and where it ends: its parts are stood in for."""
+
+import dataclasses
+import types
+import unittest
+from collections.abc import Callable, Sequence
+from typing import Any, cast
+from unittest import mock
+
+from reraid_try.calls.formats import Ranked
+from reraid_try.calls.program import Copied, Listing
+from reraid_try.calls.sets import NEAR_2, Word, read_word
+from reraid_try.checks.candidates import Candidate
+from reraid_try.checks.verdicts import Score
+from reraid_try.errors import Refused, Stopped
+from reraid_try.evidence.images import Image
+from reraid_try.options import Options
+from reraid_try.policy import cures
+from reraid_try.policy.cures import Family
+from reraid_try.policy.search import Search
+from reraid_try.policy.shapes import Shape, Tiers
+from reraid_try.policy.steps import Step
+from reraid_try.policy.trials import Trial
+from reraid_try.units import ALL, MIB
+from tests.standin import Standin, Told, plan_of
+from tests.test_candidates import candidate, whole
+from tests.test_policy import BASE, EXT, XFS
+
+FIVE, SIX, LOST, NONE = Shape("5", 3), Shape("6", 4, 1), Shape("6", 5, 2), Shape("0", 3)
+
+
+def tested(score: Score, text: str = "5:ls:none:128:2048:0,1,2", row: int = 0) -> Any:
+    """A candidate of this score, whose rows have so many bytes."""
+    return types.SimpleNamespace(score=score, word=read_word(text), found=types.SimpleNamespace(row=row))
+
+
+def search(images: int = 3, **values: Any) -> Search:
+    """A search over so many images, of which nothing was looked at."""
+    found = Search(Options(tuple(f"i{number}" for number in range(images)), **values), Standin(), Told(), cast(Any, None))
+    found.images = tuple(Image(f"i{number}", number, 8000) for number in range(images))
+    return found
+
+
+def said(it: Search) -> list[str]:
+    """What was printed."""
+    return cast(Told, it.report).lines
+
+
+def hunt(shapes: Any = None, groups: bool = True, **values: Any) -> Any:
+    """What stands for a hunt."""
+    plan = plan_of(XFS, EXT) if groups else plan_of()
+    return types.SimpleNamespace(shapes=shapes, plan=plan, **values)
+
+
+class Runs(unittest.TestCase):
+    """The whole of a run."""
+
+    def done(self, best: Score, solved: bool = False, more: bool = False) -> list[str]:
+        """What is done where the first pass finds something of this score."""
+        it, done = search(first=9), list[str]()
+
+        def passes() -> None:
+            done.append(f"pass {'all' if it.options.first == ALL else it.options.first} {len(it.known)}")
+            it.solved, it.tested = solved, [tested(best)]
+            it.known.add("a set")
+        with mock.patch.multiple(it, pass_through=passes, may_read_all=lambda: more, without_landmarks=lambda: done.append("bare"),
+                                 diagnose=lambda _: done.append("diagnosis"), say_rows=lambda: done.append("rows")):
+            it.run()
+        return done
+
+    def test_what_follows(self) -> None:
+        """More is read, and landmarks left out, only where nothing is known; a diagnosis stands where nothing has a sign."""
+        self.assertEqual(self.done(Score.NOTHING, more=True), ["pass 9 0", "pass all 0", "bare", "diagnosis", "rows"])
+        self.assertEqual(self.done(Score.NOTHING), ["pass 9 0", "bare", "diagnosis", "rows"])
+        self.assertEqual(self.done(Score.KNOWN, more=True), ["pass 9 0", "diagnosis", "rows"])
+        self.assertEqual(self.done(Score.CHECKED, more=True), ["pass 9 0", "rows"])
+        self.assertEqual(self.done(Score.NOTHING, solved=True, more=True), ["pass 9 0", "rows"])
+
+    def test_best(self) -> None:
+        it = search()
+        self.assertEqual(it.best(), Score.NOTHING)
+        it.tested = [tested(Score.KNOWN), tested(Score.CHECKED), tested(Score.NOTHING)]
+        self.assertEqual(it.best(), Score.CHECKED)
+
+    def test_all_may_be_read(self) -> None:
+        """Some image is longer than what was read, and none more than four times as long."""
+        for sectors, may in (((2048, 100), False), ((2049, 100), True), ((100, 8192), True), ((100, 8193), False)):
+            it = search(first=MIB)
+            it.images = tuple(Image(f"i{number}", number, count) for number, count in enumerate(sectors))
+            self.assertEqual(it.may_read_all(), may)
+
+    def test_a_pass(self) -> None:
+        """What evidence says enough of ends it. Without landmarks all is read at once, where it may be, before anything else is tried."""
+        for solved, groups, more, wanted in ((True, True, False, []), (False, True, True, ["evidence", "all"]),
+                                             (False, False, False, ["evidence", "all"]), (False, False, True, ["evidence"])):
+            it, done = search(), list[str]()
+            evident = types.SimpleNamespace(run=lambda solved=solved: solved, hunt=lambda groups=groups: hunt(groups=groups))
+            with mock.patch("reraid_try.policy.search.Evident", lambda _, evident=evident: evident), \
+                    mock.patch("reraid_try.policy.search.Tests"), \
+                    mock.patch.multiple(it, look=lambda: None, may_read_all=lambda more=more: more, try_all=lambda done=done: done.append("all"),
+                                        say_evidence=lambda _, done=done: done.append("evidence")):
+                it.pass_through()
+            self.assertEqual((it.solved, done), (solved, wanted))
+
+    def test_refused_diagnosis(self) -> None:
+        """Its line is said, and the run goes on."""
+        it = search()
+        it.hunt = hunt()
+        with mock.patch("reraid_try.policy.search.Diagnosis") as made:
+            it.diagnose(lambda _: None)
+            it.diagnose(mock.Mock(side_effect=Refused("reraid: no")))
+        self.assertEqual((said(it), made.call_args[0][2:]), (["  reraid: no"], (60, 1)))
+
+
+class Steps(unittest.TestCase):
+    """Which trials there are, in which order."""
+
+    def order(self, images: int, best: Callable[[list[str]], Score], run: str, exact: Sequence[Shape] = (FIVE,), **values: Any) -> tuple[bool, list[str]]:
+        """Whether the search is at its end, and what was done, where the best is so good after these."""
+        it, done = search(images, **values), list[str]()
+        tiers = Tiers((FIVE, NONE), (SIX, FIVE), (LOST,))
+        it.hunt = hunt(types.SimpleNamespace(tiers=lambda: tiers, exact=lambda: list(exact)))
+
+        def step(what: Step, _hunt: Any = None) -> bool:
+            levels = "+".join(f"{shape.levels}.{shape.missing}" for shape in what.shapes)
+            done.append(f"{levels or 'none'} {what.count}" + " quick" * what.quick + " every" * what.every)
+            return False
+
+        def damage(shapes: Sequence[Shape]) -> bool:
+            done.append(f"damage {len(shapes)}")
+            return False
+        with mock.patch.multiple(it, take_step=step, best=lambda: best(done), before_damage=damage, diagnose=lambda _: done.append("diagnosis"),
+                                 near_mirrors=lambda _, missing: bool(done.append(f"mirrors {missing}"))):
+            return bool(getattr(it, run)()), done
+
+    def test_first_trials(self) -> None:
+        """Of an odd number of images the mirrors with one lost come first too, of others late; nothing of them where level 10 is not asked for."""
+        steps = ["damage 4", "5.0+0.0 0", "5.0 0", "5.0+0.0 1", "5.0+0.0 2", "5.0 3", "6.1+5.0 0 quick", "6.1+5.0 1 quick", "6.1+5.0 2 quick",
+                 "diagnosis"]
+        rest = ["6.2 0", "6.1+5.0+6.2 1"]
+        self.assertEqual(self.order(3, lambda _: Score.NOTHING, "first_trials"), (False, ["mirrors 0", "mirrors 1", *steps, *rest]))
+        self.assertEqual(self.order(4, lambda _: Score.NOTHING, "first_trials"), (False, ["mirrors 0", *steps, "mirrors 1", *rest]))
+        self.assertEqual(self.order(4, lambda _: Score.KNOWN, "first_trials", levels=("5",)), (False, [*steps[:-1], *rest]))
+        self.assertEqual(self.order(4, lambda _: Score.NOTHING, "first_trials", (LOST,), levels=("5",))[1][2], "none 0")
+
+    def test_where_first_trials_end(self) -> None:
+        """Where a candidate is content, with something loosened: what is plain is gone through."""
+        few = self.order(4, lambda done: Score.CHECKED if "5.0+0.0 0" in done else Score.NOTHING, "first_trials", levels=("5",))
+        self.assertEqual(few, (True, ["damage 4", "5.0+0.0 0", "5.0 0", "5.0+0.0 1"]))
+        late = self.order(4, lambda done: Score.CHECKED if "6.2 0" in done else Score.NOTHING, "first_trials", levels=("5",))
+        self.assertEqual((late[0], late[1][-1]), (True, "6.2 0"))
+
+    def test_further_trials(self) -> None:
+        """Until something is known."""
+        told = ["6.1+5.0 2", "6.1+5.0 3", "6.2 2", "5.0+0.0+6.1+5.0+6.2 2 every", "5.0+0.0 3 every"]
+        self.assertEqual(self.order(3, lambda _: Score.NOTHING, "further_trials"), (False, told))
+        self.assertEqual(self.order(3, lambda done: Score.KNOWN if len(done) > 1 else Score.NOTHING, "further_trials"), (True, told[:2]))
+
+    def test_a_step(self) -> None:
+        """The ways of each shape in their order, until one is enough."""
+        it, tried = search(), list[tuple[Shape, int]]()
+        ways = {FIVE: [((), BASE)], SIX: [((), BASE.having(window=1)), ((), BASE.having(window=2))]}
+
+        def attempt(_hunt: Any, shape: Shape, _chosen: Any, request: Any) -> bool:
+            tried.append((shape, request.number("window")))
+            return request.number("window") == 1
+        it.hunt = cast(Any, types.SimpleNamespace(ways=lambda shape, *_: ways[shape]))
+        with mock.patch.object(it, "attempt", attempt):
+            self.assertTrue(it.take_step(Step((FIVE, SIX), 1)))
+            self.assertFalse(it.take_step(Step((FIVE,), 1)))
+        self.assertEqual(tried, [(FIVE, 0), (SIX, 1), (FIVE, 0)])
+
+    def test_without_landmarks(self) -> None:
+        """What parity tells of, and the rest where there are no landmarks anyway, until one is enough."""
+        for groups, enough, wanted in ((True, None, [FIVE, SIX]), (False, None, [FIVE, NONE, SIX, LOST]), (False, NONE, [FIVE, NONE])):
+            it, tried = search(), list[Shape]()
+
+            def bare(_hunt: Any, shape: Shape, tried: list[Shape] = tried, enough: Shape | None = enough) -> bool:
+                tried.append(shape)
+                return shape == enough
+            it.hunt = hunt(types.SimpleNamespace(tiers=lambda: Tiers((FIVE, NONE), (SIX,), (LOST,))), groups=groups)
+            with mock.patch.object(it, "attempt_bare", bare):
+                it.without_landmarks()
+            self.assertEqual(tried, wanted)
+
+    def test_what_was_put_off(self) -> None:
+        """It is tested once all else is tried and nothing is known: each set once, and none that was tested since."""
+        one, again, other = (candidate(text, number=number) for text, number in (("5:ls:none:8:0:0,1,2", 1), ("5:ls:none:8:0:0,1,2", 2),
+                                                                                 ("5:la:none:8:0:0,1,2", 3)))
+        for first, further, score, late in ((False, False, Score.NOTHING, True), (True, False, Score.NOTHING, False),
+                                            (False, True, Score.NOTHING, False), (False, False, Score.KNOWN, False)):
+            it, kept = search(), list[Candidate]()
+            it.tested = [cast(Any, tested(score, "5:la:none:8:0:0,1,2"))]
+            it.hunt = hunt(passed_over=2)
+            it.tests = cast(Any, types.SimpleNamespace(put_off=[one, again, other], test_late=lambda: [one]))
+            with mock.patch.multiple(it, first_trials=lambda first=first: first, further_trials=lambda further=further: further,
+                                     keep=lambda found, kept=kept: kept.extend(found)):
+                it.try_all()
+            self.assertEqual((kept, it.tests.put_off == [one]), ([one] * late, late))
+            self.assertEqual(cast(Standin, it.commands).noted, ["# passed over 2 trials: landmarks alone, or parity alone, allow no set"])
+        it.hunt.passed_over = 0
+        with mock.patch.multiple(it, first_trials=lambda: True):
+            it.try_all()
+        self.assertEqual(len(cast(Standin, it.commands).noted), 1)
+
+
+class Damage(unittest.TestCase):
+    """What is tried first where maps tell of bad rows."""
+
+    def tried(self, unread: int, groups: bool = True, ends: int = 0) -> tuple[bool, list[str]]:
+        """Whether the search is at its end, and the trials, of which one may be enough."""
+        it, done = search(), list[str]()
+
+        def attempt(_hunt: Any, shape: Shape, chosen: tuple[cures.Cure, ...], few: Any, tested_by: Any = None) -> bool:
+            done.append(f"{shape.levels} {' and '.join(cure.name for cure in chosen)}: {few.number('window')} {few.out} by {tested_by.number('window')}")
+            return len(done) == ends
+        asking = types.SimpleNamespace(first_rows=lambda _: BASE.having(window=65536), request=lambda _: BASE.having(window=90000))
+        it.hunt = hunt(groups=groups, asking=asking, evidence=types.SimpleNamespace(unread=unread))
+        with mock.patch.object(it, "attempt", attempt):
+            return it.before_damage((FIVE, NONE, SIX)), done
+
+    def test_the_first_rows(self) -> None:
+        """With all groups of landmarks and then without each, of the shapes of which parity tells; tested over all rows."""
+        first = "the first 65536 rows alone"
+        ext, xfs = "without group 1 (ext, 1 mark)", "without group 0 (xfs, 2 marks)"
+        wanted = [f"5 {first}: 65536 () by 90000", f"6 {first}: 65536 () by 90000",
+                  f"5 {first} and {ext}: 65536 (1,) by 90000", f"6 {first} and {ext}: 65536 (1,) by 90000",
+                  f"5 {first} and {xfs}: 65536 (0,) by 90000", f"6 {first} and {xfs}: 65536 (0,) by 90000"]
+        self.assertEqual(self.tried(9), (False, wanted))
+        self.assertEqual(self.tried(9, ends=2), (True, wanted[:2]))
+        self.assertEqual(self.tried(0), (False, []))
+        self.assertEqual(self.tried(9, groups=False), (False, []))
+
+
+class Mirrored(unittest.TestCase):
+    """RAID 10 by its copies."""
+
+    def test_near(self) -> None:
+        """Two members at least."""
+        it = search()
+        with mock.patch.object(it, "mirrors", return_value=True) as asked:
+            told = [it.near_mirrors(cast(Any, types.SimpleNamespace(evidence=types.SimpleNamespace(images=range(images)))), missing)
+                    for images, missing in ((1, 0), (1, 1), (2, 0), (3, 1))]
+        self.assertEqual(told, [False, True, True, True])
+        self.assertEqual([call[0][1] for call in asked.call_args_list],
+                         [Copied((NEAR_2,), 2, 1), Copied((NEAR_2,), 2, 0), Copied((NEAR_2,), 4, 1)])
+
+    def test_members(self) -> None:
+        """No more than there are images at most, and those that are asked for."""
+        for members, options, wanted in ((24, {}, 1), (25, {}, 0), (4, {"members": (4, 6)}, 1), (5, {"members": (4, 6)}, 0)):
+            it = search(**options)
+            with mock.patch("reraid_try.policy.search.Mirrors") as made, mock.patch.object(it, "take", return_value=False):
+                made.return_value.listing.return_value = Listing((), 0, True)
+                it.mirrors(cast(Any, types.SimpleNamespace(asking=types.SimpleNamespace(unread_cure=lambda *_: ()))), Copied((NEAR_2,), members))
+            self.assertEqual(made.return_value.listing.call_count, wanted)
+
+    def listed(self, *texts: str, take: bool = False, grouped: bool = False) -> tuple[bool, list[str]]:
+        """Whether the search is at its end, and what was done with these sets."""
+        it, done = search(), list[str]()
+
+        def taken(_hunt: Any, trial: Trial, sets: Sequence[Ranked], _words: Any) -> bool:
+            done.append(f"take {trial.line()} {' '.join(one.text for one in sets)}")
+            return take
+
+        def group(_hunt: Any, found: Any) -> bool:
+            done.append(f"groups {found.groups}")
+            return grouped
+        with mock.patch("reraid_try.policy.search.Mirrors") as made, mock.patch.multiple(it, take=taken, grouped=group):
+            made.return_value.listing.return_value = Listing(tuple(map(Ranked, range(9), texts)), 9, True)
+            over = types.SimpleNamespace(asking=types.SimpleNamespace(unread_cure=lambda *_: ()))
+            return it.mirrors(cast(Any, over), Copied((NEAR_2,), 4, 1)), done
+
+    def test_what_is_listed(self) -> None:
+        """What is a RAID 0 of one of each pair is searched as such, and the others are tested; all of it, also where one is enough."""
+        trial = "take levels 10, 4 members, 1 missing, copies near2: nothing loosened"
+        self.assertEqual(self.listed("near2:8:0:0,1,2,-", "near2:8:0:0,1,2"), (False, [f"{trial} near2:8:0:0,1,2", "groups ((0, 1), (2,))"]))
+        self.assertEqual(self.listed("near2:8:0:0,1,2,-", take=True), (True, [f"{trial} ", "groups ((0, 1), (2,))"]))
+        self.assertEqual(self.listed("near2:8:0:0,1,2,-", grouped=True)[0], True)
+
+    def test_refused(self) -> None:
+        it = search()
+        with mock.patch("reraid_try.policy.search.Mirrors") as made:
+            made.return_value.listing.side_effect = Refused("reraid: no")
+            self.assertFalse(it.mirrors(cast(Any, None), Copied((NEAR_2,), 4)))
+        self.assertEqual(said(it), ["  reraid: no"])
+
+
+class Attempts(unittest.TestCase):
+    """One trial."""
+
+    def attempt(self, plan: Any = "plan", may: bool = True, listing: Listing | Refused = Listing((), 9, True), last: bool = False,
+                **values: Any) -> tuple[bool, list[str], list[Trial]]:
+        """What a trial gives, what was asked, and what was taken, of a hunt that says this."""
+        it, asked, taken = search(**values), list[str](), list[Trial]()
+
+        def listed(*_: Any) -> Listing:
+            asked.append("listing")
+            if isinstance(listing, Refused):
+                raise listing
+            return listing
+
+        def take(_hunt: Any, trial: Trial, *_: Any) -> bool:
+            taken.append(trial)
+            return True
+        asking = types.SimpleNamespace(unread_cure=lambda *_: ())
+        over = types.SimpleNamespace(to_list=lambda *_: plan, may_list=lambda *_: bool(asked.append("may")) or may, listing=listed, asking=asking)
+        with mock.patch.object(it, "take", take):
+            told = it.attempt(cast(Any, over), FIVE, (cures.bad_rows(99, (0,)), cures.misfits()), BASE, last, BASE.having(window=7))
+        self.printed = said(it)
+        self.search = it
+        return told, asked, taken
+
+    def test_what_is_asked(self) -> None:
+        """A plan that was listed before is not, nor one that is passed over; the last one is not asked about."""
+        self.assertEqual(self.attempt(plan=None), (False, [], []))
+        self.assertEqual((self.attempt(may=False), self.printed), ((False, ["may"], []), []))
+        self.attempt(may=False, show=True)
+        self.assertEqual(self.printed, ["passed over: levels 5, 3 members: badrows 99 and 8 misfits"])
+        self.assertEqual(self.attempt(may=False, last=True)[1], ["listing"])
+        told, asked, (trial,) = self.attempt()
+        self.assertEqual((told, asked, trial.number, trial.loosened, trial.request), (True, ["may", "listing"], 1, ["badrows 99", "8 misfits"],
+                                                                                      BASE.having(window=7)))
+        self.assertEqual(self.printed, ["trial 1: levels 5, 3 members: badrows 99 and 8 misfits: 0 sets of 9"])
+        self.assertEqual((self.search.shapes_tried, self.search.was_late), ({"levels 5, 3 members"}, False))
+
+    def test_bad_rows_that_were_found(self) -> None:
+        """The trial names how many rows it took."""
+        _, _, (trial,) = self.attempt(listing=Listing((), 9, False, "late", bad_rows=32))
+        self.assertEqual((trial.loosened, self.search.was_late), (["badrows 32", "8 misfits"], True))
+
+    def test_refused(self) -> None:
+        self.assertEqual(self.attempt(listing=Refused("reraid: no"))[0], False)
+        self.assertEqual(self.printed, ["  reraid: no"])
+
+    def test_late(self) -> None:
+        it = search()
+        it.say_late("parity alone allows", 1)
+        self.assertTrue(it.was_late)
+        self.assertIn("1 second were up before it was known whether parity alone allows a set", said(it)[0])
+
+    def test_why_it_goes_on(self) -> None:
+        """It is said once, where a checker alone is content, with the longest row of those."""
+        for best, lines in ((Score.KNOWN, 0), (Score.WHOLE, 0), (Score.CHECKED, 1)):
+            it = search()
+            it.tested = [tested(Score.KNOWN, row=9 << 20), tested(best, row=1 << 16), tested(min(best, Score.CHECKED), row=1 << 15)]
+            for _ in range(2):
+                it.why_on()
+            self.assertEqual(len(said(it)), lines)
+        self.assertIn("(64 KiB)", said(it)[0])
+
+
+class Taken(unittest.TestCase):
+    """What becomes of the sets of a trial."""
+
+    def take(self, trial: Trial, texts: Sequence[str], known: Sequence[str] = (), pairs: object = None, found: bool = True, end: bool = False,
+             unseen: Sequence[str] = ()) -> tuple[bool, Search, list[Candidate]]:
+        """Whether one is clean and whole, the search, and the candidates that were tested; in their volumes something may be found, and those of some
+        sets are put off."""
+        it, asked = search(), list[Candidate]()
+        it.known = set(known)
+
+        def test(candidates: list[Candidate]) -> list[Candidate]:
+            asked.extend(candidates)
+            for one in candidates:
+                if one.word.text not in unseen:
+                    one.verdict = whole() if found else dataclasses.replace(whole(), findings=[])
+            return [one for one in candidates if one.verdict]
+
+        def lesser(candidates: Sequence[Candidate]) -> list[Candidate]:
+            return [candidate("6:ls:after-q:8:0:0,1,-,2", whole())] if end else []
+        it.tests = cast(Any, types.SimpleNamespace(test=test, without_damaged=lesser, tell=lambda _: None))
+        over = types.SimpleNamespace(evidence=types.SimpleNamespace(pairs=pairs))
+
+        def words(one: Ranked) -> tuple[Word | None, Word]:
+            return None, read_word(one.text)
+        return it.take(cast(Any, over), trial, list(map(Ranked, range(9), texts)), words), it, asked
+
+    def test_the_simplest_once(self) -> None:
+        """Sets of one volume are one candidate, and none that is known is tested again."""
+        texts = ["6:ls-6:after-q:8:0:0,1,2,-", "5:ls:none:8:0:0,1,2", "5:la:none:8:0:0,1,2"]
+        told, it, asked = self.take(Trial(FIVE), texts)
+        self.assertEqual((told, [(one.word.text, one.alike, one.rank) for one in asked]),
+                         (True, [("5:ls:none:8:0:0,1,2", ["6:ls-6:after-q:8:0:0,1,2,-"], 0), ("5:la:none:8:0:0,1,2", [], 2)]))
+        self.assertEqual((it.known, it.tested), ({"5:ls:none:8:0:0,1,2", "5:la:none:8:0:0,1,2"}, asked))
+        again = self.take(Trial(FIVE), texts, ["5:ls:none:8:0:0,1,2", "5:la:none:8:0:0,1,2"])
+        self.assertEqual((again[0], again[2]), (False, []))
+        one = self.take(Trial(FIVE), texts, ["5:ls:none:8:0:0,1,2"])[2]
+        self.assertEqual([(it.word.text, it.alike) for it in one], [("5:la:none:8:0:0,1,2", [])])
+
+    def test_what_is_kept_without_landmarks(self) -> None:
+        """What shows nothing is kept where parity speaks for it alone, or copies do; what was put off may be listed again."""
+        bare = (cures.told("no landmarks", Family.BARE),)
+        for shape, pairs, kept in ((FIVE, None, 1), (NONE, None, 0), (NONE, object(), 1)):
+            text = "5:ls:none:8:0:0,1,2" if shape is FIVE else "0:plain:none:8:0:0,1,2"
+            self.assertEqual(len(self.take(Trial(shape, bare), [text], pairs=pairs, found=False)[1].tested), kept)
+        self.assertEqual(len(self.take(Trial(NONE, bare), ["0:plain:none:8:0:0,1,2"])[1].tested), 1)
+        self.assertEqual(len(self.take(Trial(NONE), ["0:plain:none:8:0:0,1,2"], found=False)[1].tested), 1)
+        texts = ["5:ls:none:8:0:0,1,2", "5:la:none:8:0:0,1,2"]
+        self.assertEqual(self.take(Trial(FIVE, bare), texts, unseen=texts[:1])[1].known, {texts[1]})
+        self.assertEqual(self.take(Trial(FIVE), texts, unseen=texts[:1])[1].known, set(texts))
+
+    def test_without_damaged_images(self) -> None:
+        """What is whole without an image that makes rows unsound ends it too."""
+        text = "6:ls:after-q:8:0:0,1,3,2"
+        self.assertEqual([self.take(Trial(SIX), [text], found=False, end=end)[0] for end in (False, True)], [False, True])
+        self.assertEqual(len(self.take(Trial(SIX), [text], end=True)[1].tested), 2)
+
+    def test_stopped(self) -> None:
+        """What was looked at until then is kept."""
+        it = search()
+        seen, unseen = candidate(verdict=whole()), candidate()
+        with self.assertRaises(Stopped):
+            it.looked_at([seen, unseen], mock.Mock(side_effect=Stopped))
+        self.assertEqual(it.tested, [seen])
+        self.assertEqual((it.looked_at([seen], lambda: [unseen]), it.tested), ([unseen], [seen]))
+
+    def test_kept(self) -> None:
+        """Each is told of, and one alone that is whole ends it."""
+        for scores, told in (((Score.CHECKED, Score.KNOWN), False), ((Score.KNOWN, Score.WHOLE), True), ((), False)):
+            it = search()
+            tell = mock.Mock()
+            it.tests = cast(Any, types.SimpleNamespace(tell=tell))
+            found = [cast(Any, types.SimpleNamespace(score=score, found=types.SimpleNamespace(score=score))) for score in scores]
+            self.assertEqual((it.keep(found), it.tested, tell.call_count), (told, found, len(scores)))
+
+
+if __name__ == "__main__":
+    unittest.main()

@@ -70,6 +70,7 @@ none_of_kind lengths at most = record {
   few = omega arith;
   marks = All-nil (λ g. All (IsMark lengths g.kind) g.marks);
   rising = All-nil (λ g. IsStrictlyIncreasing (map mark_place g.marks));
+  bounds = All-nil (λ g. IfSome g.bounds AreMarkBounds);
   few_marks_in = λ kind. omega arith;
 }
 

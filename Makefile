@@ -76,7 +76,7 @@ put:
 	install -m 644 lib/reraid.bash $(completions)/reraid
 	for name in nbd mount try ranges; do ln -sf reraid $(completions)/reraid-$$name || exit 1; done
 	install -m 644 README.md CHANGELOG.md CONTRIBUTING.md $(doc)
-	install -m 644 $(filter-out docs/definitions-head.md,$(wildcard docs/*.md)) $(doc)/docs
+	install -m 644 docs/*.md $(doc)/docs
 	install -m 755 bench/making/disks.py bench/making/volume.py $(doc)/examples
 
 # Makes a Debian package of what is built, in out. It needs dpkg-deb alone; `hostile/package.py` tries it.

@@ -1,8 +1,9 @@
 #!/bin/bash
 # Runs what needs neither a proof nor much time, and ends at the first failure: that VERSION is the number everywhere, that scripts can be read,
 # the types and the tests of the Python modules, the answers worked out by hand (beside the reference, and beside crates that are built without
-# being proved), that DEFINITIONS is what its comments print, and the commands of README as they are printed. What is not installed is left
-# out, and a line says so. Of each step it says how long it took, and how long a processor worked at it, which is less where others are at work.
+# being proved), that DEFINITIONS is what its comments print, that each edit has its place, and the commands of README as they are printed. What
+# is not installed is left out, and a line says so. Of each step it says how long it took, and how long a processor worked at it, which is less
+# where others are at work.
 # Usage: bench/check.sh [CRATE..], crates of tests; some quick ones if none is named
 set -eu
 cd "$(dirname "$0")/.."
@@ -69,6 +70,7 @@ step "the unit tests of reraid-try" units
 ! there mypy "types" || step "types" types
 step "answers worked out by hand, of the reference" hostile/differential/rows.py
 step "DEFINITIONS" bench/pages/definitions.py --compare
+step "the edits that must fail" bench/pages/edits.py --compare
 if there rt "tests of crates"; then
     for name in "${crates[@]}"; do step "tests of $name" rows "$name"; done
 fi

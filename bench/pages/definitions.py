@@ -1,13 +1,13 @@
 #!/usr/bin/env python3
-"""Prints docs/DEFINITIONS.md from the comments that stand above the definitions in crates/*/specs/*.antt.
+"""Prints what the definitions say: the comments that stand above them in crates/*/specs/*.antt.
 
-    bench/pages/definitions.py             prints the page
-    bench/pages/definitions.py --write     writes it to docs/DEFINITIONS.md
-    bench/pages/definitions.py --compare   says how that page differs from what would be printed, and ends with 1 where it does
+    bench/pages/definitions.py             prints those of all crates, from the bottom to the top
+    bench/pages/definitions.py CRATE..     prints those of these crates
+    bench/pages/definitions.py --write     writes those of the crates ON_THE_PAGE to docs/DEFINITIONS.md, behind its own text
+    bench/pages/definitions.py --compare   says how that page differs from what would be written, and ends with 1 where it does
 
 A comment is the lines that begin with `-- ` just above a definition. A definition with no comment of its own is part of the one above it
-where nothing stands between but such definitions, and then stands with it. Which definitions are printed is said at the top of the page,
-which is docs/definitions-head.md.
+where nothing stands between but such definitions, and then stands with it. Which definitions are printed is said at the top of the page.
 """
 
 import difflib
@@ -16,10 +16,12 @@ import re
 import sys
 
 TOP = pathlib.Path(__file__).resolve().parents[2]
-PAGE, TOP_OF_PAGE = TOP / "docs/DEFINITIONS.md", TOP / "docs/definitions-head.md"
+PAGE, MARK = TOP / "docs/DEFINITIONS.md", "<!-- what follows is printed by bench/pages/definitions.py --write -->\n"
 HEAD = re.compile(r"^(?:abbrev |unfoldable )?pub (?:record |data )?(?P<name>[^\s:({]+)|^(?:abbrev|unfoldable) pub (?:record |data )?(?P<other>[^\s:({]+)")
 USE = re.compile(r"^(?:ghost )?use Rattle\.(\w+)\.specs\.([\w.]+)\.\{(.*?)\}", re.M | re.S)
 
+# The crates whose definitions stand on the page: what an array is, what is searched, and what passes.
+ON_THE_PAGE = ("gf256", "raid_params", "raid_terms", "search_terms", "landmark_rules", "plan_sets")
 # The crates that run nothing: what another crate takes of them counts as offered.
 WORDS_ALONE = ("raid_terms", "search_terms", "plan_sets")
 # Such a comment goes on from the one above it, which is then printed too.
@@ -175,11 +177,11 @@ def sentence_on(crate):
     return re.sub(r"\[(`[^`]+`)\]", r"\1", re.match(r".*?(?=[.:]( |$))", text)[0]) + "."
 
 
-def page():
-    """The page: its top, and for each crate the comments of what is printed."""
-    parts, wanted = [TOP_OF_PAGE.read_text()], printed()
+def sections(asked):
+    """For each of these crates the comments of what is printed, in the order of crates.txt."""
+    parts, wanted = [], printed()
     for crate in crates():
-        if crate.endswith("_rows"):
+        if crate not in asked:
             continue
         lines = []
         for path in sorted((TOP / "crates" / crate / "specs").glob("*.antt")):
@@ -197,6 +199,19 @@ def page():
     return "".join(parts)
 
 
+def page():
+    """The page: its own text, up to the mark, and the crates that stand on it."""
+    return PAGE.read_text().split(MARK)[0].rstrip("\n") + "\n\n" + MARK + sections(ON_THE_PAGE)
+
+
+def asked_for(words):
+    """The crates of these words, all of them if there are none."""
+    known = [crate for crate in crates() if not crate.endswith("_rows")]
+    if unknown := set(words) - set(known):
+        sys.exit("\n".join([f"no crate with definitions: {name}" for name in sorted(unknown)] + [__doc__]))
+    return words or known
+
+
 if __name__ == "__main__":
     if sys.argv[1:] == ["--write"]:
         PAGE.write_text(page())
@@ -204,7 +219,5 @@ if __name__ == "__main__":
         differences = list(difflib.unified_diff(PAGE.read_text().splitlines(), page().splitlines(), "docs/DEFINITIONS.md", "what the comments say", n=0, lineterm=""))
         print("\n".join(differences) or "docs/DEFINITIONS.md is what the comments say")
         sys.exit(1 if differences else 0)
-    elif sys.argv[1:]:
-        sys.exit(__doc__)
     else:
-        print(page(), end="")
+        print(sections(asked_for(sys.argv[1:])).lstrip("\n"), end="")

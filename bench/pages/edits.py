@@ -1,9 +1,13 @@
 #!/usr/bin/env python3
-"""Compares the lists of docs/WRONG-BODIES.md with the edits that must fail, of which they are made: an edit says in a line `wrong:` what
-is wrong with its body and, if bodies like it once passed, in a line `refused by:` which clause refuses it now. Prints what the page
-ought to say otherwise, and the edits that have no such line, or that the page speaks of and that are gone; status 1 where there are some.
+"""Prints the edits that must fail, crates/*/must-fail/*.edit, each with the function or constant in which it puts a wrong body in place of the
+right one, and what is wrong with that: an edit says so in a line `wrong:` and, if bodies like it once passed, in a line `refused by:` which
+clause refuses it now.
 
-Usage: bench/pages/edits.py [--write], which makes the lists anew
+    bench/pages/edits.py             prints those of all crates
+    bench/pages/edits.py CRATE..     prints those of these crates
+    bench/pages/edits.py --passed    prints those of which bodies like them once passed, with the clause
+    bench/pages/edits.py --compare   says which have no line `wrong:`, or no place in their source any more, and which docs/WRONG-BODIES.md
+                                     speaks of that are gone; ends with 1 where there is one
 """
 
 import pathlib
@@ -14,7 +18,6 @@ TOP = pathlib.Path(__file__).resolve().parents[2]
 PAGE = TOP / "docs/WRONG-BODIES.md"
 FUNCTION = re.compile(r"(?:fn|(?<!')static|const)\s+(\w+)")
 CITED = re.compile(r"`(\w+)/(\w+)`")
-BEGIN, END = "<!-- {} -->\n", "<!-- end -->\n"
 
 
 class Edit:
@@ -40,40 +43,37 @@ def by_crate(edits):
             crate = edit.crate
             text += f"\n## `{crate}`\n\n"
         text += f"- `{edit.name}`, `{edit.function}`: {edit.wrong}\n"
-    return text + "\n"
+    return text.lstrip("\n")
 
 
 def passed_once(edits):
     """The list of those of which bodies like them once passed."""
-    return "\n" + "".join(f"- `{edit.crate}/{edit.name}`: {edit.refused_by}\n" for edit in edits if edit.refused_by) + "\n"
+    return "".join(f"- `{edit.crate}/{edit.name}`: {edit.refused_by}\n" for edit in edits if edit.refused_by)
 
 
-def with_lists(page, edits):
-    """The page with each list in its place."""
-    for place, made in (("by crate", by_crate(edits)), ("passed once", passed_once(edits))):
-        begin = BEGIN.format(place)
-        before, rest = page.split(begin)
-        page = before + begin + made + END + rest.split(END, 1)[1]
-    return page
-
-
-def main():
-    edits = [Edit(path) for path in sorted(TOP.glob("crates/*/must-fail/*.edit"))]
-    page = PAGE.read_text()
+def faults_of(edits):
+    """What is wrong with the edits, or with what the page says of them."""
     there = {(edit.crate, edit.name) for edit in edits}
     faults = [f"{edit.crate}/{edit.name}: {what}" for edit in edits
               for what, bad in (("its old text is gone", edit.function is None), ("has no line `wrong:`", edit.wrong is None)) if bad]
-    new = with_lists(page, edits)
-    text_alone = "".join(part.split(END, 1)[-1] for part in re.split(r"<!-- (?:by crate|passed once) -->\n", page))
-    faults += [f"{'/'.join(key)} is spoken of and gone" for key in sorted({found.groups() for found in CITED.finditer(text_alone)} - there)]
-    if "--write" in sys.argv[1:]:
-        PAGE.write_text(new)
-    elif new != page:
-        old_lines, new_lines = page.splitlines(), new.splitlines()
-        faults += [f"the page lacks: {line}" for line in new_lines if line not in old_lines]
-        faults += [f"the page has: {line}" for line in old_lines if line not in new_lines]
-    print("\n".join(faults), end="\n" if faults else "")
-    return bool(faults)
+    cited = {found.groups() for found in CITED.finditer(PAGE.read_text())}
+    return faults + [f"{'/'.join(key)} is spoken of and gone" for key in sorted(cited - there)]
 
 
-sys.exit(main())
+def main(words):
+    edits = [Edit(path) for path in sorted(TOP.glob("crates/*/must-fail/*.edit"))]
+    if words == ["--compare"]:
+        faults = faults_of(edits)
+        print("\n".join(faults) or f"{len(edits)} edits are as they should be")
+        return bool(faults)
+    if words == ["--passed"]:
+        print(passed_once(edits), end="")
+        return False
+    if unknown := set(words) - {edit.crate for edit in edits}:
+        return "\n".join([f"no crate with edits: {name}" for name in sorted(unknown)] + [__doc__])
+    print(by_crate([edit for edit in edits if not words or edit.crate in words]), end="")
+    return False
+
+
+if __name__ == "__main__":
+    sys.exit(main(sys.argv[1:]))

@@ -1,6 +1,6 @@
 #!/usr/bin/env python3
-"""Prints of the lines of bench/measuring/try.py what docs/REAL-DISKS.md has: a table of each level with each volume, one of each trait, and what its
-sentences say of them and of each two traits.
+"""Prints of the lines of bench/measuring/try.py what docs/REAL-DISKS.md says of them: a table of each level with each volume, one of each trait, and
+sentences on them and on each two traits.
 
 Usage: bench/measuring/try.py > lines; bench/measuring/try_tables.py < lines
 """

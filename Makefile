@@ -46,7 +46,7 @@ try:
 near:
 	bench/measuring/near.py $(words)
 
-# Compares docs/DEFINITIONS.md with the comments from which it is printed. Runs the commands of the pages as they are printed, and compares
+# Sees that the definitions which docs/DEFINITIONS.md names are there. Runs the commands of the pages as they are printed, and compares
 # what they print: it needs the Debian packages xfsprogs, gdisk, e2fsprogs, ntfs-3g, pv, parallel, gddrescue, libnbd-bin, nbdkit, qemu-utils
 # and ewf-tools; with root=--root it runs
 # those that need root too. Then reraid-try on one array of each kind of volume.

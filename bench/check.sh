@@ -1,7 +1,7 @@
 #!/bin/bash
 # Runs what needs neither a proof nor much time, and ends at the first failure: that VERSION is the number everywhere, that scripts can be read,
 # the types and the tests of the Python modules, the answers worked out by hand (beside the reference, and beside crates that are built without
-# being proved), that DEFINITIONS is what its comments print, that each edit has its place, and the commands of README as they are printed. What
+# being proved), that the definitions and edits which pages name are there, and the commands of README as they are printed. What
 # is not installed is left out, and a line says so. Of each step it says how long it took, and how long a processor worked at it, which is less
 # where others are at work.
 # Usage: bench/check.sh [CRATE..], crates of tests; some quick ones if none is named

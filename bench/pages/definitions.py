@@ -3,25 +3,23 @@
 
     bench/pages/definitions.py             prints those of all crates, from the bottom to the top
     bench/pages/definitions.py CRATE..     prints those of these crates
-    bench/pages/definitions.py --write     writes those of the crates ON_THE_PAGE to docs/DEFINITIONS.md, behind its own text
-    bench/pages/definitions.py --compare   says how that page differs from what would be written, and ends with 1 where it does
+    bench/pages/definitions.py --compare   says which definitions that docs/DEFINITIONS.md names are gone; ends with 1 where there is one
 
 A comment is the lines that begin with `-- ` just above a definition. A definition with no comment of its own is part of the one above it
-where nothing stands between but such definitions, and then stands with it. Which definitions are printed is said at the top of the page.
+where nothing stands between but such definitions, and then stands with it. Which definitions are printed is said at the top of that page.
 """
 
-import difflib
 import pathlib
 import re
 import sys
 
 TOP = pathlib.Path(__file__).resolve().parents[2]
-PAGE, MARK = TOP / "docs/DEFINITIONS.md", "<!-- what follows is printed by bench/pages/definitions.py --write -->\n"
+PAGE = TOP / "docs/DEFINITIONS.md"
+# On the page a file of definitions as `crate/File`, and after a colon the names in it.
+NAMED = re.compile(r"`(\w+)/(\w+)`: (`\w+`(?:, `\w+`)*)")
 HEAD = re.compile(r"^(?:abbrev |unfoldable )?pub (?:record |data )?(?P<name>[^\s:({]+)|^(?:abbrev|unfoldable) pub (?:record |data )?(?P<other>[^\s:({]+)")
 USE = re.compile(r"^(?:ghost )?use Rattle\.(\w+)\.specs\.([\w.]+)\.\{(.*?)\}", re.M | re.S)
 
-# The crates whose definitions stand on the page: what an array is, what is searched, and what passes.
-ON_THE_PAGE = ("gf256", "raid_params", "raid_terms", "search_terms", "landmark_rules", "plan_sets")
 # The crates that run nothing: what another crate takes of them counts as offered.
 WORDS_ALONE = ("raid_terms", "search_terms", "plan_sets")
 # Such a comment goes on from the one above it, which is then printed too.
@@ -199,9 +197,14 @@ def sections(asked):
     return "".join(parts)
 
 
-def page():
-    """The page: its own text, up to the mark, and the crates that stand on it."""
-    return PAGE.read_text().split(MARK)[0].rstrip("\n") + "\n\n" + MARK + sections(ON_THE_PAGE)
+def gone():
+    """The definitions that the page names and that do not stand where it says, and the files of definitions that are not there."""
+    found = []
+    for crate, file, names in NAMED.findall(PAGE.read_text()):
+        path = TOP / "crates" / crate / "specs" / f"{file}.antt"
+        there = {it.name for it in definitions_of(path)} if path.exists() else set()
+        found += [f"{crate}/{file}: {name}" for name in re.findall(r"\w+", names) if name not in there]
+    return found
 
 
 def asked_for(words):
@@ -213,11 +216,8 @@ def asked_for(words):
 
 
 if __name__ == "__main__":
-    if sys.argv[1:] == ["--write"]:
-        PAGE.write_text(page())
-    elif sys.argv[1:] == ["--compare"]:
-        differences = list(difflib.unified_diff(PAGE.read_text().splitlines(), page().splitlines(), "docs/DEFINITIONS.md", "what the comments say", n=0, lineterm=""))
-        print("\n".join(differences) or "docs/DEFINITIONS.md is what the comments say")
-        sys.exit(1 if differences else 0)
-    else:
-        print(sections(asked_for(sys.argv[1:])).lstrip("\n"), end="")
+    if sys.argv[1:] == ["--compare"]:
+        missing = gone()
+        print("\n".join(f"docs/DEFINITIONS.md names what is gone: {it}" for it in missing) or "docs/DEFINITIONS.md names definitions that are there")
+        sys.exit(1 if missing else 0)
+    print(sections(asked_for(sys.argv[1:])).lstrip("\n"), end="")

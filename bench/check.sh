@@ -1,9 +1,9 @@
 #!/bin/bash
 # Runs what needs neither a proof nor much time, and ends at the first failure: that VERSION is the number everywhere, that scripts can be read,
 # the types and the tests of the Python modules, the answers worked out by hand (beside the reference, and beside crates that are built without
-# being proved), that the definitions and edits which pages name are there, and the commands of README as they are printed. What
-# is not installed is left out, and a line says so. Of each step it says how long it took, and how long a processor worked at it, which is less
-# where others are at work.
+# being proved), that the definitions and edits which pages name are there, that the pictures of LAYOUTS are those of disks.py, and the
+# commands of README as they are printed. What is not installed is left out, and a line says so. Of each step it says how long it took, and how long a
+# processor worked at it, which is less where others are at work.
 # Usage: bench/check.sh [CRATE..], crates of tests; some quick ones if none is named
 set -eu
 cd "$(dirname "$0")/.."
@@ -71,6 +71,7 @@ step "the unit tests of reraid-try" units
 step "answers worked out by hand, of the reference" hostile/differential/rows.py
 step "DEFINITIONS" bench/pages/definitions.py --compare
 step "the edits that must fail" bench/pages/edits.py --compare
+step "the pictures of LAYOUTS" bench/pages/pictures.py
 if there rt "tests of crates"; then
     for name in "${crates[@]}"; do step "tests of $name" rows "$name"; done
 fi

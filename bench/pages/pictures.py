@@ -2,7 +2,7 @@
 """Compares the pictures of docs/LAYOUTS.md with the layouts that disks.py makes on its own, cell by cell.
 
 Usage: pictures.py
-Of levels 0, 5 and 6 a cell is a data item of its row, P or Q; of near=2 it is a chunk of the volume. Prints each picture's name and
+Of levels 0, 5 and 6 a cell is a data item of its row, P or Q; of RAID 10 it is a chunk of the volume. Prints each picture's name and
 whether it agrees; status 1 where one does not.
 """
 
@@ -15,7 +15,9 @@ sys.path.insert(0, str(pathlib.Path(__file__).resolve().parents[2] / "bench/maki
 import disks  # noqa: E402
 
 PAGE = pathlib.Path(__file__).resolve().parents[2] / "docs/LAYOUTS.md"
-PARTS = {"Level 0": "0", "Level 5": "5", "Level 6": "6", "RAID 10, near=2": "near2"}
+PARTS = {"Level 0": "0", "Level 5": "5", "Level 6": "6", "RAID 10": "10"}
+# How many copies the pictures of RAID 10 have.
+COPIES = 2
 
 
 def pictures():
@@ -38,9 +40,9 @@ def pictures():
 def drawn(level, pattern, rows):
     """What disks.py has in the place of these rows."""
     members = len(rows[0])
-    if level == "near2":
-        chunks = bytes(range(len(rows) * members // 2))
-        return [[str(cell) for cell in row] for row in zip(*disks.mirrored(chunks, 1, members, random.Random(0)))]
+    if level == "10":
+        chunks = bytes(range(len(rows) * members // COPIES))
+        return [[str(cell) for cell in row] for row in zip(*disks.mirrored(chunks, 1, members, pattern, random.Random(0)))]
     parity, made = disks.PARITY[level], []
     for row in range(len(rows)):
         cells = dict(zip(disks.parity_slots(pattern, row, members, parity), "PQ")) if parity else {}
@@ -53,7 +55,7 @@ def main():
     agree = []
     for level, pattern, rows in pictures():
         agree.append(drawn(level, pattern, rows) == rows)
-        print(f"near2 of {len(rows[0])}" if level == "near2" else f"{level} {pattern}", "agrees" if agree[-1] else "DIFFERS")
+        print(f"{pattern} of {len(rows[0])}" if level == "10" else f"{level} {pattern}", "agrees" if agree[-1] else "DIFFERS")
     print(f"{sum(agree)} of {len(agree)} pictures agree")
     return not all(agree)
 

@@ -3,7 +3,7 @@ use Rattle.std.specs.Prelude.{ℕ, ◌+◌, ◌*◌, ◌/◌, ◌%◌, ◌≡◌
 use Rattle.std.specs.List.{range_with_len, sum_by}
 use Rattle.std.specs.declared.option.Option.{Option}
 use Rattle.std.specs.declared.option.Option.TheVariants.{None, Some}
-use Rattle.near_mirror.specs.Copies.{copy_cell, slot_of}
+use Rattle.near_mirror.specs.Copies.{row_of, slot_of}
 use Rattle.near_mirror.specs.declared.types.Copying.{Copying}
 use Rattle.near_mirror.specs.declared.types.Copying.TheVariants.{Near, Far, Offset}
 use Rattle.near_mirror.specs.declared.types.NearHead.{NearHead}
@@ -26,7 +26,7 @@ lane_row Offset lane = lane
 
 -- the lane of a copy of the chunk that is this number of its group
 abbrev pub lane_of : Copying → ℕ → ℕ → ℕ → ℕ → ℕ
-lane_of Near members copies copy chunk = copy_cell copies chunk copy / members
+lane_of Near members copies copy chunk = row_of Near members copies copies copy chunk
 lane_of Far members copies copy chunk = copy
 lane_of Offset members copies copy chunk = copy
 

@@ -3,7 +3,7 @@ use Rattle.std.specs.Prelude.{ℕ, ◌+◌, ◌-◌, ◌*◌, ◌/◌, ◌%◌, 
 use Rattle.std.specs.List.{list_all, list_any, range_with_len, sum_by}
 use Rattle.std.specs.declared.option.Option.{Option}
 use Rattle.std.specs.declared.option.Option.TheVariants.{None, Some}
-use Rattle.near_mirror.specs.Copies.{copy_sector, near_chunks, near_rows, near_sectors, slot_of}
+use Rattle.near_mirror.specs.Copies.{copy_sector, first_chunks, near_chunks, near_rows, near_sectors, slot_of}
 use Rattle.near_mirror.specs.Volume.{copy_image}
 use Rattle.near_mirror.specs.declared.types.Copying.{Copying}
 use Rattle.near_mirror.specs.declared.types.Copying.TheVariants.{Near, Far, Offset}
@@ -83,10 +83,6 @@ is_lost set chunk = list_all (λ copy. is_gone (slice_get set.slots.items (slot_
 -- one of the first chunks is
 unfoldable pub lost_among : ℕ → NearSet → Bool
 lost_among chunks set = list_any (is_lost set) (range_with_len 0 chunks)
-
--- the chunks of the volume, but for those after as many as there are members: these stand on the slots of the first ones
-abbrev pub first_chunks : NearHead → ℕ → ℕ
-first_chunks head end = min (near_chunks head end) head.members
 
 -- a chunk of the volume is lost
 abbrev pub has_lost : ℕ → NearSet → Bool

@@ -19,6 +19,6 @@ mod torn_table;
 // The tests stand in `volume_rows`.
 
 pub use laws::{prefixes_are_torn_less, tables_tell_what_is_torn};
-pub use lost::{first_chunks, has_lost};
+pub use lost::has_lost;
 pub use tested::tested_sectors;
 pub use torn_table::{TableFault, TornTable};

@@ -1,21 +1,11 @@
 //! Which chunks have lost all their copies.
 ghost use Rattle.std.specs.Prelude.{◌≡◌, ◌<◌, ◌≤◌, ◌^◌, IsTrue, slice_get};
 ghost use Rattle.raid_params.specs.declared.limits.TheConstants.{MOST};
-ghost use Rattle.near_mirror.specs.Copies.{slot_of};
 ghost use Rattle.near_mirror.specs.Heads.{is_valid_near};
-ghost use Rattle.near_tables.specs.Torn.{first_chunks as first_chunks_of, is_gone as is_gone_of, is_lost as is_lost_of, lost_among, with_slots};
+ghost use Rattle.near_tables.specs.Torn.{is_gone as is_gone_of, is_lost as is_lost_of, lost_among, with_slots};
 
-use near_mirror::{Copying, NearHead};
+use near_mirror::NearHead;
 use raid_params::count_empty;
-
-/// How many chunks a mirror has of the first ones, of which there are as many as members. All others stand on the slots of these.
-pub fn first_chunks(head: &NearHead, end: u64) -> u64
-    requires head { IsTrue (is_valid_near head.now) }
-    requires end { end < 2 ^ 55 }
-    ensures { result ≡ first_chunks_of head.now end }
-{
-    head.volume_chunks(end).min(u64::from(head.members))
-}
 
 /// Whether one of the first chunks of a mirror has lost all its copies where its slots begin so: each of its slots is there, and empty.
 pub fn has_lost(head: &NearHead, slots: &[Option<u8>], chunks: u64) -> bool
@@ -41,27 +31,11 @@ fn is_lost(head: &NearHead, slots: &[Option<u8>], chunk: u64) -> bool
     ensures { result ≡ is_lost_of (with_slots head.now slots.now) chunk }
 {
     for copy in 0..head.layout.copies {
-        if !is_gone(slots, slot_of_copy(head, copy, chunk)) {
+        if !is_gone(slots, usize::from(head.slot(copy, chunk))) {
             return false;
         }
     }
     true
-}
-
-/// The slot of a copy of a chunk.
-#[tactic(auto, using(near_mirror::proofs::Heads::few_copies, near_mirror::proofs::Heads::some_members))]
-pub(crate) fn slot_of_copy(head: &NearHead, copy: u8, chunk: u64) -> usize
-    requires head { IsTrue (is_valid_near head.now) }
-    requires chunk { chunk < 2 ^ 60 }
-    ensures { result ≡ slot_of head.now.layout.copying head.now.members head.now.layout.copies copy chunk }
-{
-    let members = u64::from(head.members);
-    let place = match head.layout.copying {
-        Copying::Near => u64::from(head.layout.copies) * chunk + u64::from(copy),
-        Copying::Far => chunk + u64::from(copy),
-        Copying::Offset => chunk + u64::from(copy),
-    };
-    (place % members) as usize
 }
 
 /// Whether a slot is there, and empty.

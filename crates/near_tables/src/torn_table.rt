@@ -14,7 +14,6 @@ ghost use Rattle.near_mirror.specs.declared.types.NearHead.{NearHead as NearHead
 ghost use Rattle.member_regions.specs.Regions.{IsRoomFor};
 
 use crate::lane_reading::Strips;
-use crate::lost::slot_of_copy;
 use crate::torn_strips::{LANES, PairCounts, add_lanes};
 use member_regions::{BLOCK, Regions};
 use near_mirror::{Copying, NearHead};
@@ -241,8 +240,8 @@ impl TornTable {
         let (lane, next) = (lane_of(head, first, chunk), lane_of(head, second, chunk));
         let counts = &self.counts[LANES * lane + next];
         let (one, other) = (
-            held(slots, slot_of_copy(head, first, u64::from(chunk))),
-            held(slots, slot_of_copy(head, second, u64::from(chunk))),
+            held(slots, usize::from(head.slot(first, u64::from(chunk)))),
+            held(slots, usize::from(head.slot(second, u64::from(chunk)))),
         );
         match (one, other) {
             (Some(one), Some(other)) => counts[one as usize][other as usize],

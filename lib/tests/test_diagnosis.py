@@ -8,12 +8,22 @@ from unittest import mock
 
 from reraid_try.calls.commands import Answer
 from reraid_try.calls.formats import Checked, Held
+from reraid_try.calls.plans import Plan
+from reraid_try.calls.surveys import Request
 from reraid_try.checks.rows import Near
 from reraid_try.evidence.images import Image
+from reraid_try.policy import cures
+from reraid_try.policy.shapes import Shape, Tiers
 from reraid_try.report.diagnosis import Diagnosis
-from tests.standin import Told, plan_of, put
+from tests.standin import Reply, Standin, Told, plan_of, put
 from tests.test_candidates import SET, OfPlan, hunt_of
-from tests.test_policy import XFS
+from tests.test_policy import BASE, EXT, XFS
+
+
+def with_five(_: list[str], text: str) -> Answer:
+    """A set passes where five rows may be unsound, and by parity alone."""
+    bad = int(text.split("badrows ")[1].split()[0])
+    return put((f"1 {SET}\n" if bad >= 5 or text.count("group ") < 2 else "") + "next 9 of 9\n")
 
 
 class Nearest(unittest.TestCase):
@@ -32,6 +42,88 @@ class Nearest(unittest.TestCase):
         self.assertIsNone(found.fewest(plan, 8000))
         found.until = 0
         self.assertEqual(found.sets(plan.having(misfits=9, badrows=999), 5), [])
+
+    def test_none_at_all(self) -> None:
+        """A set that passes with no misfit, or with no unsound row, is known to."""
+        passes = put(f"1 {SET}\nnext 9 of 9\n")
+        found = Diagnosis(hunt_of(("reraid list", passes), ("reraid check", put("unsound 7 of 1000\nfail\n"))), Told(), 60, 1)
+        self.assertEqual([found.least(plan_of(XFS), below) for below in (0, 1, 2)], [None, 0, 0])
+        self.assertEqual([found.fewest(plan_of(XFS), most) for most in (-1, 0)], [None, 0])
+
+    def of_hunt(self, listed: Reply, *shapes: Shape, groups: bool = True, unsound: bool = True) -> tuple[Diagnosis, Standin, Told]:
+        """A diagnosis of a hunt over these shapes, which may have landmarks, of which `reraid` lists this and says 5 unsound rows of 1,000."""
+        hunt, report = hunt_of(("reraid list", listed), ("reraid check", put("unsound 5 of 1000\nfail\n"))), Told()
+        plan = plan_of(XFS, EXT) if groups else plan_of()
+
+        def made(request: Request) -> Plan:
+            return plan.without(request.out).having(misfits=request.number("misfits"))
+        told = types.SimpleNamespace(tiers=lambda: Tiers(shapes), speak_for=lambda shape: shape.members == 3)
+        asking = types.SimpleNamespace(request=lambda _: BASE, cures=lambda _: [cures.half_window(plan), cures.misfits()])
+        for name, value in (("surveys", types.SimpleNamespace(plan=made)), ("asking", asking), ("plan", plan), ("shapes", told),
+                            ("questions", types.SimpleNamespace(is_unsound=lambda _: unsound)),
+                            ("evidence", types.SimpleNamespace(images=[Image(f"i{k}", k, 8000) for k in range(4)], end=1000))):
+            setattr(hunt, name, value)
+        return Diagnosis(hunt, report, 60, 1), cast(OfPlan, hunt).standin, report
+
+    def test_by_rows(self) -> None:
+        """What landmarks allow with nothing loosened, and with what leaves out landmarks or lets them contradict, and nothing else; only where there
+        are landmarks."""
+        found, standin, _ = self.of_hunt(with_five, Shape("5", 3))
+        near, = found.by_rows(found.shapes())
+        self.assertEqual((near.word, near.told.unsound, near.misfits), (SET, 5, 0))
+        asked = [text for words, text in standin.asked if words[1] == "list"]
+        self.assertEqual({text.split("misfits ")[1].split()[0] for text in asked}, {"0", "8"})
+        self.assertEqual({text.split("window ")[1].split()[0] for text in asked}, {"100000"})
+        found, standin, _ = self.of_hunt(with_five, Shape("5", 3), groups=False)
+        self.assertEqual((found.by_rows(found.shapes()), standin.count("reraid list")), ([], 0))
+
+    def test_far_worse_ones_are_left_out(self) -> None:
+        """Of another shape no set is taken with more than twice as many unsound rows as one that is near."""
+        def listed(_: list[str], text: str) -> Answer:
+            most, six = int(text.split("badrows ")[1].split()[0]), "levels 6\n" in text
+            word, rows = ("6:ls:after-q:8:0:0,1,2,3", 11) if six else (SET, 5)
+            return put((f"1 {word}\n" if most >= rows else "") + "next 9 of 9\n")
+        found, _, _ = self.of_hunt(listed, Shape("5", 3), Shape("6", 4))
+        self.assertEqual([near.word for near in found.by_rows(found.shapes())], [SET])
+
+    def test_by_marks(self) -> None:
+        """Each group by itself, the largest first, with the fewest misfits; nothing where parity allows no set."""
+        def listed(_: list[str], text: str) -> Answer:
+            groups, misfits = text.count("group "), int(text.split("misfits ")[1].split()[0])
+            return put((f"1 {SET}\n" if not groups or groups == 1 and misfits >= text.count("mark ") - 1 else "") + "next 9 of 9\n")
+        found, standin, _ = self.of_hunt(listed, Shape("5", 3))
+        near, = found.by_marks()
+        self.assertEqual((near.word, near.misfits), (SET, 1))
+        self.assertEqual([text.split("group ")[1].split()[0] for _, text in standin.asked if "group " in text][:1], ["xfs"])
+        found, standin, _ = self.of_hunt(lambda *_: put("next 9 of 9\n"), Shape("5", 3))
+        self.assertEqual((found.by_marks(), standin.count("reraid list")), ([], 1))
+
+    def test_which_shapes(self) -> None:
+        """Those of which parity tells something, the first six."""
+        found, _, _ = self.of_hunt(lambda *_: put(""), Shape("0", 3), *(Shape("6", members) for members in range(4, 12)))
+        self.assertEqual([shape.members for shape, _ in found.shapes()], [4, 5, 6, 7, 8, 9])
+
+    def test_on_the_way(self) -> None:
+        """Sets of shapes that hints speak for, where parity allows none of them, and there are landmarks."""
+        for shape, groups, unsound, lines in ((Shape("5", 3), True, True, 2), (Shape("5", 3), False, True, 0), (Shape("5", 3), True, False, 0),
+                                              (Shape("5", 4), True, True, 0)):
+            found, _, report = self.of_hunt(with_five, shape, groups=groups, unsound=unsound)
+            found.show_on_the_way()
+            self.assertEqual(len(report.lines), lines)
+
+    def test_what_is_shown(self) -> None:
+        """Sets by their rows, and by their marks; else why there are none."""
+        found, _, report = self.of_hunt(with_five, Shape("5", 3))
+        found.show(False)
+        heads = [line for line in report.lines if line.startswith("diagnosis: ")]
+        self.assertEqual(heads, ["diagnosis: of the sets that landmarks allow these have the fewest unsound rows",
+                                 "diagnosis: of the sets that parity allows these have the most groups and marks that fit"])
+        for shape, late, said in ((Shape("0", 3), True, "none by parity, of which what was searched has none"),
+                                  (Shape("5", 3), True, "no set is known to be near, as not all was looked at (--time gives more)"),
+                                  (Shape("5", 3), False, "no set is near: landmarks and parity each allow none")):
+            found, _, report = self.of_hunt(lambda *_: put("next 9 of 9\n"), shape)
+            found.show(late)
+            self.assertEqual(report.lines, [f"diagnosis: {said}"])
 
     def test_about_the_fewest(self) -> None:
         """Of sets with 64, 60 and 32 unsound rows the listing gives the worst that may pass, and each says how many the next may have."""

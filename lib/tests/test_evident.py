@@ -179,6 +179,16 @@ class ByPlaces(unittest.TestCase):
         self.assertTrue(Evident(cast(Any, search)).by_places(cast(Any, hunt), aim))
         self.assertEqual([(it.request and it.request.records, it.out) for it in taken], [(True, {0})])
 
+    def test_nothing_that_zeros_allow(self) -> None:
+        """Where parity lies may not be known, or no set be near what zeros say: then nothing is tested. What is known is not asked again."""
+        for known, asked, best, calls in ((None, None, [], 1), (None, types.SimpleNamespace(best=lambda _: []), [], 1),
+                                          (types.SimpleNamespace(best=lambda _: []), None, [], 0)):
+            hunt = types.SimpleNamespace(places=known, evidence=types.SimpleNamespace(tried=(0,), end=900), ask_places="how")
+            it, report = evident([], NoTools({}), Options(("a",)))
+            setattr(it, "places_of", ask := mock.Mock(return_value=asked))
+            self.assertFalse(it.by_places(cast(Any, hunt), Aim((0, 1, 2), Span(0, 900), "why", (Shape("5", 3),), tied=True)))
+            self.assertEqual((report.lines, ask.call_count, hunt.ask_places), (best, calls, None))
+
     def test_where_data_may_begin(self) -> None:
         """Not behind a row that is tied; of images that are moved by how much later than the first of them, and not before it."""
         hunt = types.SimpleNamespace(evidence=types.SimpleNamespace(tried=(0, 64, 2048, 3000), end=2100))
@@ -383,6 +393,12 @@ class Sought(unittest.TestCase):
         copied = Aim((2, 0), Span(0, 900), "why", copied=True)
         self.assertEqual(self.seek(copied)[:2], (False, ["evidence", "copies 1", "attempt 1 why"]))
         self.assertEqual(self.seek(copied, ends=True)[:2], (False, ["evidence", "copies 1"]))
+
+    def test_asked_by_one(self) -> None:
+        """That the program does not know a command is kept in mind, so one asks all of it, in the whole time of a trial."""
+        it, _ = evident([], NoTools({}), Options(("a",), seconds=60))
+        self.assertIs(it.asked(), it.asked())
+        self.assertEqual(it.asked().seconds, 60)
 
     def test_time_of_a_question(self) -> None:
         """A sixth of that of a trial, and five seconds at least."""

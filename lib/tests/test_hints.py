@@ -1,5 +1,6 @@
 """Hints, the counts of filled sectors, and what is gathered."""
 
+import dataclasses
 import unittest
 from unittest import mock
 
@@ -213,6 +214,23 @@ class Gathered(InFolder):
         self.assertEqual([self.gather(self.plan(), map=it).unread for it in (few, many)], [300, 0])
         self.assertEqual(self.gather(self.plan(), map=many).bad, 3000)
 
+    def test_window(self) -> None:
+        """It is asked for where it is less than all up to the end."""
+        for most, window, asked in ((8000, 8000, ""), (7999, 7999, "7999")):
+            with mock.patch.object(gathered, "MOST_WINDOW", most):
+                found = self.gather(self.plan())
+            self.assertEqual((found.window, found.base.get("window")), (window, asked))
+
+    def test_rows_that_maps_call_unread(self) -> None:
+        """A fourth of the filled ones at most is asked for as bad ones."""
+        found = self.gather(self.plan())
+        self.assertEqual([dataclasses.replace(found, bad=bad).unread for bad in (0, 2000, 2001)], [0, 2000, 0])
+
+    def test_volumes_within_others(self) -> None:
+        """A logical volume begins so far behind its physical one, which begins at a usual place, in a partition, or behind a superblock of bcache."""
+        found = [Hint(What.ORIGIN, value, source, "") for value, source in ((100, Source.LVM), (63, Source.TABLE), (16, Source.BCACHE))]
+        self.assertEqual(gathered.deeper(found, plan_of()), {100, 2148, 163, 116})
+
     def test_mirrors_say_the_offsets(self) -> None:
         found = self.gather(self.plan("super 0 4096 every:4096:2:0"), Pairs(((), (), ()), (16, 2048)))
         self.assertEqual((found.offset_values, found.tried), ([16, 2048], (16, 2048)))
@@ -221,8 +239,12 @@ class Gathered(InFolder):
     def test_a_far_mark_is_a_stray_one(self) -> None:
         near, far = Hint(What.OFFSET, 100, Source.MARK, "", 2, 2), Hint(What.OFFSET, 100 + gathered.FAR + 1, Source.MARK, "", 2, 2)
         self.assertTrue(gathered.is_far(far, [near, far]))
+        self.assertFalse(gathered.is_far(dataclasses.replace(far, value=100 + gathered.FAR), [near]))
+        self.assertFalse(gathered.is_far(dataclasses.replace(far, spread=3), [near]))
         self.assertFalse(gathered.is_far(Hint(What.OFFSET, 99999, Source.MARK, "", 3, 3), [near]))
         self.assertEqual(gathered.offsets_tried([near, far], [], None, 5000), (0, 100, 2048))
+        ends = [Hint(What.OFFSET, value, Source.MARK, "") for value in (4999, 5000)]
+        self.assertEqual(gathered.offsets_tried(ends, [], None, 5000), (0, 2048, 4999))
 
 
 if __name__ == "__main__":

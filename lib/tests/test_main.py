@@ -3,6 +3,7 @@
 import contextlib
 import errno
 import io
+import json
 import os
 import pathlib
 import signal
@@ -14,14 +15,16 @@ from unittest import mock
 
 from reraid_try import main, options
 from reraid_try.calls.commands import Runner
-from reraid_try.calls.memory import Memory
+from reraid_try.calls.memory import Memory, Remembering
 from reraid_try.checks.verdicts import Score
 from reraid_try.checks.volumes import Room
 from reraid_try.errors import OutsideError, Stopped
+from reraid_try.evidence.images import Image
 from reraid_try.options import Options
-from reraid_try.report.report import Report
+from reraid_try.report.report import Bar, Report
 from reraid_try.units import ALL, GIB, MIB
-from tests.standin import InFolder
+from tests.standin import InFolder, Told
+from tests.test_candidates import candidate, whole
 
 LINE = "reraid-try: "
 
@@ -121,10 +124,122 @@ class Statuses(Runs):
             self.assertEqual(os.listdir(room), [])
 
 
+class Ends(Runs):
+    """What is done at the end of a run, however it ends, with mocks for what it begins."""
+
+    def ended(self, *words: str, error: BaseException | None = None, found: Score = Score.NOTHING) -> tuple[int | str | None, dict[str, mock.Mock]]:
+        """The status of a run, and what was begun in it."""
+        made = {name: mock.Mock() for name in ("Commands", "Casefile", "Room", "Opener")}
+        made["Opener"].return_value.all.return_value = (tuple(self.images), ())
+        made["memory"] = mock.Mock(runs=[])
+        with mock.patch.multiple(main, **{name: it for name, it in made.items() if name != "memory"}), \
+                mock.patch.object(main.resuming, "begin", return_value=made["memory"]), mock.patch.object(Bar, "end") as made["end"]:
+            status, self.out, _ = self.run_with(*words, happens=raising(error) if error else lambda: None, found=found)
+        return status, made
+
+    def test_all_is_closed(self) -> None:
+        """Commands are ended first, and what was opened is closed."""
+        for error in (None, OutsideError("why"), Stopped()):
+            _, made = self.ended(error=error)
+            for name in ("Casefile", "Room", "Opener"):
+                made[name].return_value.close.assert_called_once_with()
+            made["Commands"].return_value.stop.assert_called_once_with()
+            made["memory"].close.assert_called_once_with()
+            made["end"].assert_called_once_with()
+
+    def test_what_begins_fails(self) -> None:
+        """What was not begun is not closed, and what was is."""
+        status, made = self.ended()
+        self.assertEqual(status, 1)
+        with mock.patch.object(main, "Room", side_effect=OutsideError("no room")), mock.patch.object(main, "Casefile") as casefile, \
+                mock.patch.object(main, "Opener") as opener:
+            self.assertEqual(self.run_with()[::2], (3, f"{LINE}no room\n"))
+        casefile.return_value.close.assert_called_once_with()
+        opener.assert_not_called()
+
+    def test_the_page(self) -> None:
+        """It begins with the images, and ends with the status."""
+        for error, found, ending in ((None, Score.NOTHING, mock.call(mock.ANY, 1)), (None, Score.WHOLE, mock.call(mock.ANY, 0)),
+                                     (Stopped(), Score.WHOLE, mock.call(mock.ANY, 130, ended=True))):
+            casefile = self.ended(error=error, found=found)[1]["Casefile"].return_value
+            casefile.begin.assert_called_once_with(tuple(self.images))
+            self.assertEqual(casefile.end.call_args, ending)
+
+    def test_interrupted_before_the_search(self) -> None:
+        with mock.patch.object(main, "with_containers", side_effect=Stopped()):
+            status, out, _ = self.run_with()
+        self.assertEqual((status, "interrupted before a volume was looked at" in out), (130, True))
+
+    def test_what_an_interrupted_run_says(self) -> None:
+        """Whether something was good until then; those alone are printed whose volumes were looked at."""
+        good, bad, unseen = candidate(verdict=whole()), candidate(verdict=whole(False, 0)), candidate()
+        for found, best, said, printed in (([], Score.NOTHING, main.NOT_TESTED, 0), ([unseen, bad], Score.NOTHING, main.NONE_GOOD, 1),
+                                           ([unseen, good], Score.WHOLE, "interrupted", 1)):
+            report, casefile = Told(as_json=True), mock.Mock()
+            search = mock.Mock(tested=found, images=tuple(Image(f"i{number}", number, 8000) for number in range(3)), memory=None)
+            search.run.side_effect, search.best.return_value = Stopped(), best
+            self.assertEqual(main.searched(search, report, casefile), 130)
+            events = [json.loads(line) for line in report.lines]
+            self.assertEqual([it["event"] for it in events].count("candidate"), printed)
+            self.assertEqual((events[-1], report.record.last("interrupted")["text"]), ({"event": "interrupted", "interrupted": True}, said))
+            casefile.end.assert_called_once_with(search, 130, ended=True)
+        search.memory = mock.Mock(runs=[])
+        search.memory.name = "kept"
+        main.searched(search, report, casefile)
+        self.assertIn("the same words go on with it", report.record.last("kept")["text"])
+
+    def test_who_runs_the_commands_of_a_search(self) -> None:
+        """With a memory what was answered before is not asked again; images in containers are known by their names."""
+        commands, memory, opened = mock.Mock(), mock.Mock(), mock.Mock(path="/run/disk")
+        opened.name = "a.qcow2"
+        self.assertIs(main.remembering(commands, None, Options(())), commands)
+        found = main.remembering(commands, memory, Options((), opened=(opened,)))
+        assert isinstance(found, Remembering)
+        self.assertEqual((found.commands, found.memory, found.names), (commands, memory, {"/run/disk": "a.qcow2"}))
+
+    def test_what_is_said_first(self) -> None:
+        """Of images what they are; where standard error is no terminal the run is watched."""
+        self.images.append(self.file("c.vmdk", bytes(1024)))
+        with mock.patch.object(Bar, "watch") as watch:
+            _, out, _ = self.run_with()
+        watch.assert_called_once_with()
+        self.assertIn("c.vmdk: its name says VMDK, and its bytes do not: it is read as a raw image\n", out)
+
+    def test_a_second_signal_is_ignored(self) -> None:
+        """The first one ends the commands and then the run, which prints its table in peace."""
+        went_on: list[int] = []
+
+        def twice() -> None:
+            try:
+                signal.raise_signal(signal.SIGINT)
+            except Stopped:
+                signal.raise_signal(signal.SIGTERM)
+                signal.raise_signal(signal.SIGINT)
+                went_on.append(1)
+                raise
+        with mock.patch.object(main.Commands, "stop") as stop:
+            status, _, _ = self.run_with(happens=twice)
+        self.assertEqual((status, went_on, stop.call_count), (130, [1], 2))
+
+    def test_what_commands_are_told_to(self) -> None:
+        """Commands are shown where that is asked for, and how far they are where there is a terminal; the log is theirs."""
+        for words, shown in (((), False), (("-x",), True)):
+            log, show, progress = self.ended(*words)[1]["Commands"].call_args[0]
+            self.assertEqual((log, show is not None, progress), (None, shown, None))
+        with mock.patch.object(Bar, "clear"), mock.patch("sys.stderr.isatty", return_value=True, create=True):
+            name = os.path.join(self.folder, "a log")
+            with mock.patch.object(main, "Commands") as commands, mock.patch.object(main, "Log") as log:
+                log.return_value.had = 0
+                self.run_with("--log", name)
+        self.assertIs(commands.call_args[0][0], log.return_value)
+        log.return_value.close.assert_called_once_with()
+
+
 class Files(Runs):
     def test_log(self) -> None:
         name = os.path.join(self.folder, "log")
-        self.assertEqual(self.run_with("--log", name)[0], 1)
+        status, out, _ = self.run_with("--log", name)
+        self.assertEqual((status, "the log goes on behind them" in out), (1, False))
         status, out, _ = self.run_with("--log", name)
         with open(name, encoding="utf-8") as file:
             lines = file.read().splitlines()

@@ -455,6 +455,31 @@ class Hunts(InFolder):
             hunt.ask_again()
             self.assertEqual((hunt.cut_short, hunt.to_list(shape, request)), (set(), plan if again else None))
 
+    def test_offsets_with_little_behind_them(self) -> None:
+        """They are asked for with nothing loosened, and where every one is."""
+        hunt, _ = self.hunt(lambda *_: put("next 9 of 9\n"))
+        for count, every, wanted in ((0, False, True), (1, False, False), (1, True, True)):
+            with mock.patch.object(hunt.asking, "request", wraps=hunt.asking.request) as asked:
+                next(hunt.ways(Shape("0", 3), count, every))
+            self.assertEqual(asked.call_args_list[0][0], (Shape("0", 3), wanted))
+
+    def test_zeros_are_asked_of_many_sets(self) -> None:
+        """Of more than eight, once, and those alone are left that they allow; of fewer where it is known already."""
+        many = [f"5:ls:none:8:{8 * number}:0,1,2" for number in range(9)]
+        for count, known, allowed, asked in ((8, False, 8, 0), (9, False, 1, 1), (2, True, 1, 0), (1, True, 1, 0), (0, True, 0, 0)):
+            listed = "".join(f"{number} {text}\n" for number, text in enumerate(many[:count]))
+            hunt, _ = self.hunt(lambda words, _, listed=listed: put("", 6, "reraid: cursor 1 is past 84") if f"from={LAST}" in words
+                                else put(listed + "next 84 of 84\n"))
+            places = mock.Mock(allowed=lambda words: [it.offset == 0 for it in words])
+            hunt.ask_places = ask = mock.Mock(return_value=places)
+            hunt.places = places if known else None
+            for _ in range(2):
+                found = hunt.listing(Shape("5", 3), BASE, hunt.plan)
+                self.assertEqual(len(found.sets), allowed)
+            self.assertEqual(ask.call_count, asked)
+            left_out = count - allowed
+            self.assertEqual(found.note, f"{left_out} more have parity where zeros are" if left_out else "")
+
     def test_words(self) -> None:
         hunt, _ = self.hunt(lambda *_: put(""))
         self.assertEqual(hunt.word("5:la:none:8:7+7+7:0,1,2").text, "5:la:none:8:7:0,1,2")

@@ -13,16 +13,18 @@ from reraid_try.calls.sets import NEAR_2, Word, read_word
 from reraid_try.checks.candidates import Candidate
 from reraid_try.checks.verdicts import Score
 from reraid_try.errors import Refused, Stopped
+from reraid_try.evidence.hints import Hint, Source, What
 from reraid_try.evidence.images import Image
 from reraid_try.options import Options
 from reraid_try.policy import cures
 from reraid_try.policy.cures import Family
+from reraid_try.policy.mirrors import Grouped
 from reraid_try.policy.search import Search
 from reraid_try.policy.shapes import Shape, Tiers
 from reraid_try.policy.steps import Step
 from reraid_try.policy.trials import Trial
 from reraid_try.units import ALL, MIB
-from tests.standin import Standin, Told, plan_of
+from tests.standin import InFolder, Standin, Told, plan_of
 from tests.test_candidates import candidate, whole
 from tests.test_policy import BASE, EXT, XFS
 
@@ -66,6 +68,7 @@ class Runs(unittest.TestCase):
         with mock.patch.multiple(it, pass_through=passes, may_read_all=lambda: more, without_landmarks=lambda: done.append("bare"),
                                  diagnose=lambda _: done.append("diagnosis"), say_rows=lambda: done.append("rows")):
             it.run()
+        self.assertEqual(any("goes on to the whole of them" in line for line in said(it)), done[1] == "pass all 0")
         return done
 
     def test_what_follows(self) -> None:
@@ -91,14 +94,14 @@ class Runs(unittest.TestCase):
 
     def test_a_pass(self) -> None:
         """What evidence says enough of ends it. Without landmarks all is read at once, where it may be, before anything else is tried."""
-        for solved, groups, more, wanted in ((True, True, False, []), (False, True, True, ["evidence", "all"]),
-                                             (False, False, False, ["evidence", "all"]), (False, False, True, ["evidence"])):
+        for solved, groups, more, wanted in ((True, True, False, ["look"]), (False, True, True, ["look", "evidence", "all"]),
+                                             (False, False, False, ["look", "evidence", "all"]), (False, False, True, ["look", "evidence"])):
             it, done = search(), list[str]()
             evident = types.SimpleNamespace(run=lambda solved=solved: solved, hunt=lambda groups=groups: hunt(groups=groups))
             with mock.patch("reraid_try.policy.search.Evident", lambda _, evident=evident: evident), \
                     mock.patch("reraid_try.policy.search.Tests"), \
-                    mock.patch.multiple(it, look=lambda: None, may_read_all=lambda more=more: more, try_all=lambda done=done: done.append("all"),
-                                        say_evidence=lambda _, done=done: done.append("evidence")):
+                    mock.patch.multiple(it, look=lambda done=done: done.append("look"), may_read_all=lambda more=more: more,
+                                        try_all=lambda done=done: done.append("all"), say_evidence=lambda _, done=done: done.append("evidence")):
                 it.pass_through()
             self.assertEqual((it.solved, done), (solved, wanted))
 
@@ -115,7 +118,8 @@ class Runs(unittest.TestCase):
 class Steps(unittest.TestCase):
     """Which trials there are, in which order."""
 
-    def order(self, images: int, best: Callable[[list[str]], Score], run: str, exact: Sequence[Shape] = (FIVE,), **values: Any) -> tuple[bool, list[str]]:
+    def order(self, images: int, best: Callable[[list[str]], Score], run: str, exact: Sequence[Shape] = (FIVE,),
+              **values: Any) -> tuple[bool, list[str]]:
         """Whether the search is at its end, and what was done, where the best is so good after these."""
         it, done = search(images, **values), list[str]()
         tiers = Tiers((FIVE, NONE), (SIX, FIVE), (LOST,))
@@ -129,7 +133,8 @@ class Steps(unittest.TestCase):
         def damage(shapes: Sequence[Shape]) -> bool:
             done.append(f"damage {len(shapes)}")
             return False
-        with mock.patch.multiple(it, take_step=step, best=lambda: best(done), before_damage=damage, diagnose=lambda _: done.append("diagnosis"),
+        with mock.patch.multiple(it, take_step=step, best=lambda: best(done), before_damage=damage,
+                                 diagnose=lambda _: done.append("diagnosis"),
                                  near_mirrors=lambda _, missing: bool(done.append(f"mirrors {missing}"))):
             return bool(getattr(it, run)()), done
 
@@ -165,10 +170,12 @@ class Steps(unittest.TestCase):
             tried.append((shape, request.number("window")))
             return request.number("window") == 1
         it.hunt = cast(Any, types.SimpleNamespace(ways=lambda shape, *_: ways[shape]))
+        other = cast(Any, types.SimpleNamespace(ways=lambda *_: [((), BASE.having(window=9))]))
         with mock.patch.object(it, "attempt", attempt):
             self.assertTrue(it.take_step(Step((FIVE, SIX), 1)))
             self.assertFalse(it.take_step(Step((FIVE,), 1)))
-        self.assertEqual(tried, [(FIVE, 0), (SIX, 1), (FIVE, 0)])
+            self.assertFalse(it.take_step(Step((FIVE,), 1), other))
+        self.assertEqual(tried, [(FIVE, 0), (SIX, 1), (FIVE, 0), (FIVE, 9)])
 
     def test_without_landmarks(self) -> None:
         """What parity tells of, and the rest where there are no landmarks anyway, until one is enough."""
@@ -212,7 +219,8 @@ class Damage(unittest.TestCase):
         it, done = search(), list[str]()
 
         def attempt(_hunt: Any, shape: Shape, chosen: tuple[cures.Cure, ...], few: Any, tested_by: Any = None) -> bool:
-            done.append(f"{shape.levels} {' and '.join(cure.name for cure in chosen)}: {few.number('window')} {few.out} by {tested_by.number('window')}")
+            names = " and ".join(cure.name for cure in chosen)
+            done.append(f"{shape.levels} {names}: {few.number('window')} {few.out} by {tested_by.number('window')}")
             return len(done) == ends
         asking = types.SimpleNamespace(first_rows=lambda _: BASE.having(window=65536), request=lambda _: BASE.having(window=90000))
         it.hunt = hunt(groups=groups, asking=asking, evidence=types.SimpleNamespace(unread=unread))
@@ -338,6 +346,15 @@ class Attempts(unittest.TestCase):
         self.assertTrue(it.was_late)
         self.assertIn("1 second were up before it was known whether parity alone allows a set", said(it)[0])
 
+    def test_why_before_a_trial(self) -> None:
+        """Why it goes on stands before the next trial, which is shown while it is at work."""
+        it = search()
+        over = types.SimpleNamespace(to_list=lambda *_: None)
+        with mock.patch.object(it, "why_on") as why, mock.patch.object(it.report.bar, "show") as show:
+            it.attempt(cast(Any, over), FIVE, (), BASE)
+        why.assert_called_once_with()
+        show.assert_called_once_with("levels 5, 3 members: nothing loosened: ")
+
     def test_why_it_goes_on(self) -> None:
         """It is said once, where a checker alone is content, with the longest row of those."""
         for best, lines in ((Score.KNOWN, 0), (Score.WHOLE, 0), (Score.CHECKED, 1)):
@@ -347,6 +364,56 @@ class Attempts(unittest.TestCase):
                 it.why_on()
             self.assertEqual(len(said(it)), lines)
         self.assertIn("(64 KiB)", said(it)[0])
+
+
+class Seen(InFolder):
+    """What is looked at, and said before anything is tried."""
+
+    def test_images(self) -> None:
+        """Each has a line, but not again where nothing else is seen of it later; then how much is read."""
+        names = tuple(self.file(name, name.encode() * (3 * MIB)) for name in "ab")
+        it = Search(Options(names, first=MIB), Standin(), Told(), cast(Any, None))
+        it.look()
+        self.assertEqual(([line.split()[:2] for line in said(it)[:2]], said(it)[2:]),
+                         ([["image", "0"], ["image", "1"]], ["reads the first part of the images: 2 MiB"]))
+        it.options = dataclasses.replace(it.options, first=ALL)
+        it.look()
+        self.assertEqual(said(it)[3:], ["reads all of the images: 6 MiB"])
+        self.assertEqual((it.report.total, len(it.images)), (6 * MIB, 2))
+
+    def test_evidence(self) -> None:
+        """The groups with their first and last marks, and the hints; that there are no landmarks."""
+        it, hint = search(), Hint(What.OFFSET, 2048, Source.MARK, "a mark")
+        both = [hunt(groups=groups, evidence=types.SimpleNamespace(said=[hint])) for groups in (True, False)]
+        for one in both:
+            it.say_evidence(one)
+        self.assertEqual(said(it), ["group 0 (xfs, 2 marks), from sector 2048 of image 0 to 26624 of image 1",
+                                    "group 1 (ext, 1 mark), from sector 7426 of image 2 to 7426 of image 2", "hint: offset 2048, from a mark",
+                                    "no landmarks: parity alone rules sets out", "hint: offset 2048, from a mark"])
+        self.assertEqual(it.hunts, both)
+
+    def test_groups_of_copies(self) -> None:
+        """They are said, and searched as a RAID 0 of one image of each: with up to two things loosened, and then without landmarks."""
+        over = types.SimpleNamespace(evidence=types.SimpleNamespace(images=search(4).images, start=64))
+        grouped = Grouped(((0, 2), (1,)), 2, (2048,))
+        steps = ["evidence", "step 0", "step 1", "step 2"]
+        for shapes, ends, wanted in (((NONE, FIVE), 9, [*steps, "bare 0"]), ((), 9, steps), ((NONE,), 2, steps[:2])):
+            it, done = search(), list[str]()
+
+            def step(what: Step, _hunt: Any, done: list[str] = done, ends: int = ends) -> bool:
+                done.append(f"step {what.count}")
+                return len(done) == ends
+
+            def bare(_hunt: Any, shape: Shape, done: list[str] = done) -> bool:
+                done.append(f"bare {shape.levels}")
+                return True
+            with mock.patch("reraid_try.policy.search.Hunt") as made, \
+                    mock.patch.multiple(it, take_step=step, attempt_bare=bare, say_evidence=lambda _, done=done: done.append("evidence")):
+                made.return_value.shapes.tiers.return_value = Tiers(rest=shapes)
+                self.assertEqual(it.grouped(cast(Any, over), grouped), bool(shapes))
+            self.assertEqual((done, said(it)), (wanted, ["  pairs 0=2 image 1 alone: a RAID 0 of 2 disks"]))
+            words = made.call_args[0]
+            self.assertEqual(([image.number for image in words[2]], words[4].partners, words[5]), ([0, 1], ((2,), ()), 64))
 
 
 class Taken(unittest.TestCase):

@@ -26,6 +26,10 @@ class Places(unittest.TestCase):
         self.assertEqual([(it.first, it.count, it.images) for it in found], [(158, 900, (0, 1, 2)), (8, 100, (0, 1, 2)), (108, 50, (0, 1, 2))])
         self.assertEqual((found[0].end, found[0].offsets((0, 20, 2048))), (1058, (158, 178)))
 
+    def test_offsets_within(self) -> None:
+        """Data may begin in a place as long as it lasts."""
+        self.assertEqual(shared.Place(100, 50, (0, 1)).offsets((0, 49, 50)), (100, 149))
+
     def test_larger_disks(self) -> None:
         """Two larger disks among four have a further partition, and one disk a longer last one: the shortest counts."""
         small, longer, large = ((8, 100), (108, 300)), ((8, 100), (108, 310)), ((8, 100), (108, 300), (408, 500))
@@ -77,6 +81,17 @@ class Contents(unittest.TestCase):
                     for block in range(125):
                         file.seek(block * 4096)
                         file.write(random.Random(f"{it.number} {block}" if block < differing else str(block)).randbytes(4096))
+            self.assertEqual([it.copied for it in shared.looked_at(self.disks) if it.first == 0], [copied])
+
+    def test_nine_in_ten(self) -> None:
+        """Of a hundred blocks that are not zeros ninety have to be the same, and no fewer."""
+        for differing, copied in ((10, True), (11, False)):
+            for it in self.disks:
+                with open(it.name, "r+b") as file:
+                    for block in range(125):
+                        file.seek(block * 4096)
+                        filled = random.Random(f"{it.number} {block}" if block < differing else str(block)).randbytes(4096)
+                        file.write(filled if block < 100 else bytes(4096))
             self.assertEqual([it.copied for it in shared.looked_at(self.disks) if it.first == 0], [copied])
 
     def test_efi_system_partitions(self) -> None:

@@ -723,6 +723,24 @@ class Printed(unittest.TestCase):
         self.assertNotIn("unread", self.shown(candidate(verdict=whole())).text)
 
 
+class Table(unittest.TestCase):
+    def test_its_lines(self) -> None:
+        """A head, a line for each candidate, and that none is chosen; where there is none, that."""
+        images = [Image(f"i{number}", number, 8000) for number in range(3)]
+        for as_json in (False, True):
+            report = Told(as_json)
+            table.show(report, [candidate(verdict=whole())], images)
+            events = [it["event"] for it in report.record.events]
+            self.assertEqual(events[:4 - as_json], ["head", "candidate", "end", "words"][as_json:])
+            self.assertEqual(report.record.last("end")["text"], table.LAST)
+            if not as_json:
+                self.assertEqual(report.lines[0].split(), ["class", "set", "loosened", "fits", "volume"])
+                self.assertEqual(report.lines[1].split()[:5], ["++", "0", SET, "nothing", "-"])
+        none = Told()
+        table.show(none, [], images)
+        self.assertEqual(none.lines, ["no candidates"])
+
+
 class Faulty(unittest.TestCase):
     def test_how_many_are_printed(self) -> None:
         """As many as 24 of which something is known, and of more those with a score alone, where there are such; what is left out is said."""

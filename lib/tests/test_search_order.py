@@ -118,9 +118,9 @@ class Runs(unittest.TestCase):
 class Steps(unittest.TestCase):
     """Which trials there are, in which order."""
 
-    def order(self, images: int, best: Callable[[list[str]], Score], run: str, exact: Sequence[Shape] = (FIVE,),
+    def order(self, images: int, best: Callable[[list[str]], Score], run: str, exact: Sequence[Shape] = (FIVE,), ends: str = "",
               **values: Any) -> tuple[bool, list[str]]:
-        """Whether the search is at its end, and what was done, where the best is so good after these."""
+        """Whether the search is at its end, and what was done, where the best is so good after these, and one of them may be enough."""
         it, done = search(images, **values), list[str]()
         tiers = Tiers((FIVE, NONE), (SIX, FIVE), (LOST,))
         it.hunt = hunt(types.SimpleNamespace(tiers=lambda: tiers, exact=lambda: list(exact)))
@@ -128,14 +128,17 @@ class Steps(unittest.TestCase):
         def step(what: Step, _hunt: Any = None) -> bool:
             levels = "+".join(f"{shape.levels}.{shape.missing}" for shape in what.shapes)
             done.append(f"{levels or 'none'} {what.count}" + " quick" * what.quick + " every" * what.every)
-            return False
+            return done[-1] == ends
 
         def damage(shapes: Sequence[Shape]) -> bool:
             done.append(f"damage {len(shapes)}")
-            return False
+            return done[-1] == ends
+
+        def mirrors(_hunt: Any, missing: int) -> bool:
+            done.append(f"mirrors {missing}")
+            return done[-1] == ends
         with mock.patch.multiple(it, take_step=step, best=lambda: best(done), before_damage=damage,
-                                 diagnose=lambda _: done.append("diagnosis"),
-                                 near_mirrors=lambda _, missing: bool(done.append(f"mirrors {missing}"))):
+                                 diagnose=lambda _: done.append("diagnosis"), near_mirrors=mirrors):
             return bool(getattr(it, run)()), done
 
     def test_first_trials(self) -> None:
@@ -154,6 +157,14 @@ class Steps(unittest.TestCase):
         self.assertEqual(few, (True, ["damage 4", "5.0+0.0 0", "5.0 0", "5.0+0.0 1"]))
         late = self.order(4, lambda done: Score.CHECKED if "6.2 0" in done else Score.NOTHING, "first_trials", levels=("5",))
         self.assertEqual((late[0], late[1][-1]), (True, "6.2 0"))
+
+    def test_what_is_enough_ends_it(self) -> None:
+        """Wherever it is found."""
+        for images, run in ((3, "first_trials"), (4, "first_trials"), (4, "further_trials")):
+            done = self.order(images, lambda _: Score.NOTHING, run)[1]
+            for place, what in enumerate(done):
+                if what != "diagnosis":
+                    self.assertEqual(self.order(images, lambda _: Score.NOTHING, run, ends=what), (True, done[:place + 1]))
 
     def test_further_trials(self) -> None:
         """Until something is known."""
@@ -259,7 +270,8 @@ class Mirrored(unittest.TestCase):
             it = search(**options)
             with mock.patch("reraid_try.policy.search.Mirrors") as made, mock.patch.object(it, "take", return_value=False):
                 made.return_value.listing.return_value = Listing((), 0, True)
-                it.mirrors(cast(Any, types.SimpleNamespace(asking=types.SimpleNamespace(unread_cure=lambda *_: ()))), Copied((NEAR_2,), members))
+                over = types.SimpleNamespace(asking=types.SimpleNamespace(unread_cure=lambda *_: ()))
+                self.assertFalse(it.mirrors(cast(Any, over), Copied((NEAR_2,), members)))
             self.assertEqual(made.return_value.listing.call_count, wanted)
 
     def listed(self, *texts: str, take: bool = False, grouped: bool = False) -> tuple[bool, list[str]]:
@@ -341,6 +353,12 @@ class Attempts(unittest.TestCase):
         self.assertEqual(self.printed, ["  reraid: no"])
 
     def test_late(self) -> None:
+        """Once something did not come to its end that is so for good."""
+        it = search()
+        self.assertEqual((it.number, it.said_on, it.was_late, it.solved), (0, False, False, False))
+        over = cast(Any, types.SimpleNamespace(asking=types.SimpleNamespace(unread_cure=lambda *_: ())))
+        late = [(it.say_trial(over, Trial(FIVE), Listing((), 9, whole)).number, it.was_late) for whole in (True, False, True)]
+        self.assertEqual(late, [(1, False), (2, True), (3, True)])
         it = search()
         it.say_late("parity alone allows", 1)
         self.assertTrue(it.was_late)

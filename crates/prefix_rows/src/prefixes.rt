@@ -1,10 +1,10 @@
 //! Which prefixes of slots two rows let begin a set. What is wanted was worked out by hand from the equations of the rows: each
 //! sector is a sum of generated ones, of which no sum is zeros.
-ghost use Rattle.std.specs.Prelude.{◌≡◌, IfOk};
+ghost use Rattle.std.specs.Prelude.{◌≡◌, IfOk, length};
 
 use gf256::mul;
 use raid_params::{Head, Level, Pattern, Syndrome};
-use relation_prefix::{HeadRelations, PrefixTest, SampledRows, are_there};
+use relation_prefix::{HeadRelations, PrefixTest, RowTies, SampledRows, are_there};
 use row_relations::RowTable;
 use std::alloc::{AllocError, Global};
 use std::process::Abort;
@@ -72,6 +72,17 @@ fn row_of(alloc: Global, images: &[Terms]) -> Result<Vec<u8>, AllocError> {
     Ok(bytes)
 }
 
+/// Keeps the row of a table.
+fn keep(kept: &mut SampledRows, row: u64, table: &RowTable) -> Result<(), Fail>
+    requires { length table.now.standings ≡ kept.old.images }
+    ensures { kept.new.images ≡ kept.old.images }
+{
+    if let Some(ties) = RowTies::of(table) {
+        kept.keep(row, &ties)?;
+    }
+    Ok(())
+}
+
 /// Two rows of images, kept.
 fn both_kept<R: Abort>(
     rt: &R,
@@ -87,10 +98,10 @@ fn both_kept<R: Abort>(
     let mut table = RowTable::new(alloc, images)?;
     assert!(rt; first.len() == 512 * table.images());
     table.fill(first);
-    kept.keep(0, &table)?;
+    keep(&mut kept, 0, &table)?;
     assert!(rt; second.len() == 512 * table.images());
     table.fill(second);
-    kept.keep(1, &table)?;
+    keep(&mut kept, 1, &table)?;
     assert!(rt; kept.count() == 2);
     Ok(kept)
 }

@@ -14,14 +14,26 @@ use Rattle.row_relations.proofs.FieldSums.{sum_ends, sum_of_one, sum_same}
 use Rattle.row_relations.proofs.Ties.{row_over, unweighed}
 use Rattle.relation_prefix.specs.declared.row_ties.RowTies.{RowTies}
 use Rattle.relation_prefix.specs.Systems.{sum_at, AreValues}
-use Rattle.relation_prefix.specs.Ties.{coefficient, coefficients_of, dependents, is_dependent, is_zero, AreTiesOf, FollowTies, HasCoefficients}
+use Rattle.relation_prefix.specs.Ties.{coefficient, coefficients_of, dependents, is_dependent, is_zero, AreTiesOf, FollowTies, HasCoefficients, IsOwnDependent}
 use Rattle.relation_prefix.proofs.Dependents.{each_dependent, in_order, sum_by_dependents}
 
-coefficient_other : (table : Table) (d i : ℕ) → d ≢ i → coefficient table d i ≡ weight_of table d i
-coefficient_other table d i ne = ap (λ b. cond b 1 (weight_of table d i)) (ne_eqb d i ne)
+-- the weights in a tie, of an image that is not dependent, of another dependent one and of its own
+coefficient_other : (table : Table) (d i : ℕ) → d ≢ i → is_dependent (standing_of table i) ≡ false → coefficient table d i ≡ weight_of table d i
+coefficient_other table d i ne off =
+    ap (λ b. cond b 1 (cond (is_dependent (standing_of table i)) 0 (weight_of table d i))) (ne_eqb d i ne) ∙ ap (λ b. cond b 0 (weight_of table d i)) off
+
+coefficient_dependent : (table : Table) (d i : ℕ) → d ≢ i → is_dependent (standing_of table i) ≡ true → coefficient table d i ≡ 0
+coefficient_dependent table d i ne on =
+    ap (λ b. cond b 1 (cond (is_dependent (standing_of table i)) 0 (weight_of table d i))) (ne_eqb d i ne) ∙ ap (λ b. cond b 0 (weight_of table d i)) on
 
 coefficient_own : (table : Table) (d : ℕ) → coefficient table d d ≡ 1
-coefficient_own table d = ap (λ b. cond b 1 (weight_of table d d)) (eq-eqb d d refl)
+coefficient_own table d = ap (λ b. cond b 1 (cond (is_dependent (standing_of table d)) 0 (weight_of table d d))) (eq-eqb d d refl)
+
+differ : (table : Table) (n s t : ℕ) → s ≢ t → s < length (dependents table n) → t < length (dependents table n) → get_or (dependents table n) s 0 ≢ get_or (dependents table n) t 0
+differ table n s t ne ls lt same = elim (cases_lt s t) [
+  | inl less ↦ (let order = in_order table n s t less lt in omega arith)
+  | inr more ↦ (let order = in_order table n t s (omega arith) ls in omega arith)
+]
 
 weight_off_by : (sectors : List ℕ) (table : Table) (d i : ℕ) (s : Standing) → Stands sectors table d s → is_dependent s ≡ false → weight_of table d i ≡ 0
 weight_off_by sectors table d i Zero h e = unweighed table d h.1 i
@@ -51,12 +63,6 @@ sum_of_coefficients table ds cs i x few h =
     ∙ sum_same (length ds) (λ t. product (get_or cs t 0) (x t)) (λ t. product (coefficient table (get_or ds t 0) i) (x t)) (λ t lt. ap (λ (a : ℕ). product a (x t)) (h.at t lt))
 
 module _ (sectors : List ℕ) (table : Table) (n : ℕ) (is : IsTable n sectors table) (v : List ℕ) (bytes : AreBytes v) where
-  weight_at_other : (d i : ℕ) → d < n → standing_of table i ≢ Independent → weight_of table d i ≡ 0
-  weight_at_other d i lt ne = elim (cases_eq (weight_of table d i) 0) [
-    | inl z ↦ z
-    | inr some ↦ absurd (ne ((row_over sectors table d (standing_of table d) (is.each d lt)).independent i some))
-  ]
-
   weight_off : (d i : ℕ) → d < n → is_dependent (standing_of table d) ≡ false → weight_of table d i ≡ 0
   weight_off d i lt off = weight_off_by sectors table d i (standing_of table d) (is.each d lt) off
 
@@ -90,7 +96,7 @@ module _ (sectors : List ℕ) (table : Table) (n : ℕ) (is : IsTable n sectors 
   at_dependent i lt on =
       sum_of_one n i (adds i) lt (λ d ne. elim (cases_Bool (is_dependent (standing_of table d))) [
         | inl dep ↦
-            adds_on i d dep ∙ ap (λ (a : ℕ). product a (get_or v d 0)) (coefficient_other table d i ne ∙ weight_at_other d i (dependent_below d dep) (not_independent (standing_of table i) on))
+            adds_on i d dep ∙ ap (λ (a : ℕ). product a (get_or v d 0)) (coefficient_dependent table d i ne on)
             ∙ product_zero_left (get_or v d 0)
         | inr off ↦ adds_off i d off
       ])
@@ -104,7 +110,7 @@ module _ (sectors : List ℕ) (table : Table) (n : ℕ) (is : IsTable n sectors 
       sum_same n (adds i) (λ d. product (get_or v d 0) (weight_of table d i)) (λ d lt. elim (cases_Bool (is_dependent (standing_of table d))) [
         | inl dep ↦
             adds_on i d dep
-            ∙ ap (λ (a : ℕ). product a (get_or v d 0)) (coefficient_other table d i (λ e. (let clash : true ≡ false = sym dep ∙ ap (λ (k : ℕ). is_dependent (standing_of table k)) e ∙ not in cc)))
+            ∙ ap (λ (a : ℕ). product a (get_or v d 0)) (coefficient_other table d i (λ e. (let clash : true ≡ false = sym dep ∙ ap (λ (k : ℕ). is_dependent (standing_of table k)) e ∙ not in cc)) not)
             ∙ commutes (weight_of table d i) (get_or v d 0) (row_fits d i lt) (bytes d)
         | inr off ↦ adds_off i d off ∙ sym (ap (product (get_or v d 0)) (weight_off d i lt off) ∙ product_zero (get_or v d 0))
       ])
@@ -118,12 +124,6 @@ module _ (sectors : List ℕ) (table : Table) (n : ℕ) (is : IsTable n sectors 
   gives_values ties few zeros has sum i lt some = elim (cases_Bool (is_dependent (standing_of table i))) [
     | inl on ↦ sym (follows (coefficients_of ties i) i few (has i lt) ∙ at_dependent i lt on)
     | inr off ↦ sum.independent i lt (independent_of (standing_of table i) (sym (zeros i lt) ∙ some) off) ∙ sym (follows (coefficients_of ties i) i few (has i lt) ∙ at_independent i off)
-  ]
-
-  differ : (s t : ℕ) → s ≢ t → s < length (dependents table n) → t < length (dependents table n) → get_or (dependents table n) s 0 ≢ get_or (dependents table n) t 0
-  differ s t ne ls lt same = elim (cases_lt s t) [
-    | inl less ↦ (let order = in_order table n s t less lt in omega arith)
-    | inr more ↦ (let order = in_order table n t s (omega arith) ls in omega arith)
   ]
 
   -- the values of the ties are the weights of their dependent images
@@ -142,8 +142,7 @@ module _ (sectors : List ℕ) (table : Table) (n : ℕ) (is : IsTable n sectors 
         | inr past ↦ ap (λ b. product (cond b (coefficient table (get_or ds s 0) d) 0) (x s)) (le-ltb s (length ds) past) ∙ product_zero_left (x s)
         | inl below ↦
             ap (λ b. product (cond b (coefficient table (get_or ds s 0) d) 0) (x s)) (lt-ltb s (length ds) below)
-            ∙ ap (λ (a : ℕ). product a (x s)) (coefficient_other table (get_or ds s 0) d (differ s t ne below lt)
-            ∙ weight_at_other (get_or ds s 0) d (each_dependent table n s below).0 (not_independent (standing_of table d) each.1))
+            ∙ ap (λ (a : ℕ). product a (x s)) (coefficient_dependent table (get_or ds s 0) d (differ table n s t ne below lt) each.1)
             ∙ product_zero_left (x s)
       ])
       ∙ ap (λ b. product (cond b (coefficient table d d) 0) (x t)) (lt-ltb t (length ds) lt) ∙ ap (λ (a : ℕ). product a (x t)) (coefficient_own table d) ∙ commutes 1 (x t) (omega arith) (hx t) ∙ product_one (x t) (hx t)
@@ -182,3 +181,22 @@ built table ties e few zeros has = record {
       subst (λ (n : ℕ). IsSumOfTies n table v) (sym e)
       (takes_values sectors table (length table.standings) (subst (λ (n : ℕ). IsTable n sectors table) e is) v bytes ties x hx (long ∙ e) few zeros has (subst (λ (n : ℕ). FollowTies ties n v x) e follow));
 }
+
+-- the dependent image of a tie is in no other tie
+pub own_dependent : (table : Table) (ties : RowTies) → ties.images ≡ length table.standings → ((i : ℕ) → i < length table.standings → slice_index_or ties.zeros i false ≡ is_zero (standing_of table i)) →
+    ((i : ℕ) → i < length table.standings → HasCoefficients table (dependents table (length table.standings)) (coefficients_of ties i) i) →
+    (t : ℕ) → t < length (dependents table (length table.standings)) → IsOwnDependent ties t (get_or (dependents table (length table.standings)) t 0)
+own_dependent table ties e zeros has t lt =
+    let n = length table.standings in
+    let ds = dependents table n in
+    let d = get_or ds t 0 in
+    let each = each_dependent table n t lt in
+    record {
+      there = (let low = each.0 in omega arith);
+      some = zeros d each.0 ∙ dependent_not_zero (standing_of table d) each.1;
+      own = (has d each.0).at t lt ∙ coefficient_own table d;
+      others = λ u ne. elim (cases_lt u (length ds)) [
+        | inl below ↦ (has d each.0).at u below ∙ coefficient_dependent table (get_or ds u 0) d (differ table n u t ne below lt) each.1
+        | inr past ↦ (has d each.0).past u past
+      ];
+    }

@@ -14,3 +14,4 @@ pub mod Pinned
 pub mod Begun
 pub mod Keeping
 pub mod Demands
+pub mod Wholes

@@ -11,7 +11,6 @@ use Rattle.raid_params.specs.declared.types.Head.{Head}
 use Rattle.raid_params.specs.declared.types.Level.{Level}
 use Rattle.raid_params.specs.declared.types.Level.TheVariants.{Raid0, Raid5, Raid6}
 use Rattle.raid_terms.specs.Cells.{part_of}
-use Rattle.row_relations.specs.Tables.{Table}
 use Rattle.relation_prefix.specs.declared.condition.TheConstants.{MOST_TIES}
 use Rattle.relation_prefix.specs.declared.equation.Equation.{Equation}
 use Rattle.relation_prefix.specs.declared.equation.Equation.TheVariants.{OfP, OfQ}
@@ -21,7 +20,7 @@ use Rattle.relation_prefix.specs.declared.sampled.SampledRow.{SampledRow}
 use Rattle.relation_prefix.specs.declared.weights.RowWeights.{RowWeights}
 use Rattle.relation_prefix.specs.Equations.{left_without, slot_weight}
 use Rattle.relation_prefix.specs.Systems.{sum_at}
-use Rattle.relation_prefix.specs.Ties.{coefficients_of, dependents, AreTiesOf, AreWeightsOf, FitTies}
+use Rattle.relation_prefix.specs.Ties.{coefficients_of, tells_much, AreWeightsOf, FitTies}
 
 -- some list of n bytes passes a test
 unfoldable pub some_bytes : ℕ → (List ℕ → Bool) → Bool
@@ -117,9 +116,10 @@ pub record CanTest (head : Head) (rows : List SampledRow) (weights : List RowWei
   pub long : length weights ≡ length rows
   pub each : AreAllWeights head rows (length rows) weights
 
--- some rows as contracts see them: of how many images, and the list
+-- some rows as contracts see them: of how many images, how many there is room for at least, and the list
 pub record KeptRows : Type 0 where
   pub images : ℕ
+  pub most : ℕ
   pub list : List SampledRow
 
 -- they are of so many images
@@ -131,11 +131,13 @@ pub record AreKeptRows (count : ℕ) (rows : List SampledRow) : Type 0 where
 abbrev pub AreBelow : ℕ → List SampledRow → Type 0
 AreBelow row rows = All (λ sampled. sampled.row < row) rows
 
--- a row of this table was kept, unless it has too many ties
-abbrev pub KeepsRow : ℕ → Table → KeptRows → KeptRows → Type 0
-KeepsRow row table old new =
-    ((MOST_TIES < length (dependents table (length table.standings))) × (new ≡ old))
-    ⊎ ((ties : RowTies) × AreTiesOf table ties × (new ≡ record { images = old.images; list = old.list ++ record { row = row; ties = ties } ∷ [] }))
+-- a row of these ties was kept
+abbrev pub with_row : KeptRows → ℕ → RowTies → KeptRows
+with_row rows row ties = record { images = rows.images; most = rows.most; list = rows.list ++ record { row = row; ties = ties } ∷ [] }
+
+-- each row tells much
+abbrev pub all_tell : List SampledRow → Bool
+all_tell rows = list_all (λ sampled. tells_much sampled.ties) rows
 
 -- what is asked of rows, as contracts see it
 pub record Asked : Type 0 where

@@ -1,5 +1,6 @@
 -- The ties of a row by numbers of their own.
-use Rattle.std.specs.Prelude.{ℕ, zero, suc, ◌≡◌, ◌<◌, ◌≤◌, ◌==◌, Bool, true, false, if◌then◌else◌, List, [], ◌∷◌, ◌++◌, length, slice_index, slice_index_or}
+use Rattle.std.specs.Prelude.{ℕ, zero, suc, ◌≡◌, ◌≢◌, ◌<◌, ◌≤◌, ◌*◌, ◌==◌, nat_lt, Bool, true, false, not, if◌then◌else◌, List, [], ◌∷◌, ◌++◌, count_by, length, slice_index, slice_index_or, take}
+use Rattle.std.specs.List.{list_all}
 use Rattle.std.specs.declared.option.Option.{Option}
 use Rattle.std.specs.declared.option.Option.TheVariants.{None, Some}
 use Rattle.raid_params.specs.declared.types.Head.{Head}
@@ -9,6 +10,7 @@ use Rattle.row_relations.specs.declared.standing.Standing.TheVariants.{Zero, Ind
 use Rattle.row_relations.specs.Laws.{IsSumOfTies}
 use Rattle.row_relations.specs.Rows.{AreBytes}
 use Rattle.row_relations.specs.Tables.{Table, standing_of, weight_of, IsTable}
+use Rattle.relation_prefix.specs.declared.condition.TheConstants.{MOST_TIES}
 use Rattle.relation_prefix.specs.declared.row_ties.RowTies.{RowTies}
 use Rattle.relation_prefix.specs.declared.equation.Equation.{Equation}
 use Rattle.relation_prefix.specs.Equations.{slot_weight}
@@ -30,9 +32,9 @@ unfoldable pub dependents : Table → ℕ → List ℕ
 dependents table zero = []
 dependents table (suc n) = dependents table n ++ (if is_dependent (standing_of table n) then n ∷ [] else [])
 
--- the weight of an image in the tie of a dependent one
+-- the weight of an image in the tie of a dependent one: that of another dependent image is 0
 abbrev pub coefficient : Table → ℕ → ℕ → ℕ
-coefficient table dependent i = if dependent == i then 1 else weight_of table dependent i
+coefficient table dependent i = if dependent == i then 1 else if is_dependent (standing_of table i) then 0 else weight_of table dependent i
 
 -- the coefficients of an image
 abbrev pub coefficients_of : RowTies → ℕ → List ℕ
@@ -67,8 +69,26 @@ HaveWeights ties x weights slots n = (slot image : ℕ) → slot < n → slice_i
 abbrev pub ForeignHaveNone : RowTies → (ℕ → ℕ) → List (Option ℕ) → ℕ → Type 0
 ForeignHaveNone ties x slots n = (image : ℕ) → image < n → IsForeign slots image → HasWeight ties x image 0
 
--- ties over up to 64 images with coefficients that are bytes
+-- the dependent image of a tie is not zeros, and in no other tie
+pub record IsOwnDependent (ties : RowTies) (t image : ℕ) : Type 0 where
+  pub there : image < ties.images
+  pub some : slice_index_or ties.zeros image false ≡ false
+  pub own : slice_index (coefficients_of ties image) t ≡ 1
+  pub others : (u : ℕ) → u ≢ t → slice_index (coefficients_of ties image) u ≡ 0
+
+-- the row has more independent images than ties
+abbrev pub tells_much : RowTies → Bool
+tells_much ties = nat_lt (2 * ties.count) (count_by not (take ties.images ties.zeros))
+
+-- it is zeros
+abbrev pub is_blank : RowTies → Bool
+is_blank ties = list_all (λ zero. zero) (take ties.images ties.zeros)
+
+-- ties over up to 64 images with coefficients that are bytes, each with a dependent image of its own
 pub record FitTies (ties : RowTies) : Type 0 where
+  pub count : ties.count ≤ MOST_TIES
+  pub dependents : (t : ℕ) → t < ties.count → IsOwnDependent ties t (slice_index ties.dependents t)
+  pub past : (i t : ℕ) → i < ties.images → ties.count ≤ t → slice_index (coefficients_of ties i) t ≡ 0
   pub few : ties.images ≤ MOST_IMAGES
   pub zeros : length ties.zeros ≡ MOST_IMAGES
   pub coefficients : length ties.coefficients ≡ MOST_IMAGES

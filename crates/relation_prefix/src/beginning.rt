@@ -1,5 +1,5 @@
 //! Whether the slots of a set may begin so, by some rows.
-ghost use Rattle.std.specs.Prelude.{ℕ, ◌≡◌, ◌/◌, ◌<◌, ◌≤◌, All, IfSome, IsTrue, length};
+ghost use Rattle.std.specs.Prelude.{ℕ, ◌≡◌, ◌/◌, ◌<◌, ◌≤◌, All, IfSome, IsTrue, Some, false, length};
 ghost use Rattle.std.specs.List.{list_any, range_with_len};
 ghost use Rattle.raid_params.specs.Slots.{empties};
 ghost use Rattle.raid_params.specs.Validity.{is_valid_head};
@@ -133,6 +133,15 @@ fn may_lose_slot(test: &PrefixTest, slots: &[Option<u8>], empty: usize, slot: us
     }
 }
 
+/// Whether some slot may be the only lost one: there is an empty one, or one still to come and none is.
+fn may_lose_one(test: &PrefixTest, slots: &[Option<u8>], empty: usize) -> bool
+    requires empty { empty ≡ empties slots.now }
+    ensures { result ≡ false → (slot : ℕ) → slot < test.now.head.members → set_may_lose test.now slots.now (Some slot) ≡ false }
+{
+    let open = slots.len() < test.head.members as usize && test.missing >= 1;
+    is_raid6(test.head.level) && (empty == 1 || (empty == 0 && open))
+}
+
 /// Whether as many slots as the level survives are lost, or may come to be.
 fn is_untested(test: &PrefixTest, slots: &[Option<u8>], empty: usize) -> bool
     requires empty { empty ≡ empties slots.now }
@@ -177,6 +186,9 @@ fn may_begin_with_one(
     requires empty { empty ≡ empties slots.now }
     ensures { result ≡ list_any (λ slot. set_may_begin_with rows.now test.now slots.now (Some slot)) (range_with_len 0 test.now.head.members) }
 {
+    if !may_lose_one(test, slots, empty) {
+        return false;
+    }
     for slot in 0..test.head.members {
         if may_begin_with(rows, weights, test, slots, empty, Some(slot)) {
             return true;

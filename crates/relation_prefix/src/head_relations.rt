@@ -1,7 +1,7 @@
 //! What rows say of the slot lists of a head.
 ghost use Rattle.std.specs.Prelude.{◌≡◌, ◌≤◌, ◌+◌, All, IfOk, IsTrue, drop, length, take};
 ghost use Rattle.raid_params.specs.Validity.{is_valid_head};
-ghost use Rattle.relation_prefix.specs.Sampled.{may_begin as set_may_begin, CanTest};
+ghost use Rattle.relation_prefix.specs.Sampled.{all_tell as all_rows_tell, may_begin as set_may_begin, CanTest};
 ghost use Rattle.relation_prefix.specs.Ties.{AreThere, FitTies};
 
 use crate::beginning::may_begin;
@@ -20,17 +20,20 @@ pub struct HeadRelations<'a> {
     rows: &'a SampledRows,
     /// The weights of the head's slots in each row.
     weights: Vec<RowWeights>,
+    /// Whether each row tells much.
+    all_tell: bool,
     test: PrefixTest,
 }
 
 impl<'a> Model for HeadRelations<'a> {
-    ghost use Rattle.relation_prefix.specs.Sampled.{Asked, CanTest};
+    ghost use Rattle.std.specs.Prelude.{◌≡◌};
+    ghost use Rattle.relation_prefix.specs.Sampled.{all_tell as all_rows_tell, Asked, CanTest};
 
     ghost Value = { Asked };
 
     ghost view = { λ s. record { rows = s.rows.now; test = s.test } };
 
-    ghost invariant = { λ s. CanTest s.test.head s.rows.now.list s.weights.items };
+    ghost invariant = { λ s. CanTest s.test.head s.rows.now.list s.weights.items × (s.all_tell ≡ all_rows_tell s.rows.now.list) };
 }
 
 /// The weights of the slots of a head in each of some rows.
@@ -51,6 +54,19 @@ fn weights_of(
     Ok(weights)
 }
 
+/// Whether each row tells much.
+fn all_tell(rows: &[SampledRow]) -> bool
+    requires { All (λ sampled. FitTies sampled.ties) rows.now }
+    ensures { result ≡ all_rows_tell rows.now }
+{
+    for number in 0..rows.len() {
+        if !rows[number].ties.tells_much() {
+            return false;
+        }
+    }
+    true
+}
+
 impl<'a> HeadRelations<'a> {
     /// Those of a head, by rows of its offset.
     pub fn new(
@@ -65,8 +81,17 @@ impl<'a> HeadRelations<'a> {
         Ok(HeadRelations {
             rows,
             weights,
+            all_tell: all_tell(rows.as_slice()),
             test: *test,
         })
+    }
+
+    /// Whether each row tells much. Others refuse few prefixes, and are asked of whole lists alone.
+    #[inline]
+    pub fn all_tell(&self) -> bool
+        ensures { result ≡ all_rows_tell self.now.rows.list }
+    {
+        self.all_tell
     }
 
     /// What is asked of the rows.

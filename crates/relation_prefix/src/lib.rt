@@ -26,6 +26,7 @@ mod sampled;
 mod sampled_rows;
 mod system;
 mod weights;
+mod whole;
 
 pub use condition::{Condition, MOST_TIES};
 pub use equation::Equation;

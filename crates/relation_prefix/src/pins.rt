@@ -4,15 +4,16 @@ ghost use Rattle.std.specs.Bool.{Decides};
 ghost use Rattle.raid_params.specs.declared.types.Head.{Head};
 ghost use Rattle.row_relations.specs.Tables.{Table, IsTable};
 ghost use Rattle.relation_prefix.specs.declared.equation.Equation.{Equation};
-ghost use Rattle.relation_prefix.specs.Prefixes.{Allows, Holds, IsForeign};
+ghost use Rattle.relation_prefix.specs.Prefixes.{Allows};
 ghost use Rattle.relation_prefix.specs.Systems.{AreValues, IsTriangular, Solves};
 ghost use Rattle.relation_prefix.specs.Sampled.{allows_by};
-ghost use Rattle.relation_prefix.specs.Ties.{AreSlots, AreThere, AreTiesOf, AreWeightsOf, CanHaveAll, FitTies, ForeignHaveNone, HasWeight, HaveWeights};
+ghost use Rattle.relation_prefix.specs.Ties.{AreSlots, AreThere, AreTiesOf, AreWeightsOf, CanHaveAll, FitTies, HasWeight, HaveWeights};
 
 use crate::condition::Condition;
 use crate::demand::clashes;
 use crate::row_ties::RowTies;
 use crate::system::System;
+use crate::whole::whole_fits;
 
 /// Asks that an image has a weight. Images of zeros have any.
 fn pin(ties: &RowTies, system: &mut System, image: usize, weight: u8) -> bool
@@ -71,41 +72,6 @@ pub fn are_there(images: usize, slots: &[Option<u8>]) -> bool
     true
 }
 
-/// Whether some slot holds an image.
-fn is_held(slots: &[Option<u8>], image: usize) -> bool
-    ensures held { result ≡ true → (slot : ℕ) × Holds slots.now slot image }
-    ensures foreign { result ≡ false → IsForeign slots.now image }
-{
-    for slot in 0..slots.len() {
-        if let Some(held) = slots[slot] {
-            if held as usize == image {
-                return true;
-            }
-        }
-    }
-    false
-}
-
-/// Asks that each image in no slot has the weight 0.
-fn pin_foreign(ties: &RowTies, system: &mut System, slots: &[Option<u8>]) -> bool
-    requires ties { FitTies ties.now }
-    requires triangular { IsTriangular system.old.conditions }
-    ensures pinned { result ≡ true → (x : ℕ → ℕ) → AreValues x →
-        (Solves x system.new.conditions ↔ (Solves x system.old.conditions × ForeignHaveNone ties.now x slots.now ties.now.images)) }
-    ensures triangular { IsTriangular system.new.conditions }
-    ensures contradiction { result ≡ false → (x : ℕ → ℕ) → AreValues x → Solves x system.old.conditions →
-        ForeignHaveNone ties.now x slots.now ties.now.images → ⊥ }
-{
-    for image in 0..ties.images {
-        if !is_held(slots, image) {
-            if !pin(ties, system, image, 0) {
-                return false;
-            }
-        }
-    }
-    true
-}
-
 /// Whether the ties have values with which each image in a slot has the weight of its slot, and once there are all slots each
 /// other image 0.
 fn can_have_all(ties: &RowTies, members: usize, weights: &[u8], slots: &[Option<u8>]) -> bool
@@ -115,17 +81,14 @@ fn can_have_all(ties: &RowTies, members: usize, weights: &[u8], slots: &[Option<
     requires slots { AreThere ties.now.images slots.now }
     ensures { Decides result (CanHaveAll ties.now weights.now members slots.now) }
 {
+    if slots.len() >= members {
+        return whole_fits(ties, weights, slots);
+    }
     if clashes(ties, weights, slots) {
         return false;
     }
     let mut system = System::new();
-    if !pin_slots(ties, &mut system, weights, slots) {
-        return false;
-    }
-    if slots.len() < members {
-        return true;
-    }
-    pin_foreign(ties, &mut system, slots)
+    pin_slots(ties, &mut system, weights, slots)
 }
 
 /// Whether some relation of the row may be an equation, where the slots of a set of so many members begin so. `weights` are the

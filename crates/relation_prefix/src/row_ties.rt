@@ -1,7 +1,7 @@
 //! The ties of a row in few numbers.
-ghost use Rattle.std.specs.Prelude.{ℕ, ◌≡◌, ◌<◌, ◌≤◌, All, IfSome, MatchOption, length};
+ghost use Rattle.std.specs.Prelude.{ℕ, ◌≡◌, ◌<◌, ◌≤◌, All, IfSome, MatchOption, length, slice_index};
 ghost use Rattle.row_relations.specs.Tables.{standing_of};
-ghost use Rattle.relation_prefix.specs.Ties.{coefficient, dependents, is_dependent, is_zero, AreTiesOf, FitTies, HasCoefficients};
+ghost use Rattle.relation_prefix.specs.Ties.{coefficient, dependents, is_dependent, is_zero, is_blank as ties_are_blank, tells_much as ties_tell_much, AreTiesOf, FitTies, HasCoefficients};
 
 use crate::condition::MOST_TIES;
 use arrayvec::ArrayVec;
@@ -13,6 +13,10 @@ use row_relations::{MOST_IMAGES, RowTable, Standing};
 pub struct RowTies {
     /// How many images a row has.
     pub images: usize,
+    /// How many ties it has.
+    pub count: usize,
+    /// The dependent image of each: no other tie has it.
+    pub dependents: [u8; MOST_TIES],
     /// Which images are zeros: they may have any weight.
     pub zeros: [bool; MOST_IMAGES],
     /// The coefficients of each other image: its weight is the sum of the weights of the ties, each times its coefficient.
@@ -59,7 +63,7 @@ fn is_zero_at(table: &RowTable, image: usize) -> bool
     }
 }
 
-/// The weight of an image in the tie of a dependent one.
+/// The weight of an image in the tie of a dependent one: that of another dependent image is 0.
 fn coefficient_of(table: &RowTable, dependent: usize, image: usize) -> u8
     requires dependent { dependent < length table.now.standings }
     requires image { image < length table.now.standings }
@@ -67,6 +71,8 @@ fn coefficient_of(table: &RowTable, dependent: usize, image: usize) -> u8
 {
     if dependent == image {
         1
+    } else if is_dependent_at(table, image) {
+        0
     } else {
         table.weight(dependent, image)
     }
@@ -86,6 +92,19 @@ fn coefficients_at(table: &RowTable, list: &[u8], image: usize) -> [u8; MOST_TIE
     coefficients
 }
 
+/// A list of so many with zeros behind them.
+fn padded(list: &[u8]) -> [u8; MOST_TIES]
+    requires { length list.now ≤ 8 }
+    ensures long { length result ≡ 8 }
+    ensures same { (t : ℕ) → t < length list.now → slice_index result t ≡ slice_index list.now t }
+{
+    let mut all = [0u8; MOST_TIES];
+    for t in 0..list.len() {
+        all[t] = list[t];
+    }
+    all
+}
+
 impl RowTies {
     /// The ties of a table, or None where it has more than [`MOST_TIES`].
     pub fn of(table: &RowTable) -> Option<RowTies>
@@ -103,8 +122,33 @@ impl RowTies {
         let images = table.images();
         Some(RowTies {
             images,
+            count: list.len(),
+            dependents: padded(list.as_slice()),
             zeros,
             coefficients,
         })
+    }
+
+    /// Whether the row tells much: it has more independent images than ties. Of few images that are not zeros, or of many equal ones, it
+    /// refuses few prefixes.
+    pub fn tells_much(&self) -> bool
+        requires { FitTies self.now }
+        ensures { result ≡ ties_tell_much self.now }
+    {
+        let mut held = 0usize;
+        for image in 0..self.images {
+            if !self.zeros[image] {
+                held += 1;
+            }
+        }
+        2 * self.count < held
+    }
+
+    /// Whether the row is zeros.
+    pub fn is_blank(&self) -> bool
+        requires { FitTies self.now }
+        ensures { result ≡ ties_are_blank self.now }
+    {
+        self.zeros[..self.images].iter().all(|zero| *zero)
     }
 }

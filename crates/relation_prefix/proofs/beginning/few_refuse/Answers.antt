@@ -45,4 +45,4 @@ returns c =
 
 pub refuses-requires-clause-weights : goal.refuses-requires-clause-weights
 refuses-requires-clause-weights c =
-    c.requires.can.each c.loop-number.number (record { row = 0; ties = record { images = 0; zeros = []; coefficients = [] } }) (record { p = []; q = [] }) (omega (arith, c.loop-number-test.true))
+    c.requires.can.each c.loop-number.number (record { row = 0; ties = record { images = 0; count = 0; dependents = []; zeros = []; coefficients = [] } }) (record { p = []; q = [] }) (omega (arith, c.loop-number-test.true))

@@ -16,7 +16,7 @@ loop-number-preserved c =
     let number = c.loop-number.number in
     let weights = c.loop-number.weights.items in
     let own = c.of-row.result in
-    let d : SampledRow = record { row = 0; ties = record { images = 0; zeros = []; coefficients = [] } } in
+    let d : SampledRow = record { row = 0; ties = record { images = 0; count = 0; dependents = []; zeros = []; coefficients = [] } } in
     let pushed : c.push.new.self.items ≡ weights ++ own ∷ [] = search rules in
     let count : length c.push.new.self.items ≡ length (weights ++ own ∷ []) = ap (λ (l : List RowWeights). length l) pushed in
     let more : length (weights ++ own ∷ []) ≡ length weights + length (own ∷ []) = length-append weights (own ∷ []) in

@@ -13,7 +13,7 @@ may_begin-requires-clause-can c =
     let P : List SampledRow → List RowWeights → Type 0 = λ rows weights. CanTest c.self.inside.test.head (take n (drop c.args.first rows)) (take n (drop c.args.first weights)) in
     subst (P c.as_slice.result.now) (sym c.deref.ensures.value)
     (subst (λ (rows : List SampledRow). P rows c.self.inside.weights.items) (sym c.as_slice.ensures.rows)
-    (can_part c.self.inside.test.head c.self.inside.rows.now.list c.self.inside.weights.items c.args.first n c.self.invariant))
+    (can_part c.self.inside.test.head c.self.inside.rows.now.list c.self.inside.weights.items c.args.first n c.self.invariant.0))
 
 pub may_begin-requires-clause-slots : goal.may_begin-requires-clause-slots
 may_begin-requires-clause-slots c =

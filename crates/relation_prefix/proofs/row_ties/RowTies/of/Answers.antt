@@ -1,13 +1,13 @@
-use Rattle.std.proofs.Common.{ℕ, ◌≡◌, ◌<◌, ◌≤◌, ◌+◌, Bool, false, List, [], length, slice_index_or, slice_set, sym, ap, subst, ◌∙◌, arith, inl, inr}
+use Rattle.std.proofs.Common.{rules, ℕ, ◌≡◌, ◌<◌, ◌≤◌, ◌+◌, Bool, false, List, [], length, get_or, slice_index_or, slice_set, sym, ap, subst, ◌∙◌, arith, inl, inr}
 use Rattle.std.specs.List.{All}
 use Rattle.std.proofs.Math.ListN.{length-set}
 use Rattle.std.proofs.lemmas.Bool.{cases_lt}
 use Rattle.std.proofs.lemmas.List.{get_or-set_same, get_or-set_other}
 use Rattle.row_relations.specs.Tables.{standing_of}
 use Rattle.relation_prefix.specs.declared.row_ties.RowTies.{RowTies}
-use Rattle.relation_prefix.specs.Ties.{is_zero, HasCoefficients}
+use Rattle.relation_prefix.specs.Ties.{coefficients_of, dependents, is_zero, HasCoefficients, IsOwnDependent}
 use Rattle.relation_prefix.proofs.Dependents.{all_below}
-use Rattle.relation_prefix.proofs.Following.{built}
+use Rattle.relation_prefix.proofs.Following.{built, own_dependent}
 use Rattle.relation_prefix.proofs.row_ties.RowTies.of.Goals as goal
 
 pub coefficients_at-own-requires-clause-below : goal.coefficients_at-own-requires-clause-below
@@ -45,12 +45,28 @@ returns c =
     let table = c.args.table.now in
     let n = length table.standings in
     let whole : n ≤ c.loop-image.image = omega (arith, c.loop-image-test.false, c.images-image-end.ensures.images) in
-    let ties : RowTies = record { images = c.images-images.result; zeros = c.loop-image.zeros; coefficients = c.loop-image.coefficients } in
-    let is = built table ties c.images-images.ensures.images
-    (let long = ap (λ (l : List ℕ). length l) was.items in let few = was.few in omega arith)
-    (λ i lt. was.zeros i (omega arith))
-    (λ i lt. subst (λ (l : List ℕ). HasCoefficients table l (slice_index_or c.loop-image.coefficients i []) i) was.items (was.coefficients i (omega arith))) in
+    let ds = dependents table n in
+    let listed : c.in_ok-list.list.items ≡ ds = was.items in
+    let long : length c.in_ok-list.list.items ≡ length ds = ap (λ (l : List ℕ). length l) listed in
+    let count : c.len.result ≡ length c.in_ok-list.list.items = search rules in
+    let ties : RowTies = record { images = c.images-images.result; count = c.len.result; dependents = c.padded.result; zeros = c.loop-image.zeros; coefficients = c.loop-image.coefficients } in
+    let zeros : (i : ℕ) → i < n → slice_index_or ties.zeros i false ≡ is_zero (standing_of table i) = λ i lt. was.zeros i (omega arith) in
+    let has : (i : ℕ) → i < n → HasCoefficients table ds (coefficients_of ties i) i
+    = λ i lt. subst (λ (l : List ℕ). HasCoefficients table l (slice_index_or c.loop-image.coefficients i []) i) listed (was.coefficients i (omega arith)) in
+    let is = built table ties c.images-images.ensures.images (let few = was.few in omega arith) zeros has in
     record {
-      fit = record { few = c.images-images.ensures.few; zeros = was.zeros_long; coefficients = was.long; bytes = is.bytes };
+      fit = record {
+        count = (let few = was.few in omega arith);
+        dependents = λ t lt.
+            (let same : get_or c.padded.result t 0 ≡ get_or ds t 0
+            = c.padded.ensures.same t (let value = ap (λ (l : List ℕ). length l) c.as_slice-2.ensures.value in omega arith)
+            ∙ ap (λ (l : List ℕ). get_or l t 0) (c.as_slice-2.ensures.value ∙ listed) in
+            subst (λ (image : ℕ). IsOwnDependent ties t image) (sym same) (own_dependent table ties c.images-images.ensures.images zeros has t (omega arith)));
+        past = λ i t lt past. (has i (let same = c.images-images.ensures.images in omega arith)).past t (omega arith);
+        few = c.images-images.ensures.few;
+        zeros = was.zeros_long;
+        coefficients = was.long;
+        bytes = is.bytes;
+      };
       of = is;
     }

@@ -1,5 +1,5 @@
 use Rattle.std.proofs.Common.{ℕ, ◌≡◌, ◌<◌, None, Some, slice_index_or}
-use Rattle.relation_prefix.proofs.pins.is_held.Given as goal
+use Rattle.relation_prefix.proofs.whole.is_held.Given as goal
 
 abbrev pub invariant-loop-slot : goal.invariant-loop-slot
 invariant-loop-slot l = (k : ℕ) → k < l.slot → slice_index_or l.slots k None ≡ Some l.image → ⊥

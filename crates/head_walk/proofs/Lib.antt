@@ -13,6 +13,6 @@ pub mod Leafwise
 pub mod Admitted
 pub mod Kept
 pub mod Shapes
-pub mod Screening
+pub mod Sifting
 pub mod SetShapes
 pub mod Relating

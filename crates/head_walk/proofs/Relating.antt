@@ -16,7 +16,7 @@ use Rattle.set_product.proofs.Shaped.{set_at, IsSet}
 use Rattle.slot_math.specs.Ways.{AllImages}
 use Rattle.relation_prefix.proofs.Begun.{passing_may_begin}
 use Rattle.relation_prefix.proofs.Keeping.{rows_part}
-use Rattle.relation_prefix.specs.Sampled.{may_begin, Asked as AskedRows, KeptRows}
+use Rattle.relation_prefix.specs.Sampled.{all_tell, may_begin, Asked as AskedRows, KeptRows}
 use Rattle.relation_prefix.specs.Ties.{AreThere}
 use Rattle.relation_prefix.specs.declared.sampled.SampledRow.{SampledRow}
 use Rattle.row_samples.specs.Rows.{AreImageRows}
@@ -62,7 +62,7 @@ pub rows_admit_front : (bytes : List (List ℕ)) (plan : Plan) (head : Head) (ra
     IfSome list (AreImageRows bytes (length plan.lengths.items) head.offset) → rows_admit asked list (take k slots) ≡ true
 rows_admit_front bytes plan head rank k slots asked None is_plan same_plan same_head stands holds are = refl
 rows_admit_front bytes plan head rank k slots asked (Some list) is_plan same_plan same_head stands holds are =
-    let n = rows_asked plan.limits.badrows (length list) head.members (length (take k slots)) in
+    let n = rows_asked (all_tell list) plan.limits.badrows (length list) head.members (length (take k slots)) in
     let first = first_asked (length list) n (length (take k slots)) in
     ap (λ (p : Plan). lets_begin list (test_of p asked.head) (take k slots)) same_plan
     ∙ ap (λ (h : Head). lets_begin list (test_of plan h) (take k slots)) same_head

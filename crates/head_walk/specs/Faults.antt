@@ -2,8 +2,8 @@
 use Rattle.std.specs.Prelude.{◌≡◌}
 use Rattle.outside.specs.Causes.{Rose}
 use Rattle.outside.specs.Seen.{Seen}
-use Rattle.column_screen.specs.declared.reading.SampleFault.{SampleFault}
-use Rattle.column_screen.specs.declared.reading.SampleFault.TheVariants.{ReadFault as SampleReadFault, Memory as SampleMemory}
+use Rattle.row_samples.specs.declared.reading.SampleFault.{SampleFault}
+use Rattle.row_samples.specs.declared.reading.SampleFault.TheVariants.{ReadFault as SampleReadFault, Memory as SampleMemory}
 use Rattle.parity_scan.specs.declared.one_set.ScanFault.{ScanFault}
 use Rattle.parity_scan.specs.declared.one_set.ScanFault.TheVariants.{ReadFault as ScanReadFault, Memory as ScanMemory}
 use Rattle.xor_tables.specs.declared.xor_table.TableFault.{TableFault}

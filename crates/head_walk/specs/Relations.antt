@@ -1,5 +1,5 @@
 -- What rows say of the prefixes of a head's slot lists.
-use Rattle.std.specs.Prelude.{ℕ, ◌≡◌, ◌+◌, ◌-◌, ◌*◌, ◌/◌, ◌%◌, min, Bool, true, nat_le, nat_lt, if◌then◌else◌, List, drop, length, take}
+use Rattle.std.specs.Prelude.{ℕ, ◌≡◌, ◌+◌, ◌-◌, ◌*◌, ◌/◌, ◌%◌, min, Bool, true, not, ◌||◌, nat_le, nat_lt, if◌then◌else◌, List, drop, length, take}
 use Rattle.std.specs.Option.{option_map, option_map_or}
 use Rattle.std.specs.declared.option.Option.{Option}
 use Rattle.raid_params.specs.declared.types.Head.{Head}
@@ -8,7 +8,7 @@ use Rattle.search_plan.specs.declared.plan.Plan.{Plan}
 use Rattle.relation_prefix.specs.declared.sampled.PrefixTest.{PrefixTest}
 use Rattle.relation_prefix.specs.declared.sampled.SampledRow.{SampledRow}
 use Rattle.relation_prefix.specs.Laws.{prefix_test}
-use Rattle.relation_prefix.specs.Sampled.{may_begin, Asked, KeptRows}
+use Rattle.relation_prefix.specs.Sampled.{all_tell, may_begin, Asked, KeptRows}
 
 -- the most empty slots of a set of so many members: as many as may be missing, and as the other images leave
 abbrev pub most_empty : Plan → ℕ → ℕ
@@ -19,10 +19,10 @@ abbrev pub test_of : Plan → Head → PrefixTest
 test_of plan head = prefix_test head (tested_with plan head.chunk head.offset) plan.limits.badrows (most_empty plan head.members)
 
 -- how many of some rows are asked of a prefix of so many slots: few more than twice as many as may be unsound, none where one or two
--- slots are open, and all of a whole list
-abbrev pub rows_asked : ℕ → ℕ → ℕ → ℕ → ℕ
-rows_asked badrows rows members slots =
-    if nat_le members slots then rows else if nat_lt (members - slots) 3 then 0 else min rows (min badrows 4096 * 2 + 4)
+-- slots are open or the rows tell little, and all of a whole list
+abbrev pub rows_asked : Bool → ℕ → ℕ → ℕ → ℕ → ℕ
+rows_asked tell badrows rows members slots =
+    if nat_le members slots then rows else if (nat_lt (members - slots) 3 || not tell) then 0 else min rows (min badrows 4096 * 2 + 4)
 
 -- the first of them: elsewhere among the rows for each of four numbers of slots that follow one another
 abbrev pub first_asked : ℕ → ℕ → ℕ → ℕ
@@ -34,7 +34,7 @@ lets_begin_by rows asked test prefix = may_begin (take asked (drop (first_asked 
 
 -- by the rows that are asked of it
 abbrev pub lets_begin : List SampledRow → PrefixTest → List (Option ℕ) → Bool
-lets_begin rows test prefix = lets_begin_by rows (rows_asked test.badrows (length rows) test.head.members (length prefix)) test prefix
+lets_begin rows test prefix = lets_begin_by rows (rows_asked (all_tell rows) test.badrows (length rows) test.head.members (length prefix)) test prefix
 
 -- the same of rows that are there, or none
 abbrev pub rows_allow : Option Asked → List (Option ℕ) → Bool

@@ -25,9 +25,6 @@ use Rattle.prune_filters.specs.Early.{AreEarlyTables}
 use Rattle.prune_filters.specs.Hopeful.{is_hopeful_by}
 use Rattle.prune_filters.specs.Rows.{needs_samples, needs_table}
 use Rattle.prune_filters.specs.Xors.{most_tested, RowTable}
-use Rattle.column_screen.specs.Samples.{AreSamples}
-use Rattle.column_screen.specs.Screens.{is_screened, screening_of, set_of, Screening}
-use Rattle.column_screen.specs.declared.samples.Sample.{Sample}
 use Rattle.relation_prefix.specs.declared.sampled.SampledRow.{SampledRow}
 use Rattle.row_samples.specs.Rows.{AreImageRows}
 use Rattle.head_walk.specs.Relations.{lets_begin, test_of}
@@ -79,34 +76,18 @@ pub record Asked : Type 0 where
   pub space : Space
   pub xors : Option RowTable
 
--- and of one that asks samples of its offset too, and rows where some are kept
-pub record Screened : Type 0 where
+-- and of one that asks rows too, where some are kept
+pub record Sifted : Type 0 where
   pub asked : Asked
-  pub samples : List Sample
   pub rows : Option (List SampledRow)
 
 -- rows, where some are kept, let the slots of a set of the head begin so
 abbrev pub rows_admit : Asked → Option (List SampledRow) → List (Option ℕ) → Bool
 rows_admit asked rows prefix = option_map_or (λ list. lets_begin list (test_of asked.plan asked.head) prefix) rows true
 
--- a prefix is admitted: it is hopeful by the tables, no whole slot list of which the samples settle that it fails, and rows let the
--- slots of a set begin so
-abbrev pub is_admitted : Screened → List (Option ℕ) → Bool
-is_admitted s prefix = (is_hopeful_by s.asked.xors s.asked.plan s.asked.head prefix
-    && not ((length prefix == s.asked.head.members) && is_screened s.samples (scope_of s.asked.plan) (set_of s.asked.head prefix)))
-    && rows_admit s.asked s.rows prefix
-
--- the samples of a screen, which has none where there is no screen
-abbrev pub samples_of : Option Screening → List Sample
-samples_of screen = option_map_or (λ s. s.kept.list) screen []
-
--- a screen is that of a plan and a head, by samples of all images
-abbrev pub IsScreenOf : Plan → Head → Screening → Type 0
-IsScreenOf plan head screen = (screen ≡ screening_of screen.kept (scope_of plan) head) × (screen.kept.images ≡ length plan.lengths.items)
-
--- each slot list of a space makes a set of a sensible shape with a head
-abbrev pub AreShaped : Plan → Head → Space → Type 0
-AreShaped plan head space = (slots : List (Option ℕ)) → Contains (lists_of space) slots → is_shaped (set_of head slots) (length plan.lengths.items) ≡ true
+-- a prefix is admitted: it is hopeful by the tables, and rows let the slots of a set begin so
+abbrev pub is_admitted : Sifted → List (Option ℕ) → Bool
+is_admitted s prefix = is_hopeful_by s.asked.xors s.asked.plan s.asked.head prefix && rows_admit s.asked s.rows prefix
 
 -- they are those of a head that makes sense
 pub record IsAsked (plan : Plan) (head : Head) (space : Space) : Type 0 where
@@ -121,16 +102,14 @@ abbrev pub HasTables : Plan → OffsetTables → Type 0
 HasTables plan kept = asks_tables plan ≡ true → length kept.tables.items ≡ length plan.bounds.chunks.items
 
 -- what is kept of an offset, over the bytes of the images where they are known: a table of rows for each chunk of the plan, where
--- some head needs one, samples, and rows with their ties
+-- some head needs one, and rows with their ties
 pub record IsKept (told : Option (List (List ℕ))) (plan : Plan) (kept : OffsetTables) : Type 0 where
   pub long : HasTables plan kept
   pub tables : asks_tables plan ≡ true → IfSome told (λ bytes. AreEarlyTables bytes plan plan.bounds.chunks.items kept.offset kept.tables.items)
-  pub images : kept.samples.images ≡ length plan.lengths.items
-  pub samples : IfSome told (λ bytes. AreSamples bytes (length plan.lengths.items) kept.offset (most_tested plan plan.bounds.chunks.items kept.offset) kept.samples.list)
   pub row_images : kept.rows.images ≡ length plan.lengths.items
   pub rows : IfSome told (λ bytes. AreImageRows bytes (length plan.lengths.items) kept.offset kept.rows.list)
 
--- a head needs what is kept of an offset: a table, or samples
+-- a head needs what is kept of an offset: a table, or rows
 abbrev pub needs_entry : Plan → Head → Bool
 needs_entry plan head = needs_table plan head || needs_samples plan head
 

@@ -4,14 +4,11 @@ ghost use Rattle.std.specs.Option.{option_map, option_map_or};
 ghost use Rattle.raid_params.specs.Validity.{is_shaped, is_valid_head};
 ghost use Rattle.search_plan.specs.Plans.{IsPlan, scope_of};
 ghost use Rattle.prune_filters.specs.Rows.{needs_table as head_needs_table};
-ghost use Rattle.column_screen.specs.KeptSums.{KeepsSums};
-ghost use Rattle.column_screen.specs.Screens.{screening_of, set_of, settles as samples_settle};
 ghost use Rattle.relation_prefix.specs.Ties.{AreThere};
 ghost use Rattle.head_walk.specs.Walk.{is_admitted, IsHeadOf};
 ghost use Rattle.head_walk.specs.Relations.{asked_of, most_empty as most_empty_of, first_asked as first_to_ask, rows_asked as rows_to_ask, rows_allow, test_of};
 
 use candidate_enum::Family;
-use column_screen::{Samples, Screen, Sums, no_sums};
 use outside::Memory;
 use prune_filters::{EarlyTable, HeadRows, MarkTable, early_may_pass};
 use raid_params::{Head, Slots};
@@ -23,14 +20,12 @@ use std::alloc::Global;
 use std::marker::Model;
 
 /// The slot lists of a head. A prefix is admitted where each group of marks may still hold, and no more
-/// rows are known to be unsound than may be; a whole slot list also only where samples do not settle that it fails; and where rows are
-/// kept, only what they let begin a set.
+/// rows are known to be unsound than may be; and where rows are kept, only what they let begin a set.
 #[derive(Drop)]
 pub(crate) struct Hopeful<'a> {
     space: Space,
     marks: MarkTable,
     rows: HeadRows<'a>,
-    screen: Option<Screen<'a>>,
     relations: Option<HeadRelations<'a>>,
 }
 
@@ -38,36 +33,31 @@ impl<'a> Model for Hopeful<'a> {
     ghost use Rattle.std.specs.Prelude.{IfSome};
     ghost use Rattle.prune_filters.specs.Tables.{IsMarkTable};
     ghost use Rattle.head_walk.specs.Relations.{kept_rows, AreRelationsOf};
-    ghost use Rattle.head_walk.specs.Walk.{AreShaped, IsAsked, IsScreenOf, samples_of, Screened};
+    ghost use Rattle.head_walk.specs.Walk.{IsAsked, Sifted};
 
-    ghost Value = { Screened };
+    ghost Value = { Sifted };
 
-    ghost view = { λ s. record { asked = record { plan = s.rows.plan; head = s.rows.head; space = s.space; xors = s.rows.xors }; samples = samples_of s.screen; rows = kept_rows s.relations } };
+    ghost view = { λ s. record { asked = record { plan = s.rows.plan; head = s.rows.head; space = s.space; xors = s.rows.xors }; rows = kept_rows s.relations } };
 
     ghost invariant = { λ s. IsAsked s.rows.plan s.rows.head s.space × IsMarkTable s.rows.plan s.rows.head s.marks
-        × IfSome s.screen (IsScreenOf s.rows.plan s.rows.head) × AreShaped s.rows.plan s.rows.head s.space
         × IfSome s.relations (AreRelationsOf s.rows.plan s.rows.head) };
 }
 
 impl<'a> Hopeful<'a> {
-    /// Those of a head of the plan, with the table of rows of its chunk and offset where it needs one, and with samples of
-    /// its offset, and rows, where they are asked for it. Memory is taken for the table of the plan's marks, and for the weights of the
-    /// head's slots in the rows.
+    /// Those of a head of the plan, with the table of rows of its chunk and offset where it needs one, and with rows of its offset where
+    /// they are asked for it. Memory is taken for the table of the plan's marks, and for the weights of the head's slots in the rows.
     pub(crate) fn new(
         alloc: Global,
         plan: &'a Plan,
         sets: &HeadSets,
         xors: Option<&'a EarlyTable>,
-        samples: Option<&'a Samples>,
         rows: Option<&'a SampledRows>,
     ) -> Result<Hopeful<'a>, Memory>
         requires plan { IsPlan plan.now }
         requires head { IsHeadOf plan.now sets.now }
         requires xors { head_needs_table plan.now sets.now.head ≡ true → IsSome xors }
-        requires images { IfSome samples (λ s. s.now.images ≡ length plan.now.lengths.items) }
         requires row_images { IfSome rows (λ r. r.now.images ≡ length plan.now.lengths.items) }
         ensures asked { IfOk result (λ family. family.asked ≡ record { plan = plan.now; head = sets.now.head; space = sets.now.space; xors = option_map (λ table. table.now) xors.entry }) }
-        ensures samples { IfOk result (λ family. family.samples ≡ option_map_or (λ s. s.now.list) samples.entry []) }
         ensures rows { IfOk result (λ family. family.rows ≡ option_map (λ r. r.now.list) rows.entry) }
     {
         let marks = MarkTable::build(alloc, plan, &sets.head)?;
@@ -76,23 +66,8 @@ impl<'a> Hopeful<'a> {
             space: sets.space,
             marks,
             rows: HeadRows::new(plan, &sets.head, xors),
-            screen: screen_of(samples, plan, &sets.head),
             relations,
         })
-    }
-}
-
-/// The screen of a head's sets by these samples, if there are some.
-fn screen_of<'a>(samples: Option<&'a Samples>, plan: &Plan, head: &Head) -> Option<Screen<'a>>
-    requires { IsTrue (is_valid_head head.now) }
-    ensures { result ≡ option_map (λ s. screening_of s.now (scope_of plan.now) head.now) samples.entry }
-{
-    match samples {
-        Some(samples) => {
-            let scope = plan.scope();
-            Some(Screen::new(samples, &scope, head))
-        }
-        None => None,
     }
 }
 
@@ -140,16 +115,16 @@ fn most_empty(plan: &Plan, members: u8) -> u8
 }
 
 /// How many of the rows are asked of a prefix of so many slots: few more than twice as many as may be unsound, so that one that they
-/// allow costs little and one whose rows are mostly unsound is still refused; none where it is so long that its whole lists cost less, and
-/// all of a whole list.
+/// allow costs little and one whose rows are mostly unsound is still refused; none where it is so long that its whole lists cost less, or
+/// the rows tell little; and all of a whole list.
 #[inline]
-fn rows_asked(badrows: u64, rows: usize, members: usize, slots: usize) -> usize
-    ensures asked { result ≡ rows_to_ask badrows rows members slots }
+fn rows_asked(tell: bool, badrows: u64, rows: usize, members: usize, slots: usize) -> usize
+    ensures asked { result ≡ rows_to_ask tell badrows rows members slots }
     ensures few { result ≤ rows }
 {
     if slots >= members {
         rows
-    } else if members - slots < 3 {
+    } else if members - slots < 3 || !tell {
         0
     } else {
         rows.min(badrows.min(4096) as usize * 2 + 4)
@@ -178,7 +153,8 @@ fn may_begin_by(relations: &Option<HeadRelations>, prefix: &[Option<u8>]) -> boo
             let test = relations.test();
             let rows = relations.count();
             let members = test.head.members as usize;
-            let count = rows_asked(test.badrows, rows, members, prefix.len());
+            let tell = relations.all_tell();
+            let count = rows_asked(tell, test.badrows, rows, members, prefix.len());
             let first = first_asked(rows, count, prefix.len());
             relations.may_begin_by(first, count, prefix)
         }
@@ -186,82 +162,24 @@ fn may_begin_by(relations: &Option<HeadRelations>, prefix: &[Option<u8>]) -> boo
     }
 }
 
-/// What is kept of a prefix for a screen, by what is kept of it without its last place.
-#[inline]
-fn next_kept(screen: &Option<Screen>, kept: &Sums, prefix: &[Option<u8>]) -> Sums
-    requires some { 0 < length prefix.now }
-    requires short { IfSome screen.now (λ s. length prefix.now ≤ s.head.members) }
-    requires images { IfSome screen.now (λ s. All (λ slot. IfSome slot (λ image. image < s.kept.images)) prefix.now) }
-    requires kept { IfSome screen.now (λ s. KeepsSums s.head s.kept.list (take (length prefix.now - 1) prefix.now) kept.now) }
-    ensures { IfSome screen.now (λ s. KeepsSums s.head s.kept.list prefix.now result) }
-{
-    match screen {
-        Some(screen) => screen.next_sums(kept, prefix),
-        None => *kept,
-    }
-}
-
-/// Whether a screen settles the set of a prefix, of which this is kept. It does not where the prefix is no whole slot list.
-#[inline]
-fn is_settled(screen: &Option<Screen>, members: u8, prefix: &[Option<u8>], kept: &Sums) -> bool
-    requires kept { IfSome screen.now (λ s. KeepsSums s.head s.kept.list prefix.now kept.now) }
-    requires shaped { IfSome screen.now (λ s. length prefix.now ≡ members → is_shaped (set_of s.head prefix.now) s.kept.images ≡ true) }
-    ensures { result ≡ option_map_or (λ s. (length prefix.now == members) && samples_settle s prefix.now) screen.now false }
-{
-    match screen {
-        Some(screen) => prefix.len() == members as usize && screen.settles(prefix, kept),
-        None => false,
-    }
-}
-
-/// Whether neither a screen nor rows refuse a prefix, of which this is kept for the screen.
-#[inline]
-fn is_left(
-    screen: &Option<Screen>,
-    relations: &Option<HeadRelations>,
-    members: u8,
-    prefix: &[Option<u8>],
-    kept: &Sums,
-) -> bool
-    requires kept { IfSome screen.now (λ s. KeepsSums s.head s.kept.list prefix.now kept.now) }
-    requires shaped { IfSome screen.now (λ s. length prefix.now ≡ members → is_shaped (set_of s.head prefix.now) s.kept.images ≡ true) }
-    requires short { IfSome relations.now (λ r. length prefix.now ≤ r.test.head.members) }
-    requires images { IfSome relations.now (λ r. AreThere r.rows.images prefix.now) }
-    ensures { result ≡ (not (option_map_or (λ s. (length prefix.now == members) && samples_settle s prefix.now) screen.now false)
-        && rows_allow relations.now prefix.now) }
-{
-    !is_settled(screen, members, prefix, kept) && may_begin_by(relations, prefix)
-}
-
 impl<'a> Family for Hopeful<'a> {
-    type Kept = Sums;
+    type Kept = ();
 
     ghost space_of = { λ family. family.asked.space };
 
     ghost admits = { is_admitted };
 
-    ghost keeps = { λ family. KeepsSums family.asked.head family.samples };
+    ghost keeps = { λ _ _ _. Unit };
 
     fn space(&self) -> Space {
         self.space
     }
 
-    fn kept_first(&self) -> Sums {
-        no_sums()
-    }
+    fn kept_first(&self) {}
 
-    fn kept_next(&self, kept: &Sums, prefix: &Slots) -> Sums {
-        next_kept(&self.screen, kept, prefix)
-    }
+    fn kept_next(&self, _kept: &(), _prefix: &Slots) {}
 
-    fn may_pass(&self, prefix: &Slots, kept: &Sums) -> bool {
-        early_may_pass(&self.marks, &self.rows, prefix)
-            && is_left(
-                &self.screen,
-                &self.relations,
-                self.rows.head().members,
-                prefix,
-                kept,
-            )
+    fn may_pass(&self, prefix: &Slots, _kept: &()) -> bool {
+        early_may_pass(&self.marks, &self.rows, prefix) && may_begin_by(&self.relations, prefix)
     }
 }

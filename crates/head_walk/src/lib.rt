@@ -11,10 +11,10 @@
 //! break a row, or whose test the tables of rows decide, no row has to be tested: it takes part in the scan as one that is
 //! known to pass.
 //!
-//! A table of marks is held at a time. Of each offset, tables of rows for all chunks together, samples and some whole rows are kept
-//! in [`KeptTables`] for all pages of a call; they are made where the first head needs them. By the samples a whole slot list
-//! that breaks more of these rows than may be is passed over before it waits (`column_screen`). By the relations of the rows a
-//! prefix is passed over with all that begins so (`relation_prefix`): which rows it is asked of stands in `specs/Relations`.
+//! A table of marks is held at a time. Of each offset, tables of rows for all chunks together and some whole rows are kept
+//! in [`KeptTables`] for all pages of a call; they are made where the first head needs them. By the relations of the rows a
+//! prefix is passed over with all that begins so, and a whole slot list before it waits (`relation_prefix`): which rows are asked
+//! stands in `specs/Relations`.
 //!
 //! `common_pages` walks the heads of a plan with it. What a walk keeps stands in `specs/Walk`, and how many sets of a range
 //! are hopeful, with what is read for them, in `specs/Counts`.

@@ -3,10 +3,10 @@ ghost use Rattle.std.specs.Prelude.{◌≡◌};
 ghost use Rattle.head_walk.specs.Faults.{samples_ended, scan_ended, table_ended};
 ghost use Rattle.head_walk.specs.declared.parts.WalkFault.TheVariants.{Memory as OutOfMemory};
 
-use column_screen::SampleFault;
 use outside::{ListOf, Memory};
 use prune_filters::TableFault;
 use raid_params::Geometry;
+use row_samples::SampleFault;
 use row_scan::ScanFault;
 use search_plan::Plan;
 use std::alloc::Global;

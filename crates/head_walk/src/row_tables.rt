@@ -1,11 +1,9 @@
-//! What a walk keeps of each offset: tables of rows, and samples.
+//! What a walk keeps of each offset: tables of rows, and rows.
 ghost use Rattle.std.specs.Prelude.{◌≡◌, ◌==◌, ◌+◌, ◌*◌, ◌<◌, ◌≤◌, ◌^◌, ◌||◌, All, Contains, IfErr, IfOk, IfSome, IsSome, ℕ, List, None, OnOk, Some, false, length, min, position, slice_get, slice_index, true};
 ghost use Rattle.std.specs.Option.{option_map};
 ghost use Rattle.outside.specs.Attached.{told_all};
 ghost use Rattle.outside.specs.Seen.{OnlyReads};
-ghost use Rattle.column_screen.specs.Reading.{EndsSamples};
-ghost use Rattle.column_screen.specs.Samples.{AreSamples};
-ghost use Rattle.row_samples.specs.Rows.{most_kept as most_rows_kept, AreImageRows};
+ghost use Rattle.row_samples.specs.Rows.{most_kept as most_rows_kept, AreImageRows, EndsSamples};
 ghost use Rattle.prune_filters.specs.Early.{AreEarlyTables, HasEarlyTable};
 ghost use Rattle.prune_filters.specs.Rows.{needs_samples as head_needs_samples, needs_table as head_needs_table};
 ghost use Rattle.search_plan.specs.Plans.{IsPlan, AgreeWith};
@@ -15,12 +13,11 @@ ghost use Rattle.head_walk.specs.Walk.{has_entry, HasTables, IsHeadOf, IsKept, l
 
 use crate::asking::asks_tables;
 use crate::parts::WalkFault;
-use column_screen::{SampleFault, Samples};
 use outside::{Images, ListOf};
 use prune_filters::{EarlyTable, most_rows, needs_samples, needs_table};
 use raid_params::Head;
 use relation_prefix::SampledRows;
-use row_samples::{OffsetSamples, RowSampler, most_kept, read_both};
+use row_samples::{RowSampler, SampleFault, read_rows};
 use search_plan::Plan;
 use set_product::HeadSets;
 use std::alloc::Global;
@@ -32,9 +29,7 @@ pub struct OffsetTables {
     pub offset: u64,
     /// The tables of rows, one for each chunk of the plan, in their order; none where no head of the plan needs one.
     pub tables: Vec<EarlyTable>,
-    /// Samples of the rows: some columns.
-    pub samples: Samples,
-    /// Some whole rows, with what they say of how the images depend on one another.
+    /// Some rows, with what they say of how the images depend on one another.
     pub rows: SampledRows,
 }
 
@@ -68,7 +63,7 @@ fn chunk_place(chunks: &[u64], chunk: u64) -> usize
 }
 
 /// Keeps of the offset of a head what it needs, if it needs something: tables of rows for all chunks of the plan where some
-/// head of the plan needs one, and samples. Each image is read once for an offset.
+/// head of the plan needs one, and rows. Each image is read once for an offset.
 pub(crate) fn keep_needed<I: Images>(
     alloc: Global,
     images: &mut I,
@@ -99,8 +94,8 @@ pub(crate) fn keep_needed<I: Images>(
     Ok(())
 }
 
-/// What is to be kept of an offset: tables of rows where some head of the plan needs one, with samples of the rows that are read
-/// for them, and samples alone where they are asked for some head.
+/// What is to be kept of an offset: tables of rows where some head of the plan needs one, with some of the rows that are read
+/// for them, and rows alone where they are asked for some head.
 fn entry_of<I: Images>(
     alloc: Global,
     images: &mut I,
@@ -120,12 +115,11 @@ fn entry_of<I: Images>(
 {
     let chunks = plan.bounds.chunks.as_slice();
     if !asks_tables(plan) {
-        let rows = most_rows(plan, chunks, offset);
-        let OffsetSamples { columns, rows } = read_samples(alloc, images, plan, rows, offset)?;
+        let tested = most_rows(plan, chunks, offset);
+        let rows = read_samples(alloc, images, plan, tested, offset)?;
         return Ok(OffsetTables {
             offset,
             tables: Vec::new(alloc),
-            samples: columns,
             rows,
         });
     }
@@ -152,51 +146,37 @@ fn tables_of<I: Images>(
 {
     let chunks = plan.bounds.chunks.as_slice();
     let count = plan.lengths.len();
-    let most = most_kept(plan.limits.badrows);
-    let rows = most_rows(plan, chunks, offset);
-    let mut samples = Samples::new(alloc, count)?;
-    let mut sampler = RowSampler::new(alloc, count, rows, most)?;
-    let tables = EarlyTable::build_each(
-        alloc,
-        images,
-        plan,
-        chunks,
-        offset,
-        &mut samples,
-        &mut sampler,
-    )?;
+    let tested = most_rows(plan, chunks, offset);
+    let mut sampler = RowSampler::new(alloc, count, tested, plan.limits.badrows)?;
+    let tables = EarlyTable::build_each(alloc, images, plan, chunks, offset, &mut sampler)?;
     Ok(OffsetTables {
         offset,
         tables,
-        samples,
         rows: sampler.finish(),
     })
 }
 
-/// Samples of the images of a plan, spread over the first `rows` rows of sectors from an offset on.
+/// Some of the first `tested` rows of sectors of the images of a plan from an offset on.
 fn read_samples<I: Images>(
     alloc: Global,
     images: &mut I,
     plan: &Plan,
-    rows: u64,
+    tested: u64,
     offset: u64,
-) -> Result<OffsetSamples, SampleFault>
+) -> Result<SampledRows, SampleFault>
     requires plan { IsPlan plan.now }
     requires images { AgreeWith plan.now (I.seen images.old).attached }
-    requires within { offset + rows ≤ plan.now.end }
-    ensures images { IfOk result (λ samples. samples.columns.images ≡ length plan.now.lengths.items) }
-    ensures row_images { IfOk result (λ samples. samples.rows.images ≡ length plan.now.lengths.items) }
-    ensures told { IfOk result (λ samples. IfSome (told_all (I.seen images.old).attached)
-        (λ bytes. AreSamples bytes (length plan.now.lengths.items) offset rows samples.columns.list)) }
-    ensures rows { IfOk result (λ samples. IfSome (told_all (I.seen images.old).attached)
-        (λ bytes. AreImageRows bytes (length plan.now.lengths.items) offset samples.rows.list)) }
+    requires within { offset + tested ≤ plan.now.end }
+    ensures images { IfOk result (λ rows. rows.images ≡ length plan.now.lengths.items) }
+    ensures rows { IfOk result (λ rows. IfSome (told_all (I.seen images.old).attached)
+        (λ bytes. AreImageRows bytes (length plan.now.lengths.items) offset rows.list)) }
     ensures reads { OnlyReads (I.seen images.old) (I.seen images.new)
-        (length plan.now.lengths.items * min (8 * most_rows_kept plan.now.limits.badrows) rows) }
+        (length plan.now.lengths.items * min (8 * most_rows_kept plan.now.limits.badrows) tested) }
     ensures ends { IfErr result (EndsSamples (I.seen images.old) (I.seen images.new)) }
     ensures stays { OnOk result ((I.seen images.new).faults ≡ (I.seen images.old).faults) }
 {
     let scope = plan.scope();
-    read_both(alloc, images, &scope, rows, offset)
+    read_rows(alloc, images, &scope, tested, offset)
 }
 
 /// What is kept of an offset.
@@ -231,30 +211,15 @@ pub(crate) fn table_for<'a>(
     Some(&tables[chunk])
 }
 
-/// The samples for a head, if they are asked for it.
-pub(crate) fn samples_for<'a>(
-    entry: &'a OffsetTables,
-    plan: &Plan,
-    head: &Head,
-) -> Option<&'a Samples>
-    ensures some { head_needs_samples plan.now head.now ≡ true → IsSome result }
-    ensures none { head_needs_samples plan.now head.now ≡ false → result ≡ None }
-    ensures is { IfSome result (λ samples. samples.now ≡ entry.now.samples) }
-{
-    if needs_samples(plan, head) {
-        Some(&entry.samples)
-    } else {
-        None
-    }
-}
-
-/// The rows for a head, if samples are asked for it.
+/// The rows for a head, if they are asked for it.
 pub(crate) fn rows_for<'a>(
     entry: &'a OffsetTables,
     plan: &Plan,
     head: &Head,
 ) -> Option<&'a SampledRows>
-    ensures { IfSome result (λ rows. rows.now ≡ entry.now.rows) }
+    ensures some { head_needs_samples plan.now head.now ≡ true → IsSome result }
+    ensures none { head_needs_samples plan.now head.now ≡ false → result ≡ None }
+    ensures is { IfSome result (λ rows. rows.now ≡ entry.now.rows) }
 {
     if needs_samples(plan, head) {
         Some(&entry.rows)

@@ -9,7 +9,7 @@ use crate::gathering::{Gathered, gather_admitted};
 use crate::hopeful::Hopeful;
 use crate::parts::{Paging, WalkFault};
 use crate::row_tables::{
-    KeptTables, entry_at, is_kept, keep_needed, rows_for, samples_for, table_for,
+    KeptTables, entry_at, is_kept, keep_needed, rows_for, table_for,
 };
 use address_map::rows;
 use candidate_enum::Survivors;
@@ -55,7 +55,7 @@ pub fn gather_head<R: Threads + Sync, I: Images, G: Gate + Sync>(
     gather_admitted(paging, images, sets, &family, from, stop, page)
 }
 
-/// Whether samples would be read for a head although the marks leave none of its slot lists of these ranks. Then no set of
+/// Whether rows would be read for a head although the marks leave none of its slot lists of these ranks. Then no set of
 /// them passes.
 fn is_ruled_out(
     alloc: Global,
@@ -76,7 +76,7 @@ fn is_ruled_out(
     if needs_table(plan, &sets.head) || !needs_samples(plan, &sets.head) {
         return Ok(false);
     }
-    let family = Hopeful::new(alloc, plan, sets, None, None, None)?;
+    let family = Hopeful::new(alloc, plan, sets, None, None)?;
     let mut walk = Survivors::start(&family, from - sets.first, stop - sets.first);
     Ok(walk.next().is_none())
 }
@@ -97,11 +97,10 @@ fn family_of<'a>(
         AdmitsHopeful told plan.now sets.now.head (is_admitted family)) }
 {
     if !needs_table(plan, &sets.head) && !needs_samples(plan, &sets.head) {
-        return Hopeful::new(alloc, plan, sets, None, None, None);
+        return Hopeful::new(alloc, plan, sets, None, None);
     }
     let entry = entry_at(kept, sets.head.offset);
     let table = table_for(entry, plan, sets);
-    let samples = samples_for(entry, plan, &sets.head);
     let rows = rows_for(entry, plan, &sets.head);
-    Hopeful::new(alloc, plan, sets, table, samples, rows)
+    Hopeful::new(alloc, plan, sets, table, rows)
 }

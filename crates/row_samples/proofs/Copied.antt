@@ -1,13 +1,18 @@
 -- The sectors of a row, copied one after the other.
-use Rattle.std.proofs.Common.{ℕ, ◌≡◌, ◌<◌, ◌≤◌, ◌+◌, ◌*◌, ◌++◌, List, length, take, get_or, slice_range, sym, ap, ◌∙◌, arith, subst, inl, inr, Result, Ok, Err, OnOk, IfErr}
+use Rattle.std.proofs.Common.{ℕ, ◌≡◌, ◌<◌, ◌≤◌, ◌+◌, ◌*◌, ◌++◌, ◌-◌, List, drop, length, take, get_or, slice_range, sym, ap, ◌∙◌, arith, subst, inl, inr}
 use Rattle.std.proofs.lemmas.Bool.{cases_lt}
-use Rattle.std.proofs.lemmas.List.{get_or-append-add, get_or-take, get_or_append_left, length-take-le}
-use Rattle.column_screen.proofs.Sectors.{region_at}
-use Rattle.column_screen.specs.Samples.{HoldSector}
+use Rattle.std.proofs.lemmas.List.{append-nil, drop_all, get_or-append-add, get_or-drop, get_or-take, get_or_append_left, length-take-le, take_all}
 use Rattle.member_regions.specs.ImageSums.{room_byte}
 use Rattle.member_regions.specs.Regions.{Room}
-use Rattle.relation_prefix.specs.Laws.{AreSectorsAt}
-use Rattle.relation_prefix.specs.Sampled.{KeptRows}
+
+-- the sector of a region
+region_at : (room : Room) (region : List ℕ) (image place x : ℕ) → region ≡ slice_range room.bytes (room.stride * image + 512 * place) (room.stride * image + 512 * place + 512 * 1) → x < 512 →
+    get_or region x 0 ≡ room_byte room (512 * place + x) image
+region_at room region image place x is below =
+    let from = room.stride * image + 512 * place in
+    let at : from + x ≡ room.stride * image + (512 * place + x) = omega arith in
+    ap (λ (xs : List ℕ). get_or xs x 0) is ∙ get_or-take (from + 512 * 1 - from) (drop from room.bytes) x 0 (omega arith) ∙ get_or-drop from room.bytes x 0
+    ∙ ap (λ (k : ℕ). get_or room.bytes k 0) at
 
 -- the sectors of the first n images were copied
 abbrev pub AreCopied : Room → ℕ → ℕ → List ℕ → Type 0
@@ -31,12 +36,7 @@ copied_more room place image region to new is inside grown before i x lt below =
           ∙ region_at room region image place x is below ∙ ap (room_byte room (512 * place + x)) at)
     ]
 
--- what was copied of sectors of the images are these
-pub sectors_at : (images : List (List ℕ)) (count sector place : ℕ) (room : Room) (to : List ℕ) → length images ≡ count → HoldSector images count sector place room → AreCopied room place count to →
-    AreSectorsAt images sector to
-sectors_at images count sector place room to long hold copied = λ i c lt below. copied i c (omega arith) below ∙ hold i c (omega arith) below
-
--- what holds of what was changed, or of what stayed the same
-pub either : {A E : Type 0} (r : Result A E) (old new : KeptRows) (P : KeptRows → Type 0) → OnOk r (P new) → IfErr r (λ f. new ≡ old) → P old → P new
-either (Ok a) old new P ok same before = ok
-either (Err f) old new P ok same before = subst P (sym same) before
+-- a list that was written whole
+pub written_whole : (capacity : ℕ) (old new : List ℕ) → length new ≡ length old → length old ≤ capacity → new ≡ take capacity (new ++ drop (length new) old)
+written_whole capacity old new same fits =
+    sym (ap (λ (rest : List ℕ). take capacity (new ++ rest)) (drop_all (length new) old (omega arith)) ∙ ap (take capacity) (append-nil new) ∙ take_all capacity new (omega arith))

@@ -1,2 +1,4 @@
 pub mod Copied
 pub mod Begun
+pub mod Offered
+pub mod Ordered

@@ -12,7 +12,7 @@ use Rattle.member_regions.specs.Members.{held, Reaches}
 use Rattle.member_regions.specs.Regions.{HoldRead, Room}
 use Rattle.search_scope.specs.Scopes.{IsScope, AgreeWith}
 use Rattle.search_scope.specs.declared.scope.Scope.{Scope}
-use Rattle.column_screen.specs.Samples.{HoldSector}
+use Rattle.row_samples.specs.Rows.{HoldSector}
 
 -- the images in the slots of their numbers
 abbrev pub in_order : ℕ → List (Option ℕ)

@@ -1,11 +1,10 @@
 //! The tables of rows of all chunks of an offset, made in one reading that may end early.
-ghost use Rattle.std.specs.Prelude.{◌≡◌, ◌+◌, ◌*◌, ◌<◌, ◌≤◌, ◌^◌, ℕ, List, All, IfErr, IfOk, IfSome, IsTrue, OnOk, [], length, min};
+ghost use Rattle.std.specs.Prelude.{◌≡◌, ◌+◌, ◌*◌, ◌<◌, ◌≤◌, ◌^◌, ℕ, List, All, IfErr, IfOk, IfSome, IsTrue, OnOk, length, min};
 ghost use Rattle.outside.specs.Attached.{told_all};
 ghost use Rattle.outside.specs.Causes.{HasCause};
 ghost use Rattle.outside.specs.Seen.{OnlyReads};
-ghost use Rattle.column_screen.specs.Samples.{AreSamples};
 ghost use Rattle.raid_params.specs.Validity.{is_chunk};
-ghost use Rattle.row_samples.specs.Rows.{AreImageRows};
+ghost use Rattle.row_samples.specs.Spreads.{AreSampled, HasNone};
 ghost use Rattle.member_regions.specs.Regions.{IsRoomFor};
 ghost use Rattle.member_regions.specs.declared.regions.TheConstants.{BLOCK};
 ghost use Rattle.search_plan.specs.Plans.{IsPlan, AgreeWith};
@@ -18,10 +17,9 @@ ghost use Rattle.xor_tables.specs.declared.xor_table.TableFault.TheVariants.{Mem
 use crate::most_tested::most_rows;
 use crate::row_sums::row_sums;
 use crate::row_tally::RowTally;
-use crate::sampling::{offer_rows, take_samples};
+use crate::sampling::offer_rows;
 use crate::settling::tables_suffice;
 use crate::xor_table::TableFault;
-use column_screen::Samples;
 use member_regions::{BLOCK, ImageSum, Regions};
 use outside::{Failed, Images};
 use row_samples::RowSampler;
@@ -54,31 +52,27 @@ impl EarlyTable {
     /// Counts the rows of an offset in which the images of a plan differ, for each of some chunks. Each image is
     /// read at most once, in the order of its sectors, and memory is taken before the first reading. The reading ends
     /// where each table counts all rows that are tested, or settles what the others could tell: of a level of the
-    /// plan, that more rows are broken than may be. From the rows that are read samples are taken, where none are kept yet:
-    /// they are spread over the rows that are tested. The rows are offered to a sampler, too. `ReadFault` comes only where the images failed.
+    /// plan, that more rows are broken than may be. The rows that are read are offered to a sampler. `ReadFault` comes only where the
+    /// images failed.
     pub fn build_each<I: Images>(
         alloc: Global,
         images: &mut I,
         plan: &Plan,
         chunks: &[u64],
         offset: u64,
-        samples: &mut Samples,
         sampler: &mut RowSampler,
     ) -> Result<Vec<EarlyTable>, TableFault>
         requires plan { IsPlan plan.now }
         requires chunks { All (λ chunk. IsTrue (is_chunk chunk)) chunks.now }
         requires offset { offset < 2 ^ 55 }
         requires images { AgreeWith plan.now (I.seen images.old).attached }
-        requires none { samples.old ≡ record { images = length plan.now.lengths.items; list = [] } }
-        requires none_offered { sampler.old ≡ record { images = length plan.now.lengths.items; list = [] } }
+        requires none { HasNone (length plan.now.lengths.items) sampler.old }
         ensures long { IfOk result (λ tables. length tables.items ≡ length chunks.now) }
         ensures told { IfOk result (λ tables. IfSome (told_all (I.seen images.old).attached)
             (λ bytes. AreEarlyTables bytes plan.now chunks.now offset tables.items)) }
-        ensures images { samples.new.images ≡ length plan.now.lengths.items }
-        ensures samples { OnOk result (IfSome (told_all (I.seen images.old).attached)
-            (λ bytes. AreSamples bytes (length plan.now.lengths.items) offset (most_tested plan.now chunks.now offset) samples.new.list)) }
-        ensures row_images { sampler.new.images ≡ length plan.now.lengths.items }
-        ensures rows { OnOk result (IfSome (told_all (I.seen images.old).attached) (λ bytes. AreImageRows bytes (length plan.now.lengths.items) offset sampler.new.list)) }
+        ensures telling_images { sampler.new.telling.kept.images ≡ length plan.now.lengths.items }
+        ensures others_images { sampler.new.others.kept.images ≡ length plan.now.lengths.items }
+        ensures rows { OnOk result (IfSome (told_all (I.seen images.old).attached) (λ bytes. AreSampled bytes (length plan.now.lengths.items) offset sampler.new)) }
         ensures reads { OnlyReads (I.seen images.old) (I.seen images.new)
             (length plan.now.lengths.items * most_tested plan.now chunks.now offset) }
         ensures ends { IfErr result (EndsTable (I.seen images.old) (I.seen images.new)) }
@@ -92,7 +86,6 @@ impl EarlyTable {
             images,
             &mut regions,
             &mut tables,
-            samples,
             sampler,
             plan,
             chunks,
@@ -150,12 +143,11 @@ fn no_rows(alloc: Global, count: usize) -> Result<Vec<EarlyTable>, TableFault>
     Ok(tables)
 }
 
-/// Counts the rows of an offset for each of some chunks, with room for a block of each image, takes samples of them and offers them to a sampler.
+/// Counts the rows of an offset for each of some chunks, with room for a block of each image, and offers them to a sampler.
 fn read_rows<I: Images>(
     images: &mut I,
     regions: &mut Regions,
     tables: &mut Vec<EarlyTable>,
-    samples: &mut Samples,
     sampler: &mut RowSampler,
     plan: &Plan,
     chunks: &[u64],
@@ -170,23 +162,19 @@ fn read_rows<I: Images>(
     requires none { (bytes : List (List ℕ)) (members chunk offset : ℕ) →
         All (CountRows bytes members chunk offset 0) tables.old.items }
     requires few { AreAllFew 0 tables.old.items }
-    requires none_kept { samples.old ≡ record { images = length plan.now.lengths.items; list = [] } }
-    requires none_offered { sampler.old ≡ record { images = length plan.now.lengths.items; list = [] } }
+    requires none_kept { HasNone (length plan.now.lengths.items) sampler.old }
     ensures long { length tables.new.items ≡ length chunks.now }
-    ensures images { samples.new.images ≡ length plan.now.lengths.items }
-    ensures samples { OnOk result (IfSome (told_all (I.seen images.old).attached)
-        (λ bytes. AreSamples bytes (length plan.now.lengths.items) offset (most_tested plan.now chunks.now offset) samples.new.list)) }
     ensures told { OnOk result (IfSome (told_all (I.seen images.old).attached)
         (λ bytes. AreEarlyTables bytes plan.now chunks.now offset tables.new.items)) }
-    ensures row_images { sampler.new.images ≡ length plan.now.lengths.items }
-    ensures rows { OnOk result (IfSome (told_all (I.seen images.old).attached) (λ bytes. AreImageRows bytes (length plan.now.lengths.items) offset sampler.new.list)) }
+    ensures telling_images { sampler.new.telling.kept.images ≡ length plan.now.lengths.items }
+    ensures others_images { sampler.new.others.kept.images ≡ length plan.now.lengths.items }
+    ensures rows { OnOk result (IfSome (told_all (I.seen images.old).attached) (λ bytes. AreSampled bytes (length plan.now.lengths.items) offset sampler.new)) }
     ensures reads { OnlyReads (I.seen images.old) (I.seen images.new)
         (length plan.now.lengths.items * most_tested plan.now chunks.now offset) }
     ensures cause { HasCause (I.seen images.old).faults (I.seen images.new).faults result }
 {
     let rows = most_rows(plan, chunks, offset);
     let mut first = 0;
-    let mut wanted = 0;
     while first < rows {
         if tables_suffice(tables, plan, chunks, offset, first) {
             return Ok(());
@@ -195,7 +183,6 @@ fn read_rows<I: Images>(
         let count = most.min(rows - first) as usize;
         let sums = row_sums(images, regions, plan, offset + first, count)?;
         add_block(tables, &sums, plan, chunks, offset, first, count);
-        wanted = take_samples(samples, regions, &sums, rows, first, count, wanted);
         offer_rows(sampler, regions, &sums, first, count);
         first += count as u64;
     }

@@ -10,8 +10,8 @@
 //! the plan. By them tell [`rows_may_hold`] and, for the prefixes of one head, [`HeadRows`] of a prefix whether more rows
 //! are known to be unsound than may be.
 //!
-//! From the rows that are read for such tables samples are taken for a screen of columns (`column_screen`): no sector is read
-//! for them alone. [`needs_samples`] says of which heads they are asked.
+//! The rows that are read for such tables are offered to a sampler (`row_samples`), so that none is read for it alone. [`needs_samples`]
+//! says of which heads rows are asked.
 //!
 //! What is known of a prefix stands in `specs/Rows`, and what the tables hold in `specs/Xors`, `specs/Early` and `specs/Heads`.
 //! `prune_filters` asks it beside what the marks refuse.

@@ -5,30 +5,20 @@ use Rattle.outside.specs.Seen.{Image}
 use Rattle.member_regions.proofs.IfTold.{if_both}
 use Rattle.member_regions.specs.Regions.{HoldRead}
 use Rattle.search_scope.specs.Scopes.{AgreeWith}
-use Rattle.column_screen.specs.Samples.{AreSamples, HoldSector, Kept}
-use Rattle.column_screen.proofs.Ordered.{in_order, order_length, order_reaches, scope_near, reads_images, reads_more, reads_within, sector_held}
-use Rattle.relation_prefix.specs.Sampled.{KeptRows}
-use Rattle.row_samples.specs.Rows.{AreImageRows}
-use Rattle.row_samples.proofs.Begun.{far_later, AreFar, begins_below, begins_lying, begins_rows, begins_sampled, below_later, lie_later}
-use Rattle.row_samples.proofs.reading.fill.Goals.{then-is_wanted+in_ok-read, else-is_wanted}
+use Rattle.row_samples.specs.Spreads.{AreSampled, LieBelow, Sampling}
+use Rattle.row_samples.proofs.Begun.{far_first, far_later, lie_later, AreFar}
+use Rattle.row_samples.proofs.Offered.{offered_below, offered_images, offered_rows}
+use Rattle.row_samples.proofs.Ordered.{in_order, order_length, order_reaches, scope_near, reads_images, reads_more, reads_within, sector_held}
+use Rattle.row_samples.proofs.reading.fill.Goals.{then-wants+in_ok-read, else-wants}
 use Rattle.row_samples.proofs.reading.fill.Goals as goal
 
 pub loop-number-init : goal.loop-number-init
-loop-number-init g c =
-    let n = length c.args.scope.now.lengths.items in
-    record {
-      far = record {
-        column_images = ap (λ (k : Kept). k.images) c.requires.columns;
-        row_images = ap (λ (k : KeptRows). k.images) c.requires.rows;
-        columns = begins_sampled (told_all (g.I.Images.seen c.args.images.now).attached) n c.args.offset c.args.rows c.args.columns.now c.requires.columns;
-        rows = begins_rows (g.I.Images.seen c.args.images.now).attached c.args.scope.now c.args.offset c.args.sampler.now c.requires.images c.requires.rows;
-        columns_below = begins_lying (c.args.rows / c.args.tries * 0) n c.args.columns.now c.requires.columns;
-        rows_below = begins_below (c.args.rows / c.args.tries * 0) n c.args.sampler.now c.requires.rows;
-      };
-      faults = refl;
-      reads = reads_up (g.I.Images.seen c.args.images.now) (g.I.Images.seen c.args.images.now) (reads_none (g.I.Images.seen c.args.images.now)) (omega arith);
-      room = c.requires.room;
-    }
+loop-number-init g c = record {
+  far = far_first (g.I.Images.seen c.args.images.now).attached c.args.scope.now c.args.offset (c.args.rows / c.args.tries * 0) c.args.sampler.now c.requires.images c.requires.none;
+  faults = refl;
+  reads = reads_up (g.I.Images.seen c.args.images.now) (g.I.Images.seen c.args.images.now) (reads_none (g.I.Images.seen c.args.images.now)) (omega arith);
+  room = c.requires.room;
+}
 
 pub read-requires-clause-room : goal.read-requires-clause-room
 read-requires-clause-room g c =
@@ -53,8 +43,8 @@ read-requires-clause-near g c =
     let row = c.try_row-row.ensures.within in
     omega arith
 
-pub take_row-requires-clause-row : goal.take_row-requires-clause-row
-take_row-requires-clause-row g c =
+pub offer-requires-clause-row : goal.offer-requires-clause-row
+offer-requires-clause-row g c =
     let near = scope_near c.args.scope.now c.requires.scope in
     let within = c.requires.within in
     let row = c.try_row-row.ensures.within in
@@ -75,41 +65,35 @@ loop-number-preserved g c =
     let part = c.args.rows / c.args.tries in
     let told = told_all (g.I.Images.seen c.args.images.now).attached in
     let next : part * (c.loop-number.number + 1) ≡ part * c.loop-number.number + part = grind arith in
-    let F : Kept → KeptRows → Type 0 = λ columns sampler. AreFar told n c.args.offset c.args.rows (part * (c.loop-number.number + 1)) columns sampler in
-    elim c.if-is_wanted.branch [
-      | then-is_wanted+in_ok-read w ↦
+    let F : Sampling → Type 0 = λ sampler. AreFar told n c.args.offset (part * (c.loop-number.number + 1)) sampler in
+    let was = c.loop-number.invariant.far in
+    elim c.if-wants.branch [
+      | then-wants+in_ok-read w ↦
           (let slots = w.deref.result.now in
+          let row = c.try_row-row.result in
+          let room = w.read.new.self in
+          let old = c.loop-number.sampler in
+          let new = w.offer.new.self in
+          let offers = w.offer.ensures.offers in
+          let images = offered_images room 0 row old new offers in
           let ordered : slots ≡ in_order n = w.deref.ensures.0 ∙ c.all_images-slots.ensures ∙ ap in_order c.len.ensures.value in
           let now : IfSome (told_all (g.I.Images.seen c.loop-number.images).attached) (λ bytes.
-          HoldRead bytes slots c.args.offset w.read.new.self.stride c.try_row-row.result (512 * 1) (length slots) w.read.new.self.bytes) = w.in_ok-read.ensures.told in
-          let P : ℕ → Type 0 = λ count. (bytes : List (List ℕ)) → HoldSector bytes count (c.args.offset + c.try_row-row.result) 0 w.read.new.self → c.try_row-row.result < c.args.rows →
-          AreSamples bytes count c.args.offset c.args.rows c.loop-number.columns.list → AreSamples bytes count c.args.offset c.args.rows w.take_row.new.columns.list in
-          let grows : P n = subst P c.loop-number.invariant.far.column_images (λ bytes. w.take_row.ensures.columns_kept bytes c.args.offset c.args.rows) in
-          let R : ℕ → Type 0 = λ count. (bytes : List (List ℕ)) → HoldSector bytes count (c.args.offset + c.try_row-row.result) 0 w.read.new.self →
-          AreImageRows bytes count c.args.offset c.loop-number.sampler.list → AreImageRows bytes count c.args.offset w.take_row.new.sampler.list in
-          let keeps : R n = subst R c.loop-number.invariant.far.row_images (λ bytes. w.take_row.ensures.rows_kept bytes c.args.offset) in
-          let far : F w.take_row.new.columns w.take_row.new.sampler = record {
-            column_images = w.take_row.ensures.columns ∙ c.loop-number.invariant.far.column_images;
-            row_images = w.take_row.ensures.rows ∙ c.loop-number.invariant.far.row_images;
-            columns = if_both told
-                (λ bytes. AreSamples bytes n c.args.offset c.args.rows c.loop-number.columns.list)
-                (λ bytes. HoldRead bytes slots c.args.offset w.read.new.self.stride c.try_row-row.result (512 * 1) (length slots) w.read.new.self.bytes)
-                (λ bytes. AreSamples bytes n c.args.offset c.args.rows w.take_row.new.columns.list)
-                (λ bytes are hold. grows bytes (sector_held bytes slots n c.args.offset c.try_row-row.result w.read.new.self ordered hold) c.try_row-row.ensures.within are)
-                c.loop-number.invariant.far.columns
-                (rw (← c.loop-number.invariant.reads.attached) now);
+          HoldRead bytes slots c.args.offset room.stride row (512 * 1) (length slots) room.bytes) = w.in_ok-read.ensures.told in
+          let below : LieBelow row old = lie_later (part * c.loop-number.number) row old c.try_row-row.ensures.low was.below in
+          let far : F new = record {
+            telling_images = images.0 ∙ was.telling_images;
+            others_images = images.1 ∙ was.others_images;
             rows = if_both told
-                (λ bytes. AreImageRows bytes n c.args.offset c.loop-number.sampler.list)
-                (λ bytes. HoldRead bytes slots c.args.offset w.read.new.self.stride c.try_row-row.result (512 * 1) (length slots) w.read.new.self.bytes)
-                (λ bytes. AreImageRows bytes n c.args.offset w.take_row.new.sampler.list)
-                (λ bytes are hold. keeps bytes (sector_held bytes slots n c.args.offset c.try_row-row.result w.read.new.self ordered hold) are)
-                c.loop-number.invariant.far.rows
+                (λ bytes. AreSampled bytes n c.args.offset old)
+                (λ bytes. HoldRead bytes slots c.args.offset room.stride row (512 * 1) (length slots) room.bytes)
+                (λ bytes. AreSampled bytes n c.args.offset new)
+                (λ bytes are hold. offered_rows room 0 row old new offers bytes n c.args.offset was.telling_images (sector_held bytes slots n c.args.offset row room ordered hold) below are)
+                was.rows
                 (rw (← c.loop-number.invariant.reads.attached) now);
-            columns_below = lie_later (c.try_row-row.result + 1) (part * (c.loop-number.number + 1)) w.take_row.new.columns.list (let high = c.try_row-row.ensures.high in omega arith) w.take_row.ensures.columns_below;
-            rows_below = below_later (c.try_row-row.result + 1) (part * (c.loop-number.number + 1)) w.take_row.new.sampler.list (let high = c.try_row-row.ensures.high in omega arith) w.take_row.ensures.rows_below;
+            below = lie_later (row + 1) (part * (c.loop-number.number + 1)) new (let high = c.try_row-row.ensures.high in omega arith) (offered_below room 0 row old new offers below);
           } in
           record {
-            far = subst (λ (k : Kept). F k c.if-is_wanted.sampler) (sym w.columns-is) (subst (F w.take_row.new.columns) (sym w.sampler-is) far);
+            far = subst F (sym w.sampler-is) far;
             faults = rw w.images-is (search rules);
             reads = rw w.images-is (reads_more (g.I.Images.seen c.args.images.now) (g.I.Images.seen c.loop-number.images) (g.I.Images.seen w.read.new.images) n c.loop-number.number 1 c.loop-number.invariant.reads
                 (reads_images (g.I.Images.seen c.loop-number.images) (g.I.Images.seen w.read.new.images) slots n 1 ordered w.read.ensures.reads));
@@ -119,11 +103,11 @@ loop-number-preserved g c =
                 let as_long = w.read.ensures.room.stride in
                 record { many = omega arith; long = omega arith });
           })
-      | else-is_wanted w ↦
-          (let far : F c.loop-number.columns c.loop-number.sampler = far_later told n c.args.offset c.args.rows (part * c.loop-number.number) (part * (c.loop-number.number + 1)) c.loop-number.columns c.loop-number.sampler (omega arith) c.loop-number.invariant.far in
+      | else-wants w ↦
+          (let far : F c.loop-number.sampler = far_later told n c.args.offset (part * c.loop-number.number) (part * (c.loop-number.number + 1)) c.loop-number.sampler (omega arith) was in
           let more : n * (c.loop-number.number + 1) ≡ n * c.loop-number.number + n = grind arith in
           record {
-            far = subst (λ (k : Kept). F k c.if-is_wanted.sampler) (sym w.columns-is) (subst (F c.loop-number.columns) (sym w.sampler-is) far);
+            far = subst F (sym w.sampler-is) far;
             faults = rw w.images-is c.loop-number.invariant.faults;
             reads = rw w.images-is (reads_up (g.I.Images.seen c.args.images.now) (g.I.Images.seen c.loop-number.images) c.loop-number.invariant.reads (omega arith));
             room = rw w.regions-is c.loop-number.invariant.room;

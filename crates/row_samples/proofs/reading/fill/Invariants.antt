@@ -7,7 +7,7 @@ use Rattle.row_samples.proofs.reading.fill.Given as goal
 
 abbrev pub invariant-loop-number : goal.invariant-loop-number
 invariant-loop-number g l = record {
-  far : AreFar (told_all (g.I.Images.seen l.fn.images).attached) (length l.scope.lengths.items) l.offset l.rows (l.rows / l.tries * l.number) l.columns l.sampler;
+  far : AreFar (told_all (g.I.Images.seen l.fn.images).attached) (length l.scope.lengths.items) l.offset (l.rows / l.tries * l.number) l.sampler;
   faults : (g.I.Images.seen l.images).faults ≡ (g.I.Images.seen l.fn.images).faults;
   reads : OnlyReads (g.I.Images.seen l.fn.images) (g.I.Images.seen l.images) (length l.scope.lengths.items * l.number);
   room : IsRoomFor (length l.scope.lengths.items) 1 l.regions;

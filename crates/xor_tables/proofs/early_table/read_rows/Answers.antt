@@ -2,15 +2,14 @@ use Rattle.std.proofs.Common.{◌≤◌, ◌+◌, ℕ, List, IfSome, length, rul
 use Rattle.outside.proofs.Reading.{reads_none, reads_up}
 use Rattle.outside.specs.Attached.{told_all}
 use Rattle.outside.specs.Seen.{Image}
-use Rattle.column_screen.specs.Samples.{AreSamples, Kept}
 use Rattle.member_regions.proofs.IfTold.{if_any, if_both, if_told}
 use Rattle.search_plan.specs.Plans.{AgreeWith}
 use Rattle.xor_tables.specs.Early.{AreEarlyTables, AreKnown, CountFirst}
 use Rattle.xor_tables.specs.Xors.{most_tested, AreSumsOf, HoldRows, RowTable}
 use Rattle.xor_tables.proofs.Ordered.{plan_near, reads_more, reads_within}
-use Rattle.row_samples.specs.Rows.{AreImageRows}
-use Rattle.relation_prefix.specs.Sampled.{KeptRows}
-use Rattle.xor_tables.proofs.Sampled.{begins_below, begins_lying, begins_offered, begins_sampled}
+use Rattle.row_samples.proofs.Begun.{none_lie}
+use Rattle.row_samples.specs.Spreads.{AreSampled}
+use Rattle.xor_tables.proofs.Sampled.{begins_sampled}
 use Rattle.xor_tables.proofs.Settled.{all_known, first_counts, known_tables}
 use Rattle.xor_tables.proofs.early_table.read_rows.Goals as goal
 
@@ -34,12 +33,10 @@ loop-first-init g c = record {
   within = omega arith;
   room = c.requires.room;
   long = c.requires.tables;
-  images = ap (λ (k : Kept). k.images) c.requires.none_kept;
-  below = begins_below 0 (length c.args.plan.now.lengths.items) c.args.samples.now c.requires.none_kept;
-  samples = begins_sampled (told_all (g.I.Images.seen c.args.images.now).attached) (length c.args.plan.now.lengths.items) c.args.offset c.most_rows-rows.result c.args.samples.now c.requires.none_kept;
-  row_images = ap (λ (k : KeptRows). k.images) c.requires.none_offered;
-  lying = begins_lying 0 (length c.args.plan.now.lengths.items) c.args.sampler.now c.requires.none_offered;
-  rows = begins_offered (g.I.Images.seen c.args.images.now).attached c.args.plan.now c.args.offset c.args.sampler.now c.requires.images c.requires.none_offered;
+  telling_images = c.requires.none_kept.telling_images;
+  others_images = c.requires.none_kept.others_images;
+  below = none_lie 0 (length c.args.plan.now.lengths.items) c.args.sampler.now c.requires.none_kept;
+  rows = begins_sampled (g.I.Images.seen c.args.images.now).attached c.args.plan.now c.args.offset c.args.sampler.now c.requires.images c.requires.none_kept;
 }
 
 pub returns-clause-told : goal.returns-clause-told
@@ -72,11 +69,8 @@ loop-first-preserved g c =
     let held : IfSome (told_all (g.I.Images.seen c.loop-first.images).attached) (λ bytes.
     HoldRows bytes (length c.args.plan.now.lengths.items) (c.args.offset + c.loop-first.first) c.min-count.result c.row_sums.new.regions) = c.in_ok-sums.ensures.hold in
     let P : ℕ → Type 0 = λ n. (bytes : List (List ℕ)) (offset : ℕ) → HoldRows bytes n (offset + c.loop-first.first) c.min-count.result c.row_sums.new.regions →
-    AreSamples bytes n offset c.most_rows-rows.result c.loop-first.samples.list → AreSamples bytes n offset c.most_rows-rows.result c.take_samples-wanted.new.samples.list in
-    let grows : P (length c.args.plan.now.lengths.items) = subst P c.loop-first.invariant.images c.take_samples-wanted.ensures.kept in
-    let R : ℕ → Type 0 = λ n. (bytes : List (List ℕ)) (offset : ℕ) → HoldRows bytes n (offset + c.loop-first.first) c.min-count.result c.row_sums.new.regions →
-    AreImageRows bytes n offset c.loop-first.sampler.list → AreImageRows bytes n offset c.offer_rows.new.sampler.list in
-    let offers : R (length c.args.plan.now.lengths.items) = subst R c.loop-first.invariant.row_images c.offer_rows.ensures.kept in
+    AreSampled bytes n offset c.loop-first.sampler → AreSampled bytes n offset c.offer_rows.new.sampler in
+    let offers : P (length c.args.plan.now.lengths.items) = subst P c.loop-first.invariant.telling_images c.offer_rows.ensures.kept in
     record {
       faults = search rules;
       reads = reads_more (g.I.Images.seen c.args.images.now) (g.I.Images.seen c.loop-first.images) (g.I.Images.seen c.row_sums.new.images)
@@ -92,21 +86,13 @@ loop-first-preserved g c =
       within = omega arith;
       room = c.row_sums.ensures.room;
       long = c.add_block.ensures.long ∙ c.loop-first.invariant.long;
-      images = c.take_samples-wanted.ensures.images ∙ c.loop-first.invariant.images;
-      below = c.take_samples-wanted.ensures.below;
-      samples = if_both (told_all (g.I.Images.seen c.args.images.now).attached)
-          (λ bytes. AreSamples bytes (length c.args.plan.now.lengths.items) c.args.offset c.most_rows-rows.result c.loop-first.samples.list)
-          (λ bytes. HoldRows bytes (length c.args.plan.now.lengths.items) (c.args.offset + c.loop-first.first) c.min-count.result c.row_sums.new.regions)
-          (λ bytes. AreSamples bytes (length c.args.plan.now.lengths.items) c.args.offset c.most_rows-rows.result c.take_samples-wanted.new.samples.list)
-          (λ bytes are hold. grows bytes c.args.offset hold are)
-          c.loop-first.invariant.samples
-          (rw (← c.loop-first.invariant.reads.attached) held);
-      row_images = c.offer_rows.ensures.images ∙ c.loop-first.invariant.row_images;
-      lying = c.offer_rows.ensures.below;
+      telling_images = c.offer_rows.ensures.telling_images ∙ c.loop-first.invariant.telling_images;
+      others_images = c.offer_rows.ensures.others_images ∙ c.loop-first.invariant.others_images;
+      below = c.offer_rows.ensures.below;
       rows = if_both (told_all (g.I.Images.seen c.args.images.now).attached)
-          (λ bytes. AreImageRows bytes (length c.args.plan.now.lengths.items) c.args.offset c.loop-first.sampler.list)
+          (λ bytes. AreSampled bytes (length c.args.plan.now.lengths.items) c.args.offset c.loop-first.sampler)
           (λ bytes. HoldRows bytes (length c.args.plan.now.lengths.items) (c.args.offset + c.loop-first.first) c.min-count.result c.row_sums.new.regions)
-          (λ bytes. AreImageRows bytes (length c.args.plan.now.lengths.items) c.args.offset c.offer_rows.new.sampler.list)
+          (λ bytes. AreSampled bytes (length c.args.plan.now.lengths.items) c.args.offset c.offer_rows.new.sampler)
           (λ bytes are hold. offers bytes c.args.offset hold are)
           c.loop-first.invariant.rows
           (rw (← c.loop-first.invariant.reads.attached) held);
@@ -116,7 +102,7 @@ pub offer_rows-requires-clause-room : goal.offer_rows-requires-clause-room
 offer_rows-requires-clause-room g c =
     let many = c.row_sums.ensures.room.many in
     let long = c.row_sums.ensures.room.long in
-    let same = c.loop-first.invariant.row_images in
+    let same = c.loop-first.invariant.telling_images in
     record { many = omega arith; long = omega arith }
 
 pub offer_rows-requires-clause-rows : goal.offer_rows-requires-clause-rows
@@ -134,29 +120,6 @@ overflow_add-offset g c =
 
 pub add_block-requires-clause-rows : goal.add_block-requires-clause-rows
 add_block-requires-clause-rows g c =
-    let near = plan_near c.args.plan.now c.requires.plan in
-    let within = c.most_rows-rows.ensures.within in
-    omega arith
-
-pub returns-then-tables_suffice-clause-samples : goal.returns-then-tables_suffice-clause-samples
-returns-then-tables_suffice-clause-samples g c =
-    subst (λ (rows : ℕ). IfSome (told_all (g.I.Images.seen c.args.images.now).attached) (λ bytes. AreSamples bytes (length c.args.plan.now.lengths.items) c.args.offset rows c.loop-first.samples.list))
-    c.most_rows-rows.ensures.value c.loop-first.invariant.samples
-
-pub returns-clause-samples : goal.returns-clause-samples
-returns-clause-samples g c =
-    subst (λ (rows : ℕ). IfSome (told_all (g.I.Images.seen c.args.images.now).attached) (λ bytes. AreSamples bytes (length c.args.plan.now.lengths.items) c.args.offset rows c.loop-first.samples.list))
-    c.most_rows-rows.ensures.value c.loop-first.invariant.samples
-
-pub take_samples-wanted-requires-clause-room : goal.take_samples-wanted-requires-clause-room
-take_samples-wanted-requires-clause-room g c =
-    let many = c.row_sums.ensures.room.many in
-    let long = c.row_sums.ensures.room.long in
-    let same = c.loop-first.invariant.images in
-    record { many = omega arith; long = omega arith }
-
-pub take_samples-wanted-requires-clause-rows : goal.take_samples-wanted-requires-clause-rows
-take_samples-wanted-requires-clause-rows g c =
     let near = plan_near c.args.plan.now c.requires.plan in
     let within = c.most_rows-rows.ensures.within in
     omega arith

@@ -1,29 +1,55 @@
-use Rattle.std.proofs.Common.{◌≡◌, ◌+◌, ℕ, List, length, arith, ap, subst, sym, ◌∙◌}
-use Rattle.column_screen.proofs.Keeping.{written_whole}
-use Rattle.relation_prefix.specs.Laws.{AreRowsOf, AreSectorsAt}
-use Rattle.relation_prefix.specs.Sampled.{KeptRows}
+use Rattle.std.proofs.Common.{◌≡◌, ◌<◌, ◌+◌, ◌*◌, ◌++◌, ℕ, List, true, false, drop, length, take, arith, ap, subst, sym, ◌∙◌}
+use Rattle.std.proofs.lemmas.Bool.{false≢true}
 use Rattle.row_relations.specs.Tables.{IsTable}
-use Rattle.row_samples.proofs.Copied.{sectors_at, AreCopied}
+use Rattle.row_samples.proofs.Copied.{written_whole}
+use Rattle.row_samples.proofs.Offered.{takes_same}
+use Rattle.row_samples.specs.Spreads.{AreSectorsOf, OffersTable, Sampling, TakesTable}
 use Rattle.row_samples.proofs.sampler.RowSampler.offer.Goals as goal
 
-pub returns-clause-rows : goal.returns-clause-rows
-returns-clause-rows c = λ images offset hold are.
-    let view : c.self.inside.kept ≡ c.args.self.now = c.self.view_is in
-    let count : c.args.self.now.images ≡ length c.self.inside.table.standings = sym (c.self.invariant.0 ∙ ap (λ (k : KeptRows). k.images) view) in
-    let n : c.images-images.result ≡ c.args.self.now.images = c.images-images.ensures.images ∙ sym count in
+pub invariant_of-self : goal.invariant_of-self
+invariant_of-self c =
+    let inside = c.self.inside in
+    let inv = c.self.invariant in
+    let old : Sampling = record { telling = inside.telling; others = inside.others; badrows = inside.badrows } in
+    let new : Sampling = record { telling = c.take.new.telling; others = c.take.new.others; badrows = inside.badrows } in
+    let same = takes_same c.fill_table.new.table c.args.row old new (c.take.ensures.takes inside.badrows) in
     let value = ap (λ (l : List ℕ). length l) c.as_mut_slice.ensures.value in
-    let same : length c.copy_row.new.to ≡ length c.self.inside.sectors.items = c.copy_row.auto.to ∙ value in
+    let copied : length c.copy_row.new.to ≡ length inside.sectors.items = c.copy_row.auto.to ∙ value in
+    let whole = written_whole inside.sectors.len inside.sectors.items c.copy_row.new.to copied (omega (arith, c.as_mut_slice.ensures.len, value)) in (
+      c.fill_table.ensures.table.standings ∙ inv.0 ∙ sym same.telling_images,
+      same.others_images ∙ inv.1 ∙ sym same.telling_images,
+      ap (λ (l : List ℕ). length l) (sym whole) ∙ copied ∙ inv.2 ∙ ap (λ (n : ℕ). 512 * n) (sym same.telling_images),
+      subst (λ (n : ℕ). 0 < n) (sym same.telling_part) inv.3,
+      subst (λ (n : ℕ). n < 36028797018963968) (sym same.telling_part) inv.4,
+      subst (λ (n : ℕ). 0 < n) (sym same.others_part) inv.5,
+      subst (λ (n : ℕ). n < 36028797018963968) (sym same.others_part) inv.6,
+    )
+
+pub returns : goal.returns
+returns c =
+    let inside = c.self.inside in
+    let inv = c.self.invariant in
+    let new : Sampling = record { telling = c.take.new.telling; others = c.take.new.others; badrows = inside.badrows } in
+    let value = ap (λ (l : List ℕ). length l) c.as_mut_slice.ensures.value in
+    let copied : length c.copy_row.new.to ≡ length inside.sectors.items = c.copy_row.auto.to ∙ value in
     let whole : c.deref.result.now ≡ c.copy_row.new.to
-    = c.deref.ensures.value ∙ sym (written_whole c.self.inside.sectors.len c.self.inside.sectors.items c.copy_row.new.to same (omega (arith, c.as_mut_slice.ensures.len, value))) in
-    let copied : AreCopied c.args.regions.now c.args.place c.args.self.now.images c.copy_row.new.to
-    = subst (λ (k : ℕ). AreCopied c.args.regions.now c.args.place k c.copy_row.new.to) n c.copy_row.ensures.sectors in
-    let at : AreSectorsAt images (offset + c.args.row) c.deref.result.now
-    = subst (λ (l : List ℕ). AreSectorsAt images (offset + c.args.row) l) (sym whole)
-    (sectors_at images c.args.self.now.images (offset + c.args.row) c.args.place c.args.regions.now c.copy_row.new.to are.count_is hold copied) in
-    let table : IsTable (length images) c.deref.result.now c.fill_table.new.table
-    = subst (λ (k : ℕ). IsTable k c.deref.result.now c.fill_table.new.table) (sym (are.count_is ∙ count)) c.fill_table.ensures.table in
+    = c.deref.ensures.value ∙ sym (written_whole inside.sectors.len inside.sectors.items c.copy_row.new.to copied (omega (arith, c.as_mut_slice.ensures.len, value))) in
+    let count : c.images-images.result ≡ inside.telling.kept.images = c.images-images.ensures.images ∙ inv.0 in
+    let of : AreSectorsOf c.args.regions.now inside.telling.kept.images c.args.place c.deref.result.now
+    = subst (λ (l : List ℕ). AreSectorsOf c.args.regions.now inside.telling.kept.images c.args.place l) (sym whole)
+    (subst (λ (n : ℕ). AreSectorsOf c.args.regions.now n c.args.place c.copy_row.new.to) count c.copy_row.ensures.sectors) in
+    let is : IsTable inside.telling.kept.images c.deref.result.now c.fill_table.new.table = subst (λ (n : ℕ). IsTable n c.deref.result.now c.fill_table.new.table) inv.0 c.fill_table.ensures.table in
+    let P : Sampling → Type 0 = λ old. OffersTable c.args.regions.now old.telling.kept.images c.args.place c.args.row old new in
     record {
-      count_is = are.count_is;
-      are = c.keep_telling-is_kept.ensures.rows images offset c.deref.result.now (are.count_is ∙ ap (λ (k : KeptRows). k.images) (sym view)) c.fill_table.ensures.bytes at table
-          (subst (λ (k : KeptRows). AreRowsOf images offset k.list) (sym view) are.are);
+      offers = record {
+        unwanted = λ off. absurd (false≢true (sym off ∙ sym c.wants.ensures ∙ c.if-not-wants.false));
+        wanted = λ on. subst P c.self.view_is (record {
+          sectors = c.deref.result.now;
+          table = c.fill_table.new.table;
+          of = of;
+          bytes = c.fill_table.ensures.bytes;
+          is = is;
+          takes = c.take.ensures.takes inside.badrows;
+        });
+      };
     }

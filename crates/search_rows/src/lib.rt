@@ -1,7 +1,7 @@
 //! Tests of the libraries of the search, over objects in memory.
 //!
 //! What each answers was worked out by hand: `products` the sets of a plan by rank, `prefixes` which beginnings of slot
-//! lists may pass, `row_counts` and `many_sets` the rows of sets, `listings` pages, `screens` what columns settle, `surveys` the
+//! lists may pass, `row_counts` and `many_sets` the rows of sets, `listings` pages, `sampled` what rows that are kept refuse, `surveys` the
 //! plans of images.
 //! The tests stand here, since a library with tests is proved a second time with them. Their plans stand in `plans`,
 //! lists and images in `objects`.
@@ -22,7 +22,7 @@ mod products;
 #[cfg(test)]
 mod row_counts;
 #[cfg(test)]
-mod screens;
+mod sampled;
 #[cfg(test)]
 mod surveys;
 #[cfg(test)]

@@ -1,19 +1,19 @@
 -- A chunk is lost just where it has no copy.
-use Rattle.std.proofs.Common.{ℕ, zero, suc, ◌≡◌, ◌+◌, ◌*◌, ◌/◌, ◌<◌, ◌≤◌, IsTrue, min, Bool, true, false, List, [], ◌∷◌, length, slice_get, slice_index_or, refl, sym, ap, ◌∙◌, arith, Option, None, Some}
+use Rattle.std.proofs.Common.{ℕ, zero, suc, ◌≡◌, ◌+◌, ◌<◌, IsTrue, Bool, true, false, List, [], ◌∷◌, length, slice_get, slice_index_or, refl, sym, ap, ◌∙◌, arith, Option, None, Some}
 use Rattle.std.specs.List.{find, range_with_len}
 use Rattle.std.specs.Option.{is_none, is_some}
-use Rattle.std.proofs.lemmas.Nat.{div_below, mod_below, mul-le}
-use Rattle.near_mirror.specs.Copies.{chunks_of, copy_cell, near_chunks, near_rows, slot_of}
+use Rattle.std.proofs.lemmas.Nat.{mod_below}
+use Rattle.near_mirror.specs.Copies.{copy_cell, first_chunks, near_chunks, slot_of}
 use Rattle.near_mirror.specs.Heads.{is_valid_near}
 use Rattle.near_mirror.specs.Volume.{first_bare, held_copy, is_bare, is_held}
 use Rattle.near_mirror.specs.declared.types.Copying.{Copying}
 use Rattle.near_mirror.specs.declared.types.Copying.TheVariants.{Near, Far, Offset}
 use Rattle.near_mirror.specs.declared.types.NearSet.{NearSet}
 use Rattle.near_mirror.proofs.Finds.{clash, found, missed}
-use Rattle.near_mirror.proofs.Heads.{some_copies, some_members}
+use Rattle.near_mirror.proofs.Heads.{some_members}
 use Rattle.near_mirror.proofs.Homes.{first_tell}
 use Rattle.near_tables.proofs.LostChunks.{all_true, not_lost, one_false, some_lost}
-use Rattle.near_tables.specs.Torn.{first_chunks, has_lost, is_gone, is_lost}
+use Rattle.near_tables.specs.Torn.{has_lost, is_gone, is_lost}
 
 none_is : (o : Option ℕ) → is_none o ≡ true → o ≡ None
 none_is None e = refl
@@ -59,32 +59,12 @@ lost_bare set chunk lost = by_case (find (is_held set chunk) (range_with_len 0 s
         (held_there set.slots.items (slot_of set.head.layout.copying set.head.members set.head.layout.copies copy chunk) h.0) in
         absurd (clash (is_lost set chunk) lost bad)
 
--- the chunks of as many rows as there are copies are no more than members
-first_few : (copying : Copying) (members copies rows : ℕ) → 0 < copies → chunks_of copying members copies (min rows copies) ≤ members
-first_few Near members copies rows some =
-    let fits = mul-le (min rows copies) members copies members (omega arith) (omega arith) in
-    let more : (members + 1) * copies ≡ copies * members + copies = grind arith in
-    let below = div_below (min rows copies * members) copies (members + 1) some (omega arith) in
-    omega arith
-first_few Far members copies rows some =
-    let below = div_below (min rows copies) copies 2 some (omega arith) in
-    let fits = mul-le (min rows copies / copies) members 1 members (omega arith) (omega arith) in
-    omega arith
-first_few Offset members copies rows some =
-    let below = div_below (min rows copies) copies 2 some (omega arith) in
-    let fits = mul-le (min rows copies / copies) members 1 members (omega arith) (omega arith) in
-    omega arith
-
 bare_chunk : (set : NearSet) (end chunk : ℕ) → IsTrue (is_valid_near set.head) → first_bare set end ≡ Some chunk → (is_bare set chunk ≡ true) × (chunk < first_chunks set.head end)
 unfolding first_bare
 bare_chunk set end chunk h e =
-    let copies = some_copies set.head h in
-    let here = found (is_bare set) 0 (near_chunks set.head end) chunk e in
-    let front = found (is_bare set) 0 (chunks_of set.head.layout.copying set.head.members set.head.layout.copies (min (near_rows set.head end) set.head.layout.copies)) chunk (first_tell set end h ∙ e) in
-    let few = first_few set.head.layout.copying set.head.members set.head.layout.copies (near_rows set.head end) (omega arith) in
-    let low = here.2 in
+    let front = found (is_bare set) 0 (first_chunks set.head end) chunk (first_tell set end h ∙ e) in
     let high = front.2 in
-    (here.0, omega arith)
+    (front.0, omega arith)
 
 -- where each chunk has a copy, none is lost
 held_none : (set : NearSet) (end : ℕ) → first_bare set end ≡ None → has_lost end set ≡ false

@@ -6,14 +6,14 @@ use Rattle.std.proofs.lemmas.Bool.Decides.{nat_tests}
 use Rattle.std.proofs.lemmas.List.{take_all}
 use Rattle.std.specs.Option.{is_some}
 use Rattle.candidate_enum.specs.Survivors.{all_admitted}
-use Rattle.near_mirror.specs.Copies.{near_chunks}
+use Rattle.near_mirror.specs.Copies.{first_chunks, near_chunks}
 use Rattle.near_mirror.specs.Validity.{rowless_rule, shape_fault, volume_fault}
 use Rattle.near_mirror.specs.Volume.{first_bare}
 use Rattle.near_mirror.specs.declared.types.NearHead.{NearHead}
 use Rattle.near_mirror.specs.declared.types.NearRule.{NearRule}
 use Rattle.near_mirror.specs.declared.types.NearSet.{NearSet}
 use Rattle.near_mirror.proofs.Homes.{shaped_head}
-use Rattle.near_tables.specs.Torn.{first_chunks, has_lost, near_passes, torn, with_slots}
+use Rattle.near_tables.specs.Torn.{has_lost, near_passes, torn, with_slots}
 use Rattle.near_tables.proofs.LostChunks.{all_true, none_lost, one_false}
 use Rattle.near_tables.proofs.Prefixes.{prefixes_less}
 use Rattle.near_search.specs.Laws.{LostChunksHaveNoCopy, PassingMirrorsAreHopeful, PassingMirrorsBreakNoRule}

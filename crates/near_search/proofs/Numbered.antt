@@ -13,8 +13,9 @@ use Rattle.candidate_enum.specs.Left.{overlaps}
 use Rattle.near_mirror.specs.declared.types.Copying.TheVariants.{Near}
 use Rattle.near_mirror.specs.declared.types.NearHead.{NearHead}
 use Rattle.near_tables.specs.Reading.{read_of}
+use Rattle.near_tables.specs.Torn.{with_slots}
 use Rattle.near_search.specs.Asks.{IsNearAsk}
-use Rattle.near_search.specs.Product.{near_heads, near_numbered, near_product, near_sets_of, near_space, near_total, numbered, set_count, set_of}
+use Rattle.near_search.specs.Product.{near_heads, near_numbered, near_product, near_sets_of, near_space, near_total, numbered, set_count}
 use Rattle.near_search.specs.Walk.{IsEdge, IsHeadSets, near_cost, count_at, first_at}
 use Rattle.near_search.specs.declared.ask.NearAsk.{NearAsk}
 use Rattle.near_search.specs.declared.heads.NearSets.{NearSets}
@@ -27,7 +28,7 @@ sets_at images ask first head = record { head = head; space = near_space images 
 
 -- how many sets a head has
 sets_long : (images : ℕ) (ask : NearAsk) (head : NearHead) → length (near_sets_of images ask head) ≡ set_count images ask head
-sets_long images ask head = length-map (set_of head) _ ∙ ap length (sym (lists_fit images ask head))
+sets_long images ask head = length-map (with_slots head) _ ∙ ap length (sym (lists_fit images ask head))
 
 -- they are as many as all heads have
 total_of : (images : ℕ) (ask : NearAsk) (heads : List NearHead) → length (flat_map (near_sets_of images ask) heads) ≡ sum_by (set_count images ask) heads
@@ -78,12 +79,12 @@ first_more images ask (suc place) (h ∷ heads) head e =
 pub record Standing (images : ℕ) (ask : NearAsk) (before : ℕ) (heads : List NearHead) (sets : NearSets) : Type 0 where
   pub at : ℕ
   pub first : sets.first ≡ before + at
-  pub stand : (k : ℕ) (slots : List (Option ℕ)) → slice_get (lists_of sets.space) k ≡ Some slots → slice_get (flat_map (near_sets_of images ask) heads) (at + k) ≡ Some (set_of sets.head slots)
+  pub stand : (k : ℕ) (slots : List (Option ℕ)) → slice_get (lists_of sets.space) k ≡ Some slots → slice_get (flat_map (near_sets_of images ask) heads) (at + k) ≡ Some (with_slots sets.head slots)
   pub within : at + sets.count ≤ length (flat_map (near_sets_of images ask) heads)
 
-one_stands : (images : ℕ) (ask : NearAsk) (head : NearHead) (k : ℕ) (slots : List (Option ℕ)) → slice_get (lists_of (near_space images ask head)) k ≡ Some slots → slice_get (near_sets_of images ask head) k ≡ Some (set_of head slots)
+one_stands : (images : ℕ) (ask : NearAsk) (head : NearHead) (k : ℕ) (slots : List (Option ℕ)) → slice_get (lists_of (near_space images ask head)) k ≡ Some slots → slice_get (near_sets_of images ask head) k ≡ Some (with_slots head slots)
 one_stands images ask head k slots e =
-    get-map (set_of head) _ k ∙ ap (option_map (set_of head)) (ap (λ (l : List (List (Option ℕ))). slice_get l k) (sym (lists_fit images ask head)) ∙ e)
+    get-map (with_slots head) _ k ∙ ap (option_map (with_slots head)) (ap (λ (l : List (List (Option ℕ))). slice_get l k) (sym (lists_fit images ask head)) ∙ e)
 
 standing : (images : ℕ) (ask : NearAsk) (before place : ℕ) (heads : List NearHead) (head : NearHead) → slice_get heads place ≡ Some head →
     Standing images ask before heads (sets_at images ask (before + sum_by (set_count images ask) (take place heads)) head)

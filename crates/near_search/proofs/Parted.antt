@@ -12,14 +12,14 @@ use Rattle.slot_math.proofs.Completions.{all_images, none_unknown}
 use Rattle.slot_math.proofs.Listed.{listed}
 use Rattle.candidate_enum.specs.Survivors.{all_admitted}
 use Rattle.page_loop.specs.Parts.{Added}
-use Rattle.near_mirror.specs.Copies.{near_chunks}
+use Rattle.near_mirror.specs.Copies.{first_chunks, near_chunks}
 use Rattle.near_mirror.specs.Heads.{is_valid_near}
 use Rattle.near_mirror.specs.declared.types.NearHead.{NearHead}
 use Rattle.near_mirror.specs.declared.types.NearSet.{NearSet}
 use Rattle.near_tables.specs.Tables.{TornCounts}
-use Rattle.near_tables.specs.Torn.{first_chunks, has_lost, lost_among, near_passes, torn, with_slots}
+use Rattle.near_tables.specs.Torn.{has_lost, lost_among, near_passes, torn, with_slots}
 use Rattle.near_tables.proofs.Told.{tables_tell}
-use Rattle.near_search.specs.Product.{near_product, passes_at, set_of}
+use Rattle.near_search.specs.Product.{near_product, passes_at}
 use Rattle.near_search.specs.Hopeful.{AdmitsHopeful, IsHeadTable, is_near_admitted, is_near_hopeful, NearAsked}
 use Rattle.near_search.specs.Walk.{Gathers, IsHeadSets, list_passes, passes_told}
 use Rattle.near_search.specs.declared.ask.NearAsk.{NearAsk}
@@ -81,7 +81,7 @@ admits_hopeful bytes many ask head space chunks (Some table) valid first (some, 
 record HasList (many : ℕ) (ask : NearAsk) (sets : NearSets) (rank : ℕ) : Type 0 where
   pub slots : List (Option ℕ)
   pub list : slice_get (lists_of sets.space) (rank - sets.first) ≡ Some slots
-  pub set : slice_get (near_product many ask) rank ≡ Some (set_of sets.head slots)
+  pub set : slice_get (near_product many ask) rank ≡ Some (with_slots sets.head slots)
 
 has_list : (many : ℕ) (ask : NearAsk) (sets : NearSets) (rank : ℕ) → IsHeadSets many ask sets → sets.first ≤ rank → rank < sets.first + sets.count → HasList many ask sets rank
 has_list many ask sets rank head low high =
@@ -109,7 +109,7 @@ pub rowless : (bytes : List (List ℕ)) (many : ℕ) (ask : NearAsk) (sets : Nea
 rowless bytes many ask sets rank head none low high =
     let has = has_list many ask sets rank head low high in
     ap (λ (o : Option NearSet). option_map_or (near_passes bytes ask.end ask.window ask.badrows) o false) has.set
-    ∙ ap (λ (b : Bool). b && (not (has_lost ask.end (set_of sets.head has.slots)) && nat_le (torn bytes ask.end ask.window (set_of sets.head has.slots)) ask.badrows)) (lt-leb 1 (near_chunks sets.head ask.end) (omega arith))
+    ∙ ap (λ (b : Bool). b && (not (has_lost ask.end (with_slots sets.head has.slots)) && nat_le (torn bytes ask.end ask.window (with_slots sets.head has.slots)) ask.badrows)) (lt-leb 1 (near_chunks sets.head ask.end) (omega arith))
 
 -- tests that agree on a range
 same_range : (p q : ℕ → Bool) (a n : ℕ) → ((x : ℕ) → a ≤ x → x < a + n → p x ≡ q x) → filter p (range_with_len a n) ≡ filter q (range_with_len a n)

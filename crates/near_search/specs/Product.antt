@@ -10,7 +10,7 @@ use Rattle.slot_math.specs.declared.space.Space.{Space}
 use Rattle.near_mirror.specs.declared.types.CopyLayout.{CopyLayout}
 use Rattle.near_mirror.specs.declared.types.NearHead.{NearHead}
 use Rattle.near_mirror.specs.declared.types.NearSet.{NearSet}
-use Rattle.near_tables.specs.Torn.{near_passes}
+use Rattle.near_tables.specs.Torn.{near_passes, with_slots}
 use Rattle.near_search.specs.declared.ask.NearAsk.{NearAsk}
 use Rattle.near_search.specs.declared.heads.NearSets.{NearSets}
 
@@ -32,13 +32,9 @@ abbrev pub near_fits : ℕ → NearAsk → NearHead → List (Option ℕ) → Bo
 near_fits images ask head slots =
     nat_le head.layout.copies head.members && (is_distinct slots && (nat_le (empties slots) ask.missing && nat_le (images - (head.members - empties slots)) ask.foreign))
 
--- the set of a head with these slots
-abbrev pub set_of : NearHead → List (Option ℕ) → NearSet
-set_of head slots = record { head = head; slots = record { items = slots } }
-
 -- the parameter sets of a head over `images` images
 abbrev pub near_sets_of : ℕ → NearAsk → NearHead → List NearSet
-near_sets_of images ask head = map (set_of head) (filter (near_fits images ask head) (all_lists images head.members))
+near_sets_of images ask head = map (with_slots head) (filter (near_fits images ask head) (all_lists images head.members))
 
 -- the product: a parameter set's rank is its position here
 unfoldable pub near_product : ℕ → NearAsk → List NearSet

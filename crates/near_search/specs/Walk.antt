@@ -14,7 +14,8 @@ use Rattle.near_mirror.specs.Heads.{is_valid_near}
 use Rattle.near_tables.specs.Reading.{read_of}
 use Rattle.near_tables.specs.declared.torn_table.TableFault.{TableFault}
 use Rattle.near_tables.specs.declared.torn_table.TableFault.TheVariants.{ReadFault, Memory}
-use Rattle.near_search.specs.Product.{near_heads, near_numbered, near_product, near_space, near_total, passes_at, set_count, set_of}
+use Rattle.near_tables.specs.Torn.{with_slots}
+use Rattle.near_search.specs.Product.{near_heads, near_numbered, near_product, near_space, near_total, passes_at, set_count}
 use Rattle.near_search.specs.declared.ask.NearAsk.{NearAsk}
 use Rattle.near_search.specs.declared.heads.NearSets.{NearSets}
 use Rattle.near_search.specs.declared.parts.NearLine.{NearLine}
@@ -29,7 +30,7 @@ pub record IsHeadSets (images : ℕ) (ask : NearAsk) (sets : NearSets) : Type 0 
   pub offset : sets.head.offset < 2 ^ 55
   pub space : sets.space ≡ near_space images ask sets.head
   pub count : sets.count ≡ length (lists_of sets.space)
-  pub stand : (k : ℕ) (slots : List (Option ℕ)) → slice_get (lists_of sets.space) k ≡ Some slots → slice_get (near_product images ask) (sets.first + k) ≡ Some (set_of sets.head slots)
+  pub stand : (k : ℕ) (slots : List (Option ℕ)) → slice_get (lists_of sets.space) k ≡ Some slots → slice_get (near_product images ask) (sets.first + k) ≡ Some (with_slots sets.head slots)
   pub within : sets.first + sets.count ≤ near_total images ask
 
 -- a range of the ranks of a head

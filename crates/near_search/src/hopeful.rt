@@ -11,7 +11,7 @@ ghost use Rattle.near_search.specs.Walk.{EndsWalk};
 use crate::ask::NearAsk;
 use candidate_enum::Family;
 use near_mirror::NearHead;
-use near_tables::{TableFault, TornTable, first_chunks, has_lost, tested_sectors};
+use near_tables::{TableFault, TornTable, has_lost, tested_sectors};
 use outside::Images;
 use raid_params::Slots;
 use slot_math::Space;
@@ -77,7 +77,7 @@ impl NearHopeful {
         Ok(NearHopeful {
             space,
             head: *head,
-            chunks: first_chunks(head, ask.end),
+            chunks: head.first_chunks(ask.end),
             table,
             most: ask.badrows,
         })

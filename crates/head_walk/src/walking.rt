@@ -8,9 +8,7 @@ ghost use Rattle.head_walk.specs.Walk.{AdmitsHopeful, CanPage, Gathers, has_entr
 use crate::gathering::{Gathered, gather_admitted};
 use crate::hopeful::Hopeful;
 use crate::parts::{Paging, WalkFault};
-use crate::row_tables::{
-    KeptTables, entry_at, is_kept, keep_needed, rows_for, table_for,
-};
+use crate::row_tables::{KeptTables, entry_at, is_kept, keep_needed, rows_for, table_for};
 use address_map::rows;
 use candidate_enum::Survivors;
 use outside::{Images, Memory};

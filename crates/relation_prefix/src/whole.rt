@@ -65,12 +65,7 @@ fn has_weight(ties: &RowTies, values: &[u8; MOST_TIES], image: usize, weight: u8
 
 /// Whether each image in a slot has the weight of its slot.
 #[inline]
-fn slots_fit(
-    ties: &RowTies,
-    values: &[u8; MOST_TIES],
-    weights: &[u8],
-    slots: &[Option<u8>],
-) -> bool
+fn slots_fit(ties: &RowTies, values: &[u8; MOST_TIES], weights: &[u8], slots: &[Option<u8>]) -> bool
     requires ties { FitTies ties.now }
     requires weights { length slots.now ≤ length weights.now }
     requires slots { AreThere ties.now.images slots.now }

@@ -63,9 +63,16 @@ pub fn read_rows<I: Images>(
     )?;
     let mut regions = Regions::new(alloc, count, 1).map_err(|_| SampleFault::Memory)?;
     let tries = (TRIES * most_kept(badrows) as u64).min(rows);
-    fill(&mut sampler, images, &mut regions, scope, rows, tries, offset).map_err(
-        |_| SampleFault::ReadFault,
-    )?;
+    fill(
+        &mut sampler,
+        images,
+        &mut regions,
+        scope,
+        rows,
+        tries,
+        offset,
+    )
+    .map_err(|_| SampleFault::ReadFault)?;
     Ok(sampler.finish())
 }
 

@@ -76,12 +76,7 @@ fn take(telling: &mut Spread, others: &mut Spread, row: u64, table: &RowTable)
 impl RowSampler {
     /// Room for rows of so many images, of the first `rows` rows of an offset, of which so many may be unsound. None is kept yet. All
     /// memory is taken here.
-    pub fn new(
-        alloc: Global,
-        images: usize,
-        rows: u64,
-        badrows: u64,
-    ) -> Result<RowSampler, Memory>
+    pub fn new(alloc: Global, images: usize, rows: u64, badrows: u64) -> Result<RowSampler, Memory>
         requires images { images ≤ MOST }
         requires rows { rows < 2 ^ 55 }
         ensures { IfOk result (λ sampler. sampler ≡ first_sampling images rows badrows) }

@@ -35,7 +35,12 @@ fn next_wanted(row: u64, part: u64) -> u64
 impl Spread {
     /// Room for at most `most` rows of so many images, of the first `rows` rows of an offset. None is kept yet. All memory is taken
     /// here.
-    pub(crate) fn new(alloc: Global, images: usize, rows: u64, most: usize) -> Result<Spread, Memory>
+    pub(crate) fn new(
+        alloc: Global,
+        images: usize,
+        rows: u64,
+        most: usize,
+    ) -> Result<Spread, Memory>
         ensures { IfOk result (λ spread. spread ≡ first_spread images rows most) }
     {
         let kept = SampledRows::with_room(alloc, images, most)?;

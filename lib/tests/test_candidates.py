@@ -723,44 +723,6 @@ class Printed(unittest.TestCase):
         self.assertNotIn("unread", self.shown(candidate(verdict=whole())).text)
 
 
-class Table(unittest.TestCase):
-    def test_its_lines(self) -> None:
-        """A head, a line for each candidate, and that none is chosen; where there is none, that."""
-        images = [Image(f"i{number}", number, 8000) for number in range(3)]
-        for as_json in (False, True):
-            report = Told(as_json)
-            table.show(report, [candidate(verdict=whole())], images)
-            events = [it["event"] for it in report.record.events]
-            self.assertEqual(events[:4 - as_json], ["head", "candidate", "end", "words"][as_json:])
-            self.assertEqual(report.record.last("end")["text"], table.LAST)
-            if not as_json:
-                self.assertEqual(report.lines[0].split(), ["class", "set", "loosened", "fits", "volume"])
-                self.assertEqual(report.lines[1].split()[:5], ["++", "0", SET, "nothing", "-"])
-        none = Told()
-        table.show(none, [], images)
-        self.assertEqual(none.lines, ["no candidates"])
-
-
-class Faulty(unittest.TestCase):
-    def test_how_many_are_printed(self) -> None:
-        """As many as 24 of which something is known, and of more those with a score alone, where there are such; what is left out is said."""
-        def told(known: int, scored: int = 0, others: int = 0) -> tuple[int, list[str]]:
-            broken = whole(False, 0)
-            found = [candidate(verdict=whole())] * scored + [candidate(verdict=broken)] * (known - scored) + [candidate()] * others
-            shown, said = table.shown(False, found)
-            return len(shown), said
-        nothing, fault = "nothing is known in the volume", "a checker found fault (--json has them all)"
-        self.assertEqual(told(24), (24, []))
-        self.assertEqual(told(25), (24, [f"1 more: {fault}"]))
-        self.assertEqual(told(25, 2, 3), (2, [f"23 more: {fault}", f"3 more: {nothing}"]))
-        self.assertEqual(told(25, 25), (25, []))
-        self.assertEqual(told(2, 2, 1), (2, [f"1 more: {nothing}"]))
-
-    def test_those_with_the_longest_whole_file_first(self) -> None:
-        many, long = (candidate(verdict=Verdict([], Wholes(9, count, longest))) for count, longest in ((9, 5), (1, 10)))
-        self.assertEqual(sorted([(0, many), (1, long), (2, many)], key=table.soundness), [(1, long), (0, many), (2, many)])
-
-
 class Left(unittest.TestCase):
     def test_only_of_what_takes_long_and_is_not_done(self) -> None:
         bar = report.Bar()

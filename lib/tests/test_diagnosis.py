@@ -10,7 +10,7 @@ from reraid_try.calls.commands import Answer
 from reraid_try.calls.formats import Checked, Held
 from reraid_try.calls.plans import Plan
 from reraid_try.calls.surveys import Request
-from reraid_try.checks.rows import Near
+from reraid_try.checks.rows import Near, Turned
 from reraid_try.evidence.images import Image
 from reraid_try.policy import cures
 from reraid_try.policy.shapes import Shape, Tiers
@@ -50,13 +50,14 @@ class Nearest(unittest.TestCase):
         self.assertEqual([found.least(plan_of(XFS), below) for below in (0, 1, 2)], [None, 0, 0])
         self.assertEqual([found.fewest(plan_of(XFS), most) for most in (-1, 0)], [None, 0])
 
-    def of_hunt(self, listed: Reply, *shapes: Shape, groups: bool = True, unsound: bool = True) -> tuple[Diagnosis, Standin, Told]:
-        """A diagnosis of a hunt over these shapes, which may have landmarks, of which `reraid` lists this and says 5 unsound rows of 1,000."""
-        hunt, report = hunt_of(("reraid list", listed), ("reraid check", put("unsound 5 of 1000\nfail\n"))), Told()
+    def of_hunt(self, listed: Reply, *shapes: Shape, groups: bool = True, unsound: bool = True,
+                check: Reply = lambda *_: put("unsound 5 of 1000\nfail\n")) -> tuple[Diagnosis, Standin, Told]:
+        """A diagnosis of a hunt over these shapes, which may have landmarks, of which `reraid` lists this, and mostly says 5 unsound rows of 1000."""
+        hunt, report = hunt_of(("reraid list", listed), ("reraid check", check)), Told()
         plan = plan_of(XFS, EXT) if groups else plan_of()
 
         def made(request: Request) -> Plan:
-            return plan.without(request.out).having(misfits=request.number("misfits"))
+            return plan.without(request.out).having(misfits=request.number("misfits"), window=request.number("window", 100000))
         told = types.SimpleNamespace(tiers=lambda: Tiers(shapes), speak_for=lambda shape: shape.members == 3)
         asking = types.SimpleNamespace(request=lambda _: BASE, cures=lambda _: [cures.half_window(plan), cures.misfits()])
         for name, value in (("surveys", types.SimpleNamespace(plan=made)), ("asking", asking), ("plan", plan), ("shapes", told),
@@ -81,19 +82,30 @@ class Nearest(unittest.TestCase):
         """Of another shape no set is taken with more than twice as many unsound rows as one that is near."""
         def listed(_: list[str], text: str) -> Answer:
             most, six = int(text.split("badrows ")[1].split()[0]), "levels 6\n" in text
-            word, rows = ("6:ls:after-q:8:0:0,1,2,3", 11) if six else (SET, 5)
+            word, rows = ("6:ls:after-q:8:0:0,1,2,3", of_six) if six else (SET, 5)
             return put((f"1 {word}\n" if most >= rows else "") + "next 9 of 9\n")
-        found, _, _ = self.of_hunt(listed, Shape("5", 3), Shape("6", 4))
-        self.assertEqual([near.word for near in found.by_rows(found.shapes())], [SET])
+
+        def check(words: list[str], _: str) -> Answer:
+            return put(f"unsound {of_six if 'set=6' in words[2] else 5} of 1000\nfail\n")
+        for of_six, count in ((10, 2), (11, 1)):
+            found, _, _ = self.of_hunt(listed, Shape("5", 3), Shape("6", 4), check=check)
+            self.assertEqual(len(found.by_rows(found.shapes())), count)
+
+    def test_what_is_not_answered(self) -> None:
+        """A set of which `check` says nothing is none of the nearest."""
+        found, _, _ = self.of_hunt(with_five, Shape("5", 3), check=lambda *_: Answer(9))
+        self.assertEqual(found.asked([Near(SET, plan_of(XFS))]), [])
 
     def test_by_marks(self) -> None:
         """Each group by itself, the largest first, with the fewest misfits; nothing where parity allows no set."""
         def listed(_: list[str], text: str) -> Answer:
             groups, misfits = text.count("group "), int(text.split("misfits ")[1].split()[0])
-            return put((f"1 {SET}\n" if not groups or groups == 1 and misfits >= text.count("mark ") - 1 else "") + "next 9 of 9\n")
+            holds = "group xfs" in text and misfits >= 1
+            return put((f"1 {SET}\n" if not groups or groups == 1 and holds else "") + "next 9 of 9\n")
         found, standin, _ = self.of_hunt(listed, Shape("5", 3))
         near, = found.by_marks()
         self.assertEqual((near.word, near.misfits), (SET, 1))
+        self.assertFalse(any("misfits None" in text for _, text in standin.asked))
         self.assertEqual([text.split("group ")[1].split()[0] for _, text in standin.asked if "group " in text][:1], ["xfs"])
         found, standin, _ = self.of_hunt(lambda *_: put("next 9 of 9\n"), Shape("5", 3))
         self.assertEqual((found.by_marks(), standin.count("reraid list")), ([], 1))
@@ -116,8 +128,19 @@ class Nearest(unittest.TestCase):
         found, _, report = self.of_hunt(with_five, Shape("5", 3))
         found.show(False)
         heads = [line for line in report.lines if line.startswith("diagnosis: ")]
-        self.assertEqual(heads, ["diagnosis: of the sets that landmarks allow these have the fewest unsound rows",
-                                 "diagnosis: of the sets that parity allows these have the most groups and marks that fit"])
+        both = ["diagnosis: of the sets that landmarks allow these have the fewest unsound rows",
+                "diagnosis: of the sets that parity allows these have the most groups and marks that fit"]
+        self.assertEqual((heads, [line.split(":")[0] for line in report.lines if line not in heads]), (both, ["  5", "  5"]))
+
+        def by_rows(words: list[str], text: str) -> Answer:
+            return with_five(words, text) if text.count("group ") == 2 else put("next 9 of 9\n")
+
+        def by_marks(words: list[str], text: str) -> Answer:
+            return put("next 9 of 9\n") if text.count("group ") == 2 else with_five(words, text)
+        for listed, wanted in ((by_rows, both[:1]), (by_marks, both[1:])):
+            found, _, report = self.of_hunt(listed, Shape("5", 3))
+            found.show(False)
+            self.assertEqual([line for line in report.lines if line.startswith("diagnosis: ")], wanted)
         for shape, late, said in ((Shape("0", 3), True, "none by parity, of which what was searched has none"),
                                   (Shape("5", 3), True, "no set is known to be near, as not all was looked at (--time gives more)"),
                                   (Shape("5", 3), False, "no set is near: landmarks and parity each allow none")):
@@ -158,6 +181,16 @@ class Nearest(unittest.TestCase):
         found.lines([near])
         self.assertEqual((near.word, cast(OfPlan, hunt).standin.asked), (SET, []))
         return report.lines
+
+    def test_where_marks_turn(self) -> None:
+        """A line says besides up to which row marks fit, where that is so."""
+        found, _, report = self.of_hunt(with_five, Shape("5", 3))
+        near = Near(SET, plan_of(XFS), Checked(0, 1000, (Held("xfs", 0, 3, 0),)))
+        with mock.patch.object(found.rows, "turned", side_effect=[Turned(640, 4, 5), None]):
+            found.lines([near, near])
+        self.assertEqual([line.partition("; 4 marks fit before row 640, and from there on 5 do not")[1] != "" for line in report.lines],
+                         [True, False])
+        self.assertEqual([it["reshaped"] for it in report.record.of("near")], [640, None])
 
     def test_numbers_of_images(self) -> None:
         """Where a hunt has some of the images, a set is printed with the numbers that they have among all."""

@@ -17,6 +17,7 @@ from reraid_try.evidence.heads import Head
 from reraid_try.evidence.images import Image
 from reraid_try.evidence.maps import Map
 from reraid_try.evidence.metadata import Member
+from reraid_try.evidence.relations import Relations
 from reraid_try.evidence.shared import Place
 from reraid_try.evidence.shifts import Shift
 from reraid_try.evidence.tables import Partition, Table
@@ -100,7 +101,7 @@ class Zeros(Evident):
 class Attempts(unittest.TestCase):
     """In which order the shapes of an aim are tried."""
 
-    def order(self, shape: Shape, groups: bool, *found: Any, late: bool = False) -> list[str]:
+    def order(self, shape: Shape, groups: bool, *found: Any, late: bool = False, tied: bool = True) -> list[str]:
         """What is asked of a shape, with marks or without, where each listing gives these candidates, or runs out of its time."""
         asked: list[str] = []
         tested: list[Any] = []
@@ -122,7 +123,7 @@ class Attempts(unittest.TestCase):
         it.order = asked
         hunt = types.SimpleNamespace(plan=types.SimpleNamespace(groups=["a group"] if groups else []), program=types.SimpleNamespace(seconds=0),
                                      cut_short=set(), ask_again=lambda: asked.append("again"))
-        it.attempt(cast(Any, hunt), Aim((0, 1, 2), Span(0, 9), "why", (shape,), tied=True), 0)
+        it.attempt(cast(Any, hunt), Aim((0, 1, 2), Span(0, 9), "why", (shape,), tied=tied), 0)
         return asked
 
     def test_marks_and_parity(self) -> None:
@@ -130,6 +131,11 @@ class Attempts(unittest.TestCase):
         whole only where that was up and zeros did not help."""
         self.assertEqual((self.order(Shape("6", 6, 1), True), self.times), (["list 0", "zeros", "list 1", "list 2"], [60, 10, 10]))
         self.assertEqual((self.order(Shape("5", 6), True), self.times), (["list 0", "zeros", "list 1", "list 2"], [10, 10, 10]))
+        content: Any = types.SimpleNamespace(score=Score.CHECKED, found=types.SimpleNamespace(encrypted=[]),
+                                             trial=types.SimpleNamespace(shape=types.SimpleNamespace(parity=True)))
+        for late in (False, True):
+            self.assertEqual(self.order(Shape("5", 6), True, content, late=late), ["list 0", "list 1"])
+        self.assertEqual(self.order(Shape("5", 6), True, late=True, tied=False), ["list 0", "zeros", "list 1", "list 2"])
         self.assertEqual((self.order(Shape("5", 6), True, late=True), self.times),
                          (["list 0", "zeros", "again", "list 0", "list 1", "list 2"], [10, 60, 10, 10]))
 
@@ -207,10 +213,10 @@ class Apart(unittest.TestCase):
     images = [Image(name, number, 900, first=8) for number, name in enumerate("abc")]
 
     def unlike(self, known: Sequence[ties.Known], alone: Sequence[int], shown: Sequence[Shift], offsets: Unlike | None = None,
-               options: Options = Options(("a",))) -> list[Aim]:
+               options: Options = Options(("a",)), partition: bool = False) -> list[Aim]:
         """What is tried of three images, of which this is known, with distances between them and the offsets that parity allows."""
-        it, _ = evident(self.images, NoTools({}), options)
-        told, part = ties.Told(tuple(known), tuple(alone), True), Part((0, 1, 2), Span(0, 900))
+        it, self.report = evident(self.images, NoTools({}), options)
+        told, part = ties.Told(tuple(known), tuple(alone), True), Part((0, 1, 2), Span(0, 900, partition))
         with mock.patch("reraid_try.policy.evident.unlike.found_shifts", return_value=list(shown)), \
                 mock.patch("reraid_try.policy.evident.unlike.look", return_value=offsets):
             return it.unlike(it.asked(), told, part)
@@ -226,6 +232,9 @@ class Apart(unittest.TestCase):
         five = ties.Known(Family((0, 1, 2), 500, 8, 900, "5", 1), None, 40)
         aim, = self.unlike((), (0, 1, 2), shown, Unlike((8, 136, 264), five))
         self.assertEqual((aim.moved, aim.apart, aim.begin, aim.shapes), ((8, 136, 264), None, 40, (Shape("5", 3),)))
+        self.assertEqual(self.report.lines, ["the data begin at unlike sectors of the images, at which parity ties them: 8, 136, 264"])
+        aim, = self.unlike((), (0, 1, 2), shown, Unlike((8, 136, 264), five), partition=True)
+        self.assertEqual((aim.moved, aim.apart, self.report.lines), ((), 128, []))
 
     def test_an_image_that_nothing_ties_where_a_disk_is_lost(self) -> None:
         """Its data may begin elsewhere. Where none is lost it is foreign, and where all are tied nothing is looked for."""
@@ -420,6 +429,10 @@ class Sought(unittest.TestCase):
             asked.clear()
             self.assertIsNone(it.places_of(aim))
             self.assertEqual(asked, wanted)
+        setattr(it, "asked", lambda: types.SimpleNamespace(relations=lambda *_: Relations(1, ())))
+        found = it.places_of(dataclasses.replace(five, images=(2, 0)))
+        assert found
+        self.assertEqual((found.images, found.level, found.members), ((2, 0), "5", 3))
         long, _ = evident([Image("a", 0, 1 << 20)] * 2, NoTools({}), Options(("a",)))
         setattr(long, "asked", lambda: types.SimpleNamespace(relations=lambda *words: asked.append(words)))
         long.places_of(Aim((0, 1), Span(0, 1 << 20), "why", (Shape("6", 4, 2),), tied=True))

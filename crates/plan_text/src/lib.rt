@@ -2,8 +2,9 @@
 //!
 //! A plan has one text, and a text is read as a plan exactly where it is that plan's text to its
 //! last byte: a list of lines, each ended by a line feed, with decimal numbers without sign or
-//! leading zero. Any other text is refused at one of its lines. Version 2 of the text is that of plans in which each image
-//! has an offset of its own: their lengths and offsets are below 2^54, and no image is foreign.
+//! leading zero. Any other text is refused at one of its lines. Where each image has an offset of its own, lengths and offsets
+//! are below 2^54, and no image is foreign. Version 3 of the text is that of plans in which a group has bounds of its own, and
+//! says on a line whether each image has an offset of its own; of all others version 2 is that of plans in which each has.
 //!
 //! [`read_plan`] goes through the text once, a line at a time, and [`write_plan`] is its other direction. What the
 //! lines are made of, numbers, names, lists and the words of parameter sets, is `value_text`'s matter, and the lines of

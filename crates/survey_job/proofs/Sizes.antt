@@ -1,5 +1,5 @@
 -- How long the text of a plan is at most.
-use Rattle.std.proofs.Common.{◌≡◌, ℕ, zero, suc, ◌+◌, ◌*◌, ◌^◌, ◌<◌, ◌≤◌, List, [], ◌∷◌, ◌++◌, Bool, true, false, cond, length, map, codes, decimal, refl, ap, ◌∙◌, arith, All, IsSomeAnd, slice_get, lit≤, lit<}
+use Rattle.std.proofs.Common.{◌≡◌, ℕ, zero, suc, ◌+◌, ◌*◌, ◌^◌, ◌<◌, ◌≤◌, List, [], ◌∷◌, ◌++◌, Bool, true, false, cond, length, map, codes, decimal, refl, ap, ◌∙◌, arith, All, IfSome, IsSomeAnd, Option, None, Some, slice_get, lit≤, lit<}
 use Rattle.std.specs.Prelude.{count_by, ◌==◌}
 use Rattle.std.specs.List.{flat_map, join_with_byte}
 use Rattle.std.proofs.lemmas.Fmt.{length-decimal-le}
@@ -19,10 +19,11 @@ use Rattle.mark_kinds.specs.declared.groups.GroupKind.TheVariants.{Gpt as GptGro
 use Rattle.mark_kinds.specs.declared.sectors.Kind.{Kind}
 use Rattle.mark_kinds.specs.declared.sectors.Kind.TheVariants.{Gpt, Boot, FileRecord, Super, Agf, Agi, Btrfs, Lvm, Ext, Xfs5}
 use Rattle.mark_kinds.proofs.Counts.{few_in_all}
-use Rattle.landmark_rules.specs.Groups.{group_place, marks_in, AreGroups, IsMark}
+use Rattle.landmark_rules.specs.Groups.{group_place, marks_in, AreGroups, AreMarkBounds, IsMark}
 use Rattle.landmark_rules.specs.Rules.{IsRule}
 use Rattle.landmark_rules.specs.declared.marks.Group.{Group}
 use Rattle.landmark_rules.specs.declared.marks.Mark.{Mark}
+use Rattle.landmark_rules.specs.declared.marks.MarkBounds.{MarkBounds}
 use Rattle.landmark_rules.specs.declared.marks.MarkTests.{MarkTests}
 use Rattle.landmark_rules.specs.declared.marks.Rule.{Rule}
 use Rattle.landmark_rules.specs.declared.marks.Rule.TheVariants.{At, Either, Every}
@@ -31,7 +32,7 @@ use Rattle.search_scope.specs.declared.scope.Limits.{Limits}
 use Rattle.value_text.specs.Spelling.{level_name, pattern_name, syndrome_name, commas, named, line}
 use Rattle.landmark_text.specs.Names.{group_name, kind_name}
 use Rattle.value_text.proofs.Fits.{chunks_are_short, chunks_fit, levels_fit, members_fit, patterns_fit, syndromes_fit}
-use Rattle.plan_text.specs.PlanText.{group_lines, groups_lines, image_lines, mark_line, rule_text, search_lines, version_line, version_number}
+use Rattle.plan_text.specs.PlanText.{bounds_line, bounds_lines, group_lines, groups_lines, image_lines, mark_line, mode_line, mode_lines, rule_text, search_lines, some_bounds, version_lines, version_number}
 use Rattle.survey_job.specs.Laws.{NoPlanIsTooLong}
 
 -- ---- numbers and names
@@ -291,25 +292,43 @@ marks_short lengths kind (mark ∷ marks) all are =
 abbrev HasMarks : List ℕ → Group → Type 0
 HasMarks lengths group = All (IsMark lengths group.kind) group.marks
 
-group_size : (lengths : List ℕ) (group : Group) → All (λ n. n < 2 ^ 55) lengths → HasMarks lengths group → size (group_lines group) ≤ 20 + length group.marks * 93
-group_size lengths group all are =
+abbrev HasBounds : Group → Type 0
+HasBounds group = IfSome group.bounds AreMarkBounds
+
+bounds_size : (bounds : Option MarkBounds) → IfSome bounds AreMarkBounds → size (bounds_lines bounds) ≤ 43
+bounds_size None are = omega (arith, size_none)
+bounds_size (Some bounds) are =
     omega (
       arith,
-      size_cons (named (codes "group") (group_name group.kind)) (map mark_line group.marks),
+      size_cons (bounds_line bounds) [],
+      size_none,
+      length-append (codes "bounds") (32 ∷ (decimal bounds.misfits ++ 32 ∷ decimal bounds.least)),
+      length-append (decimal bounds.misfits) (32 ∷ decimal bounds.least),
+      sectors_short bounds.misfits are.misfits,
+      sectors_short bounds.least are.least,
+    )
+
+group_size : (lengths : List ℕ) (group : Group) → All (λ n. n < 2 ^ 55) lengths → HasMarks lengths group → HasBounds group → size (group_lines group) ≤ 63 + length group.marks * 93
+group_size lengths group all are bound =
+    omega (
+      arith,
+      size_cons (named (codes "group") (group_name group.kind)) (bounds_lines group.bounds ++ map mark_line group.marks),
+      size_append (bounds_lines group.bounds) (map mark_line group.marks),
       length-append (codes "group") (32 ∷ group_name group.kind),
       group_short group.kind,
+      bounds_size group.bounds bound,
       marks_short lengths group.kind group.marks all are,
     )
 
-groups_size : (lengths : List ℕ) (groups : List Group) → All (λ n. n < 2 ^ 55) lengths → All (HasMarks lengths) groups → size (flat_map group_lines groups) ≤ length groups * 20 + length (marks_in groups) * 93
-groups_size lengths [] all are = omega (arith, size_none)
-groups_size lengths (group ∷ groups) all are =
+groups_size : (lengths : List ℕ) (groups : List Group) → All (λ n. n < 2 ^ 55) lengths → All (HasMarks lengths) groups → All HasBounds groups → size (flat_map group_lines groups) ≤ length groups * 63 + length (marks_in groups) * 93
+groups_size lengths [] all are bound = omega (arith, size_none)
+groups_size lengths (group ∷ groups) all are bound =
     omega (
       arith,
       size_append (group_lines group) (flat_map group_lines groups),
       length-append group.marks (marks_in groups),
-      group_size lengths group all (All-head (HasMarks lengths) group groups are),
-      groups_size lengths groups all (All-tail (HasMarks lengths) group groups are),
+      group_size lengths group all (All-head (HasMarks lengths) group groups are) (All-head HasBounds group groups bound),
+      groups_size lengths groups all (All-tail (HasMarks lengths) group groups are) (All-tail HasBounds group groups bound),
     )
 
 abbrev is_at : ℕ → Group → Bool
@@ -350,26 +369,42 @@ few_groups lengths groups are =
 few_marks : (lengths : List ℕ) (groups : List Group) → AreGroups lengths groups → length (marks_in groups) ≤ 10 * 4096
 few_marks lengths groups are = few_in_all (λ (mark : Mark). mark.kind) 4096 (marks_in groups) are.few_marks
 
-groups_short : (lengths : List ℕ) (groups : List Group) → All (λ n. n < 2 ^ 55) lengths → AreGroups lengths groups → size (groups_lines groups) ≤ 224 * 20 + 10 * 4096 * 93 + 5
+groups_short : (lengths : List ℕ) (groups : List Group) → All (λ n. n < 2 ^ 55) lengths → AreGroups lengths groups → size (groups_lines groups) ≤ 192 * 63 + 9 * 4096 * 93 + 5
 groups_short lengths groups all are =
     omega (
       arith,
       size_append (flat_map group_lines groups) (codes "done" ∷ []),
       size_cons (codes "done") [],
       size_none,
-      groups_size lengths groups all are.marks,
+      groups_size lengths groups all are.marks are.bounds,
       few_groups lengths groups are,
       few_marks lengths groups are,
     )
 
 -- ---- the plan
 
-version_small : (each : Bool) → version_number each < 2 ^ 64
-version_small true = lit< tt
-version_small false = lit< tt
+version_small : (each own : Bool) → version_number each own < 2 ^ 64
+version_small each true = lit< tt
+version_small true false = lit< tt
+version_small false false = lit< tt
 
-version_short : (each : Bool) → length (version_line each) ≤ 40
-version_short each = omega (arith, length-append (codes "reraid-plan") (32 ∷ decimal (version_number each)), short_number (version_number each) (version_small each))
+mode_short : (each : Bool) → length (mode_line each) ≤ 11
+mode_short true = lit≤ tt
+mode_short false = lit≤ tt
+
+mode_size : (each own : Bool) → size (mode_lines each own) ≤ 12
+mode_size each true = omega (arith, size_cons (mode_line each) [], size_none, mode_short each)
+mode_size each false = omega (arith, size_none)
+
+version_size : (each own : Bool) → size (version_lines each own) ≤ 53
+version_size each own =
+    omega (
+      arith,
+      size_cons (named (codes "reraid-plan") (decimal (version_number each own))) (mode_lines each own),
+      length-append (codes "reraid-plan") (32 ∷ decimal (version_number each own)),
+      short_number (version_number each own) (version_small each own),
+      mode_size each own,
+    )
 
 end_near : (lengths : List ℕ) (end : ℕ) → AreLengths lengths → All (λ n. end ≤ n) lengths → end < 2 ^ 55
 end_near [] end are all = let some = are.some in absurd (omega arith)
@@ -383,10 +418,10 @@ no_plan_is_too_long plan is =
     let groups = groups_lines plan.groups in
     omega (
       arith,
-      size_cons (version_line plan.each) (images ++ (search ++ groups)),
+      size_append (version_lines plan.each (some_bounds plan.groups)) (images ++ (search ++ groups)),
       size_append images (search ++ groups),
       size_append search groups,
-      version_short plan.each,
+      version_size plan.each (some_bounds plan.groups),
       images_short plan.lengths.items is.lengths,
       search_short plan.end plan.bounds plan.limits plan.tests (end_near plan.lengths.items plan.end is.lengths is.ends) is.bounds is.limits is.tests,
       groups_short plan.lengths.items plan.groups is.lengths.short is.groups,

@@ -9,9 +9,11 @@ use std::test::Fail;
 use std::thread::Threads;
 
 /// Other texts for a line of the first plan, and the line that is refused with it, or 0.
-static LINES: [(usize, &str, u64); 107] = [
+static LINES: [(usize, &str, u64); 109] = [
     (1, "reraid-plan 2", 0),
-    (1, "reraid-plan 3", 1),
+    (1, "reraid-plan 3", 2),
+    (1, "reraid-plan 3\nmode common", 21),
+    (1, "reraid-plan 4", 1),
     (1, "reraid-plan 1\r", 1),
     (2, "images 0", 2),
     (2, "images 25", 2),

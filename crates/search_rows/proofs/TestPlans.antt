@@ -8,7 +8,7 @@ use Rattle.std.specs.List.Sorted.{IsStrictlyIncreasing}
 use Rattle.std.proofs.lemmas.Bool.{and_parts, false≢true, leb-true, ltb-true}
 use Rattle.std.proofs.lemmas.List.Elements.{All-cons, All-nil}
 use Rattle.std.proofs.lemmas.List.Sorted.{IsNonDecreasingBy-short}
-use Rattle.landmark_rules.specs.Groups.{AreGroups, IsMark, group_place, kind_place, mark_place, marks_in, most_groups}
+use Rattle.landmark_rules.specs.Groups.{AreGroups, AreMarkBounds, IsMark, group_place, kind_place, mark_place, marks_in, most_groups}
 use Rattle.landmark_rules.specs.declared.marks.Group.{Group}
 use Rattle.mark_kinds.specs.declared.groups.GroupKind.{GroupKind}
 use Rattle.mark_kinds.specs.declared.groups.GroupKind.TheVariants.{Gpt as GptGroup, Ntfs, Xfs, Btrfs, Lvm, Ext, Xfs5}
@@ -16,7 +16,7 @@ use Rattle.mark_kinds.specs.declared.sectors.Kind.{Kind}
 use Rattle.mark_kinds.specs.declared.sectors.Kind.TheVariants.{Gpt, Boot, FileRecord, Super, Agf, Agi, Btrfs as BtrfsMark, Lvm as LvmMark, Ext as ExtMark, Xfs5 as Xfs5Mark}
 use Rattle.landmark_rules.specs.declared.marks.Mark.{Mark}
 use Rattle.landmark_rules.specs.declared.marks.Rule.TheVariants.{At}
-use Rattle.std.specs.Prelude.{◌==◌, IsSomeAnd, count_by}
+use Rattle.std.specs.Prelude.{◌==◌, IfSome, IsSomeAnd, count_by}
 use Rattle.landmark_rules.specs.declared.limits.TheConstants.{MOST_MARKS, MOST_ORIGINS}
 use Rattle.raid_params.specs.declared.limits.TheConstants.{MOST, MOST_MISSING, MOST_OFFSETS}
 use Rattle.raid_params.specs.declared.types.Level.{Level}
@@ -103,6 +103,7 @@ no_groups lengths = record {
   few = λ kind. omega arith;
   marks = All-nil (λ group. All (IsMark lengths group.kind) group.marks);
   rising = All-nil (λ group. IsStrictlyIncreasing (map mark_place group.marks));
+  bounds = All-nil (λ group. IfSome group.bounds AreMarkBounds);
   few_marks = λ kind. omega arith;
 }
 
@@ -206,7 +207,7 @@ abbrev pub a_header : ℕ → Mark
 a_header image = record { kind = Gpt; image = image; sector = 0; rule = At 1 }
 
 abbrev pub headers : List Group
-headers = record { kind = GptGroup; marks = a_header 1 ∷ a_header 2 ∷ [] } ∷ []
+headers = record { kind = GptGroup; marks = a_header 1 ∷ a_header 2 ∷ []; bounds = None } ∷ []
 
 header_is : (lengths : List ℕ) (image : ℕ) → image < MOST → IsSomeAnd (slice_get lengths image) (λ n. 0 < n) → IsMark lengths GptGroup (a_header image)
 header_is lengths image few there = record { kind_of = refl; image = few; sector = there; rule = omega arith }
@@ -215,12 +216,13 @@ pub headers_are : (lengths : List ℕ) → IsSomeAnd (slice_get lengths 1) (λ n
 headers_are lengths second third = record {
   order = IsNonDecreasingBy-short (λ x. x) (map (λ (group : Group). group_place group.kind) headers) (omega arith);
   few = few;
-  marks = All-cons (λ group. All (IsMark lengths group.kind) group.marks) (record { kind = GptGroup; marks = a_header 1 ∷ a_header 2 ∷ [] }) []
+  marks = All-cons (λ group. All (IsMark lengths group.kind) group.marks) (record { kind = GptGroup; marks = a_header 1 ∷ a_header 2 ∷ []; bounds = None }) []
       (All-cons (IsMark lengths GptGroup) (a_header 1) (a_header 2 ∷ []) (header_is lengths 1 (omega arith) second)
       (All-cons (IsMark lengths GptGroup) (a_header 2) [] (header_is lengths 2 (omega arith) third) (All-nil (IsMark lengths GptGroup))))
       (All-nil (λ group. All (IsMark lengths group.kind) group.marks));
-  rising = All-cons (λ group. IsStrictlyIncreasing (map mark_place group.marks)) (record { kind = GptGroup; marks = a_header 1 ∷ a_header 2 ∷ [] }) []
+  rising = All-cons (λ group. IsStrictlyIncreasing (map mark_place group.marks)) (record { kind = GptGroup; marks = a_header 1 ∷ a_header 2 ∷ []; bounds = None }) []
       (rising (map mark_place (a_header 1 ∷ a_header 2 ∷ [])) refl) (All-nil (λ group. IsStrictlyIncreasing (map mark_place group.marks)));
+  bounds = All-cons (λ group. IfSome group.bounds AreMarkBounds) (record { kind = GptGroup; marks = a_header 1 ∷ a_header 2 ∷ []; bounds = None }) [] tt (All-nil (λ group. IfSome group.bounds AreMarkBounds));
   few_marks = few_marks;
 }
   where

@@ -1,5 +1,7 @@
 //! Plans and sets in which each image has an offset of its own, and the later kinds of groups.
-use plan_text::{PlanFault, read_common_set, read_plan, read_set, set_line, write_plan, write_set};
+use plan_text::{
+    PlanFault, Text, read_common_set, read_plan, read_set, set_line, write_plan, write_set,
+};
 use std::alloc::Global;
 use std::process::Abort;
 use std::test::Fail;
@@ -76,6 +78,26 @@ const APART: &[u8] =
 const LATER_GROUPS: &[u8] =
     b"reraid-plan 1\nimages 1\nlength 18014398509481984\nend 0\nlevels 0\nmembers 2\npatterns plain\nsyndromes none\nchunks 8\noffsets 18014398509481984\norigins 0\nmissing 1\nforeign 1\nbadrows 0\nwindow 1\nmisfits 0\nleast 1\ngroup xfs\ngroup btrfs\nmark btrfs 0 130 at:128\ngroup btrfs\ngroup lvm\nmark lvm 0 3 at:1\ngroup ext\nmark ext 0 5 either:2:4\ndone\n";
 
+/// The lines before the groups of a plan of version 3: 18 of them.
+const THIRD: &[u8] =
+    b"reraid-plan 3\nmode common\nimages 1\nlength 5000\nend 5000\nlevels 0\nmembers 2\npatterns plain\nsyndromes none\nchunks 8\noffsets 0\norigins 0\nmissing 1\nforeign 1\nbadrows 0\nwindow 1\nmisfits 0\nleast 1\n";
+
+/// Groups of which some have bounds of their own.
+const BOUNDED_GROUPS: &[u8] =
+    b"group xfs\nbounds 36028797018963967 0\ngroup btrfs\nmark btrfs 0 130 at:128\ngroup lvm\nbounds 7 2\nmark lvm 0 3 at:1\ndone\n";
+
+/// A plan over three images, each with an offset of its own, and bounds of its table of partitions.
+const BOUNDED_APART: &[u8] =
+    b"reraid-plan 3\nmode each\nimages 3\nlength 3\nlength 3\nlength 3\nend 3\nlevels 5\nmembers 3\npatterns ls\nsyndromes none\nchunks 1\noffsets 0,1\norigins 0\nmissing 0\nforeign 0\nbadrows 0\nwindow 2\nmisfits 0\nleast 1\ngroup gpt\nbounds 0 3\ndone\n";
+
+/// The text of a plan of version 3 with these groups.
+fn with_groups(alloc: Global, groups: &[u8]) -> Result<Text, Fail> {
+    let mut text = Text::new(alloc);
+    text.extend_from_slice(THIRD)?;
+    text.extend_from_slice(groups)?;
+    Ok(text)
+}
+
 /// Compares what is written of a plan that was read.
 fn compare_again<R: Abort>(rt: &R, alloc: Global, text: &[u8], each: bool) -> Result<(), Fail> {
     let plan = read_plan(alloc, text)?;
@@ -86,14 +108,46 @@ fn compare_again<R: Abort>(rt: &R, alloc: Global, text: &[u8], each: bool) -> Re
 }
 
 #[test]
-fn both_versions_are_read_and_written(rt: HostRuntime) -> Result<(), Fail> {
+fn all_versions_are_read_and_written(rt: HostRuntime) -> Result<(), Fail> {
     compare_again(&rt, rt.alloc(), APART, true)?;
-    compare_again(&rt, rt.alloc(), LATER_GROUPS, false)
+    compare_again(&rt, rt.alloc(), LATER_GROUPS, false)?;
+    compare_again(&rt, rt.alloc(), BOUNDED_APART, true)?;
+    let text = with_groups(rt.alloc(), BOUNDED_GROUPS)?;
+    compare_again(&rt, rt.alloc(), text.as_slice(), false)
+}
+
+/// Groups whose last line no plan of version 3 has there, and its number.
+static REFUSED_GROUPS: [(&[u8], u64); 8] = [
+    (b"done\n", 19),
+    (b"bounds 0 1\n", 19),
+    (b"group gpt\ndone\n", 20),
+    (b"group gpt\nbounds 0 36028797018963968\n", 20),
+    (b"group gpt\nbounds 00 1\n", 20),
+    (b"group gpt\nbounds 0\n", 20),
+    (b"group gpt\nbounds 0 1\nbounds 0 1\n", 21),
+    (b"group lvm\nmark lvm 0 3 at:1\nbounds 0 1\n", 21),
+];
+
+#[test]
+fn other_bounds_are_refused_at_their_line(rt: HostRuntime) -> Result<(), Fail> {
+    for (groups, line) in &REFUSED_GROUPS {
+        let text = with_groups(rt.alloc(), groups)?;
+        let fault = read_plan(rt.alloc(), text.as_slice()).err();
+        assert_eq!(rt; fault, Some(PlanFault::Line(*line)));
+    }
+    Ok(())
 }
 
 /// Beginnings of texts whose last line no plan has there, and its number.
-static REFUSED: [(&str, u64); 11] = [
-    ("reraid-plan 3\n", 1),
+static REFUSED: [(&str, u64); 15] = [
+    ("reraid-plan 4\n", 1),
+    ("reraid-plan 3\n", 2),
+    ("reraid-plan 3\nimages 1\n", 2),
+    ("reraid-plan 3\nmode both\n", 2),
+    (
+        "reraid-plan 1\nimages 1\nlength 3\nend 3\nlevels 5\nmembers 3\npatterns ls\nsyndromes none\nchunks 1\noffsets 0\norigins 0\nmissing 0\nforeign 0\nbadrows 0\nwindow 1\nmisfits 0\nleast 1\ngroup gpt\nbounds 0 1\n",
+        19,
+    ),
     ("reraid-plan 02\n", 1),
     ("reraid-plan 2\nimages 1\nlength 18014398509481984\n", 3),
     ("reraid-plan 1\nimages 1\nlength 36028797018963968\n", 3),

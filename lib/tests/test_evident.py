@@ -187,13 +187,13 @@ class ByPlaces(unittest.TestCase):
 
     def test_nothing_that_zeros_allow(self) -> None:
         """Where parity lies may not be known, or no set be near what zeros say: then nothing is tested. What is known is not asked again."""
-        for known, asked, best, calls in ((None, None, [], 1), (None, types.SimpleNamespace(best=lambda _: []), [], 1),
-                                          (types.SimpleNamespace(best=lambda _: []), None, [], 0)):
+        none = types.SimpleNamespace(best=lambda _: [])
+        for known, asked, calls in ((None, None, 1), (None, none, 1), (none, None, 0)):
             hunt = types.SimpleNamespace(places=known, evidence=types.SimpleNamespace(tried=(0,), end=900), ask_places="how")
             it, report = evident([], NoTools({}), Options(("a",)))
             setattr(it, "places_of", ask := mock.Mock(return_value=asked))
             self.assertFalse(it.by_places(cast(Any, hunt), Aim((0, 1, 2), Span(0, 900), "why", (Shape("5", 3),), tied=True)))
-            self.assertEqual((report.lines, ask.call_count, hunt.ask_places), (best, calls, None))
+            self.assertEqual((report.lines, ask.call_count, hunt.ask_places), ([], calls, None))
 
     def test_where_data_may_begin(self) -> None:
         """Not behind a row that is tied; of images that are moved by how much later than the first of them, and not before it."""
@@ -278,9 +278,9 @@ class Enough(unittest.TestCase):
         def candidate(score: Score, parity: bool, encrypted: list[str]) -> Any:
             trial = types.SimpleNamespace(shape=types.SimpleNamespace(parity=parity))
             return types.SimpleNamespace(score=score, trial=trial, found=types.SimpleNamespace(encrypted=encrypted))
-        told = [evident_module.enough(candidate(*it)) for it in (
-            (Score.CHECKED, False, []), (Score.KNOWN, True, ["LUKS"]), (Score.KNOWN, False, ["LUKS"]), (Score.KNOWN, True, []))]
-        self.assertEqual(told, [True, True, False, False])
+        found = [candidate(Score.CHECKED, False, []), candidate(Score.KNOWN, True, ["LUKS"]), candidate(Score.KNOWN, False, ["LUKS"]),
+                 candidate(Score.KNOWN, True, [])]
+        self.assertEqual(list(map(evident_module.enough, found)), [True, True, False, False])
 
 
 class Parts(unittest.TestCase):
@@ -303,7 +303,7 @@ class Parts(unittest.TestCase):
     def test_all_are_tried(self) -> None:
         """Each part is, also behind one of which a candidate says enough."""
         found, _ = evident(self.images, NoTools({}), Options(("a",)))
-        parts, tried = [Part((0, 1), Span(100, 500, True)), Part((0, 1, 2), Span(500, 800, True))], []
+        parts, tried = [Part((0, 1), Span(100, 500, True)), Part((0, 1, 2), Span(500, 800, True))], list[Part]()
 
         def of_part(part: Part) -> bool:
             tried.append(part)

@@ -13,8 +13,8 @@ import unittest
 from collections.abc import Callable
 from unittest import mock
 
-from reraid_try import main, options
-from reraid_try.calls.commands import Runner
+from reraid_try import main, options, resuming
+from reraid_try.calls.commands import Commands, Runner
 from reraid_try.calls.memory import Memory, Remembering
 from reraid_try.checks.verdicts import Score
 from reraid_try.checks.volumes import Room
@@ -133,7 +133,7 @@ class Ends(Runs):
         made["Opener"].return_value.all.return_value = (tuple(self.images), ())
         made["memory"] = mock.Mock(runs=[])
         with mock.patch.multiple(main, **{name: it for name, it in made.items() if name != "memory"}), \
-                mock.patch.object(main.resuming, "begin", return_value=made["memory"]), mock.patch.object(Bar, "end") as made["end"]:
+                mock.patch.object(resuming, "begin", return_value=made["memory"]), mock.patch.object(Bar, "end") as made["end"]:
             status, self.out, _ = self.run_with(*words, happens=raising(error) if error else lambda: None, found=found)
         return status, made
 
@@ -217,7 +217,7 @@ class Ends(Runs):
                 signal.raise_signal(signal.SIGINT)
                 went_on.append(1)
                 raise
-        with mock.patch.object(main.Commands, "stop") as stop:
+        with mock.patch.object(Commands, "stop") as stop:
             status, _, _ = self.run_with(happens=twice)
         self.assertEqual((status, went_on, stop.call_count), (130, [1], 2))
 

@@ -468,8 +468,10 @@ class Hunts(InFolder):
         many = [f"5:ls:none:8:{8 * number}:0,1,2" for number in range(9)]
         for count, known, allowed, asked in ((8, False, 8, 0), (9, False, 1, 1), (2, True, 1, 0), (1, True, 1, 0), (0, True, 0, 0)):
             listed = "".join(f"{number} {text}\n" for number, text in enumerate(many[:count]))
-            hunt, _ = self.hunt(lambda words, _, listed=listed: put("", 6, "reraid: cursor 1 is past 84") if f"from={LAST}" in words
-                                else put(listed + "next 84 of 84\n"))
+
+            def answer(words: list[str], _: str, listed: str = listed) -> Answer:
+                return put("", 6, "reraid: cursor 1 is past 84") if f"from={LAST}" in words else put(listed + "next 84 of 84\n")
+            hunt, _ = self.hunt(answer)
             places = mock.Mock(allowed=lambda words: [it.offset == 0 for it in words])
             hunt.ask_places = ask = mock.Mock(return_value=places)
             hunt.places = places if known else None

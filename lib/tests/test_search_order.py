@@ -179,7 +179,7 @@ class Steps(unittest.TestCase):
 
         def attempt(_hunt: Any, shape: Shape, _chosen: Any, request: Any) -> bool:
             tried.append((shape, request.number("window")))
-            return request.number("window") == 1
+            return bool(request.number("window") == 1)
         it.hunt = cast(Any, types.SimpleNamespace(ways=lambda shape, *_: ways[shape]))
         other = cast(Any, types.SimpleNamespace(ways=lambda *_: [((), BASE.having(window=9))]))
         with mock.patch.object(it, "attempt", attempt):
@@ -266,8 +266,8 @@ class Mirrored(unittest.TestCase):
 
     def test_members(self) -> None:
         """No more than there are images at most, and those that are asked for."""
-        for members, options, wanted in ((24, {}, 1), (25, {}, 0), (4, {"members": (4, 6)}, 1), (5, {"members": (4, 6)}, 0)):
-            it = search(**options)
+        for members, asked, wanted in ((24, None, 1), (25, None, 0), (4, (4, 6), 1), (5, (4, 6), 0)):
+            it = search(members=asked)
             with mock.patch("reraid_try.policy.search.Mirrors") as made, mock.patch.object(it, "take", return_value=False):
                 made.return_value.listing.return_value = Listing((), 0, True)
                 over = types.SimpleNamespace(asking=types.SimpleNamespace(unread_cure=lambda *_: ()))
@@ -322,8 +322,11 @@ class Attempts(unittest.TestCase):
         def take(_hunt: Any, trial: Trial, *_: Any) -> bool:
             taken.append(trial)
             return True
+        def may_list(*_: Any) -> bool:
+            asked.append("may")
+            return may
         asking = types.SimpleNamespace(unread_cure=lambda *_: ())
-        over = types.SimpleNamespace(to_list=lambda *_: plan, may_list=lambda *_: bool(asked.append("may")) or may, listing=listed, asking=asking)
+        over = types.SimpleNamespace(to_list=lambda *_: plan, may_list=may_list, listing=listed, asking=asking)
         with mock.patch.object(it, "take", take):
             told = it.attempt(cast(Any, over), FIVE, (cures.bad_rows(99, (0,)), cures.misfits()), BASE, last, BASE.having(window=7))
         self.printed = said(it)

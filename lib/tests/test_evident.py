@@ -91,18 +91,20 @@ class Zeros(Evident):
     """Evidence that keeps in which order an aim is tried."""
 
     order: list[str]
+    ends = ""
 
     def by_places(self, hunt: Any, aim: Aim) -> bool:
         """What zeros allow is asked."""
         self.order.append("zeros")
-        return False
+        return self.ends == "zeros"
 
 
 class Attempts(unittest.TestCase):
     """In which order the shapes of an aim are tried."""
 
-    def order(self, shape: Shape, groups: bool, *found: Any, late: bool = False, tied: bool = True) -> list[str]:
-        """What is asked of a shape, with marks or without, where each listing gives these candidates, or runs out of its time."""
+    def order(self, shape: Shape, groups: bool, *found: Any, late: bool = False, tied: bool = True, ends: str = "", first: int = 0) -> list[str]:
+        """What is asked of a shape, with marks or without, where each listing gives these candidates from a first one on, or runs out of its time,
+        and one thing may be enough."""
         asked: list[str] = []
         tested: list[Any] = []
         self.times: list[int] = []
@@ -112,15 +114,15 @@ class Attempts(unittest.TestCase):
             asked.append(f"list {it.count}")
             hunt.cut_short |= {"a plan"} if late else set()
             self.times.append(hunt.program.seconds)
-            tested.extend(found)
-            return False
+            tested.extend(found if it.count >= first else ())
+            return asked[-1] == ends
 
         def bare(_hunt: Any, _shape: Shape) -> bool:
             """A listing without landmarks."""
             asked.append("bare")
             return False
         it = Zeros(cast(Any, types.SimpleNamespace(options=Options(("a",)), take_step=step, attempt_bare=bare, tested=tested)))
-        it.order = asked
+        it.order, it.ends = asked, ends
         hunt = types.SimpleNamespace(plan=types.SimpleNamespace(groups=["a group"] if groups else []), program=types.SimpleNamespace(seconds=0),
                                      cut_short=set(), ask_again=lambda: asked.append("again"))
         it.attempt(cast(Any, hunt), Aim((0, 1, 2), Span(0, 9), "why", (shape,), tied=tied), 0)
@@ -138,6 +140,21 @@ class Attempts(unittest.TestCase):
         self.assertEqual(self.order(Shape("5", 6), True, late=True, tied=False), ["list 0", "zeros", "list 1", "list 2"])
         self.assertEqual((self.order(Shape("5", 6), True, late=True), self.times),
                          (["list 0", "zeros", "again", "list 0", "list 1", "list 2"], [10, 60, 10, 10]))
+
+    def test_what_is_enough(self) -> None:
+        """A listing, or what zeros allow, wherever it is asked; what is content once something is loosened."""
+        self.assertEqual(self.order(Shape("5", 6), True, ends="list 0"), ["list 0"])
+        self.assertEqual(self.order(Shape("5", 6), True, ends="zeros"), ["list 0", "zeros"])
+        self.assertEqual(self.order(Shape("5", 6), False, ends="zeros"), ["zeros"])
+        self.assertEqual(self.order(Shape("5", 6), True, ends="list 1"), ["list 0", "zeros", "list 1"])
+        content: Any = types.SimpleNamespace(score=Score.CHECKED, found=types.SimpleNamespace(encrypted=[]),
+                                             trial=types.SimpleNamespace(shape=types.SimpleNamespace(parity=True)))
+        self.assertEqual(self.order(Shape("5", 6), True, content, first=1), ["list 0", "zeros", "list 1"])
+
+    def test_time_of_what_is_not_tied(self) -> None:
+        """It is no more than a sixth of that of a trial, also where Q tells something."""
+        self.order(Shape("6", 6, 1), True, tied=False)
+        self.assertEqual(self.times, [10, 10, 10])
 
     def test_encrypted(self) -> None:
         """A volume that is encrypted ends it where parity speaks for it, since nothing more is to be seen."""
@@ -179,6 +196,7 @@ class ByPlaces(unittest.TestCase):
         def say_trial(_hunt: Any, trial: Trial, listing: Listing) -> Trial:
             """The trial is said: it does not read as if all sets had been listed."""
             said.append(listing.line())
+            self.assertTrue(listing.whole)
             return trial
         search = types.SimpleNamespace(options=Options(("a",)), say_trial=say_trial, take=take)
         aim = Aim((0, 1, 2), Span(0, 900), "why", (Shape("5", 3),), tied=True)
@@ -203,6 +221,8 @@ class ByPlaces(unittest.TestCase):
         def told(aim: Aim) -> list[int]:
             return [row for row in found.offsets_of(cast(Any, hunt), aim) if row in (0, 64, 80, 100, 300, 1948, 2048, 3000)]
         self.assertEqual(told(Aim((0, 1), Span(0, 2100), "why")), [0, 64, 2048])
+        other = types.SimpleNamespace(evidence=types.SimpleNamespace(tried=(100,), end=2100))
+        self.assertEqual(found.offsets_of(cast(Any, other), Aim((0,), Span(100, 2100), "why"))[:2], [100, 116])
         self.assertEqual(told(Aim((0, 1), Span(0, 2100), "why", begin=64)), [0, 64])
         self.assertEqual(told(Aim((0, 1), Span(0, 2100), "why", begin=1948, moved=(100, 400))), [0, 1948])
 

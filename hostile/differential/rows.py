@@ -6,6 +6,8 @@ An answer is the status, the line, and standard output as text, or as the bytes 
 """
 
 import itertools
+import pathlib
+import re
 import struct
 import sys
 import zlib
@@ -341,6 +343,13 @@ def xfs_super(uuid=b"\6" * 16, version=0xB4A5, size=512, features=3, meta=bytes(
     return bytes(block)
 
 
+def printed_sector(name, constant):
+    """A sector as a table of the crate `inode_rows` has it."""
+    text = (pathlib.Path(__file__).resolve().parents[2] / "crates/inode_rows/src" / f"{name}.rt").read_text(encoding="utf-8")
+    table = re.search(rf"pub const {constant}: \[u8; 512\] = \[(.*?)\];", text, re.DOTALL)[1]
+    return bytes.fromhex("".join(re.findall("0x(..)", table)))
+
+
 def inodes():
     """Of groups of 17 blocks of eight inodes, for which numbers have room for 32 blocks, inode 1024 is the first of group 4 and lies nowhere;
     inode 384 is the first of block 16 of group 1, which lies at block 33, of eight sectors each."""
@@ -380,6 +389,12 @@ def inodes():
     for number in (128, 256, 512):
         total ^= int.from_bytes(xfs_inode(number), "little")
     seen({3: xfs_super(groups=16), 5: total.to_bytes(SECTOR, "little")}, f"group xfs5\nmark xfs5 0 5 at:{(3 * 17 + 16) * 8}\n")
+    # sectors of file systems of other hands, and the places that xfs_db prints
+    for names, inode, place in ((("SUPER", "INODE"), 655488, 540800), (("WIDE_SUPER", "WIDE_INODE"), 263424, 206080)):
+        head, there = (printed_sector("xfs_sectors", name) for name in names)
+        assert struct.unpack_from(">Q", there, 152) == (inode,)
+        seen({9: head, 5: there}, f"group xfs5\nmark xfs5 0 5 at:{place}\n")
+    seen({9: printed_sector("xfs_sectors", "LARGE_SUPER"), 5: printed_sector("xfs_sectors", "LARGE_INODE")}, "")
     row(f"{words} kinds=xfs5,ext", [with_sectors(4, {})], status=1, line="word 9 is not understood")
 
 

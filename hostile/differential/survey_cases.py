@@ -3,7 +3,7 @@
 import struct
 import zlib
 
-from inode_cases import crowded_inodes, inodes_survey
+from inode_cases import XfsMaker, crowded_inodes, inodes_survey
 from landmarks import BTRFS_PLACES
 from making import EDGES, Case, files_of, shuffled, some_bytes
 from texts import FAR, KINDS, MOST, MOVED, RANKS, SECTOR
@@ -161,13 +161,13 @@ def of_two_kinds(rng, sector, length):
 
 def landmark(rng, sector, length, variety):
     """A sector that is a landmark, mostly."""
-    kind = rng.choice(["gpt", "gpt", "boot", "record", "super", "agf", "agi", "lvm", "btrfs", "ext", "ext", "two", "super5", "xfs5", "xfs5"])
+    kind = rng.choice(["gpt", "gpt", "boot", "record", "super", "agf", "agi", "lvm", "btrfs", "ext", "ext", "two", "super5", "xfs5"])
     block = {"gpt": lambda: gpt_sector(rng, sector, length), "boot": lambda: boot_sector(rng, rng.randrange(variety)),
              "record": lambda: record_sector(rng), "super": lambda: super_sector(rng, rng.randrange(variety)),
              "agf": lambda: head_sector(rng, b"XAGF"), "agi": lambda: head_sector(rng, b"XAGI"),
              "lvm": lambda: label_sector(rng, sector), "btrfs": lambda: btrfs_sector(rng, rng.randrange(variety)),
              "ext": lambda: ext_sector(rng, rng.randrange(variety)), "two": lambda: of_two_kinds(rng, sector, length),
-             "super5": lambda: super5_sector(rng, rng.randrange(variety)), "xfs5": lambda: inode_sector(rng, rng.randrange(variety))}[kind]()
+             "super5": lambda: XfsMaker(rng).superblock(), "xfs5": lambda: XfsMaker(rng).inode()}[kind]()
     if rng.random() < 0.04:
         at = rng.randrange(SECTOR)
         block = block[:at] + bytes([block[at] ^ 1 << rng.randrange(8)]) + block[at + 1:]

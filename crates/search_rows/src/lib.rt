@@ -25,5 +25,3 @@ mod row_counts;
 mod sampled;
 #[cfg(test)]
 mod surveys;
-#[cfg(test)]
-mod xfs_sectors;

@@ -189,7 +189,8 @@ class Families(unittest.TestCase):
                          (2207, 2208, [0, 1, 2, 3, 4], [0, 1, 2, 3]))
         self.assertEqual(found.reshape.line(), "ties change for good between sector 2207 and sector 2208: up to the first 5 images are tied, from "
                          "the second on 4, without image 4. A reshape that stopped there does so; so does an older array of the 4 behind what a "
-                         "newer one wrote, or image 4 if it is no member and holds what members hold, as a journal may")
+                         "newer one wrote, or image 4 if it is no member and holds what members hold, as a journal may; and so does image 4, "
+                         "which is zeros there, if nothing is stored on it there")
 
     def test_older_array_behind_what_is_written(self) -> None:
         """The same is seen where an older array of four disks still stands behind what one of five wrote, so it is not called a reshape alone."""
@@ -198,6 +199,16 @@ class Families(unittest.TestCase):
         assert found.reshape
         self.assertEqual((found.reshape.last, found.reshape.sector), (2207, 2208))
         self.assertIn("so does an older array of the 4 behind what a newer one wrote", found.reshape.line())
+        self.assertNotIn("zeros", found.reshape.line())
+
+    def test_little_is_stored(self) -> None:
+        """Where the last rows of a RAID 5 of three disks have data on one of them alone, parity is a copy of that, and the third is zeros."""
+        made = rows.striped(self.rnd, 3, 5, 160)
+        made += [[same, bytes(rows.COLUMNS), same] for same in (rows.sector(self.rnd) for _ in range(16))]
+        found, = told(made)
+        assert found.reshape
+        self.assertEqual((found.reshape.last, found.reshape.sector, found.reshape.empty), (2207, 2208, True))
+        self.assertIn("so does image 1, which is zeros there, if nothing is stored on it there", found.reshape.line())
 
     def test_reshape_in_what_is_empty(self) -> None:
         """Where the rows around it are zeros, it lies somewhere between those that are not."""

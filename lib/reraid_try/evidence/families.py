@@ -47,19 +47,22 @@ class Old:
 class Reshape:
     """Where ties change for good, as where a reshape stopped: the last row with a tie of all images, the first with one of the rest alone, and which
     images are tied up to the one and from the other on. Of the rows between them nothing is known, as where they are zeros. An older array of the
-    rest looks the same behind what a newer one of all wrote, and so does a disk that is no member where it holds what members hold."""
+    rest looks the same behind what a newer one of all wrote, and so does a disk that is no member where it holds what members hold. `empty` says that
+    the image that is left out is zeros in all tied rows behind, as it also is where nothing is stored on it."""
 
     last: int
     sector: int
     before: frozenset[int]
     after: frozenset[int]
+    empty: bool = False
 
     def line(self) -> str:
         """What is said of it."""
         out = ", ".join(map(str, sorted(self.before - self.after)))
         return (f"ties change for good between sector {self.last} and sector {self.sector}: up to the first {len(self.before)} images are tied, from "
                 f"the second on {len(self.after)}, without image {out}. A reshape that stopped there does so; so does an older array of the "
-                f"{len(self.after)} behind what a newer one wrote, or image {out} if it is no member and holds what members hold, as a journal may")
+                f"{len(self.after)} behind what a newer one wrote, or image {out} if it is no member and holds what members hold, as a journal may" +
+                f"; and so does image {out}, which is zeros there, if nothing is stored on it there" * self.empty)
 
     def closer(self, relations: Relations) -> "Reshape":
         """The same by rows between the two, which lie closer to each other."""
@@ -321,7 +324,8 @@ def reshape_of(relations: Relations, images: frozenset[int], parity: int) -> Res
                  if first > last and found == rest]
         behind, alike = sum(count for _, count, _ in after), sum(count for _, count, same in after if same)
         if min(before, behind) >= LEAST_RESHAPED and FEW_OTHER * others <= before and alike >= PART_PLAIN * behind:
-            return Reshape(until, min(first for first, _, _ in after), images, rest)
+            empty = all(image in rows.zero for rows in relations.tied_rows() if rows.first > last)
+            return Reshape(until, min(first for first, _, _ in after), images, rest, empty)
     return None
 
 

@@ -323,7 +323,8 @@ class Parts(unittest.TestCase):
     def test_all_are_tried(self) -> None:
         """Each part is, also behind one of which a candidate says enough."""
         found, _ = evident(self.images, NoTools({}), Options(("a",)))
-        parts, tried = [Part((0, 1), Span(100, 500, True)), Part((0, 1, 2), Span(500, 800, True))], list[Part]()
+        parts = [Part((0, 1), Span(100, 500, True)), Part((0, 1, 2), Span(500, 800, True))]
+        tried: list[Part] = []
 
         def of_part(part: Part) -> bool:
             tried.append(part)

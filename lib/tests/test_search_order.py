@@ -322,6 +322,7 @@ class Attempts(unittest.TestCase):
         def take(_hunt: Any, trial: Trial, *_: Any) -> bool:
             taken.append(trial)
             return True
+
         def may_list(*_: Any) -> bool:
             asked.append("may")
             return may

@@ -115,7 +115,7 @@ def mounted(volume: pathlib.Path) -> Iterator[pathlib.Path]:
 
 
 def round_of_use(place: pathlib.Path, drawn: random.Random, number: int, mebibytes: int) -> None:
-    """Writes, deletes, overwrites, lengthens and shortens files, so that the volume is in the end some two thirds full."""
+    """Writes, deletes, overwrites, lengthens and shortens files, so that the volume is in the end about half full."""
     noise = drawn.randbytes(1 << 22)
 
     def some(most: int) -> bytes:

@@ -261,8 +261,11 @@ def long_plan(rng, plan):
         text = plan.text().encode()
         return text + b"x" * (4194304 + rng.choice([0, 1]) - len(text))
     if way == 1:
-        kind = rng.choice(KINDS[1:])
-        plan.groups = [Group(kind, [], rng.choice([None, None, (0, 1)]))] * (32 + rng.choice([0, 1]))
+        kind, plan.third = rng.choice([KINDS[-1], *KINDS[1:]]), rng.random() < 0.5
+        plan.groups = [Group(kind, [], rng.choice([None, None, (0, 1)]))] * (31 + rng.choice([0, 1, 1, 2]))
+        if plan.third and plan.lengths[0]:
+            # where no group has bounds, the last line at which one may get them
+            plan.groups[-1] = plan.groups[-1]._replace(marks=[Mark(MARKS_OF[kind][0], 0, 0, "at:0")])
         return plan.text().encode()
     group, kind = rng.choice([(group, kind) for group in KINDS for kind in MARKS_OF[group]])
     plan.lengths, plan.end, count = [200] * len(plan.lengths), min(plan.end, 200), 4096 + rng.choice([0, 1])

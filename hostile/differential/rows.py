@@ -414,8 +414,8 @@ def own_bounds():
             row(f"check set=0:plain:none:1:0:{slots}", images, text, told[slots].format(*kept))
         lines = [f"{rank} 0:plain:none:1:0:{slots}\n" for rank, slots, holds in ((0, "0,1", first), (1, "1,0", second)) if holds]
         row("list", images, text, "".join(lines) + "next 2 of 2\n")
-    tried("", False, False)
-    tried("", True, True, misfits=2)
+    tried("", False, False, 1)
+    tried("", True, True, 1, misfits=2)
     tried("bounds 1 1\n", True, False)
     tried("bounds 2 1\n", True, True)
     tried("bounds 2 2\n", True, False)
@@ -423,7 +423,6 @@ def own_bounds():
     tried("bounds 0 1\n", False, False, misfits=2)
     tried("bounds 2 0\n", True, True, least=3)
     tried(f"bounds {2 ** 55 - 1} {2 ** 55 - 1}\n", False, False, misfits=2)
-    tried("", True, True, 1, misfits=2)
     # one group's bounds are not another's, nor the plan's
     two = "group btrfs\nbounds 1 2\n" + marks + "group lvm\nmark lvm 0 1 at:3\n"
     shown = told["1,0"].format("none\ngroup 1 lvm origin 0 fits 1 misfits 0", "fail")
@@ -437,11 +436,20 @@ def own_bounds():
                                    (22, "3\nmode common", f"group btrfs\n{marks[:20]}bounds 0 1\n"), (20, 1, "group btrfs\nbounds 0 1\n"),
                                    (20, 2, "group btrfs\nbounds 0 1\n"), (21, "3\nmode common", "group btrfs\nbounds 0\n"),
                                    (21, "3\nmode common", "group btrfs\nbounds 0 1 \n"), (21, "3\nmode common", "group btrfs\nbounds 0 01\n"),
-                                   (21, "3\nmode common", f"group btrfs\nbounds {2 ** 55} 1\n"), (2, 3, ""), (2, "3\nmode both", ""),
+                                   (21, "3\nmode common", f"group btrfs\nbounds {2 ** 55} 1\n"), (2, 3, ""), (2, "3\nmode both", ""), (20, "3\nmode common", ""),
+                                   (24, "3\nmode common", f"group btrfs\n{marks}"), (21, "3\nmode each", "group gpt\n"),
                                    (21, "3\nmode each", f"group btrfs\nbounds 1 {2 ** 55}\n"), (1, "4\nmode each", "")):
         row("list", images, plan([4, 4], version, groups, **values), status=2, line=f"plan line {place} is not understood")
+    # a text of version 3 in which no group has bounds is refused at its end, or at the mark after which no group may begin
+    last = "group xfs5\n" * 31
+    row("list", images, plan([4, 4], "3\nmode common", last + "group xfs5\nmark xfs5 0 1 at:0\n", **values), status=2,
+        line="plan line 52 is not understood")
+    row("list", images, plan([4, 4], "3\nmode common", last + "mark xfs5 0 1 at:0\n", **values), status=2, line="plan line 52 is not understood")
+    row("list", images, plan([4, 4], "3\nmode common", last + "group xfs5\n", **values), status=2, line="plan line 52 is not understood")
+    row("list", images, plan([4, 4], "3\nmode common", f"group gpt\nbounds 0 0\n{last}group xfs5\nmark xfs5 0 1 at:0\n", **values),
+        out="next 2 of 2\n")
     for mode, place in (("common", None), ("each", 12)):
-        text = plan([4, 4], f"3\nmode {mode}", **{**values, "offsets": 2 ** 54})
+        text = plan([4, 4], f"3\nmode {mode}", "group btrfs\nbounds 0 0\n", **{**values, "offsets": 2 ** 54})
         row("list", images, text, "next 2 of 2\n" if place is None else None, status=0 if place is None else 2,
             line=f"plan line {place} is not understood" if place else "")
 

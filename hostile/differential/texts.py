@@ -324,7 +324,7 @@ class Group(NamedTuple):
 class Plan:
     """A plan: its lists and numbers by their names, its groups, and whether each image has an offset of its own."""
 
-    third = False  # written as version 3 also where no group has bounds
+    third = False  # written as version 3 also where no group has bounds, which is no plan
 
     def __init__(self, lengths, end, given, groups, each=False):
         self.lengths, self.end, self.groups, self.each = lengths, end, groups, each
@@ -390,13 +390,18 @@ def read_plan(data):
     order = "levels members patterns syndromes chunks offsets origins missing foreign badrows window misfits least".split()
     given = {name: value(name, MOVABLE.get(name, LISTS[name]) if each else LISTS[name]) for name in order}
     groups, seen, free = [], {kind: 0 for kinds in MARKS_OF.values() for kind in kinds}, False
+
+    def may_begin(kind):
+        before = [group.kind for group in groups]
+        return (not before or KINDS.index(before[-1]) <= KINDS.index(kind)) and before.count(kind) < (1 if kind == "gpt" else 32)
+
+    def lacks_bounds():
+        return third and all(group.bounds is None for group in groups)
+
     while (text := line()) != "done":
         parts = text.split(" ")
         if parts[0] == "group" and len(parts) == 2 and parts[1] in KINDS:
-            before = [group.kind for group in groups]
-            if before and KINDS.index(before[-1]) > KINDS.index(parts[1]):
-                refuse()
-            if before.count(parts[1]) == (1 if parts[1] == "gpt" else 32):
+            if not may_begin(parts[1]):
                 refuse()
             groups.append(Group(parts[1], []))
             free = third
@@ -413,11 +418,15 @@ def read_plan(data):
                 refuse()
             if marks and (marks[-1].sector, marks[-1].image) >= (sector, image):
                 refuse()
+            if lacks_bounds() and not any(may_begin(kind) for kind in KINDS):
+                refuse()
             seen[parts[1]] += 1
             marks.append(Mark(parts[1], image, sector, parts[4]))
             free = False
         else:
             refuse()
+    if lacks_bounds():
+        refuse()
     place += 1
     if place < len(lines) or lines[-1] != "":
         refuse()

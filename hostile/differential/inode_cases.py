@@ -43,17 +43,16 @@ class XfsMaker:
         """Mostly a superblock of version 5 with these numbers."""
         rng, block = self.rng, bytearray(SECTOR)
         identifier, own = self.identifier(), rng.random() < 0.3
-        size = self.size if rng.random() < 0.9 else rng.choice([512, 1024, 0])
-        bits = self.bits if rng.random() < 0.95 else rng.choice([0, 2, 3, 8, 255])
+        size = self.size if rng.random() < 0.85 else rng.choice([512, 1024, 1024, 0])
+        bits = self.bits if rng.random() < 0.95 else rng.choice([0, 2, 3, 8])
         # the fields of the first bytes, and those of version 5 from 208 on
-        struct.pack_into(">4sI", block, 0, b"XFSB", 512 << self.bits if rng.random() < 0.97 else 4096)
+        struct.pack_into(">4sI", block, 0, b"XFSB", max(512, size) << bits if rng.random() < 0.97 else 4096)
         block[32:48] = b"\5" * 15 + bytes([rng.choice([5, 5, 6])]) if own else identifier
         struct.pack_into(">II", block, 84, self.group_blocks, self.groups if rng.random() < 0.9 else rng.choice([0, 1, 3]))
         struct.pack_into(">HHH", block, 100, rng.choice([0xB4A5] * 15 + [0xB4A4, 5, 0xB4B5]), 512, size)
         block[123], block[124] = bits, self.block_bits
         struct.pack_into(">I", block, 216, rng.choice([3, 3, 0xB]) | 4 * own)
-        if own or rng.random() < 0.5:
-            block[248:264] = identifier
+        block[248:264] = identifier if own else rng.choice([bytes(16), identifier, self.identifier()])
         return bytes(block)
 
     def number(self):

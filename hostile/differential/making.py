@@ -207,17 +207,27 @@ def torn(rng, text):
     return text
 
 
+def torn_bounds(rng, lines):
+    """The text of these lines with bounds at a limit, twice, elsewhere or misspelled."""
+    place = rng.choice([place for place, line in enumerate(lines) if line.startswith(b"bounds")])
+    values = [(0, 1), (FAR, 0), (0, FAR), (FAR - 1, FAR - 1)]
+    others = [b"bounds %d %d" % pair for pair in values] + [b"bounds 1", b"bounds 0 1 1", b"bounds 00 1"]
+    lines[place:place + 1] = rng.choice([[lines[place]] * 2, [lines[place + 1], lines[place]], [rng.choice(others)], [rng.choice(others)]])
+    return b"\n".join(lines)
+
+
 def torn_once(rng, text):
     lines = text.split(b"\n")
     place = rng.randrange(len(lines))
     way = rng.randrange(10)
+    if b"\nbounds" in text and rng.random() < 0.3:
+        return torn_bounds(rng, lines)
     if way == 0:
         return text[:rng.randrange(len(text) + 1)]
     if way == 1:
         del lines[place]
     elif way == 2:
-        bounds = [b"bounds 0 1", b"bounds 1", b"bounds 0 1 1", b"bounds 00 1", f"bounds {FAR - 1} {FAR}".encode()]
-        lines.insert(place, rng.choice([lines[rng.randrange(len(lines))]] * 12 + bounds))
+        lines.insert(place, rng.choice([lines[rng.randrange(len(lines))]] * 5 + [b"bounds 0 1"]))
     elif way == 3:
         other = rng.randrange(len(lines))
         lines[place], lines[other] = lines[other], lines[place]

@@ -208,7 +208,9 @@ def torn(rng, text):
 
 
 def torn_bounds(rng, lines):
-    """The text of these lines with bounds at a limit, twice, elsewhere or misspelled."""
+    """The text of these lines with bounds at a limit, twice, elsewhere or misspelled, or as a plan of another version."""
+    if rng.random() < 0.25:
+        return b"\n".join(rng.choice([[b"reraid-plan 1"], [b"reraid-plan 2"], [b"reraid-plan 4", *lines[1:2]]]) + lines[2:])
     place = rng.choice([place for place, line in enumerate(lines) if line.startswith(b"bounds")])
     values = [(0, 1), (FAR, 0), (0, FAR), (FAR - 1, FAR - 1)]
     others = [b"bounds %d %d" % pair for pair in values] + [b"bounds 1", b"bounds 0 1 1", b"bounds 00 1"]

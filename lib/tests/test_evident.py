@@ -344,8 +344,10 @@ class Parts(unittest.TestCase):
 
     def test_hunt(self) -> None:
         """All else is tried in the first partition that was searched, or over all images."""
-        for parts, images, start in (([Part((0, 2), Span(100, 300, True)), Part((0, 1, 2), Span(300, 800, True))], (0, 2), 100),
-                                     ([Part((0, 2), Span(0, 900))], (0, 1, 2), 0), ([], (0, 1, 2), 0)):
+        cases: list[tuple[list[Part], tuple[int, ...], int]] = [
+            ([Part((0, 2), Span(100, 300, True)), Part((0, 1, 2), Span(300, 800, True))], (0, 2), 100),
+            ([Part((0, 2), Span(0, 900))], (0, 1, 2), 0), ([], (0, 1, 2), 0)]
+        for parts, images, start in cases:
             found, report = evident(self.images, NoTools({}), Options(("a",)))
             setattr(found.search, "say_late", None)
             found.searched = parts

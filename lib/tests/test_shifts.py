@@ -49,13 +49,14 @@ class Distances(unittest.TestCase):
 
     def test_weak(self) -> None:
         """A distance that stands out but is of few of the contents in common tells of images that no other distance connects."""
-        same, many, strong = self.sectors(30), self.sectors(200), self.sectors(600)
+        same, many, strong = self.sectors(30), self.sectors(1600), self.sectors(600)
         mixed = many[:]
         self.rnd.shuffle(mixed)
         names = {0: self.write(0, same + many), 1: self.write(1, [ZERO] * 8 + same + mixed)}
-        self.assertEqual([(it.one, it.other, it.distance) for it in shifts.shifts(names, 0, 300)], [(0, 1, 8)])
-        names = {0: self.write(0, same + many + strong[:300]), 1: self.write(1, [ZERO] * 5 + same + mixed + strong[300:]), 2: self.write(2, strong)}
-        self.assertEqual([(it.one, it.other) for it in shifts.shifts(names, 0, 900)], [(0, 2), (1, 2)])
+        self.assertEqual([(it.one, it.other, it.distance) for it in shifts.shifts(names, 0, 1700)], [(0, 1, 8)])
+        names = {0: self.write(0, same + many + [ZERO] * 2 + strong[:304]), 2: self.write(2, strong),
+                 1: self.write(1, [ZERO] * 8 + same + mixed + [ZERO] * 2 + strong[304:])}
+        self.assertEqual([(it.one, it.other) for it in shifts.shifts(names, 0, 2400)], [(0, 2), (1, 2)])
 
     def test_twice(self) -> None:
         """What is on an image twice tells no distance, though it is on another one once."""
@@ -69,6 +70,13 @@ class Distances(unittest.TestCase):
         name = self.write(0, [ZERO] * 9000 + one)
         self.assertEqual(list(shifts.taken(name, 0, 9001, 1).values()), [9000])
         self.assertEqual(list(shifts.taken(name, 8999, 9001, 1).values()), [9000])
+
+    def test_equal_files_lie_apart_by_any_number(self) -> None:
+        """Distances that are no multiples of eight sectors are left out, though more sectors have them."""
+        one = {value: value for value in range(60)}
+        other = {value: value + (1003 if value < 40 else 24576) for value in range(60)}
+        self.assertEqual(shifts.shift(one, other), (24576, 20))
+        self.assertIsNone(shifts.shift(one, {value: value + 1003 for value in range(60)}))
 
     def test_some_taken(self) -> None:
         """Of many sectors some are taken, the same of each image."""
@@ -91,13 +99,16 @@ class Told(unittest.TestCase):
 
     def test_apart(self) -> None:
         """Copies one chunk further on the next disk, as of a RAID 10 with the layout offset=2; far ones; beginnings are none."""
-        self.assertEqual(shifts.apart([Shift(0, 1, -128, 90), Shift(0, 2, 128, 90), Shift(1, 3, -128, 90), Shift(2, 3, 128, 90)]), 128)
-        self.assertEqual(shifts.apart([Shift(0, 1, 90112, 50), Shift(1, 2, 90112, 50), Shift(0, 2, -90112, 50)]), 90112)
+        self.assertEqual(shifts.apart([Shift(0, 1, -128, 90), Shift(0, 2, 128, 90), Shift(1, 3, -128, 90), Shift(2, 3, 128, 90)], 4), 128)
+        self.assertEqual(shifts.apart([Shift(0, 1, 90112, 50), Shift(1, 2, 90112, 50), Shift(0, 2, -90112, 50)], 3), 90112)
         # Of a lost disk too, which leaves no circle; and of three copies, of which the third lies twice as far.
-        self.assertEqual(shifts.apart([Shift(0, 1, 90112, 50), Shift(1, 2, 90112, 50)]), 90112)
-        self.assertEqual(shifts.apart([Shift(0, 1, 512, 50), Shift(0, 2, 1024, 50), Shift(1, 3, -1024, 50), Shift(2, 3, 512, 50)]), 512)
-        self.assertIsNone(shifts.apart([Shift(0, 1, 8, 20), Shift(1, 2, -24, 30), Shift(0, 2, -36, 25), Shift(0, 3, -40, 25)]))
-        self.assertIsNone(shifts.apart([Shift(0, 1, 0, 20)]))
+        self.assertEqual(shifts.apart([Shift(0, 1, 90112, 50), Shift(1, 2, 90112, 50)], 3), 90112)
+        self.assertEqual(shifts.apart([Shift(0, 1, 512, 50), Shift(0, 2, 1024, 50), Shift(1, 3, -1024, 50), Shift(2, 3, 512, 50)], 4), 512)
+        self.assertIsNone(shifts.apart([Shift(0, 1, 8, 20), Shift(1, 2, -24, 30), Shift(0, 2, -36, 25), Shift(0, 3, -40, 25)], 4))
+        self.assertIsNone(shifts.apart([Shift(0, 1, 0, 20)], 2))
+        # One pair of four images tells nothing of the others, and of three images two are most.
+        self.assertIsNone(shifts.apart([Shift(1, 3, 49152, 90)], 4))
+        self.assertEqual(shifts.apart([Shift(1, 2, 49152, 90)], 3), 49152)
         self.assertEqual([shifts.layout(128), shifts.layout(90112), shifts.layout(65536)], ["offset", "far", "far"])
         self.assertEqual([shifts.layout(32768), shifts.layout(96)], ["offset", "far"])
 

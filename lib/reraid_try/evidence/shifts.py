@@ -20,6 +20,8 @@ MOST_TAKEN, MOST_READ = 1 << 16, 1 << 30
 # A weak one is so many times as frequent as the next.
 LEAST_SHOWN, FEW, CLEARLY = 12, 5, 2
 MOST_CHUNK = 32768
+# Data begin at a multiple of so many sectors, and a chunk of md has no fewer: equal files lie apart by any number.
+ALIGNED = 8
 
 
 @dataclasses.dataclass(frozen=True)
@@ -59,9 +61,10 @@ def taken(name: str, first: int, last: int, every: int) -> dict[int, int]:
 
 
 def shift(one: Mapping[int, int], other: Mapping[int, int], weak: bool = False) -> tuple[int, int] | None:
-    """The distance that most of the common contents have, and how many have it; None where too few agree. A weak one is but twice as frequent as the
-    next."""
-    distances = collections.Counter(other[value] - place for value, place in one.items() if value in other)
+    """The distance that most of the common contents have of those that are multiples of `ALIGNED`, and how many have it; None where too few agree. A
+    weak one is but twice as frequent as the next."""
+    counted = (other[value] - place for value, place in one.items() if value in other)
+    distances = collections.Counter(distance for distance in counted if distance % ALIGNED == 0)
     if not distances:
         return None
     (distance, shown), *more = distances.most_common(2)
@@ -104,12 +107,13 @@ def potentials(found: Sequence[Shift]) -> dict[int, int] | None:
     return {image: place - least for image, place in places.items()}
 
 
-def apart(found: Sequence[Shift]) -> int | None:
+def apart(found: Sequence[Shift], images: int) -> int | None:
     """How far apart the copies of RAID 10 lie, where most distances between images have one size, or, of more than two copies, are up to three times
-    as long; None else."""
-    sizes = collections.Counter(abs(it.distance) for it in found if it.distance)
-    for size in sorted(sizes):
-        if 2 * sum(count for other, count in sizes.items() if other % size == 0 and other // size < MOST_COPIES) > sum(sizes.values()):
+    as long, and most of so many images have such a distance; None else."""
+    told = [it for it in found if it.distance]
+    for size in sorted({abs(it.distance) for it in told}):
+        those = [it for it in told if it.distance % size == 0 and abs(it.distance) // size < MOST_COPIES]
+        if 2 * len(those) > len(told) and 2 * len({image for it in those for image in (it.one, it.other)}) > images:
             return size
     return None
 

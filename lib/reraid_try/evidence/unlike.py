@@ -8,11 +8,11 @@ from collections.abc import Iterable, Mapping, Sequence
 from ..errors import OutsideError, said
 from .families import connected
 from .images import Image
-from .shifts import Shift, potentials, shifts
+from .shifts import ALIGNED, Shift, potentials, shifts
 from .ties import Known, Ties
 
-# Data begin at a multiple of so many sectors; so many ways to choose the offsets are tried.
-ALIGNED, MOST_WAYS = 8, 16
+# So many ways to choose the offsets are tried.
+MOST_WAYS = 16
 
 
 @dataclasses.dataclass(frozen=True)

@@ -158,7 +158,7 @@ class Evident:
         if offsets:
             self.say("unlike", [offsets.line()])
             return [plain.unlike_aim(offsets, part.images, part.span, self.options)]
-        distance = shifts.apart(told) if self.options.wants("10") and not found.known else None
+        distance = shifts.apart(told, len(images)) if self.options.wants("10") and not found.known else None
         return [plain.apart_aim(distance, part.images, part.span)] if distance else []
 
     def seek(self, aim: Aim) -> bool:

@@ -1,10 +1,11 @@
 """Set words, plans, the output of reraid, surveys, and what it is asked."""
 
+import dataclasses
 import unittest
 
-from reraid_try.calls import formats, sets
+from reraid_try.calls import formats, plans, sets, surveys
 from reraid_try.calls.formats import Held, Ranked
-from reraid_try.calls.plans import Mark, read_plan
+from reraid_try.calls.plans import Bounds, Mark, read_plan
 from reraid_try.calls.program import LAST, MOST_LINES, SPAN, Copied, Program
 from reraid_try.calls.sets import read_word, simplest
 from reraid_try.calls.surveys import KINDS, Request, Surveys
@@ -107,6 +108,25 @@ class Plans(unittest.TestCase):
                          [("xfs", 0, 3, {0, 1}), ("ext", 1, 1, {2})])
         self.assertEqual([group.name() for group in plan.groups], ["group 0 (xfs, 3 marks)", "group 1 (ext, 1 mark)"])
 
+    def test_bounds_of_a_group(self) -> None:
+        """They make the text one of version 3, with a line for the mode; a plan without any is written as before."""
+        text = PLAN.replace("reraid-plan 1\n", "reraid-plan 3\nmode common\n").replace("group ext\n", "group ext\nbounds 4096 17\n")
+        plan = read_plan(text)
+        self.assertEqual(([group.bounds for group in plan.groups], plan.version), ([None, Bounds(4096, 17)], plans.COMMON))
+        self.assertEqual(plan.text(), text)
+        self.assertEqual(plan.bounded(1, None).text(), PLAN)
+        self.assertEqual(read_plan(PLAN).bounded(1, Bounds(4096, 17)), plan)
+        self.assertEqual(plan.without({1}).text(), read_plan(PLAN).without({1}).text())
+        each = dataclasses.replace(plan, version=plans.EACH)
+        self.assertEqual(each.text(), text.replace("mode common", "mode each"))
+        self.assertEqual((read_plan(each.text()), each.bounded(1, None).text()), (each, PLAN.replace("reraid-plan 1", "reraid-plan 2")))
+
+    def test_wrong_versions(self) -> None:
+        for text in (PLAN.replace("reraid-plan 1\n", "reraid-plan 3\n"), PLAN.replace("reraid-plan 1\n", "reraid-plan 3\nmode other\n"),
+                     PLAN.replace("group ext\n", "group ext\nbounds 1\n"), PLAN.replace("group ext\n", "group ext\nbounds a b\n")):
+            with self.assertRaises(OutsideError):
+                read_plan(text)
+
     def test_rules(self) -> None:
         every, either = Mark("agf", 0, 9, "every:49152:4:8"), Mark("boot", 0, 9, "either:7:5")
         self.assertEqual((every.nearest, every.step, every.numbers), (8, 49152, [49152, 4, 8]))
@@ -184,6 +204,13 @@ class Surveyed(unittest.TestCase):
         self.standin = Standin(("reraid survey", put(PLAN)))
         self.surveys = Surveys(self.standin, ["a", "b", "c"])
         self.request = Request().having(kinds=KINDS, offsets="0,2048", end=100000, origins="0,63")
+
+    def test_later_kinds(self) -> None:
+        """Those whose words the program understands."""
+        refuses = put("", 1, "reraid: word 3 is not understood")
+        standin = Standin(("reraid survey end=1 kinds=xfs5", put("reraid-plan 1\n")), ("reraid survey", refuses))
+        self.assertEqual(surveys.known_kinds(standin, "a"), ("xfs5",))
+        self.assertEqual([words[3] for words, _ in standin.asked], ["kinds=extinode", "kinds=xfs5", "kinds=btrfstree"])
 
     def test_made_once(self) -> None:
         self.surveys.plan(self.request)

@@ -376,6 +376,21 @@ class Asked(unittest.TestCase):
         for shape, offsets in ((Shape("5", 3), [0, 2048]), (Shape("6", 3), [])):
             self.assertEqual(questions.needing(shape, chosen, cures.loosened(questions.asking.request(shape), chosen)), offsets)
 
+    def test_most_fits_of_a_group(self) -> None:
+        """Found by halving: the most with which a set passes, with bounds of its own for that group alone."""
+        marks = [("super", 0, 2048 + number, "every:49152:4:0") for number in range(9)]
+        plan = plan_of(XFS, ("xfs", marks))
+        for fits, wanted in ((0, None), (1, 1), (5, 5), (8, 8), (9, 9)):
+            def answer(_words: list[str], text: str, fits: int = fits) -> Answer:
+                self.assertEqual(text.split("\n")[:2], ["reraid-plan 3", "mode common"])
+                misfits, least = text.split("bounds ")[1].split("\n")[0].split()
+                self.assertEqual((misfits, text.count("bounds"), text.index("bounds") > text.index("group xfs")), ("9", 1, True))
+                return put(("3 5:la:none:8:0:0,1,2\n" if int(least) <= fits else "") + "next 9 of 9\n")
+            questions, standin, _ = self.questions(answer)
+            self.assertEqual(questions.most_fits(plan, 1), wanted)
+            self.assertLessEqual(standin.count("reraid list"), 4)
+        self.assertIsNone(self.questions(lambda *_: Answer(None))[0].most_fits(plan, 1))
+
     def test_far_before(self) -> None:
         questions, _, _ = self.questions(put(""), evidence(data=((2, 2),), filled={0: 90000, 2048: 50000}))  # type: ignore[arg-type]
         self.assertTrue(questions.far_before(0, 2048, Shape("5", 3)))

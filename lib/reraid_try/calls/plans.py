@@ -8,8 +8,9 @@ from ..units import counted
 
 FIELDS = ("levels", "members", "patterns", "syndromes", "chunks", "offsets", "origins", "missing", "foreign", "badrows", "window", "misfits",
           "least")
-# Version 2: each image has an offset of its own.
-COMMON, EACH = 1, 2
+# Version 2: each image has an offset of its own. Version 3 says that in a line of its own, and a group may have bounds of its own there.
+COMMON, EACH, BOUNDED = 1, 2, 3
+MODES = {COMMON: "common", EACH: "each"}
 
 
 @dataclasses.dataclass(frozen=True)
@@ -43,16 +44,30 @@ class Mark:
 
 
 @dataclasses.dataclass(frozen=True)
+class Bounds:
+    """How many marks of a group may misfit at most, and how many have to fit at least."""
+
+    misfits: int
+    least: int
+
+    def text(self) -> str:
+        """Its line in a plan."""
+        return f"bounds {self.misfits} {self.least}\n"
+
+
+@dataclasses.dataclass(frozen=True)
 class Group:
-    """The landmarks of one file system, of one physical volume, or of all partition tables. `place` is its number in the survey."""
+    """The landmarks of one file system, of one physical volume, or of all partition tables. `place` is its number in the survey, `bounds` what holds
+    for it in place of the plan's misfits and least."""
 
     kind: str
     marks: tuple[Mark, ...]
     place: int
+    bounds: Bounds | None = None
 
     def text(self) -> str:
         """Its lines in a plan."""
-        return f"group {self.kind}\n" + "".join(mark.text() for mark in self.marks)
+        return f"group {self.kind}\n" + (self.bounds.text() if self.bounds else "") + "".join(mark.text() for mark in self.marks)
 
     def images(self) -> set[int]:
         """The images that show it."""
@@ -65,7 +80,8 @@ class Group:
 
 @dataclasses.dataclass(frozen=True)
 class Plan:
-    """A plan: lengths of the images, `end`, the values of the other lines by their names, and the groups."""
+    """A plan: lengths of the images, `end`, the values of the other lines by their names, and the groups. `version` is 2 where each image has an
+    offset of its own and 1 else, also of a plan whose text is of version 3 for the bounds of its groups."""
 
     version: int
     lengths: tuple[int, ...]
@@ -78,9 +94,11 @@ class Plan:
         return [int(number) for number in self.values[name].split(",")]
 
     def text(self) -> str:
-        """The plan as `list` and `check` read it."""
-        head = [f"reraid-plan {self.version}", f"images {len(self.lengths)}", *(f"length {length}" for length in self.lengths), f"end {self.end}"]
-        lines = head + [f"{name} {self.values[name]}" for name in FIELDS]
+        """The plan as `list` and `check` read it: of version 3 only where a group has bounds of its own."""
+        bounded = any(group.bounds for group in self.groups)
+        head = [f"reraid-plan {BOUNDED}", f"mode {MODES[self.version]}"] if bounded else [f"reraid-plan {self.version}"]
+        lines = [*head, f"images {len(self.lengths)}", *(f"length {length}" for length in self.lengths), f"end {self.end}"]
+        lines += [f"{name} {self.values[name]}" for name in FIELDS]
         return "\n".join(lines) + "\n" + "".join(group.text() for group in self.groups) + "done\n"
 
     def having(self, **values: str | int) -> "Plan":
@@ -90,6 +108,11 @@ class Plan:
     def without(self, places: Collection[int]) -> "Plan":
         """The plan without the groups of these places."""
         return dataclasses.replace(self, groups=tuple(group for group in self.groups if group.place not in places))
+
+    def bounded(self, place: int, bounds: Bounds | None) -> "Plan":
+        """The plan in which the group of this place has bounds of its own, or those of the plan again."""
+        changed = (dataclasses.replace(group, bounds=bounds) if group.place == place else group for group in self.groups)
+        return dataclasses.replace(self, groups=tuple(changed))
 
     def bare(self) -> "Plan":
         """The plan without its groups."""
@@ -114,11 +137,26 @@ def read_lines(lines: list[list[str]]) -> Plan:
     lengths = tuple(int(words[1]) for words in lines if words[0] == "length")
     end, = (int(words[1]) for words in lines if words[0] == "end")
     groups: list[tuple[str, list[Mark]]] = []
+    bounds: dict[int, Bounds] = {}
     for words in lines:
         if words[0] == "group":
             groups.append((words[1], []))
+        elif words[0] == "bounds":
+            bounds[len(groups) - 1] = Bounds(int(words[1]), int(words[2]))
         elif words[0] == "mark":
             groups[-1][1].append(Mark(words[1], int(words[2]), int(words[3]), words[4]))
     if lines[-1] != ["done"]:
         raise ValueError("it has no end")
-    return Plan(int(lines[0][1]), lengths, end, values, tuple(Group(kind, tuple(marks), place) for place, (kind, marks) in enumerate(groups)))
+    found = (Group(kind, tuple(marks), place, bounds.get(place)) for place, (kind, marks) in enumerate(groups))
+    return Plan(read_version(lines), lengths, end, values, tuple(found))
+
+
+def read_version(lines: list[list[str]]) -> int:
+    """Whether each image has an offset of its own, as a version: by the first line, or in version 3 by the second."""
+    version = int(lines[0][1])
+    if version != BOUNDED:
+        return version
+    found = [mode for mode, name in MODES.items() if lines[1] == ["mode", name]]
+    if not found:
+        raise ValueError("it has no mode")
+    return found[0]

@@ -9,6 +9,10 @@ from .commands import Runner, Words, refused
 from .plans import Group, Plan
 
 KINDS = "gpt,ntfs,xfs,btrfs,lvm,ext"
+# Kinds of later programs: whose groups have many marks, also in journals, so that most may misfit at the true set.
+LATER_KINDS = ("extinode", "xfs5", "btrfstree")
+# The status of words that are none of the program's.
+REFUSED = 1
 # As many offsets, or origins, as a plan has at most.
 MOST_VALUES = 64
 # As many marks as the two copies of a file record have on one image, with their mirrors.
@@ -92,6 +96,13 @@ class Kept:
         """It read at least what another one would, and saw no landmark that that would not."""
         alike = (self.logical, self.kinds) == (asked.logical, asked.kinds) and self.first <= asked.first and asked.end <= self.end
         return alike and all(asked.first <= mark.sector < asked.end for mark in self.plan.marks())
+
+
+def known_kinds(commands: Runner, name: str) -> tuple[str, ...]:
+    """Which of the later kinds the program knows, by whether it understands the word, over one sector of an image."""
+    def knows(kind: str) -> bool:
+        return commands.run(Request().having(kinds=kind, offsets=0, end=1).words([name])).status != REFUSED
+    return tuple(kind for kind in LATER_KINDS if knows(kind))
 
 
 class Surveys:

@@ -1,12 +1,13 @@
 """The rows of a set: in which of them parity holds, and up to which the marks fit."""
 
 import dataclasses
-from collections.abc import Callable, Sequence
+from collections.abc import Sequence
 
 from ..calls.formats import Checked, Held
 from ..calls.plans import Plan
 from ..calls.sets import Word, read_word
 from ..calls.surveys import Request
+from ..halving import halved
 from ..policy.hunt import Hunt
 from ..units import counted
 from .candidates import Candidate
@@ -89,17 +90,6 @@ def rows_in_words(told: Checked, bounds: Bounds) -> str:
         return said
     said += f", all from row {bounds.first} on" if bounds.last == told.rows - 1 else f", all in rows {bounds.first} to {bounds.last}"
     return f"parity holds in rows 0 to {bounds.first - 1}; {said}" if bounds.first else said
-
-
-def halved(low: int, high: int, holds: Callable[[int], bool | None]) -> int | None:
-    """The least number above `low` that holds, where `high` does, by halving; None where that is not known of one."""
-    while low + 1 < high:
-        middle = (low + high) // 2
-        told = holds(middle)
-        if told is None:
-            return None
-        low, high = (low, middle) if told else (middle, high)
-    return high
 
 
 @dataclasses.dataclass(frozen=True)

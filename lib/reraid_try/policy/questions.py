@@ -6,11 +6,12 @@ from collections.abc import Callable, Sequence
 
 from ..calls import plans
 from ..calls.formats import Page
-from ..calls.plans import Plan
+from ..calls.plans import Bounds, Plan
 from ..calls.program import Listing, Program
 from ..calls.sets import read_word
 from ..calls.surveys import Request, Surveys
 from ..errors import Refused
+from ..halving import halved
 from ..units import listed
 from .cures import Cure, Family, loosened
 from .plans import LEAST_BAD, Asking
@@ -93,6 +94,18 @@ class Questions:
             if listing.sets or rows == most or not listing.whole:
                 return dataclasses.replace(listing, bad_rows=rows)
             step *= STEPS
+
+    def most_fits(self, plan: Plan, place: int) -> int | None:
+        """The most marks of a group that fit at one set of a plan that passes, whatever else of the group misfits, by halving: bounds of its own ask for
+        so many each time. None where no set passes with one, or a question ran out of its time."""
+        marks = next(len(group.marks) for group in plan.groups if group.place == place)
+
+        def fails(least: int) -> bool | None:
+            """No set passes with so many fits."""
+            page = self.program.first(plan.bounded(place, Bounds(marks, least)).text())
+            return None if page.late else not page.sets
+        found = halved(0, marks + 1, fails)
+        return found - 1 if found is not None and found > 1 else None
 
     def first_allowed(self, request: Request, shape: Shape) -> int | None:
         """The smallest offset at which parity alone allows a set of a request, or some where no hint speaks for the shape; None where it allows

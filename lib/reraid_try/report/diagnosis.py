@@ -7,7 +7,8 @@ from collections.abc import Sequence
 
 from ..calls.plans import Group, Plan
 from ..calls.surveys import Request
-from ..checks.rows import Near, Rows, halved
+from ..checks.rows import Near, Rows
+from ..halving import halved
 from ..policy.cures import OF_MARKS
 from ..policy.hunt import Hunt
 from ..policy.shapes import Shape

@@ -10,6 +10,7 @@ from typing import TYPE_CHECKING
 from ..calls.formats import Ranked
 from ..calls.program import Listing
 from ..calls.sets import NEAR_2, read_word
+from ..calls.surveys import known_kinds
 from ..checks.candidates import Candidate
 from ..checks.verdicts import Score
 from ..evidence import gathered, hints, metadata, places, shared, shifts, ties, unlike
@@ -18,7 +19,7 @@ from ..evidence.images import Image
 from ..evidence.places import Places
 from ..evidence.shared import Place
 from ..evidence.ties import Ties, Told
-from . import cures, mirrors, plain
+from . import cures, inodes, mirrors, plain
 from .cures import Family
 from .hunt import Hunt
 from .plain import Aim, Span
@@ -119,7 +120,8 @@ class Evident:
         self.say("relation", ties.lines(found))
         ways = plain.perhaps_copied, plain.tied, plain.copied, plain.untied
         perhaps, tied, copied, untied = (of(found, part.images, part.span, self.options) for of in ways)
-        return [*self.by_metadata(part), *self.unlike(asked, found, part), *perhaps, *tied, *copied, *self.alike(part), *untied]
+        others = [*self.unlike(asked, found, part), *perhaps, *tied, *copied, *self.alike(part), *untied]
+        return [*self.by_metadata(part), *plain.with_inodes(others, untied)]
 
     def alike(self, part: Part) -> list[Aim]:
         """What is tried where whole images are the same, as the copies of a RAID 1 or 10 are."""
@@ -171,7 +173,7 @@ class Evident:
         hunt = Hunt(self.options, search.commands, images, search.say_late, start=aim.span.first, asked=dict(aim.asked), tied=aim.tied)
         hunt.ask_places = functools.partial(self.places_of, aim)
         search.say_evidence(hunt)
-        if not (aim.copied and self.copies(hunt, aim, before)):
+        if not self.by_inodes(hunt, aim, before) and not (aim.copied and self.copies(hunt, aim, before)):
             self.attempt(hunt, aim, before)
         search.why = ""
         return any(map(enough, self.since(before)))
@@ -228,6 +230,18 @@ class Evident:
         request = dataclasses.replace(hunt.asking.request(shape), records=True)
         trial = self.search.say_trial(hunt, Trial(shape, (bare,), request), listing)
         return self.search.take(hunt, trial, listing.sets, lambda it: (read_word(it.text), hunt.word(it.text)))
+
+    def by_inodes(self, hunt: Hunt, aim: Aim, before: int) -> bool:
+        """The sets at which the most inodes of an XFS lie where their numbers say, where the program knows such inodes; it says whether the search
+        is at its end, or a candidate is content."""
+        if not aim.by_inodes or not inodes.are_told(hunt) or inodes.KIND not in self.later_kinds:
+            return False
+        return inodes.attempt_all(self.search, hunt, aim.by_inodes) or self.is_content(before)
+
+    @functools.cached_property
+    def later_kinds(self) -> tuple[str, ...]:
+        """The later kinds of landmarks that the program knows."""
+        return known_kinds(self.search.commands, self.search.images[0].name)
 
     def offsets_of(self, hunt: Hunt, aim: Aim) -> list[int]:
         """The rows at which the data of an aim may begin, not behind one that is tied. Those of images that are moved are counted from where they

@@ -2,6 +2,7 @@
 
 import dataclasses
 import itertools
+import time
 from collections.abc import Callable, Sequence
 
 from ..calls import plans
@@ -95,17 +96,25 @@ class Questions:
                 return dataclasses.replace(listing, bad_rows=rows)
             step *= STEPS
 
-    def most_fits(self, plan: Plan, place: int) -> int | None:
-        """The most marks of a group that fit at one set of a plan that passes, whatever else of the group misfits, by halving: bounds of its own ask for
-        so many each time. None where no set passes with one, or a question ran out of its time."""
+    def most_fits(self, plan: Plan, place: int, above: int = 0, beyond: int = 0) -> int | None:
+        """The most marks of a group that fit at one set of a plan that passes, or at more than so many, whatever else of the group misfits, by
+        halving: bounds of its own ask for so many each time. None where that is no number above another one, or a question, or all of them, ran
+        out of the time of one."""
         marks = next(len(group.marks) for group in plan.groups if group.place == place)
+        until = time.monotonic() + self.program.seconds
 
         def fails(least: int) -> bool | None:
-            """No set passes with so many fits."""
-            page = self.program.first(plan.bounded(place, Bounds(marks, least)).text())
-            return None if page.late else not page.sets
-        found = halved(0, marks + 1, fails)
-        return found - 1 if found is not None and found > 1 else None
+            """No more sets pass with so many fits."""
+            page = None if time.monotonic() > until else self.program.page(plan.bounded(place, Bounds(marks, least)).text(), most=beyond + 1)
+            if page and not page.late:
+                return len(page.sets) <= beyond
+            self.late("enough marks of a group allow", self.program.seconds)
+            return None
+        # Most shapes have no set with more than another one, which one question tells.
+        if above and (above >= marks or fails(above + 1) is not False):
+            return None
+        found = halved(above + 1 if above else 0, marks + 1, fails)
+        return found - 1 if found is not None and found - 1 > above else None
 
     def first_allowed(self, request: Request, shape: Shape) -> int | None:
         """The smallest offset at which parity alone allows a set of a request, or some where no hint speaks for the shape; None where it allows

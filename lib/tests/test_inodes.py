@@ -1,0 +1,184 @@
+"""What inodes of an XFS tell: which shapes and sets they speak for, and when they are asked."""
+
+import types
+import unittest
+from collections.abc import Mapping, Sequence
+from typing import Any, cast
+
+from reraid_try.calls.commands import Answer
+from reraid_try.calls.plans import Plan
+from reraid_try.calls.program import LAST
+from reraid_try.checks.verdicts import Score
+from reraid_try.evidence.images import Image
+from reraid_try.options import Options
+from reraid_try.policy import inodes, plain
+from reraid_try.policy.evident import Evident
+from reraid_try.policy.hunt import Hunt
+from reraid_try.policy.plain import Aim, Span
+from reraid_try.policy.shapes import Shape
+from reraid_try.policy.trials import Trial
+from reraid_try.units import SECTOR
+from tests.standin import InFolder, Standin, Told, plan_of, put
+from tests.test_policy import XFS
+
+ZERO, FIVE, SIX = Shape("0", 3), Shape("5", 4, 1), Shape("6", 5, 2)
+SHAPES = ZERO, FIVE, SIX
+WHOLE = Aim((0, 1, 2), Span(0, 8000), "why", SHAPES)
+
+
+def inode_group(count: int) -> tuple[str, list[tuple[str, int, int, str]]]:
+    """A group of so many inodes."""
+    return "xfs5", [("xfs5", 0, 2176 + 128 * number, f"at:{128 + 128 * number}") for number in range(count)]
+
+
+def surveyed(*counts: int) -> tuple[Plan, Plan]:
+    """The plan of a survey, and that of one that looks for inodes too, of which there are groups of so many."""
+    return plan_of(XFS, lengths=(8000,) * 3), plan_of(XFS, *map(inode_group, counts), lengths=(8000,) * 3)
+
+
+class Inodes(InFolder):
+    def hunt(self, fits: Mapping[str, Sequence[int]], *counts: int, late: bool = False) -> Hunt:
+        """A hunt over three images, of which the sets of a level have so many fits each, and the groups of inodes so many marks."""
+        names = [self.file(f"{k}.img", b"x" * 8000 * SECTOR) for k in range(3)]
+        without, with_them = surveyed(*counts)
+
+        def listed(words: list[str], text: str) -> Answer:
+            """The sets with as many fits as the bounds of the one group ask for."""
+            if late:
+                return Answer(None)
+            level = text.split("levels ")[1].split("\n")[0]
+            least = int(text.split("bounds ")[1].split("\n")[0].split()[1])
+            if f"from={LAST}" in words:
+                return put("next 9 of 9\n")
+            size = int(next(word for word in words if word.startswith("size="))[5:])
+            self.assertEqual((text.count("group "), text.count("group xfs5\n")), (1, 1))
+            found = [f"{rank} {level}:ls:none:128:2048:0,1,2{',-' * (level == '5')}\n" for rank, it in enumerate(fits[level]) if it >= least]
+            return put("".join(found[:size]) + "next 9 of 9\n")
+
+        def survey(words: list[str], _text: str) -> Answer:
+            """The landmarks of the kinds that are asked for."""
+            return put((with_them if any(word.endswith(",xfs5") for word in words) else without).text())
+        self.standin = Standin(("reraid survey", survey), ("reraid list", listed))
+        self.late: list[str] = []
+        images = [Image(name, k, 8000) for k, name in enumerate(names)]
+        return Hunt(Options(tuple(names)), self.standin, images, lambda what, _: self.late.append(what))
+
+    def most(self, hunt: Hunt) -> list[tuple[str, int]]:
+        """The levels whose sets the most inodes of the first group speak for, and how many these are."""
+        group, = inodes.groups_of(hunt, ZERO)
+        return [(it.shape.levels, it.fits) for it in inodes.most_of(hunt, SHAPES, group)]
+
+    def test_shapes(self) -> None:
+        """That with the most fits; all of them where they are as many."""
+        self.assertEqual(self.most(self.hunt({"0": [5, 3], "5": [14, 9], "6": [9]}, 16)), [("5", 14)])
+        self.assertEqual(self.most(self.hunt({"0": [5], "5": [14], "6": [14, 14]}, 16)), [("5", 14), ("6", 14)])
+        self.assertEqual(self.most(self.hunt({"0": [16], "5": [15], "6": [16]}, 16)), [("0", 16), ("6", 16)])
+        self.assertEqual(self.most(self.hunt({"0": [], "5": [], "6": []}, 16)), [])
+
+    def test_one_question_of_a_worse_shape(self) -> None:
+        """After five of the first, of 16 marks: 8, 12, 14, 15, 16, or less."""
+        self.most(self.hunt({"0": [16], "5": [4], "6": [3]}, 16))
+        self.assertEqual([text.split("bounds ")[1].split("\n")[0] for words, text in self.standin.asked if "list" in words][-2:], ["16 16", "16 16"])
+        self.assertLessEqual(self.standin.count("reraid list"), 7)
+
+    def test_late(self) -> None:
+        """What ran out of its time tells nothing, and that is said."""
+        self.assertEqual(self.most(self.hunt({}, 16, late=True)), [])
+        self.assertEqual(self.late, ["enough marks of a group allow"] * 3)
+
+    def test_groups(self) -> None:
+        """Two at most, with twelve inodes at least, the largest first."""
+        for counts, places in (((11,), []), ((12,), [1]), ((12, 16, 11), [2, 1]), ((13, 12, 13), [1, 3])):
+            self.assertEqual([group.place for group in inodes.groups_of(self.hunt({}, *counts), ZERO)], places)
+
+    def attempted(self, hunt: Hunt, whole: bool = False) -> tuple[bool, list[str], list[tuple[Trial, list[str]]]]:
+        """Whether the search is at its end, what was said, and the trials with the sets that were tested."""
+        report, tested = Told(), list[tuple[Trial, list[str]]]()
+
+        def take(_hunt: Hunt, trial: Trial, sets: Any, words_of: Any) -> bool:
+            tested.append((trial, [words_of(it)[1].text for it in sets]))
+            return whole
+
+        def say_trial(_hunt: Hunt, trial: Trial, _listing: Any) -> Trial:
+            report.put(search.why)
+            return trial
+        search: Any = types.SimpleNamespace(report=report, why="before", take=take, say_trial=say_trial, say_refused=report.put)
+        done = inodes.attempt_all(search, hunt, SHAPES)
+        self.assertEqual(search.why, "before")
+        return done, report.lines, tested
+
+    def test_trial(self) -> None:
+        """The sets with the most are tested, with their reason, by what is asked for where nothing is loosened."""
+        hunt = self.hunt({"0": [5], "5": [14, 9, 14], "6": [9]}, 16)
+        done, said, tested = self.attempted(hunt)
+        why = "14 of 16 inodes of an XFS lie where their numbers say; at the next set 9 do"
+        self.assertEqual((done, said), (False, [f"  {why}", why]))
+        (trial, words), = tested
+        self.assertEqual((trial.line(), words), ("levels 5, 4 members, 1 missing: the inodes of an XFS alone, as many as fit",
+                                                 ["5:ls:none:128:2048:0,1,2,-"] * 2))
+        self.assertEqual((trial.request, trial.out, trial.is_bare), (hunt.asking.request(FIVE), frozenset({0}), False))
+
+    def test_end(self) -> None:
+        """A set that is whole ends the search; where no other set has any fits, none is named."""
+        done, said, tested = self.attempted(self.hunt({"0": [], "5": [14], "6": [14]}, 16), whole=True)
+        self.assertEqual((done, said[0], len(tested)), (True, "  14 of 16 inodes of an XFS lie where their numbers say", 1))
+
+    def test_too_many(self) -> None:
+        """Of more than 64 sets inodes tell nothing."""
+        self.assertEqual(self.attempted(self.hunt({"0": [], "5": [14] * 65, "6": []}, 16)), (False, [], []))
+        self.assertEqual(len(self.attempted(self.hunt({"0": [], "5": [14] * 64, "6": []}, 16))[2][0][1]), 64)
+
+    def test_refused(self) -> None:
+        """What the program refuses is said, and the search goes on."""
+        hunt = self.hunt({}, 16)
+        self.standin.rows = (("reraid survey", put("", 1, "reraid: no")),)
+        self.assertEqual(self.attempted(hunt)[0], False)
+
+
+class Asked(unittest.TestCase):
+    """Of which aims inodes are asked."""
+
+    def by_inodes(self, kinds: tuple[str, ...], groups: tuple[str, ...], shapes: tuple[Shape, ...] = SHAPES) -> list[str]:
+        """What is asked where the program knows these kinds and these groups are seen, in a search that has a candidate with a sign already."""
+        asked: list[str] = []
+
+        def plan(_request: Any) -> Plan:
+            asked.append("survey")
+            return surveyed(11)[1]
+        bar = types.SimpleNamespace(show=lambda _: None)
+        search = types.SimpleNamespace(options=Options(("a",)), report=types.SimpleNamespace(bar=bar),
+                                       tested=[types.SimpleNamespace(score=Score.CHECKED)])
+        request = types.SimpleNamespace(having=lambda **values: values)
+        hunt: Any = types.SimpleNamespace(plan=types.SimpleNamespace(groups=[types.SimpleNamespace(kind=kind) for kind in groups]),
+                                          surveys=types.SimpleNamespace(plan=plan), asking=types.SimpleNamespace(request=lambda _: request))
+        it = Evident(cast(Any, search))
+        it.__dict__["later_kinds"] = kinds
+        self.assertFalse(it.by_inodes(hunt, Aim((0, 1, 2), Span(0, 9), "why", by_inodes=shapes), 1))
+        self.assertTrue(not asked or it.by_inodes(hunt, Aim((0, 1, 2), Span(0, 9), "why", by_inodes=shapes), 0))
+        return asked
+
+    def test_known(self) -> None:
+        """Only where the program knows the kind and a superblock was seen is anything asked; what is content ends the trials of the aim."""
+        self.assertEqual(self.by_inodes(("xfs5",), ("gpt", "xfs"))[:1], ["survey"])
+        for kinds, groups, shapes in (((), ("xfs",), SHAPES), (("extinode",), ("xfs",), SHAPES), (("xfs5",), ("ext",), SHAPES),
+                                      (("xfs5",), ("xfs",), ())):
+            self.assertEqual(self.by_inodes(kinds, groups, shapes), [])
+
+    def asked(self, aims: Sequence[Aim], untied: Sequence[Aim] = ()) -> list[tuple[Shape, ...]]:
+        """The shapes at which each of these asks inodes."""
+        return [aim.by_inodes for aim in plain.with_inodes(aims, untied)]
+
+    def test_aims(self) -> None:
+        """Once where nothing ties the images, before copies that lie apart are looked for; and of what is tied where parity tells nothing."""
+        apart = Aim((0, 1, 2), Span(0, 9), "why", copied=True, apart=2048)
+        each = Aim((0, 1, 2), Span(0, 9), "why", (FIVE,), (("mode", "each"),), tied=True)
+        self.assertEqual(self.asked([apart, WHOLE], [WHOLE]), [SHAPES, ()])
+        self.assertEqual(self.asked([each, WHOLE], [WHOLE]), [(), SHAPES])
+        self.assertEqual(self.asked([apart]), [()])
+        lost, there, loose = (Aim((0, 1, 2), Span(0, 9), "why", shapes, tied=True)
+                              for shapes in ((FIVE,), (Shape("5", 3),), (Shape("6", 4, 1), Shape("6", 4, 2, 1))))
+        self.assertEqual(self.asked([lost, there, loose]), [(FIVE,), (), ()])
+
+
+if __name__ == "__main__":
+    unittest.main()

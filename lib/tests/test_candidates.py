@@ -501,6 +501,9 @@ class Tested(InFolder):
             it.trial = dataclasses.replace(it.trial, request=BASE.having(misfits=8))
         self.assertEqual((tests.without_doubtful(some), tests.put_off), (some[:1], some[1:]))
         self.assertIn("1 of 2 sets are put off", self.report.text)
+        # Where all are put off nothing is tested.
+        tests = self.over()
+        self.assertEqual((tests.test(some[1:]), tests.put_off), ([], some[1:]))
         tests.late = True
         self.assertEqual(tests.without_doubtful(some), some)
 

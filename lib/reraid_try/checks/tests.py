@@ -238,7 +238,7 @@ class Tests:
     def parts(self, found: list[Candidate]) -> list[list[Candidate]]:
         """Of many sets those that begin with something known, and the others after them; where there are landmarks these are put off."""
         if len(found) <= FEW:
-            return [found]
+            return [found] if found else []
         begin = self.side_by_side(self.begins, found, "reads how the candidates begin")
         known, others = [[it for it, kind in zip(found, begin) if kind == wanted] for wanted in (True, False)]
         later = bool(others and others[0].hunt.plan.groups) and not self.late

@@ -65,45 +65,6 @@ def super_block(sector):
     return Super((uuid.UUID(bytes=sector[32:48]), block, group, groups, unit), xfs_places(sector))
 
 
-def crc32c(block):
-    """CRC-32C of bytes, by the polynomial of RFC 3720, bit by bit."""
-    register = 0xFFFFFFFF
-    for byte in block:
-        register ^= byte
-        for _ in range(8):
-            register = register >> 1 ^ 0x82F63B78 * (register & 1)
-    return register ^ 0xFFFFFFFF
-
-
-def inode_places(sector):
-    """What a superblock of XFS version 5 says of inodes of 512 bytes: their identifier, and where they lie."""
-    version, _, size, told, group_bits = struct.unpack_from(">HHH17xBB", sector, 100)
-    block, blocks, groups = struct.unpack_from(">I", sector, 4)[0], *struct.unpack_from(">II", sector, 84)
-    if version % 16 != 5 or size != 512 or told > 7 or block != size << told or block > 65536:
-        return None
-    if group_bits > 31 or not 1 <= blocks <= 1 << group_bits or groups == 0 or blocks * groups >= 2 ** 48:
-        return None
-    features, = struct.unpack_from(">I", sector, 216)
-    return sector[248:264] if features & 4 else sector[32:48], told, group_bits, blocks, groups, block
-
-
-def inode(sector):
-    """The number of an inode of 512 bytes that begins a stretch of 64 KiB, and its file system."""
-    checksum, = struct.unpack_from("<I", sector, 100)
-    number, = struct.unpack_from(">Q", sector, 152)
-    if sector[:2] != b"IN" or sector[4] != 3 or number % 128 or crc32c(sector[:100] + bytes(4) + sector[104:]) != checksum:
-        return None
-    return number, sector[160:176]
-
-
-def inode_sector(places, number):
-    """The sector of its file system at which an inode lies, if that has such a group and block."""
-    _, told, group_bits, blocks, groups, size = places
-    block = number >> told
-    group, block = block >> group_bits, block % (1 << group_bits)
-    return (group * blocks + block) * (size // 512) + number % (1 << told) if group < groups and block < blocks else None
-
-
 def head_of_group(magic):
     def read(sector):
         if sector[:4] != magic or struct.unpack_from(">I", sector, 4)[0] != 1:
@@ -164,7 +125,7 @@ def own_table(header, sector, length, unit):
 
 
 def sightings(images, first, end, kinds, passed_over, unit):
-    """The landmark sectors that count, by kind, in order of sector, then image; and what superblocks among them say of inodes."""
+    """The landmark sectors that count, by kind, in order of sector, then image."""
     wanted = {kind for asked in kinds for kind in MARKS_OF[asked]}
 
     def is_wanted(kind, found):
@@ -178,10 +139,7 @@ def sightings(images, first, end, kinds, passed_over, unit):
             if kind == "gpt" and (unit * found["own"] >= FAR or own_table(found, sector, len(image) // SECTOR, unit)):
                 continue
             seen[kind].append((sector, place, found))
-            places += [told] * (told is not None)
-    if "xfs" not in kinds:
-        seen["super"] = []
-    return {**seen, "places": places}
+    return seen
 
 
 def first_blocks(images, headers, unit):

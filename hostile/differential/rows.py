@@ -13,7 +13,6 @@ import sys
 import zlib
 
 import reference
-from landmarks import crc32c
 from texts import PATTERNS, SECTOR, SYNDROMES
 
 NAMES = [*"abcdefghijklmnopqrstuvwx", *(f"n{place}" for place in range(24, 66))]
@@ -80,27 +79,6 @@ def ext(group, power=2, first=0, blocks=4, revision=1, uuid=b"\5" * 16):
 
 
 # An offset for each image
-
-def super_of_inodes(blocks=20, uuid=b"\5" * 16, more=b""):
-    """The superblock of an XFS of version 5: four groups, 32 numbers of blocks in each, inodes of 512 bytes, 8 in a block."""
-    block = bytearray(SECTOR)
-    block[:8] = b"XFSB" + struct.pack(">I", 4096)
-    block[32:48] = uuid
-    struct.pack_into(">II", block, 84, blocks, 4)
-    struct.pack_into(">HHH", block, 100, 0xB4A5, 512, 512)
-    block[123:125] = b"\3\5"
-    block[216:216 + len(more)] = more
-    return bytes(block)
-
-
-def inode(number, uuid=b"\5" * 16, wrong=0):
-    block = bytearray(b"IN".ljust(SECTOR, b"\7"))
-    block[4] = 3
-    block[100:104] = bytes(4)
-    block[152:176] = struct.pack(">Q", number) + uuid
-    block[100:104] = struct.pack("<I", crc32c(block) ^ wrong)
-    return bytes(block)
-
 
 def own_offsets():
     images = [sectors("090102"), sectors("030409"), sectors("020609")]
@@ -455,24 +433,6 @@ def own_bounds():
 
 
 # What was there before
-    # inodes of XFS, before and after the superblock: the first of 128 each
-    there = {9: super_of_inodes(), 5: inode(384), 20: inode(0), 21: inode(129), 22: inode(128, wrong=1), 23: inode(128, b"\6" * 16)}
-    heads, inodes = "group xfs\nmark super 0 9 every:160:4:0\n", "group xfs5\nmark xfs5 0 5 at:288\nmark xfs5 0 20 at:0\n"
-    seen(there, inodes, "kinds=xfs5")
-    seen(there, heads)
-    seen(there, heads + inodes, "kinds=xfs,xfs5")
-    seen({5: inode(384)}, "", "kinds=xfs5")
-    # a group of 16 blocks has no block of number 16, and there are four groups
-    seen({9: super_of_inodes(16), 20: inode(128), 21: inode(256), 22: inode(1024)}, "group xfs5\nmark xfs5 0 21 at:128\n", "kinds=xfs5")
-    # the parity of three inodes is an inode
-    parity = bytes(a ^ b ^ c for a, b, c in zip(inode(0), inode(256), inode(640)))
-    seen({9: super_of_inodes(), 20: parity}, "group xfs5\nmark xfs5 0 20 at:608\n", "kinds=xfs5")
-    # of an identifier the first superblock counts; inodes have one of their own where a feature says so
-    seen({9: super_of_inodes(), 10: super_of_inodes(16), 20: inode(384)}, "group xfs5\nmark xfs5 0 20 at:288\n", "kinds=xfs5")
-    seen({9: super_of_inodes(more=struct.pack(">I", 4) + bytes(28) + b"\6" * 16), 20: inode(256), 21: inode(256, b"\6" * 16)},
-         "group xfs5\nmark xfs5 0 21 at:160\n", "kinds=xfs5")
-    row("survey kinds=xfs5,ext", [sectors("00")], status=1, line="word 2 is not understood")
-
 
 def earlier():
     images, three = [sectors("0102"), sectors("0304"), sectors("0206")], plan([2, 2, 2])

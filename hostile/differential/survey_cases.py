@@ -77,30 +77,6 @@ def super_sector(rng, seed):
     return bytes(block)
 
 
-def super5_sector(rng, seed):
-    """A superblock of version 5, whose inodes have 512 bytes, mostly."""
-    block = bytearray(super_sector(rng, seed))
-    told = rng.choice([3, 3, 3, 3, 0, 7, 8, 2])
-    version, size = rng.choice([0xB4A5] * 9 + [0xB4A4]), rng.choice([512] * 9 + [1024])
-    struct.pack_into(">HHH", block, 100, version, 512, size)
-    block[123:125] = bytes([told, rng.choice([5, 5, 5, 31, 4, 32])])
-    if rng.random() < 0.1:
-        struct.pack_into(">I", block, 216, rng.choice([4, 5, 3]))
-        block[248:264] = (seed + 1).to_bytes(16, "big")
-    return bytes(block)
-
-
-def inode_sector(rng, seed):
-    block = bytearray(rng.randbytes(SECTOR) if rng.random() < 0.5 else SECTOR)
-    block[:5] = b"IN" + block[2:4] + bytes([3 if rng.random() < 0.97 else 2])
-    number = rng.choice([0, 128, 256, 512, 1024, 1152, 128 * rng.randrange(16), 128 + rng.randrange(128), 128 * rng.randrange(2 ** 57)])
-    struct.pack_into(">Q", block, 152, number)
-    block[160:176] = seed.to_bytes(16, "big")
-    block[100:104] = bytes(4)
-    struct.pack_into("<I", block, 100, crc32c(block) ^ (1 << rng.randrange(32) if rng.random() < 0.05 else 0))
-    return bytes(block)
-
-
 def head_sector(rng, magic):
     block = magic + struct.pack(">II", 1 if rng.random() < 0.93 else 2, rng.choice([0, 1, 2, 3, 3, 4, 5, 2 ** 32 - 1]))
     return block.ljust(SECTOR, b"\0")
@@ -323,7 +299,7 @@ def many_file_systems(rng):
     elif way == 1:
         blocks = [plain(rng.choice([7, 7, 8])) for plain in (plain_boot, plain_super, plain_btrfs, plain_ext) for _ in range(4)]
         blocks += [record_sector(rng), head_sector(rng, b"XAGF"), head_sector(rng, b"XAGI"), plain_ext(7, 1), plain_ext(7, 2, 64)]
-        operands = [rng.choice(["kinds=" + ",".join(KINDS), "kinds=ext", "kinds=btrfs,ext", "kinds=xfs5"])]
+        operands = [rng.choice(["kinds=" + ",".join(KINDS), "kinds=ext", "kinds=btrfs,ext"])]
     elif way == 2:
         edge = FAR - 30 + rng.choice([-2, -1, 0, 1])
         blocks = [plain_boot(1, FAR + rng.choice([-2, -1, 0])), plain_boot(2, 100, edge), plain_boot(3, 100, 4, edge)]
@@ -340,13 +316,12 @@ def many_file_systems(rng):
 
 def crowded_survey(rng):
     """Somewhat more landmarks of one kind than count."""
-    kind = rng.choice(["boot", "record", "super", "agf", "agi", "gpt", "lvm", "btrfs", "ext", "xfs5"])
+    kind = rng.choice(["boot", "record", "super", "agf", "agi", "gpt", "lvm", "btrfs", "ext"])
     block = {"gpt": lambda: gpt_sector(rng, 5, 9000), "boot": lambda: boot_sector(rng, 0), "record": lambda: record_sector(rng),
              "super": lambda: super_sector(rng, 0), "agf": lambda: head_sector(rng, b"XAGF"), "agi": lambda: head_sector(rng, b"XAGI"),
-             "lvm": lambda: label_sector(rng, 5), "btrfs": lambda: plain_btrfs(3), "ext": lambda: plain_ext(3),
-             "xfs5": lambda: inode_sector(rng, 0)}[kind]()
-    others = [boot_sector(rng, 0), rng.choice([super_sector, super5_sector])(rng, 0), record_sector(rng)]
+             "lvm": lambda: label_sector(rng, 5), "btrfs": lambda: plain_btrfs(3), "ext": lambda: plain_ext(3)}[kind]()
+    others = [boot_sector(rng, 0), super_sector(rng, 0), record_sector(rng)]
     images = [block * 2047 + others[0] + block * 3, block * 2046 + others[1] + block * rng.choice([1, 2, 3, 4, 5]) + others[2] + block]
     files = files_of(images)
-    operands = rng.choice([[], ["drop=0:0,1:3"], ["offsets=1"], ["end=2049"]]) + ["kinds=" + ",".join(KINDS)] * (kind in ("ext", "xfs5"))
+    operands = rng.choice([[], ["drop=0:0,1:3"], ["offsets=1"], ["end=2049"]]) + ["kinds=" + ",".join(KINDS)] * (kind == "ext")
     return Case(["survey", *operands, "--", *files], b"", files)

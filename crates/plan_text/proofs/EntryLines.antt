@@ -2,7 +2,6 @@
 use Rattle.std.proofs.Common.{◌≢◌, ◌<◌, ◌^◌, ℕ, List, ◌∷◌, ◌++◌, codes, decimal, refl, arith}
 use Rattle.std.proofs.lemmas.List.Elements.{All-cons, All-append}
 use Rattle.mark_kinds.specs.declared.groups.GroupKind.{GroupKind}
-use Rattle.mark_kinds.specs.declared.groups.GroupKind.TheVariants.{Gpt as GptGroup, Ntfs, Xfs, Btrfs, Lvm, Ext, Xfs5}
 use Rattle.landmark_rules.specs.declared.marks.Mark.{Mark}
 use Rattle.landmark_rules.specs.declared.marks.MarkBounds.{MarkBounds}
 use Rattle.landmark_rules.specs.Groups.{AreMarkBounds}
@@ -50,13 +49,12 @@ a_mark_line mark is =
     (joined (decimal mark.sector) (rule_text mark.rule) 32 space (decimal_line mark.sector is.sector) (rule_line mark.rule is.rule)))
 
 a_group_line : (kind : GroupKind) → IsLine (named (codes "group") (group_name kind))
-a_group_line GptGroup = a_line (codes "group gpt") refl
-a_group_line Ntfs = a_line (codes "group ntfs") refl
-a_group_line Xfs = a_line (codes "group xfs") refl
-a_group_line Btrfs = a_line (codes "group btrfs") refl
-a_group_line Lvm = a_line (codes "group lvm") refl
-a_group_line Ext = a_line (codes "group ext") refl
-a_group_line Xfs5 = a_line (codes "group xfs5") refl
+a_group_line kind = joined (codes "group") (group_name kind) 32 space (a_line (codes "group") refl) (without_separator 10 (group_name kind) refl (group_law.has_no_separator kind tt))
+
+a_bounds_line : (bounds : MarkBounds) → AreMarkBounds bounds → IsLine (bounds_line bounds)
+a_bounds_line bounds are =
+    joined (codes "bounds") (decimal bounds.misfits ++ 32 ∷ decimal bounds.least) 32 space (a_line (codes "bounds") refl)
+    (joined (decimal bounds.misfits) (decimal bounds.least) 32 space (number bounds.misfits are.misfits) (number bounds.least are.least))
 
 pub an_entry_line : (entry : Entry) → IsEntry entry → IsLine (entry_line entry)
 an_entry_line Done is = a_line (codes "done") refl

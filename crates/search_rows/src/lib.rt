@@ -25,3 +25,5 @@ mod row_counts;
 mod sampled;
 #[cfg(test)]
 mod surveys;
+#[cfg(test)]
+mod xfs_sectors;

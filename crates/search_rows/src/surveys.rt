@@ -4,6 +4,7 @@ ghost use Rattle.image_source.specs.Memory.{seen_of};
 ghost use Rattle.survey_engine.specs.Surveys.{IsAsk};
 
 use crate::objects::four_images;
+use crate::xfs_sectors::{LATER, NEXT, ROOT, SUPER};
 use arrayvec::ArrayVec;
 use image_source::MemImages;
 use landmark_rules::{GroupKind, Kind, Mark, MarkTests, Rule};
@@ -595,5 +596,62 @@ fn a_fault_ends_the_survey(rt: HostRuntime) -> Result<(), Fail> {
     assert!(rt; ends_at(&rt, 4)?);
     assert!(rt; ends_at(&rt, 5)?);
     assert!(rt; !ends_at(&rt, 6)?);
+    Ok(())
+}
+
+// Inodes of XFS, wherever the superblock stands: the first of each 128. They are looked for where they are named.
+const SUPER_AT_9: (usize, &[Field]) = (9, &[(0, &SUPER)]);
+
+const INODES: [(usize, &[Field]); 4] = [
+    (5, &[(0, &LATER)]),
+    SUPER_AT_9,
+    (20, &[(0, &ROOT)]),
+    (21, &[(0, &NEXT)]),
+];
+
+#[test]
+fn inodes_of_xfs_have_a_group(rt: HostRuntime) -> Result<(), Fail> {
+    let later = (Kind::Xfs5, 0, 5, Rule::At(540_800));
+    let root = (Kind::Xfs5, 0, 20, Rule::At(128));
+    let plan = plan_of_fields(&rt, &INODES, Kinds::among(&[GroupKind::Xfs5]))?;
+    assert_eq!(rt; plan.groups.as_slice().len(), 1);
+    assert!(rt; is_group(&plan, 0, GroupKind::Xfs5, &[later, root]));
+    let both = Kinds::among(&[GroupKind::Xfs, GroupKind::Xfs5]);
+    let plan = plan_of_fields(&rt, &INODES, both)?;
+    assert_eq!(rt; plan.groups.as_slice().len(), 2);
+    let every = Rule::Every {
+        step: 204_800,
+        count: 4,
+        plus: 0,
+    };
+    assert!(rt; is_group(&plan, 0, GroupKind::Xfs, &[(Kind::Super, 0, 9, every)]));
+    assert!(rt; is_group(&plan, 1, GroupKind::Xfs5, &[later, root]));
+    Ok(())
+}
+
+// Not of another file system, with another checksum, in a group that the file system does not have, without a superblock,
+// or where they are not named.
+#[test]
+fn other_inodes_are_no_marks(rt: HostRuntime) -> Result<(), Fail> {
+    let inodes = Kinds::among(&[GroupKind::Xfs5]);
+    let other: &[Field] = &[(0, &SUPER), (32, &[0])];
+    let plan = plan_of_fields(&rt, &[(9, other), (20, &[(0, &ROOT)])], inodes)?;
+    assert!(rt; is_group(&plan, 0, GroupKind::Xfs5, &[]));
+    let turned: &[Field] = &[(0, &ROOT), (511, &[1])];
+    let plan = plan_of_fields(&rt, &[SUPER_AT_9, (20, turned)], inodes)?;
+    assert!(rt; is_group(&plan, 0, GroupKind::Xfs5, &[]));
+    let smaller: &[Field] = &[(0, &SUPER), (91, &[2])];
+    let plan = plan_of_fields(&rt, &[(9, smaller), (20, &[(0, &LATER)])], inodes)?;
+    assert!(rt; is_group(&plan, 0, GroupKind::Xfs5, &[]));
+    let plan = plan_of_fields(&rt, &[(20, &[(0, &ROOT)])], inodes)?;
+    assert!(rt; plan.groups.as_slice().is_empty());
+    let plan = plan_of_fields(&rt, &INODES, Kinds::usual())?;
+    assert_eq!(rt; plan.groups.as_slice().len(), 1);
+    assert!(rt;
+        plan.groups
+            .as_slice()
+            .first()
+            .is_some_and(|group| group.kind.is_same(GroupKind::Xfs))
+    );
     Ok(())
 }

@@ -10,7 +10,8 @@ use Rattle.std.proofs.lemmas.List.Concat.{flat_map-append}
 use Rattle.std.proofs.lemmas.List.Elements.{All-append, All-head, All-map, All-nil, All-tail, All-weaker}
 use Rattle.std.proofs.lemmas.List.Sums.{sum_by-append, sum_by-cons}
 use Rattle.landmark_rules.specs.Groups.{mark_place, marks_in, AreGroups, AreMarkBounds, IsMark}
-use Rattle.mark_kinds.specs.Table.{all_groups, group_of, group_place, kind_place, most_groups}
+use Rattle.mark_kinds.specs.Table.{all_groups, group_of, group_place, is_group_asked, kind_place, most_groups}
+use Rattle.mark_kinds.specs.declared.looking.Kinds.{Kinds}
 use Rattle.mark_kinds.proofs.Places.{same_group, same_kind}
 use Rattle.landmark_rules.specs.declared.marks.Group.{Group}
 use Rattle.mark_kinds.specs.declared.groups.GroupKind.{GroupKind}
@@ -260,7 +261,7 @@ all_rise : Rise 0 all_groups
 unfolding Rise
 all_rise = (omega arith, (omega arith, (omega arith, (omega arith, (omega arith, (omega arith, (omega arith, tt)))))))
 
-pub are_groups : (lengths : List ℕ) (found : List Sighting) → AreSightings lengths found → AreGroups lengths (groups_of found)
-are_groups lengths found are =
-    let from = are_from lengths found are 0 all_groups all_rise in
-    record { order = never_falls (groups_of found) from.level; few = from.few; marks = from.marks; rising = from.rising; bounds = from.bounds; few_marks = from.few_marks }
+pub are_groups : (lengths : List ℕ) (asked : Kinds) (found : List Sighting) → AreSightings lengths found → AreGroups lengths (groups_of asked found)
+are_groups lengths asked found are =
+    let from = are_from lengths asked found are 0 all_groups all_rise in
+    record { order = never_falls (groups_of asked found) from.level; few = from.few; marks = from.marks; rising = from.rising; bounds = from.bounds; few_marks = from.few_marks }

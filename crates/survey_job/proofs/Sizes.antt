@@ -369,7 +369,7 @@ few_groups lengths groups are =
 few_marks : (lengths : List ℕ) (groups : List Group) → AreGroups lengths groups → length (marks_in groups) ≤ 10 * 4096
 few_marks lengths groups are = few_in_all (λ (mark : Mark). mark.kind) 4096 (marks_in groups) are.few_marks
 
-groups_short : (lengths : List ℕ) (groups : List Group) → All (λ n. n < 2 ^ 55) lengths → AreGroups lengths groups → size (groups_lines groups) ≤ 192 * 63 + 9 * 4096 * 93 + 5
+groups_short : (lengths : List ℕ) (groups : List Group) → All (λ n. n < 2 ^ 55) lengths → AreGroups lengths groups → size (groups_lines groups) ≤ 224 * 63 + 10 * 4096 * 93 + 5
 groups_short lengths groups all are =
     omega (
       arith,

@@ -247,7 +247,7 @@ class Apart(unittest.TestCase):
         aim, = self.unlike((), (0, 1, 2), shown)
         self.assertEqual((aim.images, aim.copied, aim.apart, aim.shapes), ((0, 1, 2), True, 128, ()))
         self.assertEqual(aim.why, "the images hold the same 128 sectors apart, as RAID 10 with copies of layout offset does, and as any array "
-                         "may in which the same files are stored twice")
+                         "may in which the same files are stored twice, or whose data begin at unlike sectors")
         self.assertEqual(self.unlike((), (0, 1, 2), shown, options=Options(("a",), levels=("5",))), [])
         five = ties.Known(Family((0, 1, 2), 500, 8, 900, "5", 1), None, 40)
         aim, = self.unlike((), (0, 1, 2), shown, Unlike((8, 136, 264), five))

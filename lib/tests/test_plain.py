@@ -95,7 +95,7 @@ class Aims(unittest.TestCase):
     def test_apart(self) -> None:
         """Copies at a distance are one reason for it; files that are stored twice are another, and the line says so."""
         self.assertEqual(plain.apart_aim(4096, range(3), SPAN).why, "the images hold the same 4096 sectors apart, as RAID 10 with copies of layout "
-                         "offset does, and as any array may in which the same files are stored twice")
+                         "offset does, and as any array may in which the same files are stored twice, or whose data begin at unlike sectors")
 
     def test_unlike(self) -> None:
         """Images whose data begin at unlike sectors are asked for with an offset for each."""

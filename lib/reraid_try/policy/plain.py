@@ -133,7 +133,7 @@ def copied_by(known: Iterable[Known], numbers: Sequence[int], span: Span, option
 def apart_aim(distance: int, numbers: Sequence[int], span: Span) -> Aim:
     """What is tried of images that hold the same so many sectors apart: RAID 10 of all of them."""
     why = (f"the images hold the same {distance} sectors apart, as RAID 10 with copies of layout {shifts.layout(distance)} does, and as any array "
-           "may in which the same files are stored twice")
+           "may in which the same files are stored twice, or whose data begin at unlike sectors")
     return Aim(tuple(numbers), span, why, copied=True, apart=distance)
 
 
